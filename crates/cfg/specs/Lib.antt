@@ -1,0 +1,5 @@
+-- The meaning of a grammar, in the order of document 01.
+pub mod Grammar
+pub mod Tree
+pub mod Derivation
+pub mod Listing
