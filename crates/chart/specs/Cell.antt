@@ -1,0 +1,53 @@
+-- The chart (document 01: sheet) and its cells (words), and when the places of a rule cut a span (stretch) into pieces.
+-- Assumes nothing.
+use Prim.Native.Nat.{ℕ, zero, suc, _+_, _*_, _-_}
+use mathlib.Core.Bool.{Bool, true, false, _&&_, _||_}
+use mathlib.Core.List.{List, [], _∷_}
+use mathlib.Core.Option.{Option, none, some}
+use lib.Dec.{eqb, ltb}
+use lib.ListN.{length, getD}
+use Rattle.sets.specs.Set.{has, insert}
+use Rattle.cfg.specs.Grammar.{Rule, Symbol, nonterminal, terminal, Terminal, fits}
+
+-- cells of a row of the chart: a span starts and ends at one of 0 to 64
+abbrev pub side : ℕ
+side = 65
+
+-- cells of a chart
+abbrev pub cells : ℕ
+cells = 4225
+
+-- where the cell of the span from i to j stands
+abbrev pub place : ℕ → ℕ → ℕ
+place i j = side * i + j
+
+-- the set of nonterminals in the cell of the span from i to j
+abbrev pub cell : List ℕ → ℕ → ℕ → ℕ
+cell chart i j = getD chart (place i j) 0
+
+-- whether the byte at position i of the input fits a terminal: the only reading of the input
+unfoldable pub fitsAt : List ℕ → ℕ → Terminal → Bool
+fitsAt w i t = ltb i (length w) && fits t (getD w i 0)
+
+-- whether a symbol covers the span from a to b: a terminal one byte that fits, a nonterminal where the cell has it
+unfoldable pub piece : (ℕ → Terminal → Bool) → (ℕ → ℕ → ℕ) → Symbol → ℕ → ℕ → Bool
+piece fit sets (nonterminal k) a b = has k (sets a b)
+piece fit sets (terminal t) a b = eqb b (suc a) && fit a t
+
+-- whether the test holds at one of the n + 1 numbers from a on
+unfoldable pub someFrom : ℕ → ℕ → (ℕ → Bool) → Bool
+someFrom a zero test = test a
+someFrom a (suc n) test = test a || someFrom (suc a) n test
+
+-- whether the places cut the span from a to n into pieces, one for each place; the rest is looked at only where the first piece is one
+unfoldable pub cuts : (ℕ → Terminal → Bool) → (ℕ → ℕ → ℕ) → List Symbol → ℕ → ℕ → Bool
+cuts fit sets [] a n = eqb a n
+cuts fit sets (s ∷ places) a n =
+    someFrom a (n - a) (λ b. elim (piece fit sets s a b) [ true ↦ cuts fit sets places b n | false ↦ false ])
+
+-- the set of the left sides of those rules whose places cut the span from a to n
+unfoldable pub derived : (ℕ → Terminal → Bool) → (ℕ → ℕ → ℕ) → List (Option Rule) → ℕ → ℕ → ℕ
+derived fit sets [] a n = 0
+derived fit sets (none ∷ rules) a n = derived fit sets rules a n
+derived fit sets (some ρ ∷ rules) a n =
+    elim (cuts fit sets (ρ .places) a n) [ true ↦ insert (ρ .left) (derived fit sets rules a n) | false ↦ derived fit sets rules a n ]
