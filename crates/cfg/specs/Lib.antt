@@ -3,3 +3,5 @@ pub mod Grammar
 pub mod Tree
 pub mod Derivation
 pub mod Listing
+pub mod Nullable
+pub mod Walk

@@ -1,0 +1,134 @@
+-- Rows that the abstract definitions must give: what L holds and in which order, what superfluous recursion is and is not, and where
+-- the limit of 512 nodes lies. The tables from the bytes of books to the answers are those of crate `results`.
+-- Assumes nothing.
+use Prim.Native.Nat.{ℕ}
+use mathlib.Core.List.{List, [], _∷_, map}
+use mathlib.Core.Option.{Option, none, some, Option·some-injective}
+use mathlib.Core.Path.{_≡_, refl, sym, ap}
+use native.Mathlib.Omega.{arith}
+use lib.ListN.{length, replicate}
+use Rattle.cfg.specs.Grammar.{Cfg, Rule, Symbol, nonterminal, terminal, byte, fits, joined, Of}
+use Rattle.cfg.specs.Tree.{Row, end, leaf, node, yield}
+use Rattle.cfg.specs.Derivation.{Has, has-here, has-below, has-beside, has-after, first-less, first-same}
+use Rattle.cfg.specs.Derivation.{Superfluous, super-here, super-below, super-beside, super-after, Rising, rising-one, rising-more}
+use Rattle.cfg.specs.Listing.{L, over, when, from, among, keep, rulesFrom, items, upTo, listing, derivations}
+
+abbrev pub N : ℕ → Symbol
+N k = nonterminal k
+
+abbrev pub A : Symbol
+A = terminal (byte 65)
+
+infix 70 _⇒_
+abbrev pub _⇒_ : ℕ → List Symbol → Option Rule
+k ⇒ places = some (record { left = k; places = places })
+
+-- a grammar of start symbol 0
+abbrev pub grammar : List (Option Rule) → Cfg
+grammar rules = record { start = 0; rules = rules }
+
+-- 0 → 0 0, 0 → A
+abbrev pub pairs : Cfg
+pairs = grammar (0 ⇒ (N 0 ∷ N 0 ∷ []) ∷ 0 ⇒ (A ∷ []) ∷ [])
+
+-- L, with all that it is made of open
+unfoldable pub listOf : Cfg → ℕ → List (List ℕ)
+unfolding fits joined over when from among keep rulesFrom items upTo listing derivations
+listOf G n = L G (replicate n 65)
+
+-- both derivations of AAA, the one whose first child covers less in front
+pub pairs-listed : listOf pairs 3
+    ≡ (3 ∷ 0 ∷ 1 ∷ 1 ∷ 2 ∷ 0 ∷ 1 ∷ 1 ∷ 1 ∷ 1 ∷ []) ∷ (3 ∷ 0 ∷ 2 ∷ 0 ∷ 1 ∷ 1 ∷ 1 ∷ 1 ∷ 1 ∷ 1 ∷ []) ∷ []
+unfolding listOf
+pairs-listed = refl
+
+-- they are in rising order
+pub pairs-rising : Rising ((3 ∷ 0 ∷ 1 ∷ 1 ∷ []) ∷ (3 ∷ 0 ∷ 2 ∷ 0 ∷ []) ∷ [])
+pairs-rising = rising-more (first-same (first-same (first-less {a = 1} {b = 2} (omega arith)))) rising-one
+
+-- twin rules count as two, the smaller number in front; a number without a rule counts all the same
+pub twins-listed : listOf (grammar (0 ⇒ (A ∷ []) ∷ none ∷ 0 ⇒ (A ∷ []) ∷ [])) 1 ≡ (1 ∷ 0 ∷ []) ∷ (1 ∷ 2 ∷ []) ∷ []
+unfolding listOf
+twins-listed = refl
+
+-- 0 → 0, 0 → A: the same nonterminal over the same bytes is superfluous
+pub unit-listed : listOf (grammar (0 ⇒ (N 0 ∷ []) ∷ 0 ⇒ (A ∷ []) ∷ [])) 1 ≡ (1 ∷ 1 ∷ []) ∷ []
+unfolding listOf
+unit-listed = refl
+
+-- 0 → 0 A, 0 → A: the same nonterminal over fewer bytes is not
+pub nested-listed : listOf (grammar (0 ⇒ (N 0 ∷ A ∷ []) ∷ 0 ⇒ (A ∷ []) ∷ [])) 3 ≡ (3 ∷ 0 ∷ 2 ∷ 0 ∷ 1 ∷ 1 ∷ []) ∷ []
+unfolding listOf
+nested-listed = refl
+
+-- 0 → 1, 1 → A: another nonterminal over the same bytes is not
+pub other-listed : listOf (grammar (0 ⇒ (N 1 ∷ []) ∷ 1 ⇒ (A ∷ []) ∷ [])) 1 ≡ (1 ∷ 0 ∷ 1 ∷ 1 ∷ []) ∷ []
+unfolding listOf
+other-listed = refl
+
+-- a bush of 512 nodes is within the limit, and one of 513 is not
+abbrev pub bush : ℕ → Cfg
+bush k = record {
+  start = k;
+  rules = 0 ⇒ (A ∷ replicate 7 (N 1)) ∷ 1 ⇒ replicate 8 (N 2) ∷ 2 ⇒ replicate 8 (N 3) ∷ 3 ⇒ [] ∷ 4 ⇒ (N 0 ∷ []) ∷ [];
+}
+
+pub limit-met : map length (listOf (bush 0) 1) ≡ 1024 ∷ []
+unfolding listOf
+limit-met = refl
+
+pub limit-passed : listOf (bush 4) 1 ≡ []
+unfolding listOf
+limit-passed = refl
+
+-- 0 → 0 A, 0 → A, 0 → 1, 1 → 0: the grammar of the trees below
+abbrev pub nest : Cfg
+nest = grammar (0 ⇒ (N 0 ∷ A ∷ []) ∷ 0 ⇒ (A ∷ []) ∷ 0 ⇒ (N 1 ∷ []) ∷ 1 ⇒ (N 0 ∷ []) ∷ [])
+
+-- 0 above 1 above 0, all over one byte: superfluous, two levels apart
+pub cycle-superfluous : Superfluous nest (node 2 (node 3 (node 1 (leaf 65 end) end) end) end)
+unfolding joined yield
+cycle-superfluous =
+    super-here {k = 0} (record { the = record { left = 0; places = N 1 ∷ [] }; here = refl; left = refl })
+    (has-below (has-here (record { the = record { left = 0; places = A ∷ [] }; here = refl; left = refl }) refl))
+
+-- a row of leaves has no node, so none that is superfluous
+no-node : {G : Cfg} {k n m : ℕ} → Has G k n (leaf m end) → ⊥
+no-node (has-after h) = elim h [ ]
+
+leaves-plain : {G : Cfg} {m : ℕ} → Superfluous G (leaf m end) → ⊥
+leaves-plain (super-after h) = elim h [ ]
+
+-- 0 over two bytes above 0 over one: plain, though the nonterminal is the same
+pub nested-plain : Superfluous nest (node 0 (node 1 (leaf 65 end) (leaf 65 end)) end) → ⊥
+unfolding yield
+nested-plain (super-here o (has-here p e)) = omega (arith, e)
+nested-plain (super-here o (has-below h)) = no-node h
+nested-plain (super-here o (has-beside h)) = no-node h
+nested-plain (super-below (super-here o h)) = no-node h
+nested-plain (super-below (super-below h)) = leaves-plain h
+nested-plain (super-below (super-beside h)) = leaves-plain h
+nested-plain (super-beside h) = elim h [ ]
+
+-- 0 → 1, 1 → A: another nonterminal over the same bytes is plain
+abbrev pub chain : Cfg
+chain = grammar (0 ⇒ (N 1 ∷ []) ∷ 1 ⇒ (A ∷ []) ∷ [])
+
+-- rule 1 of that grammar is one of 1 only
+chain-left : {k : ℕ} → Of chain 1 k → Of chain 0 k → ⊥
+unfolding joined
+chain-left o p =
+    let here : some (record { left = 1; places = A ∷ [] }) ≡ some (o .the) = o .here in
+    let there : some (record { left = 0; places = N 1 ∷ [] }) ≡ some (p .the) = p .here in
+    let a : o .the .left ≡ 1 = ap (λ (r : Rule). r .left) (sym (Option·some-injective _ _ here)) in
+    let b : p .the .left ≡ 0 = ap (λ (r : Rule). r .left) (sym (Option·some-injective _ _ there)) in
+    omega (arith, a, b, o .left, p .left)
+
+pub other-plain : Superfluous chain (node 0 (node 1 (leaf 65 end) end) end) → ⊥
+other-plain (super-here o (has-here p e)) = chain-left p o
+other-plain (super-here o (has-below h)) = no-node h
+other-plain (super-here o (has-beside h)) = elim h [ ]
+other-plain (super-below (super-here o h)) = no-node h
+other-plain (super-below (super-below h)) = leaves-plain h
+other-plain (super-below (super-beside h)) = elim h [ ]
+other-plain (super-beside h) = elim h [ ]

@@ -1,0 +1,57 @@
+-- Tests joined by `&&`, and the test `all` over the front of a list. A read past the end of the list gives d.
+-- Assumes nothing.
+use Prim.Native.Nat.{ℕ, zero, suc, _+_, _<_}
+use native.Mathlib.Nat.{le-of-suc-le-suc, not-suc-le-zero}
+use native.Mathlib.Numerals.{add-one}
+use native.Mathlib.Omega.{arith}
+use mathlib.Core.Bool.{Bool, true, false, _&&_, and-false}
+use mathlib.Core.List.{List, [], _∷_}
+use mathlib.Core.Path.{_≡_, refl}
+use lib.ListN.{take, getD}
+use Rattle.grammar.specs.Valid.{all}
+
+pub true-false : {b : Bool} → b ≡ true → b ≡ false → ⊥
+true-false e f = let z : _≡_ {A = ℕ} 0 1 = cc in omega arith
+
+pub and-parts : (a b : Bool) → (a && b) ≡ true → (a ≡ true) × (b ≡ true)
+and-parts true b e = (refl, e)
+and-parts false b e = absurd (true-false e refl)
+
+pub and-parts₃ : (a b c : Bool) → (a && b && c) ≡ true → (a ≡ true) × (b ≡ true) × (c ≡ true)
+and-parts₃ a b c e =
+    let p = and-parts (a && b) c e in
+    let q = and-parts a b (p .0) in
+    (q .0, q .1, p .1)
+
+pub and-both : (a b : Bool) → a ≡ true → b ≡ true → (a && b) ≡ true
+and-both a b e f = rw (e, f)
+
+module _ {A : Type 0} (test : A → Bool) (d : A) where
+  all-suc : (l : List A) (q : ℕ) → all test (take q l) ≡ true → test (getD l q d) ≡ true → all test (take (suc q) l) ≡ true
+  unfolding all
+  all-suc [] q h e = refl
+  all-suc (a ∷ l) zero h e = and-both (test a) true e refl
+  all-suc (a ∷ l) (suc q) h e =
+      let p = and-parts (test a) (all test (take q l)) h in
+      and-both (test a) (all test (take (suc q) l)) (p .0) (all-suc l q (p .1) e)
+
+  -- one more element passes
+  pub all-more : (l : List A) (q : ℕ) → all test (take q l) ≡ true → test (getD l q d) ≡ true → all test (take (q + 1) l) ≡ true
+  all-more l q h e = rw add-one (all-suc l q h e)
+
+  module _ (fine : test d ≡ true) where
+    -- an element that is looked at and does not pass
+    pub all-refuses : (l : List A) (n q : ℕ) → q < n → test (getD l q d) ≡ false → all test (take n l) ≡ false
+    unfolding all
+    all-refuses [] n q h e = absurd (true-false fine e)
+    all-refuses (a ∷ l) zero q h e = absurd (not-suc-le-zero h)
+    all-refuses (a ∷ l) (suc n) zero h e = rw e
+    all-refuses (a ∷ l) (suc n) (suc q) h e = rw (all-refuses l n q (le-of-suc-le-suc h) e) (and-false (test a))
+
+    -- each element that is looked at passes
+    pub all-at : (l : List A) (n q : ℕ) → q < n → all test (take n l) ≡ true → test (getD l q d) ≡ true
+    all-at l n q h e = go (test (getD l q d)) refl
+      where
+        go : (b : Bool) → test (getD l q d) ≡ b → test (getD l q d) ≡ true
+        go true t = t
+        go false t = absurd (true-false e (all-refuses l n q h t))

@@ -1,0 +1,89 @@
+-- What the functions of the crate need, with premises as their code gives them: zeros made of a zero, and what a test of check 8 that fails
+-- says of the whole, and the tests that pass together.
+-- Assumes nothing.
+use Prim.Native.Nat.{ℕ, _+_, _≤_, _<_}
+use native.Mathlib.Nat.{le-antisymm}
+use mathlib.Core.Bool.{Bool, true, false, not, and-false}
+use mathlib.Core.List.{List}
+use mathlib.Core.Path.{_≡_, refl, sym, ap, _∙_}
+use lib.Dec.{leb}
+use lib.IntN.{pos}
+use lib.ListN.{replicate, take, getD}
+use borrow.Author.Tests.{lt-leb, le-leb, not-true, not-false}
+use Rattle.grammar.specs.declared.Symbol.the-variants.{Nonterminal}
+use Rattle.grammar.specs.declared.Place.{Place}
+use Rattle.grammar.specs.declared.Rule.{Rule}
+use Rattle.grammar.specs.declared.Grammar.{Grammar}
+use Rattle.grammar.specs.Valid.{all, validSymbol, validPlace, validRule, validGrammar}
+use Rattle.grammar.specs.Zero.{zeroPlace, zeroRule, zeroGrammar, noRule}
+use Rattle.grammar.proofs.All.{all-more, all-refuses}
+
+-- ---- zeros
+
+-- a rule of zeros whose places all hold p
+abbrev pub ruleAll : Place → Rule
+ruleAll p = record { left = 0; length = pos 0; count = 0; places = replicate 8 p }
+
+pub zero-rule-of : (p : Place) → p ≡ zeroPlace → ruleAll p ≡ zeroRule
+zero-rule-of p e = ap ruleAll e
+
+-- a grammar of zeros whose rules are all r
+abbrev pub grammarAll : Rule → Grammar
+grammarAll r = record { start = 0; count = 0; depth = 0; rules = replicate 128 r }
+
+pub zero-grammar-of : (r : Rule) → r ≡ zeroRule → grammarAll r ≡ zeroGrammar
+zero-grammar-of r e = ap grammarAll e
+
+-- ---- check 8
+
+pub place-nonterminal : (p : Place) (k : ℕ) → p .symbol ≡ Nonterminal k → leb k 31 ≡ validPlace p
+place-nonterminal p k e = sym (ap validSymbol e)
+
+pub noRule-valid : validRule noRule ≡ true
+unfolding validRule all
+noRule-valid = refl
+
+-- b is the test's answer at the element q, and it is true: one more element passes
+pub all-next : {A : Type 0} (test : A → Bool) (d : A) (l : List A) (q : ℕ) (b : Bool) → b ≡ test (getD l q d) → not b ≡ false
+    → all test (take q l) ≡ true → all test (take (q + 1) l) ≡ true
+all-next test d l q b e t h = all-more test d l q h (sym e ∙ not-false b t)
+
+module _ (r : Rule) where
+  pub rule-left : 31 < r .left → false ≡ validRule r
+  unfolding validRule
+  rule-left h = simp (lt-leb (r .left) 31 h)
+
+  pub rule-count : 8 < r .count → false ≡ validRule r
+  unfolding validRule
+  rule-count h = simp (lt-leb (r .count) 8 h, and-false)
+
+  pub rule-place : (q : ℕ) (b : Bool) → b ≡ validPlace (getD (r .places) q zeroPlace) → not b ≡ true → q < r .count → false ≡ validRule r
+  unfolding validRule
+  rule-place q b e t h = simp (all-refuses validPlace zeroPlace refl (r .places) (r .count) q h (sym e ∙ not-true b t), and-false)
+
+  pub rule-passes : (q : ℕ) → q ≤ r .count → r .count ≤ 8 → r .left ≤ 31 → all validPlace (take q (r .places)) ≡ true → r .count ≤ q
+      → true ≡ validRule r
+  unfolding validRule
+  rule-passes q h k l e m =
+      let a : all validPlace (take (r .count) (r .places)) ≡ true = rw (le-antisymm m h) e in
+      simp (le-leb (r .left) 31 l, le-leb (r .count) 8 k, a)
+
+module _ (g : Grammar) where
+  pub grammar-start : 31 < g .start → false ≡ validGrammar g
+  unfolding validGrammar
+  grammar-start h = simp (lt-leb (g .start) 31 h)
+
+  pub grammar-count : 128 < g .count → false ≡ validGrammar g
+  unfolding validGrammar
+  grammar-count h = simp (lt-leb (g .count) 128 h, and-false)
+
+  pub grammar-rule : (i : ℕ) (b : Bool) → b ≡ validRule (getD (g .rules) i noRule) → not b ≡ true → i < g .count → false ≡ validGrammar g
+  unfolding validGrammar
+  grammar-rule i b e t h = simp (all-refuses validRule noRule noRule-valid (g .rules) (g .count) i h (sym e ∙ not-true b t), and-false)
+
+  pub grammar-passes : (i : ℕ) → i ≤ g .count → g .count ≤ 128 → g .start ≤ 31 → all validRule (take i (g .rules)) ≡ true → g .count ≤ i
+      → true ≡ validGrammar g
+  unfolding validGrammar
+  grammar-passes i h k l e m =
+      let a : all validRule (take (g .count) (g .rules)) ≡ true = rw (le-antisymm m h) e in
+      simp (le-leb (g .start) 31 l, le-leb (g .count) 128 k, a)

@@ -1,0 +1,6 @@
+-- The laws of the declared grammars.
+pub mod All
+pub mod Laws
+pub mod Bounds
+pub mod RuleAt
+pub mod Fits

@@ -1,0 +1,5 @@
+-- The declared types of a grammar, and what they mean.
+pub mod Zero
+pub mod Valid
+pub mod View
+pub mod Number

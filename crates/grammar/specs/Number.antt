@@ -1,0 +1,22 @@
+-- The numbers that document 01 gives its refusals.
+-- Assumes nothing.
+use Prim.Native.Nat.{ℕ}
+use Rattle.grammar.specs.declared.Refusal.{Refusal}
+use Rattle.grammar.specs.declared.Refusal.the-variants as R
+
+abbrev pub numberOf : Refusal → ℕ
+numberOf R.UnexpectedEnd = 1
+numberOf R.UnknownCommand = 2
+numberOf R.OutOfTurn = 3
+numberOf R.NonterminalTooLarge = 4
+numberOf R.TooManyRules = 5
+numberOf R.TooManyPlaces = 6
+numberOf R.FurtherByte = 7
+numberOf R.InvalidGrammar = 8
+numberOf R.InputLength = 9
+numberOf R.ChartTooShort = 10
+numberOf R.OutputTooShort = 11
+numberOf R.NotADerivation = 12
+numberOf R.OnlyLargerTrees = 13
+numberOf R.InvalidRecognizer = 14
+numberOf R.RecognizerFull = 15

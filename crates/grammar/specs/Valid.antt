@@ -1,0 +1,30 @@
+-- Check 8: start or a used nonterminal (kind) over 31, more than 128 rules, or more than 8 places is refused. Only what the counts say
+-- is used is looked at; the nullable depth, the lengths and unused records may hold anything.
+-- Assumes nothing.
+use mathlib.Core.Bool.{Bool, true, _&&_}
+use mathlib.Core.List.{List, [], _∷_}
+use lib.Dec.{leb}
+use lib.ListN.{take}
+use Rattle.grammar.specs.declared.Symbol.{Symbol}
+use Rattle.grammar.specs.declared.Symbol.the-variants.{Nonterminal, Terminal}
+use Rattle.grammar.specs.declared.Place.{Place}
+use Rattle.grammar.specs.declared.Rule.{Rule}
+use Rattle.grammar.specs.declared.Grammar.{Grammar}
+
+-- the test holds of every element
+unfoldable pub all : {A : Type 0} → (A → Bool) → List A → Bool
+all test [] = true
+all test (a ∷ l) = test a && all test l
+
+abbrev pub validSymbol : Symbol → Bool
+validSymbol (Nonterminal k) = leb k 31
+validSymbol (Terminal m) = true
+
+abbrev pub validPlace : Place → Bool
+validPlace p = validSymbol (p .symbol)
+
+unfoldable pub validRule : Rule → Bool
+validRule r = leb (r .left) 31 && leb (r .count) 8 && all validPlace (take (r .count) (r .places))
+
+unfoldable pub validGrammar : Grammar → Bool
+validGrammar g = leb (g .start) 31 && leb (g .count) 128 && all validRule (take (g .count) (g .rules))

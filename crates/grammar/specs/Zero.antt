@@ -1,0 +1,23 @@
+-- What is unused is handed back as zeros, a place as the nonterminal (kind) 0.
+-- Assumes nothing.
+use mathlib.Core.List.{[]}
+use lib.IntN.{pos}
+use lib.ListN.{replicate}
+use Rattle.grammar.specs.declared.Symbol.the-variants.{Nonterminal}
+use Rattle.grammar.specs.declared.Place.{Place}
+use Rattle.grammar.specs.declared.Rule.{Rule}
+use Rattle.grammar.specs.declared.Grammar.{Grammar}
+
+abbrev pub zeroPlace : Place
+zeroPlace = record { symbol = Nonterminal 0 }
+
+abbrev pub zeroRule : Rule
+zeroRule = record { left = 0; length = pos 0; count = 0; places = replicate 8 zeroPlace }
+
+-- the grammar of a book without rules: what a refused book leaves
+abbrev pub zeroGrammar : Grammar
+zeroGrammar = record { start = 0; count = 0; depth = 0; rules = replicate 128 zeroRule }
+
+-- what a read past the end of an array of rules is taken for
+abbrev pub noRule : Rule
+noRule = record { left = 0; length = pos 0; count = 0; places = [] }

@@ -1,0 +1,150 @@
+// The declared types of a grammar (document 01: a loaded book), check 8 over any struct handed in, and the refusals.
+ghost use mathlib.Core.Path.{_≡_};
+ghost use Rattle.grammar.specs.Zero.{zeroPlace, zeroRule, zeroGrammar};
+ghost use Rattle.grammar.specs.Valid.{validPlace, validRule, validGrammar};
+ghost use Rattle.grammar.specs.Number.{numberOf};
+
+// What a place holds: a nonterminal (kind) or a terminal (mark).
+pub enum Symbol {
+    Nonterminal(u8),
+    Terminal(u8),
+}
+
+pub struct Place {
+    pub symbol: Symbol,
+}
+
+// A rule record: its left side, its length in hundredths of a millimetre, and how many of its places are used.
+pub struct Rule {
+    pub left: u8,
+    pub length: i16,
+    pub count: usize,
+    pub places: [Place; 8],
+}
+
+// A loaded grammar (book): its start symbol, how many of its rules are used, and its nullable depth (blank depth).
+pub struct Grammar {
+    pub start: u8,
+    pub count: usize,
+    pub depth: u8,
+    pub rules: [Rule; 128],
+}
+
+// The refusals of document 01, in the order of their numbers.
+pub enum Refusal {
+    UnexpectedEnd,
+    UnknownCommand,
+    OutOfTurn,
+    NonterminalTooLarge,
+    TooManyRules,
+    TooManyPlaces,
+    FurtherByte,
+    InvalidGrammar,
+    InputLength,
+    ChartTooShort,
+    OutputTooShort,
+    NotADerivation,
+    OnlyLargerTrees,
+    InvalidRecognizer,
+    RecognizerFull,
+}
+
+// The number that document 01 gives a refusal.
+pub fn number(r: Refusal) -> u8
+    ensures { λ n. ⌜ n ≡ numberOf r ⌝ }
+{
+    match r {
+        Refusal::UnexpectedEnd => 1,
+        Refusal::UnknownCommand => 2,
+        Refusal::OutOfTurn => 3,
+        Refusal::NonterminalTooLarge => 4,
+        Refusal::TooManyRules => 5,
+        Refusal::TooManyPlaces => 6,
+        Refusal::FurtherByte => 7,
+        Refusal::InvalidGrammar => 8,
+        Refusal::InputLength => 9,
+        Refusal::ChartTooShort => 10,
+        Refusal::OutputTooShort => 11,
+        Refusal::NotADerivation => 12,
+        Refusal::OnlyLargerTrees => 13,
+        Refusal::InvalidRecognizer => 14,
+        Refusal::RecognizerFull => 15,
+    }
+}
+
+pub fn zero_place() -> Place
+    ensures { λ p. ⌜ p ≡ zeroPlace ⌝ }
+{
+    Place {
+        symbol: Symbol::Nonterminal(0),
+    }
+}
+
+pub fn zero_rule() -> Rule
+    ensures { λ r. ⌜ r ≡ zeroRule ⌝ }
+{
+    Rule {
+        left: 0,
+        length: 0,
+        count: 0,
+        places: [zero_place(); 8],
+    }
+}
+
+pub fn zero_grammar() -> Grammar
+    ensures { λ g. ⌜ g ≡ zeroGrammar ⌝ }
+{
+    Grammar {
+        start: 0,
+        count: 0,
+        depth: 0,
+        rules: [zero_rule(); 128],
+    }
+}
+
+pub fn valid_place(p: Place) -> bool
+    ensures { λ r. ⌜ r ≡ validPlace p ⌝ }
+{
+    let s = p.symbol;
+    match s {
+        Symbol::Nonterminal(k) => k <= 31,
+        Symbol::Terminal(_) => true,
+    }
+}
+
+pub fn valid_rule(rule: Rule) -> bool
+    ensures { λ r. ⌜ r ≡ validRule rule ⌝ }
+{
+    let n = rule.count;
+    if rule.left > 31 || n > 8 {
+        return false;
+    }
+    let mut q = 0;
+    while q < n {
+        let p = rule.places[q];
+        if !valid_place(p) {
+            return false;
+        }
+        q += 1;
+    }
+    true
+}
+
+// Check 8: over any struct, and looking only at what the counts say is used.
+pub fn valid(g: Grammar) -> bool
+    ensures { λ r. ⌜ r ≡ validGrammar g ⌝ }
+{
+    let n = g.count;
+    if g.start > 31 || n > 128 {
+        return false;
+    }
+    let mut i = 0;
+    while i < n {
+        let rule = g.rules[i];
+        if !valid_rule(rule) {
+            return false;
+        }
+        i += 1;
+    }
+    true
+}

@@ -1,0 +1,2 @@
+-- Which rows a smaller budget keeps.
+pub mod Budget

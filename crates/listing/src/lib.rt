@@ -1,0 +1,1 @@
+// The function that lists the derivations, proved exact: theory only, no code.

@@ -1,0 +1,67 @@
+-- Faulty books with the number and the offset of their refusal: one for each refusal 1 to 7, and one for each order between them.
+-- Assumes nothing.
+use Prim.Native.Nat.{ℕ}
+use mathlib.Core.List.{List, [], _∷_, map}
+use mathlib.Core.Path.{_≡_, refl}
+use Rattle.grammar.specs.Zero.{zeroGrammar}
+use Rattle.results.specs.Answer.{refusedAt}
+use Rattle.results.specs.Load.{Loading, loadOf}
+use Rattle.results.proofs.Books.{start, rule, A, close, times}
+use Rattle.results.proofs.Table.{outcome}
+
+-- a faulty book: its bytes, and the number and the offset of its refusal
+pub record Faulty : Type 0 where
+  pub book : List ℕ
+  pub number : ℕ
+  pub offset : ℕ
+
+abbrev pub faulty : List ℕ → ℕ → ℕ → Faulty
+faulty book n at = record { book = book; number = n; offset = at }
+
+-- 128 rules, and a rule of eight places, each with what comes next
+abbrev pub full : List ℕ → List ℕ
+full rest = start 0 (times 128 (rule 0) rest)
+
+abbrev pub wide : List ℕ → List ℕ
+wide rest = start 0 (rule 0 (times 8 A rest))
+
+unfoldable pub faults : List Faulty
+faults =
+    -- 1: the book ends where a command is due, inside one, and where 50 is due
+    faulty [] 1 0
+    ∷ faulty (0x10 ∷ []) 1 1
+    ∷ faulty (0x10 ∷ 0x00 ∷ []) 1 2
+    ∷ faulty (0x10 ∷ 0x00 ∷ 0x20 ∷ 0x00 ∷ 0x00 ∷ []) 1 5
+    -- 2: an unknown byte, also where another command was due
+    ∷ faulty (0x60 ∷ []) 2 0
+    ∷ faulty (0x10 ∷ 0x00 ∷ 0x21 ∷ 0x00 ∷ []) 2 2
+    -- 3: 10 again, another command first, 30 and 40 before any 20; before 1 and 4
+    ∷ faulty (0x10 ∷ 0x00 ∷ 0x10 ∷ []) 3 2
+    ∷ faulty (0x50 ∷ []) 3 0
+    ∷ faulty (0x20 ∷ 0xFF ∷ 0x00 ∷ 0x00 ∷ []) 3 0
+    ∷ faulty (0x10 ∷ 0x00 ∷ 0x30 ∷ []) 3 2
+    ∷ faulty (0x10 ∷ 0x00 ∷ 0x40 ∷ 0x41 ∷ []) 3 2
+    -- 4: a nonterminal over 31; after 1
+    ∷ faulty (0x10 ∷ 0x20 ∷ []) 4 0
+    ∷ faulty (0x10 ∷ 0x00 ∷ 0x20 ∷ 0xFF ∷ []) 1 4
+    ∷ faulty (start 0 (rule 0 (0x30 ∷ 0x20 ∷ close))) 4 6
+    -- 5: the 129th rule; after 1 and 4
+    ∷ faulty (full (rule 0 close)) 5 514
+    ∷ faulty (full (rule 32 close)) 4 514
+    ∷ faulty (full (0x20 ∷ 0x00 ∷ [])) 1 516
+    -- 6: the ninth place; after 1 and 4
+    ∷ faulty (wide (A close)) 6 22
+    ∷ faulty (wide (0x30 ∷ 0x20 ∷ close)) 4 22
+    ∷ faulty (wide (0x40 ∷ [])) 1 23
+    -- 7: a byte after 50, whatever it is
+    ∷ faulty (0x10 ∷ 0x00 ∷ 0x50 ∷ 0x00 ∷ []) 7 3
+    ∷ faulty (0x10 ∷ 0x00 ∷ 0x50 ∷ 0x60 ∷ []) 7 3
+    ∷ []
+
+-- what a refused book gives: number, offset, and the grammar of no rules
+unfoldable pub refusal : Faulty → Loading
+refusal f = record { answer = refusedAt (f .number) (f .offset); grammar = zeroGrammar }
+
+pub faults-refused : map (λ f. loadOf (f .book) 5) faults ≡ map refusal faults
+unfolding outcome faults refusal
+faults-refused = refl

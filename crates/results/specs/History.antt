@@ -1,0 +1,76 @@
+-- The other side of demand 3: a list of calls as they are made, each with a chart and an output of its own, and what the decided
+-- results of first, next and count say to the caller, who keeps a copy of the row handed out last.
+-- Assumes nothing.
+use Prim.Native.Nat.{ℕ, _*_, _≤_}
+use mathlib.Core.List.{List, [], _∷_}
+use lib.ListN.{length, take}
+use Rattle.cfg.specs.Derivation.{Derivation, limit}
+use Rattle.cfg.specs.Walk.{Call, Said, handsOut, noDerivation, noneLeft, refuses, counts, more}
+use Rattle.cfg.specs.Walk as Walk
+use Rattle.grammar.specs.declared.Grammar.{Grammar}
+use Rattle.grammar.specs.View.{grammarOf}
+use Rattle.results.specs.Answer as Answer
+use Rattle.results.specs.Check.{Checking}
+use Rattle.results.specs.Enumerate.{Enumeration, firstOf, nextOf, countOf}
+
+-- a call with what is lent to it: chart and output, and for a next that is not offered the copy the row that is
+pub data Made : Type 0 where
+  first : List ℕ → List ℕ → Made
+  nextCopy : List ℕ → List ℕ → Made
+  nextOther : List ℕ → List ℕ → List ℕ → Made
+  count : List ℕ → Made
+
+-- which of the four calls it is
+abbrev pub which : Made → Call
+which (first chart out) = Walk.first
+which (nextCopy chart out) = Walk.nextCopy
+which (nextOther e chart out) = Walk.nextOther
+which (count chart) = Walk.count
+
+-- chart and output are long enough, and may hold anything; a row that is not the copy is no derivation of the input
+abbrev pub Allowed : Grammar → List ℕ → Made → Type 0
+Allowed g w (first chart out) = (4225 ≤ length chart) × (1024 ≤ length out)
+Allowed g w (nextCopy chart out) = (4225 ≤ length chart) × (1024 ≤ length out)
+Allowed g w (nextOther e chart out) =
+    (4225 ≤ length chart) × (1024 ≤ length out) × (Derivation (grammarOf g) limit w e → ⊥)
+Allowed g w (count chart) = (4225 ≤ length chart) × Unit {0}
+
+-- every call of the list is allowed
+abbrev pub AllAllowed : Grammar → List ℕ → List Made → Type 0
+AllAllowed g w [] = Unit {0}
+AllAllowed g w (m ∷ calls) = Allowed g w m × AllAllowed g w calls
+
+-- an answer as the caller of the walk sees it, with the front of the output: twice as many numbers as it answers nodes
+unfoldable pub saidOf : Answer.Answer → List ℕ → Said
+saidOf (Answer.refused n) out = refuses n
+saidOf (Answer.refusedAt n at) out = refuses n
+saidOf Answer.loaded out = more
+saidOf Answer.affirmed out = more
+saidOf Answer.denied out = more
+saidOf (Answer.handed n) out = handsOut (take (2 * n) out)
+saidOf Answer.noDerivation out = noDerivation
+saidOf Answer.noneLeft out = noneLeft
+saidOf (Answer.counted n) out = counts n
+saidOf Answer.more out = more
+saidOf (Answer.tenths z) out = more
+
+-- what one call says, by the decided results, the copy being what was handed out last
+unfoldable pub says : Grammar → List ℕ → List ℕ → Made → Said
+says g w copy (first chart out) = let r = firstOf g w chart out in saidOf (r .answer) (r .output)
+says g w copy (nextCopy chart out) = let r = nextOf g w copy chart out in saidOf (r .answer) (r .output)
+says g w copy (nextOther e chart out) = let r = nextOf g w e chart out in saidOf (r .answer) (r .output)
+says g w copy (count chart) = saidOf (countOf g w chart .answer) []
+
+-- the copy after a call: the row that was handed out, if one was
+unfoldable pub copied : Said → List ℕ → List ℕ
+copied (handsOut e) copy = e
+copied noDerivation copy = copy
+copied noneLeft copy = copy
+copied (refuses n) copy = copy
+copied (counts n) copy = copy
+copied more copy = copy
+
+-- what a list of calls says
+unfoldable pub history : Grammar → List ℕ → List ℕ → List Made → List Said
+history g w copy [] = []
+history g w copy (m ∷ calls) = says g w copy m ∷ history g w (copied (says g w copy m) copy) calls

@@ -1,0 +1,126 @@
+-- Loading: from the bytes of a book to the loaded grammar, or the number and the offset of the first fault, with a grammar of no rules.
+-- Assumes nothing.
+use Prim.Native.Nat.{ℕ, zero, suc, _+_, _*_, _-_}
+use mathlib.Core.Bool.{Bool, true, false, cond, _&&_, _||_, not}
+use mathlib.Core.List.{List, [], _∷_}
+use lib.Dec.{eqb, ltb}
+use lib.IntN.{ℤ, pos, negℤ}
+use lib.ListN.{length, getD, set, replicate}
+use Rattle.grammar.specs.declared.Symbol.{Symbol}
+use Rattle.grammar.specs.declared.Symbol.the-variants.{Nonterminal, Terminal}
+use Rattle.grammar.specs.declared.Place.{Place}
+use Rattle.grammar.specs.declared.Rule.{Rule}
+use Rattle.grammar.specs.declared.Grammar.{Grammar}
+use Rattle.grammar.specs.Zero.{zeroPlace, zeroGrammar, noRule}
+use Rattle.results.specs.Answer.{Answer, refusedAt, loaded, Check, check, decide}
+
+-- the bytes after a command byte that are its operands
+unfoldable pub operands : ℕ → ℕ
+operands c = cond (eqb c 0x20) 3 (cond (eqb c 0x50) 0 1)
+
+-- a signed number of 16 bits in two's complement, from its low and its high byte
+unfoldable pub signed : ℕ → ℕ → ℤ
+signed low high = let n = low + 256 * high in cond (ltb n 32768) (pos n) (negℤ (pos (65536 - n)))
+
+-- the open rule: the last one
+unfoldable pub openRule : Grammar → Rule
+openRule g = getD (g .rules) (g .count - 1) noRule
+
+-- 10: the grammar with this start symbol
+unfoldable pub withStart : Grammar → ℕ → Grammar
+withStart g k = record { start = k; count = g .count; depth = g .depth; rules = g .rules }
+
+-- 20: the grammar with one rule more, which has no place yet
+unfoldable pub withRule : Grammar → ℕ → ℤ → Grammar
+withRule g k length = record {
+  start = g .start;
+  count = g .count + 1;
+  depth = g .depth;
+  rules = set (g .rules) (g .count) (record { left = k; length = length; count = 0; places = replicate 8 zeroPlace });
+}
+
+-- 30 and 40: the grammar with one place more in its open rule
+unfoldable pub withPlace : Grammar → Symbol → Grammar
+withPlace g s = let r = openRule g in record {
+  start = g .start;
+  count = g .count;
+  depth = g .depth;
+  rules = set (g .rules) (g .count - 1) (record {
+    left = r .left;
+    length = r .length;
+    count = r .count + 1;
+    places = set (r .places) (r .count) (record { symbol = s });
+  });
+}
+
+-- the grammar after the command c, whose operands are a, and b and d where it has three
+unfoldable pub after : ℕ → ℕ → ℕ → ℕ → Grammar → Grammar
+after c a b d g =
+    cond (eqb c 0x10) (withStart g a) (cond (eqb c 0x20) (withRule g a (signed b d))
+    (cond (eqb c 0x30) (withPlace g (Nonterminal a)) (cond (eqb c 0x40) (withPlace g (Terminal a)) g)))
+
+-- the number of a refusal and its offset
+pub record Fault : Type 0 where
+  pub number : ℕ
+  pub offset : ℕ
+
+abbrev pub fault : Bool → ℕ → ℕ → Check Fault
+fault b n at = check b (record { number = n; offset = at })
+
+-- 2 unknown byte
+unfoldable pub unknown : ℕ → Bool
+unknown c = not (eqb c 0x10 || eqb c 0x20 || eqb c 0x30 || eqb c 0x40 || eqb c 0x50)
+
+-- 3 out of turn: 10 not first or again, another command first, 30 or 40 before any 20
+unfoldable pub outOfTurn : ℕ → ℕ → Grammar → Bool
+outOfTurn c at g =
+    cond (eqb c 0x10) (ltb 0 at) (eqb at 0 || ((eqb c 0x30 || eqb c 0x40) && eqb (g .count) 0))
+
+-- the checks of the command c at an offset, whose first operand is a, in their order
+unfoldable pub commandChecks : List ℕ → ℕ → ℕ → ℕ → Grammar → List (Check Fault)
+commandChecks bytes at c a g =
+    fault (unknown c) 2 at
+    ∷ fault (outOfTurn c at g) 3 at
+    ∷ fault (ltb (length bytes) (at + 1 + operands c)) 1 (length bytes)
+    ∷ fault ((eqb c 0x10 || eqb c 0x20 || eqb c 0x30) && ltb 31 a) 4 at
+    ∷ fault (eqb c 0x20 && ltb 127 (g .count)) 5 at
+    ∷ fault ((eqb c 0x30 || eqb c 0x40) && ltb 7 (openRule g .count)) 6 at
+    ∷ fault (eqb c 0x50 && ltb (at + 1) (length bytes)) 7 (at + 1)
+    ∷ []
+
+-- what reading comes to: a fault, a command read, or the end of the book
+pub data Step : Type 0 where
+  stop : Fault → Step
+  next : ℕ → Grammar → Step
+  done : Grammar → Step
+
+-- one command, from any grammar on: 1 where the book ends instead
+unfoldable pub step : List ℕ → ℕ → Grammar → Step
+step bytes at g =
+    let c = getD bytes at 0 in
+    let a = getD bytes (at + 1) 0 in
+    decide (fault (not (ltb at (length bytes))) 1 (length bytes) ∷ commandChecks bytes at c a g) stop (λ _.
+    cond (eqb c 0x50) (done g) (next (at + 1 + operands c) (after c a (getD bytes (at + 2) 0) (getD bytes (at + 3) 0) g)))
+
+-- what loading gives: its answer and a grammar
+pub record Loading : Type 0 where
+  pub answer : Answer
+  pub grammar : Grammar
+
+-- a refused book leaves its number, its offset and the grammar of no rules
+unfoldable pub refusedBook : Fault → Loading
+refusedBook f = record { answer = refusedAt (f .number) (f .offset); grammar = zeroGrammar }
+
+-- a loaded book, with d as its nullable depth (blank depth)
+unfoldable pub loadedBook : ℕ → Grammar → Loading
+loadedBook d g = record { answer = loaded; grammar = record { start = g .start; count = g .count; depth = d; rules = g .rules } }
+
+-- at most n commands, from an offset and a grammar on. A book has at most as many commands as bytes, so after these it has ended
+unfoldable pub run : ℕ → List ℕ → ℕ → ℕ → Grammar → Loading
+run d bytes zero at g = refusedBook (record { number = 1; offset = length bytes })
+run d bytes (suc n) at g =
+    elim (step bytes at g) [ stop f ↦ refusedBook f | next at′ g′ ↦ run d bytes n at′ g′ | done g′ ↦ loadedBook d g′ ]
+
+-- loading. The nullable depth d is the only result that the definitions leave open: `Depth` says what holds of it
+unfoldable pub loadOf : List ℕ → ℕ → Loading
+loadOf bytes d = run d bytes (length bytes) 0 zeroGrammar

@@ -1,0 +1,56 @@
+-- The total length of a derivation (stack length of a reading), and whether two are the same build.
+-- Assumes nothing.
+use Prim.Native.Nat.{ℕ, suc, _+_, _/_}
+use mathlib.Core.Bool.{Bool, true, false, cond, _&&_, not}
+use mathlib.Core.List.{List, [], _∷_, _++_}
+use lib.Dec.{eqb}
+use lib.IntN.{ℤ, pos, negsuc, negℤ, _+ℤ_}
+use lib.ListN.{getD}
+use Rattle.cfg.specs.Listing.{L}
+use Rattle.grammar.specs.declared.Grammar.{Grammar}
+use Rattle.grammar.specs.Valid.{all}
+use Rattle.grammar.specs.View.{grammarOf}
+use Rattle.grammar.specs.Zero.{noRule}
+use Rattle.results.specs.Answer.{Answer, refused, tenths, check, decide}
+use Rattle.results.specs.Check.{listed, Checking, onInput}
+use Rattle.results.specs.Recognize.{saying}
+
+-- the rule lengths of all nodes of a row, empty ones too, added up: hundredths of a millimetre
+unfoldable pub sum : Grammar → List ℕ → ℤ
+sum g [] = pos 0
+sum g (cover ∷ []) = pos 0
+sum g (cover ∷ r ∷ e) = getD (g .rules) r noRule .length +ℤ sum g e
+
+-- hundredths rounded to tenths, halves away from zero
+unfoldable pub rounded : ℤ → ℤ
+rounded (pos n) = pos ((n + 5) / 10)
+rounded (negsuc n) = negℤ (pos ((suc n + 5) / 10))
+
+-- 12: an offered row is no derivation of the input
+unfoldable pub unlisted : Grammar → List ℕ → List ℕ → Bool
+unlisted g w e = not (listed e (L (grammarOf g) w))
+
+-- length
+unfoldable pub lengthOf : Grammar → List ℕ → List ℕ → List ℕ → Checking
+lengthOf g w offered chart = onInput g w chart (λ _.
+    decide (check (unlisted g w offered) 12 ∷ []) refused (λ _. tenths (rounded (sum g offered))))
+
+-- the rules of the nodes that cover something, in preorder
+unfoldable pub rulesUsed : List ℕ → List ℕ
+rulesUsed [] = []
+rulesUsed (cover ∷ []) = []
+rulesUsed (cover ∷ r ∷ e) = elim (eqb cover 0) [ true ↦ rulesUsed e | false ↦ r ∷ rulesUsed e ]
+
+-- how often a number is in a list
+unfoldable pub occurrences : ℕ → List ℕ → ℕ
+occurrences r [] = 0
+occurrences r (s ∷ l) = cond (eqb r s) (suc (occurrences r l)) (occurrences r l)
+
+-- two lists agree as bags: each number is in both as often
+unfoldable pub sameBag : List ℕ → List ℕ → Bool
+sameBag x y = all (λ r. eqb (occurrences r x) (occurrences r y)) (x ++ y)
+
+-- same build
+unfoldable pub sameBuildOf : Grammar → List ℕ → List ℕ → List ℕ → List ℕ → Checking
+sameBuildOf g w a b chart = onInput g w chart (λ _.
+    decide (check (unlisted g w a) 12 ∷ check (unlisted g w b) 12 ∷ []) refused (λ _. saying (sameBag (rulesUsed a) (rulesUsed b))))

@@ -1,0 +1,61 @@
+-- Opening and taking: the state of the recognizer (document 01: the plate in hand), the answer "complete", and the chart (sheet) at the end.
+-- Assumes nothing.
+use Prim.Native.Nat.{ℕ, _+_, _-_}
+use mathlib.Core.Bool.{Bool, cond, not}
+use mathlib.Core.List.{List, [], _∷_, _++_}
+use lib.Dec.{eqb, ltb}
+use lib.ListN.{length, take, replicate}
+use Rattle.grammar.specs.declared.Grammar.{Grammar}
+use Rattle.grammar.specs.Valid.{validGrammar}
+use Rattle.grammar.specs.View.{grammarOf}
+use Rattle.chart.specs.Cell.{cells}
+use Rattle.chart.specs.Column.{opened, extended, complete}
+use Rattle.results.specs.Answer.{Answer, refused, affirmed, denied, Check, check, decide}
+
+-- the state: 64 bytes, of which the first `count` have been taken
+pub record State : Type 0 where
+  pub bytes : List ℕ
+  pub count : ℕ
+
+-- the state that has taken w: what is unused is zero
+unfoldable pub stateOf : List ℕ → State
+stateOf w = record { bytes = w ++ replicate (64 - length w) 0; count = length w }
+
+-- what opening and taking give: the answer, the state, and what the chart holds at the end
+pub record Recognition : Type 0 where
+  pub answer : Answer
+  pub state : State
+  pub chart : List ℕ
+
+-- yes or no
+abbrev pub saying : Bool → Answer
+saying b = cond b affirmed denied
+
+-- 8: the grammar handed in
+abbrev pub grammarCheck : Grammar → Check ℕ
+grammarCheck g = check (not (validGrammar g)) 8
+
+-- 10: the chart is shorter than 4,225 cells
+abbrev pub chartCheck : List ℕ → Check ℕ
+chartCheck chart = check (ltb (length chart) cells) 10
+
+-- 14: a count over 64
+abbrev pub stateCheck : State → Check ℕ
+stateCheck h = check (ltb 64 (h .count)) 14
+
+-- opening. Refused, it gives a state of zeros and leaves the chart as found
+unfoldable pub openOf : Grammar → List ℕ → Recognition
+openOf g chart =
+    decide (grammarCheck g ∷ chartCheck chart ∷ [])
+    (λ n. record { answer = refused n; state = stateOf []; chart = chart })
+    (λ _. let filled = opened (grammarOf g) chart in
+    record { answer = saying (complete (grammarOf g) 0 filled); state = stateOf []; chart = filled })
+
+-- taking a byte. Refused, it leaves the state and the chart as found
+unfoldable pub takeOf : Grammar → State → ℕ → List ℕ → Recognition
+takeOf g h m chart =
+    decide (grammarCheck g ∷ stateCheck h ∷ chartCheck chart ∷ check (eqb (h .count) 64) 15 ∷ [])
+    (λ n. record { answer = refused n; state = h; chart = chart })
+    (λ _. let w = take (h .count) (h .bytes) ++ (m ∷ []) in
+    let filled = extended (grammarOf g) w chart in
+    record { answer = saying (complete (grammarOf g) (h .count + 1) filled); state = stateOf w; chart = filled })

@@ -1,0 +1,126 @@
+-- The laws of membership and insertion: what an insertion changes and keeps, a set is its members, a subset is no larger a number.
+-- Those that speak of the width are proved for every width n, and stated for 32. Assumes nothing.
+use Prim.Native.Nat.{ℕ, zero, suc, _/_, _%_, _^_, _≤_, _<_}
+use mathlib.Core.Bool.{Bool, true, false, true≢false}
+use mathlib.Core.Logic.{_≢_}
+use mathlib.Core.Path.{_≡_, refl, sym, ap, _∙_}
+use native.Mathlib.Nat.{pow-suc, div-eq-of-lt, lt-of-lt-of-le}
+use native.Mathlib.Omega.{arith}
+use lib.Dec.{eqb}
+use lib.Pow.{pow-pos, pow-mono}
+use borrow.Author.Tests.{eq-eqb}
+use Rattle.sets.specs.Set.{has, insert}
+use Rattle.sets.proofs.Halving.{has-zero, has-suc, has-zero-true, has-zero-false, insert-zero, insert-suc, insert-fresh}
+pub use Rattle.sets.proofs.Halving.{insert-old}
+
+-- ---- membership
+
+pub has-empty : (k : ℕ) → has k 0 ≡ false
+has-empty zero = has-zero 0
+has-empty (suc k) = has-suc k 0 ∙ has-empty k
+
+pub has-insert-same : (k w : ℕ) → has k (insert k w) ≡ true
+has-insert-same zero w =
+    let e : insert 0 w % 2 ≡ 1 = omega (arith, insert-zero w) in
+    has-zero (insert 0 w) ∙ eq-eqb (insert 0 w % 2) 1 e
+has-insert-same (suc k) w =
+    let e : insert (suc k) w / 2 ≡ insert k (w / 2) = omega (arith, insert-suc k w) in
+    has-suc k (insert (suc k) w) ∙ ap (has k) e ∙ has-insert-same k (w / 2)
+
+pub has-insert-other : (j k w : ℕ) → j ≢ k → has j (insert k w) ≡ has j w
+has-insert-other zero zero w d = absurd (d refl)
+has-insert-other zero (suc k) w d =
+    let e : insert (suc k) w % 2 ≡ w % 2 = omega (arith, insert-suc k w) in
+    has-zero (insert (suc k) w) ∙ ap (λ (x : ℕ). eqb x 1) e ∙ sym (has-zero w)
+has-insert-other (suc j) zero w d =
+    let e : insert 0 w / 2 ≡ w / 2 = omega (arith, insert-zero w) in
+    has-suc j (insert 0 w) ∙ ap (has j) e ∙ sym (has-suc j w)
+has-insert-other (suc j) (suc k) w d =
+    let e : insert (suc k) w / 2 ≡ insert k (w / 2) = omega (arith, insert-suc k w) in
+    has-suc j (insert (suc k) w) ∙ ap (has j) e ∙ has-insert-other j k (w / 2) (λ p. d (ap suc p)) ∙ sym (has-suc j w)
+
+-- ---- the number that an insertion gives
+
+pub insert-new : (k w : ℕ) → has k w ≡ false → w < insert k w
+insert-new k w e = omega (arith, insert-fresh k w e, pow-pos k)
+
+pub insert-le : (k w : ℕ) → w ≤ insert k w
+insert-le k w = go (has k w) refl
+  where
+    go : (b : Bool) → has k w ≡ b → w ≤ insert k w
+    go true e = omega (arith, insert-old k w e)
+    go false e = omega (arith, insert-new k w e)
+
+pub insert-same→has : (k w : ℕ) → insert k w ≡ w → has k w ≡ true
+insert-same→has k w same = go (has k w) refl
+  where
+    go : (b : Bool) → has k w ≡ b → has k w ≡ true
+    go true e = e
+    go false e = absurd (omega (arith, insert-new k w e))
+
+-- a member stays one
+pub has-insert : (j k w : ℕ) → has j w ≡ true → has j (insert k w) ≡ true
+has-insert j k w e = go (has k w) refl
+  where
+    go : (b : Bool) → has k w ≡ b → has j (insert k w) ≡ true
+    go true h = ap (has j) (insert-old k w h) ∙ e
+    go false h = has-insert-other j k w (λ p. true≢false (sym e ∙ ap (λ (x : ℕ). has x w) p ∙ h)) ∙ e
+
+-- ---- sets of n bits
+
+-- dropping the lowest bit
+half-below : (n w : ℕ) → w < 2 ^ suc n → w / 2 < 2 ^ n
+half-below n w l = omega (arith, pow-suc 2 n)
+
+pub insert-below : (n k w : ℕ) → k < n → w < 2 ^ n → insert k w < 2 ^ n
+insert-below zero k w h l = omega arith
+insert-below (suc n) zero w h l = omega (arith, insert-zero w, half-below n w l, pow-suc 2 n)
+insert-below (suc n) (suc k) w h l =
+    omega (arith, insert-suc k w, insert-below n k (w / 2) (omega arith) (half-below n w l), pow-suc 2 n)
+
+pub has-above : (n k w : ℕ) → w < 2 ^ n → n ≤ k → has k w ≡ false
+unfolding has
+has-above n k w l h = ap (λ (x : ℕ). eqb (x % 2) 1) (div-eq-of-lt (lt-of-lt-of-le l (pow-mono h)))
+
+-- the lowest bits are equal, or in order, where membership of 0 is
+low-eq : (v w : ℕ) → has 0 v ≡ has 0 w → v % 2 ≡ w % 2
+low-eq v w e = go (has 0 w) refl
+  where
+    go : (b : Bool) → has 0 w ≡ b → v % 2 ≡ w % 2
+    go true h = has-zero-true v (e ∙ h) ∙ sym (has-zero-true w h)
+    go false h = has-zero-false v (e ∙ h) ∙ sym (has-zero-false w h)
+
+low-le : (v w : ℕ) → (has 0 v ≡ true → has 0 w ≡ true) → v % 2 ≤ w % 2
+low-le v w f = go (has 0 v) refl
+  where
+    go : (b : Bool) → has 0 v ≡ b → v % 2 ≤ w % 2
+    go true h = omega (arith, has-zero-true w (f h))
+    go false h = omega (arith, has-zero-false v h)
+
+pub ext-below : (n v w : ℕ) → v < 2 ^ n → w < 2 ^ n → ((k : ℕ) → k < n → has k v ≡ has k w) → v ≡ w
+ext-below zero v w p q f = omega arith
+ext-below (suc n) v w p q f =
+    let g : (k : ℕ) → k < n → has k (v / 2) ≡ has k (w / 2) = λ k h. sym (has-suc k v) ∙ f (suc k) (omega arith) ∙ has-suc k w in
+    let e : v / 2 ≡ w / 2 = ext-below n (v / 2) (w / 2) (half-below n v p) (half-below n w q) g in
+    omega (arith, low-eq v w (f 0 (omega arith)))
+
+pub le-below : (n v w : ℕ) → v < 2 ^ n → ((k : ℕ) → has k v ≡ true → has k w ≡ true) → v ≤ w
+le-below zero v w p f = omega arith
+le-below (suc n) v w p f =
+    let g : (k : ℕ) → has k (v / 2) ≡ true → has k (w / 2) ≡ true = λ k h. sym (has-suc k w) ∙ f (suc k) (has-suc k v ∙ h) in
+    let l : v / 2 ≤ w / 2 = le-below n (v / 2) (w / 2) (half-below n v p) g in
+    omega (arith, low-le v w (f 0))
+
+-- ---- sets of 32 bits
+
+pub insert-lt : (k w : ℕ) → k < 32 → w < 2 ^ 32 → insert k w < 2 ^ 32
+insert-lt k w h l = insert-below 32 k w h l
+
+pub has-high : (k w : ℕ) → w < 2 ^ 32 → 32 ≤ k → has k w ≡ false
+has-high k w l h = has-above 32 k w l h
+
+pub set-ext : (v w : ℕ) → v < 2 ^ 32 → w < 2 ^ 32 → ((k : ℕ) → k < 32 → has k v ≡ has k w) → v ≡ w
+set-ext v w p q f = ext-below 32 v w p q f
+
+pub set-le : (v w : ℕ) → v < 2 ^ 32 → w < 2 ^ 32 → ((k : ℕ) → has k v ≡ true → has k w ≡ true) → v ≤ w
+set-le v w p q f = le-below 32 v w p f

@@ -1,0 +1,4 @@
+pub mod Halving
+pub mod Laws
+pub mod Card
+pub mod Machine

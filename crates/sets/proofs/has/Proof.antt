@@ -1,0 +1,17 @@
+-- `sets::has` meets its contract: the shifted and masked word is bit k. Assumes nothing.
+use borrow.Author.Needs.{needs}
+use Rattle.sets.proofs.Machine.{mask-is-has}
+use Rattle.sets.proofs.has.Statement.{statement}
+use Rattle.sets.proofs.has.Tie as tie
+
+cast-result : tie.Need-cast-result
+cast-result c = search needs
+
+shr-result : tie.Need-shr-result
+shr-result c = search needs
+
+returns : tie.Need-returns
+returns c = mask-is-has (c .args .k) (c .args .w)
+
+pub has-spec : {M : Type 1} → statement M
+has-spec = tie.close (tie.spec cast-result shr-result returns)

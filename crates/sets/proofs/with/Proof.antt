@@ -1,0 +1,17 @@
+-- `sets::with` meets its contract: `or` with the shifted 1 inserts k. Assumes nothing.
+use borrow.Author.Needs.{needs}
+use Rattle.sets.proofs.Machine.{shift-or-is-insert}
+use Rattle.sets.proofs.with.Statement.{statement}
+use Rattle.sets.proofs.with.Tie as tie
+
+cast-result : tie.Need-cast-result
+cast-result c = search needs
+
+shl-result : tie.Need-shl-result
+shl-result c = search needs
+
+returns : tie.Need-returns
+returns c = shift-or-is-insert (c .args .k) (c .args .w) (c .pre)
+
+pub with-spec : {M : Type 1} → statement M
+with-spec = tie.close (tie.spec cast-result shl-result returns)

@@ -1,0 +1,5 @@
+-- Each tree can be had without superfluous recursion, over the same bytes and with no more nodes.
+pub mod Decide
+pub mod Extract
+pub mod Shrink
+pub mod Nullable

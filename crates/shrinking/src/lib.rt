@@ -1,0 +1,1 @@
+// Pure theory: trees without superfluous recursion. Everything is in proofs/.
