@@ -59,3 +59,8 @@ takeOf g h m chart =
     (λ _. let w = take (h .count) (h .bytes) ++ (m ∷ []) in
     let filled = extended (grammarOf g) w chart in
     record { answer = saying (complete (grammarOf g) (h .count + 1) filled); state = stateOf w; chart = filled })
+
+-- taking bytes one after the other, each with the state and the chart that the call before it left
+unfoldable pub fed : Grammar → Recognition → List ℕ → Recognition
+fed g r [] = r
+fed g r (m ∷ w) = fed g (takeOf g (r .state) m (r .chart)) w
