@@ -2,3 +2,4 @@
 pub mod Books
 pub mod Table
 pub mod Faults
+pub mod NoTree

@@ -1,0 +1,127 @@
+-- Opening and taking bytes, one after the other: which cells change, and what lies in front of and behind the chart's end.
+-- Assumes nothing.
+use Prim.Native.Nat.{ℕ, suc, _+_, _≤_, _<_}
+use mathlib.Core.Bool.{Bool}
+use mathlib.Core.List.{List, [], _∷_, _++_, append-nil}
+use mathlib.Core.Path.{_≡_, refl, sym, ap, _∙_}
+use native.Mathlib.Omega.{arith}
+use lib.ListN.{length, getD, take, drop, replicate, length-append, length-drop, length-replicate, getD-replicate, List·getD-append}
+use lib.Seq.{append-snoc, getD-take, take-at, drop-at}
+use Rattle.cfg.specs.Grammar.{Cfg, Terminal}
+use Rattle.chart.specs.Cell.{cell, cells, place, fitsAt}
+use Rattle.chart.specs.Column.{column, putColumn, written, opened, extended, extendedBy, filled}
+use Rattle.chart.proofs.Written.{put-before, written-length, written-behind, written-cell-other}
+use Rattle.chart.proofs.Cells.{column-cong, column-length}
+
+-- what is written depends only on the cells
+pub written-before : (G : Cfg) (fit : ℕ → Terminal → Bool) (n : ℕ) (chart : List ℕ) → n ≤ 64
+    → take 4225 (written G fit n chart) ≡ written G fit n (take 4225 chart)
+unfolding written
+written-before G fit n chart h =
+    put-before (column G fit chart n (suc n)) chart n 0 h (omega (arith, column-length G fit chart n (suc n)))
+    ∙ ap (putColumn (take 4225 chart) n 0)
+    (column-cong G fit fit chart (take 4225 chart) n (λ a t _. refl)
+    (λ a b l m. sym (getD-take 4225 chart (place a b) 0 (omega arith))) (suc n))
+
+-- the length after one more byte
+pub length-snoc : (v : List ℕ) (m : ℕ) → length (v ++ (m ∷ [])) ≡ suc (length v)
+length-snoc v m = omega (arith, length-append v (m ∷ []))
+
+-- ---- taking bytes
+
+module _ (G : Cfg) where
+  pub extended-length : (w chart : List ℕ) → length (extended G w chart) ≡ length chart
+  unfolding extended
+  extended-length w chart = written-length G (fitsAt w) (length w) chart
+
+  pub extendedBy-length : (v u chart : List ℕ) → length (extendedBy G v u chart) ≡ length chart
+  unfolding extendedBy
+  extendedBy-length v [] chart = refl
+  extendedBy-length v (m ∷ u) chart =
+      let v' = v ++ (m ∷ []) in
+      extendedBy-length v' u (extended G v' chart) ∙ extended-length v' chart
+
+  pub extendedBy-behind : (v u chart : List ℕ) → length v + length u ≤ 64 → drop 4225 (extendedBy G v u chart) ≡ drop 4225 chart
+  unfolding extendedBy extended
+  extendedBy-behind v [] chart h = refl
+  extendedBy-behind v (m ∷ u) chart h =
+      let v' = v ++ (m ∷ []) in
+      let e : length v' ≡ suc (length v) = length-snoc v m in
+      extendedBy-behind v' u (extended G v' chart) (omega arith) ∙ written-behind G (fitsAt v') (length v') chart (omega arith)
+
+  pub extendedBy-before : (v u chart : List ℕ) → length v + length u ≤ 64
+      → take 4225 (extendedBy G v u chart) ≡ extendedBy G v u (take 4225 chart)
+  unfolding extendedBy extended
+  extendedBy-before v [] chart h = refl
+  extendedBy-before v (m ∷ u) chart h =
+      let v' = v ++ (m ∷ []) in
+      let e : length v' ≡ suc (length v) = length-snoc v m in
+      extendedBy-before v' u (extended G v' chart) (omega arith)
+      ∙ ap (extendedBy G v' u) (written-before G (fitsAt v') (length v') chart (omega arith))
+
+  -- a cell that is in none of the columns of the bytes taken stays
+  pub extendedBy-other : (v u chart : List ℕ) (i j : ℕ) → length v + length u ≤ 64 → j ≤ 64
+      → ((n : ℕ) → length v < n → n ≤ length v + length u → j ≡ n → n < i) → cell (extendedBy G v u chart) i j ≡ cell chart i j
+  unfolding extendedBy extended
+  extendedBy-other v [] chart i j h l d = refl
+  extendedBy-other v (m ∷ u) chart i j h l d =
+      let v' = v ++ (m ∷ []) in
+      let e : length v' ≡ suc (length v) = length-snoc v m in
+      extendedBy-other v' u (extended G v' chart) i j (omega arith) l (λ n x y z. d n (omega arith) (omega arith) z)
+      ∙ written-cell-other G (fitsAt v') (length v') chart (omega arith) i j l (d (length v') (omega arith) (omega arith))
+
+  pub extendedBy-append : (v x y chart : List ℕ) → extendedBy G v (x ++ y) chart ≡ extendedBy G (v ++ x) y (extendedBy G v x chart)
+  unfolding extendedBy
+  extendedBy-append v [] y chart = ap (λ (z : List ℕ). extendedBy G z y chart) (sym (append-nil v))
+  extendedBy-append v (m ∷ x) y chart =
+      let v' = v ++ (m ∷ []) in
+      extendedBy-append v' x y (extended G v' chart)
+      ∙ ap (λ (z : List ℕ). extendedBy G z y (extendedBy G v' x (extended G v' chart))) (append-snoc v m x)
+
+  -- filling with a longer input goes on where the shorter one ended
+  pub filled-append : (x y chart : List ℕ) → filled G (x ++ y) chart ≡ extendedBy G x y (filled G x chart)
+  unfolding filled
+  filled-append x y chart = extendedBy-append [] x y (opened G chart)
+
+  pub filled-snoc : (x : List ℕ) (m : ℕ) (chart : List ℕ) → filled G (x ++ (m ∷ [])) chart ≡ extended G (x ++ (m ∷ [])) (filled G x chart)
+  unfolding extendedBy
+  filled-snoc x m chart = filled-append x (m ∷ []) chart
+
+-- ---- opening
+
+-- c times 0, and then what stood behind
+module _ (c : ℕ) (chart : List ℕ) where
+  abbrev pub blank : List ℕ
+  blank = replicate c 0 ++ drop c chart
+
+  pub blank-length : c ≤ length chart → length blank ≡ length chart
+  blank-length h = omega (arith, length-append (replicate c 0) (drop c chart), length-replicate {A = ℕ} c 0, length-drop c chart)
+
+  pub blank-behind : drop c blank ≡ drop c chart
+  blank-behind = drop-at (replicate c 0) (drop c chart) c (length-replicate {A = ℕ} c 0)
+
+  pub blank-before : take c blank ≡ replicate c 0
+  blank-before = take-at (replicate c 0) (drop c chart) c (length-replicate {A = ℕ} c 0)
+
+  pub blank-zero : (p : ℕ) → p < c → getD blank p 0 ≡ 0
+  blank-zero p h = List·getD-append (replicate c 0) (drop c chart) 0 p (omega (arith, length-replicate {A = ℕ} c 0))
+      ∙ getD-replicate c p 0 0 h
+
+module _ (G : Cfg) (chart : List ℕ) where
+  pub opened-length : 4225 ≤ length chart → length (opened G chart) ≡ length chart
+  unfolding opened
+  opened-length h = written-length G (fitsAt []) 0 (blank cells chart) ∙ blank-length cells chart h
+
+  pub opened-behind : drop 4225 (opened G chart) ≡ drop 4225 chart
+  unfolding opened
+  opened-behind = written-behind G (fitsAt []) 0 (blank cells chart) (omega arith) ∙ blank-behind cells chart
+
+  pub opened-before : take 4225 (opened G chart) ≡ written G (fitsAt []) 0 (replicate cells 0)
+  unfolding opened
+  opened-before = written-before G (fitsAt []) 0 (blank cells chart) (omega arith)
+      ∙ ap (written G (fitsAt []) 0) (blank-before cells chart)
+
+  pub opened-zero : (i j : ℕ) → i ≤ 64 → j ≤ 64 → (j ≡ 0 → 0 < i) → cell (opened G chart) i j ≡ 0
+  unfolding opened
+  opened-zero i j h l d =
+      written-cell-other G (fitsAt []) 0 (blank cells chart) (omega arith) i j l d ∙ blank-zero cells chart (place i j) (omega arith)

@@ -1,0 +1,72 @@
+-- The column is the joint least one that is closed under the rules, over any chart found; it has as many cells as it is asked for
+-- (`column-length`), each a word of 32 bits (`column-lt`).
+-- Assumes nothing.
+use Prim.Native.Nat.{ℕ, suc, _≤_, _<_}
+use mathlib.Core.Bool.{Bool, true, false}
+use mathlib.Core.List.{List}
+use mathlib.Core.Logic.{_↔_}
+use mathlib.Core.Path.{_≡_, sym, ap, _∙_}
+use native.Mathlib.Decide.{decLt}
+use native.Mathlib.Omega.{arith}
+use lib.Dec.{ltb}
+use lib.ListN.{getD}
+use borrow.Author.Tests.{lt-ltb, le-ltb}
+use Rattle.sets.specs.Set.{has}
+use Rattle.cfg.specs.Grammar.{Cfg, Terminal, Of}
+use Rattle.chart.specs.Cell.{cell, cuts}
+use Rattle.chart.specs.Column.{column}
+use Rattle.chart.proofs.Cut.{InSets, cut-mono, cuts→cut, cut→cuts}
+use Rattle.chart.proofs.Derived.{Bounded}
+pub use Rattle.chart.proofs.Cells.{column-length, column-lt}
+use Rattle.chart.proofs.Inside.{Piece, ClosedBy, column-closed-by, column-inside}
+
+-- earlier columns as found, column n given by f
+unfoldable pub joint : List ℕ → ℕ → (ℕ → ℕ) → ℕ → ℕ → ℕ
+joint chart n f a b = elim (ltb b n) [ true ↦ cell chart a b | false ↦ f a ]
+
+-- the cells that f gives are closed under the rules
+abbrev pub Closed : Cfg → (ℕ → Terminal → Bool) → List ℕ → ℕ → (ℕ → ℕ) → Type 0
+Closed G fit chart n f =
+    (i r k : ℕ) → i ≤ n → (o : Of G r k) → cuts fit (joint chart n f) (o .the .places) i n ≡ true → has k (f i) ≡ true
+
+module _ (chart : List ℕ) (n : ℕ) (f : ℕ → ℕ) where
+  joint-earlier : (a b : ℕ) → b < n → joint chart n f a b ≡ cell chart a b
+  unfolding joint
+  joint-earlier a b h = rw (lt-ltb b n h, joint)
+
+  joint-column : (a b : ℕ) → n ≤ b → joint chart n f a b ≡ f a
+  unfolding joint
+  joint-column a b h = rw (le-ltb b n h, joint)
+
+  -- the pieces that f gives
+  abbrev Given : ℕ → ℕ → Type 0
+  Given k a = has k (f a) ≡ true
+
+  joint-piece : (k a b : ℕ) → (InSets (joint chart n f) k a b) ↔ Piece chart n Given k a b
+  joint-piece k a b = (
+    λ e. (λ h. ap (has k) (sym (joint-earlier a b h)) ∙ e, λ h. ap (has k) (sym (joint-column a b h)) ∙ e),
+    λ p. go p (decLt b n),
+  )
+    where
+      go : Piece chart n Given k a b → Dec (b < n) → InSets (joint chart n f) k a b
+      go p (yes h) = ap (has k) (joint-earlier a b h) ∙ p .0 h
+      go p (no h) = let l : n ≤ b = omega arith in ap (has k) (joint-column a b l) ∙ p .1 l
+
+  closed-iff : (G : Cfg) (fit : ℕ → Terminal → Bool) → Closed G fit chart n f ↔ ClosedBy G fit chart n Given
+  closed-iff G fit = (
+    λ c i r k h o d. c i r k h o
+        (cut→cuts fit (joint chart n f) n h (cut-mono i n (λ a t _ q. q) (λ j a b _ _ _ q. joint-piece j a b .1 q) (omega arith) d)),
+    λ c i r k h o e. c i r k h o
+        (cut-mono i n (λ a t _ q. q) (λ j a b _ _ _ q. joint-piece j a b .0 q) (omega arith)
+        (cuts→cut fit (joint chart n f) n (o .the .places) i h e)),
+  )
+
+module _ (G : Cfg) (fit : ℕ → Terminal → Bool) (chart : List ℕ) (n : ℕ) where
+  pub column-closed : Bounded G → Closed G fit chart n (λ (i : ℕ). getD (column G fit chart n (suc n)) i 0)
+  column-closed low =
+      closed-iff chart n (λ (i : ℕ). getD (column G fit chart n (suc n)) i 0) G fit .1 (column-closed-by G fit chart n low)
+
+  pub column-least : (f' : ℕ → ℕ) → Closed G fit chart n f'
+      → (i k : ℕ) → i ≤ n → has k (getD (column G fit chart n (suc n)) i 0) ≡ true → has k (f' i) ≡ true
+  column-least f' c i k h e =
+      column-inside G fit chart n (λ (j a : ℕ). has j (f' a) ≡ true) (closed-iff chart n f' G fit .0 c) i k h e
