@@ -1,0 +1,150 @@
+-- Whatever is handed in: a call keeps the length of the chart and what lies behind its 4,225 cells; first and next keep the length of the
+-- output and what lies behind a derivation handed out, and the whole output where none is.
+-- Assumes nothing.
+use Prim.Native.Nat.{ℕ, _*_, _/_, _≤_}
+use mathlib.Core.List.{List, [], _∷_, _++_, List·Memᴰ}
+use mathlib.Core.Option.{Option, none, some}
+use mathlib.Core.Path.{_≡_, refl, ap, _∙_}
+use native.Mathlib.Omega.{arith}
+use lib.ListN.{length, take, drop, length-append, length-drop, length-take}
+use lib.Seq.{drop-at}
+use borrow.Author.Tests.{ltb-false, eqb-false}
+use Rattle.cfg.specs.Listing.{L}
+use Rattle.chart.specs.Cell.{fitsAt}
+use Rattle.chart.specs.Column.{extended, filled}
+use Rattle.chart.proofs.Written.{written-behind}
+use Rattle.chart.proofs.Filled.{extended-length, opened-length, opened-behind}
+use Rattle.chart.proofs.Truth.{filled-length, filled-behind}
+use Rattle.grammar.specs.declared.Grammar.{Grammar}
+use Rattle.grammar.specs.View.{grammarOf}
+use Rattle.results.specs.Answer.{Answer, refused, handed}
+use Rattle.results.specs.Recognize.{State, Recognition, openOf, takeOf}
+use Rattle.results.specs.Check.{Checking, onInput, checkOf}
+use Rattle.results.specs.Measure.{lengthOf, sameBuildOf}
+use Rattle.results.specs.Enumerate.{Enumeration, handingOut, firstOf, nextOf, countOf}
+use Rattle.demands.specs.Kept.{ChartKept, OutputKept}
+use Rattle.demands.specs.Ready.{Ready, ReadyOut}
+use Rattle.demands.proofs.Decide.{decide-either}
+use Rattle.demands.proofs.Answers.{handed-inj}
+use Rattle.demands.proofs.Passed.{pass→ready, pass→readyOut}
+use Rattle.demands.proofs.Handed.{headOf-member, afterIn-member, member-even, member-length}
+
+-- ---- the chart
+
+chart-same : (chart : List ℕ) → ChartKept chart chart
+chart-same chart = record { same-length = refl; behind = refl }
+
+filled-kept : (g : Grammar) (w chart : List ℕ) → Ready g w chart → ChartKept chart (filled (grammarOf g) w chart)
+filled-kept g w chart r = record {
+  same-length = filled-length (grammarOf g) w chart (r .room);
+  behind = filled-behind (grammarOf g) w chart (r .short);
+}
+
+pub open-kept : (g : Grammar) (chart : List ℕ) → ChartKept chart (openOf g chart .chart)
+unfolding openOf
+open-kept g chart =
+    decide-either _ _ (λ (r : Recognition). ChartKept chart (r .chart)) _ (λ n. chart-same chart) (λ p. record {
+      same-length = opened-length (grammarOf g) chart (ltb-false (length chart) 4225 (p .1 .0));
+      behind = opened-behind (grammarOf g) chart;
+    })
+
+pub take-kept : (g : Grammar) (h : State) (m : ℕ) (chart : List ℕ) → ChartKept chart (takeOf g h m chart .chart)
+unfolding takeOf extended
+take-kept g h m chart =
+    let w = take (h .count) (h .bytes) ++ (m ∷ []) in
+    decide-either _ _ (λ (r : Recognition). ChartKept chart (r .chart)) _ (λ n. chart-same chart) (λ p.
+    let c : h .count ≤ 64 = ltb-false 64 (h .count) (p .1 .0) in
+    let d : ¬ (h .count ≡ 64) = eqb-false (h .count) 64 (p .1 .1 .1 .0) in
+    let l : length w ≤ 64 = omega (arith, length-append (take (h .count) (h .bytes)) (m ∷ []), length-take (h .count) (h .bytes)) in
+    record {
+      same-length = extended-length (grammarOf g) w chart;
+      behind = written-behind (grammarOf g) (fitsAt w) (length w) chart l;
+    })
+
+-- the calls that write no output
+module _ (g : Grammar) (w chart : List ℕ) where
+  onInput-kept : (answer : Unit {0} → Answer) → ChartKept chart (onInput g w chart answer .chart)
+  unfolding onInput
+  onInput-kept answer =
+      decide-either _ _ (λ (r : Checking). ChartKept chart (r .chart)) _ (λ n. chart-same chart)
+      (λ p. filled-kept g w chart (pass→ready g w chart p))
+
+  pub check-kept : (offered : List ℕ) → ChartKept chart (checkOf g w offered chart .chart)
+  unfolding checkOf
+  check-kept offered = onInput-kept _
+
+  pub length-kept : (offered : List ℕ) → ChartKept chart (lengthOf g w offered chart .chart)
+  unfolding lengthOf
+  length-kept offered = onInput-kept _
+
+  pub same-build-kept : (a b : List ℕ) → ChartKept chart (sameBuildOf g w a b chart .chart)
+  unfolding sameBuildOf
+  same-build-kept a b = onInput-kept _
+
+  pub count-kept : ChartKept chart (countOf g w chart .chart)
+  unfolding countOf
+  count-kept = onInput-kept _
+
+-- ---- the output
+
+output-same : (answer : Answer) (out : List ℕ) → OutputKept answer out out
+output-same answer out = record { same-length = refl; rest = λ n e. refl; untouched = λ f. refl }
+
+module _ (e out : List ℕ) (even : 2 * (length e / 2) ≡ length e) (fits : length e ≤ length out) where
+  output-handed : OutputKept (handed (length e / 2)) out (e ++ drop (length e) out)
+  output-handed = record {
+    same-length = omega (arith, length-append e (drop (length e) out), length-drop (length e) out);
+    rest = λ n p.
+        let q : length e ≡ 2 * n = omega (arith, handed-inj p) in
+        drop-at e (drop (length e) out) (2 * n) q ∙ ap (λ (i : ℕ). drop i out) q;
+    untouched = λ f. absurd (f (length e / 2) refl);
+  }
+
+pub handing-chart : (o : Option (List ℕ)) (answer : Answer) (chart out : List ℕ) → handingOut o answer chart out .chart ≡ chart
+unfolding handingOut
+handing-chart none answer chart out = refl
+handing-chart (some e) answer chart out = refl
+
+-- what is handed out of the list
+module _ (g : Grammar) (w chart out : List ℕ) (answer : Answer) (space : 1024 ≤ length out) where
+  handing-kept : (o : Option (List ℕ)) → ((e : List ℕ) → o ≡ some e → List·Memᴰ e (L (grammarOf g) w))
+      → OutputKept (handingOut o answer chart out .answer) out (handingOut o answer chart out .output)
+  unfolding handingOut
+  handing-kept none m = output-same answer out
+  handing-kept (some e) m =
+      let i = m e refl in
+      output-handed e out (member-even (grammarOf g) w e i) (omega (arith, member-length (grammarOf g) w e i))
+
+-- the chart and the output
+Both : (chart out : List ℕ) → Enumeration → Type 0
+Both chart out r = ChartKept chart (r .chart) × OutputKept (r .answer) out (r .output)
+
+module _ (g : Grammar) (w chart out : List ℕ) where
+  handing-both : ReadyOut g w chart out → (answer : Answer) (o : Option (List ℕ))
+      → ((e : List ℕ) → o ≡ some e → List·Memᴰ e (L (grammarOf g) w))
+      → Both chart out (handingOut o answer (filled (grammarOf g) w chart) out)
+  unfolding Both
+  handing-both r answer o m = (
+    rw (handing-chart o answer (filled (grammarOf g) w chart) out) (filled-kept g w chart (r .input)),
+    handing-kept g w (filled (grammarOf g) w chart) out answer (r .space) o m,
+  )
+
+  refused-both : (n : ℕ) → Both chart out (record { answer = refused n; chart = chart; output = out })
+  unfolding Both
+  refused-both n = (chart-same chart, output-same (refused n) out)
+
+  pub first-kept : ChartKept chart (firstOf g w chart out .chart)
+      × OutputKept (firstOf g w chart out .answer) out (firstOf g w chart out .output)
+  unfolding firstOf Both
+  first-kept =
+      decide-either _ _ (Both chart out) _ refused-both
+      (λ p. handing-both (pass→readyOut g w chart out p) _ _ (headOf-member (L (grammarOf g) w)))
+
+  pub next-kept : (offered : List ℕ) → ChartKept chart (nextOf g w offered chart out .chart)
+      × OutputKept (nextOf g w offered chart out .answer) out (nextOf g w offered chart out .output)
+  unfolding nextOf Both
+  next-kept offered =
+      decide-either _ _ (Both chart out) _ refused-both
+      (λ p. let r = pass→readyOut g w chart out p in
+      decide-either _ _ (Both chart out) _ (λ n. (filled-kept g w chart (r .input), output-same (refused n) out))
+      (λ q. handing-both r _ _ (afterIn-member offered (L (grammarOf g) w))))

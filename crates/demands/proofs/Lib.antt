@@ -1,0 +1,15 @@
+-- Theorems over the decided results, for all inputs.
+pub mod Decide
+pub mod Answers
+pub mod Passed
+pub mod Handed
+pub mod Kept
+pub mod Later
+pub mod Untouched
+pub mod Filled
+pub mod Order
+pub mod LoadOrder
+pub mod Listed
+pub mod OrderOffered
+pub mod OrderTrees
+pub mod Recognized

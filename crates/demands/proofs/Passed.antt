@@ -1,0 +1,64 @@
+-- The checks 8 to 11, 14 and 15: when each of them fails and when it is passed, in plain terms.
+-- Assumes nothing.
+use Prim.Native.Nat.{ℕ, _≤_, _<_}
+use mathlib.Core.Bool.{Bool, true, false, _||_, not}
+use mathlib.Core.List.{List, [], _∷_, _++_}
+use mathlib.Core.Logic.{_⊎_, inl, inr}
+use mathlib.Core.Path.{_≡_, refl, ap}
+use native.Mathlib.Omega.{arith}
+use lib.Dec.{eqb, ltb}
+use lib.ListN.{length}
+use borrow.Author.Tests.{ltb-false, eqb-false, not-false, lt-ltb, le-ltb, eq-eqb, ne-eqb}
+use Rattle.grammar.specs.declared.Grammar.{Grammar}
+use Rattle.grammar.specs.Valid.{validGrammar}
+use Rattle.results.specs.Check.{inputCheck, inputChecks}
+use Rattle.results.specs.Enumerate.{outputCheck}
+use Rattle.demands.specs.Ready.{Ready, ReadyOut}
+use Rattle.demands.proofs.Decide.{Pass}
+
+-- neither of two tests
+or-false : (a b : Bool) → (a || b) ≡ false → (a ≡ false) × (b ≡ false)
+or-false true b e = let z : _≡_ {A = ℕ} 0 1 = cc in absurd (omega arith)
+or-false false b e = (refl, e)
+
+-- ---- 9
+
+module _ (w : List ℕ) where
+  pub input-fails : (length w ≡ 0) ⊎ (64 < length w) → inputCheck w .fails ≡ true
+  input-fails (inl e) = rw (eq-eqb (length w) 0 e)
+  input-fails (inr h) = rw (lt-ltb 64 (length w) h, ne-eqb (length w) 0 (λ e. omega arith))
+
+  pub input-passes : 1 ≤ length w → length w ≤ 64 → inputCheck w .fails ≡ false
+  input-passes h l = rw (ne-eqb (length w) 0 (λ e. omega arith)) (le-ltb 64 (length w) l)
+
+  input-passed : inputCheck w .fails ≡ false → (1 ≤ length w) × (length w ≤ 64)
+  input-passed e =
+      let p = or-false (eqb (length w) 0) (ltb 64 (length w)) e in
+      let n : ¬ (length w ≡ 0) = eqb-false (length w) 0 (p .0) in
+      (omega arith, ltb-false 64 (length w) (p .1))
+
+-- ---- 8 to 10, and 8 to 11
+
+pub ready→pass : (g : Grammar) (w chart : List ℕ) → Ready g w chart → Pass (inputChecks g w chart)
+ready→pass g w chart r =
+    (ap not (r .valid), (input-passes w (r .nonempty) (r .short), (le-ltb (length chart) 4225 (r .room), tt)))
+
+pub pass→ready : (g : Grammar) (w chart : List ℕ) → Pass (inputChecks g w chart) → Ready g w chart
+pass→ready g w chart p = record {
+  valid = not-false (validGrammar g) (p .0);
+  nonempty = input-passed w (p .1 .0) .0;
+  short = input-passed w (p .1 .0) .1;
+  room = ltb-false (length chart) 4225 (p .1 .1 .0);
+}
+
+module _ (g : Grammar) (w chart out : List ℕ) where
+  pub readyOut→pass : ReadyOut g w chart out → Pass (inputChecks g w chart ++ (outputCheck out ∷ []))
+  readyOut→pass r =
+      let p = ready→pass g w chart (r .input) in
+      (p .0, (p .1 .0, (p .1 .1 .0, (le-ltb (length out) 1024 (r .space), tt))))
+
+  pub pass→readyOut : Pass (inputChecks g w chart ++ (outputCheck out ∷ [])) → ReadyOut g w chart out
+  pass→readyOut p = record {
+    input = pass→ready g w chart (p .0, (p .1 .0, (p .1 .1 .0, tt)));
+    space = ltb-false (length out) 1024 (p .1 .1 .1 .0);
+  }

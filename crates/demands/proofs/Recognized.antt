@@ -1,0 +1,177 @@
+-- Opening and then taking any row of bytes: the state, the answer and the chart.
+-- Assumes nothing.
+use Prim.Native.Nat.{ℕ, _+_, _≤_, _<_}
+use mathlib.Core.Bool.{Bool, true, false, not}
+use mathlib.Core.List.{List, [], _∷_, _++_, append-nil}
+use mathlib.Core.Logic.{_↔_, _⊎_}
+use mathlib.Core.Path.{_≡_, refl, sym, ap, _∙_}
+use native.Mathlib.Decide.{decLt}
+use native.Mathlib.Omega.{arith}
+use lib.Dec.{eqb}
+use lib.ListN.{length, take, drop, length-drop, take-append-drop}
+use lib.Seq.{slice, append-snoc, take-all, length-take-le, take-append-seam}
+use borrow.Author.Tests.{le-ltb, eq-eqb}
+use Rattle.sets.specs.Set.{has}
+use Rattle.cfg.specs.Tree.{Row, Parse, HasTree}
+use Rattle.chart.specs.Cell.{cell}
+use Rattle.chart.specs.Column.{extended, extendedBy, filled, complete}
+use Rattle.chart.proofs.Filled.{length-snoc, filled-snoc}
+use Rattle.chart.proofs.Truth.{filled-true, filled-zero, complete-tree, filled-length}
+use Rattle.grammar.specs.declared.Grammar.{Grammar}
+use Rattle.grammar.specs.Valid.{validGrammar}
+use Rattle.grammar.specs.View.{grammarOf}
+use Rattle.grammar.proofs.All.{true-false}
+use Rattle.grammar.proofs.Bounds.{valid-bounded}
+use Rattle.results.specs.Answer.{refused, affirmed, denied, check}
+use Rattle.results.specs.Recognize.{stateOf, Recognition, saying, grammarCheck, stateCheck, chartCheck, openOf, takeOf, fed}
+use Rattle.demands.specs.Recognized.{Recognized}
+use Rattle.demands.proofs.Decide.{decide-first}
+use Rattle.demands.proofs.Answers.{saying-affirmed, saying-denied}
+use Rattle.demands.proofs.Later.{open-passed, take-passed}
+
+-- taking two rows one after the other
+pub fed-append : (g : Grammar) (r : Recognition) (u v : List ℕ) → fed g r (u ++ v) ≡ fed g (fed g r u) v
+unfolding fed
+fed-append g r [] v = refl
+fed-append g r (m ∷ u) v = fed-append g (takeOf g (r .state) m (r .chart)) u v
+
+-- the bytes that the state after u has taken are u
+taken : (u : List ℕ) → take (stateOf u .count) (stateOf u .bytes) ≡ u
+unfolding stateOf
+taken u = take-append-seam u _
+
+-- the result after taking the bytes u, n of them, with this chart
+abbrev pub result : Grammar → List ℕ → ℕ → List ℕ → Recognition
+result g u n c = record { answer = saying (complete (grammarOf g) n c); state = stateOf u; chart = c }
+
+module _ (g : Grammar) (found : List ℕ) where
+  -- the result after the bytes u, of which there are at most 64
+  abbrev pub after : List ℕ → Recognition
+  after u = result g u (length u) (filled (grammarOf g) u found)
+
+  -- the result after more than 64 bytes, the first 64 of them being u
+  abbrev pub beyond : List ℕ → Recognition
+  beyond u = record { answer = refused 15; state = stateOf u; chart = filled (grammarOf g) u found }
+
+  module _ (valid : validGrammar g ≡ true) (room : 4225 ≤ length found) where
+    open-after : openOf g found ≡ after []
+    unfolding filled extendedBy
+    open-after = open-passed g found valid room
+
+    -- one more byte
+    take-after : (u : List ℕ) (m : ℕ) → length u < 64 → takeOf g (stateOf u) m (filled (grammarOf g) u found) ≡ after (u ++ (m ∷ []))
+    unfolding stateOf
+    take-after u m l =
+        let c = filled (grammarOf g) u found in
+        let v = u ++ (m ∷ []) in
+        let n : length u + 1 ≡ length v = omega (arith, length-snoc u m) in
+        take-passed g (stateOf u) m c valid l (omega (arith, filled-length (grammarOf g) u found room))
+        ∙ ap (λ (x : List ℕ). result g (x ++ (m ∷ [])) (length u + 1) (extended (grammarOf g) (x ++ (m ∷ [])) c)) (taken u)
+        ∙ ap (λ (i : ℕ). result g v i (extended (grammarOf g) v c)) n
+        ∙ ap (result g v (length v)) (sym (filled-snoc (grammarOf g) u m found))
+
+    -- a row of bytes, while there are at most 64
+    fed-after : (u v : List ℕ) → length u + length v ≤ 64 → fed g (after u) v ≡ after (u ++ v)
+    unfolding fed
+    fed-after u [] l = ap after (sym (append-nil u))
+    fed-after u (m ∷ v) l =
+        ap (λ (x : Recognition). fed g x v) (take-after u m (omega arith))
+        ∙ fed-after (u ++ (m ∷ [])) v (omega (arith, length-snoc u m))
+        ∙ ap after (append-snoc u m v)
+
+    module _ (u : List ℕ) (l : length u ≡ 64) where
+      take-beyond : (m : ℕ) → takeOf g (stateOf u) m (filled (grammarOf g) u found) ≡ beyond u
+      unfolding takeOf stateOf
+      take-beyond m =
+          let c = filled (grammarOf g) u found in
+          let r : 4225 ≤ length c = omega (arith, filled-length (grammarOf g) u found room) in
+          decide-first _ _ (grammarCheck g ∷ stateCheck (stateOf u) ∷ chartCheck c ∷ []) (check (eqb (stateOf u .count) 64) 15) []
+          (ap not valid, (le-ltb 64 (length u) (omega arith), (le-ltb (length c) 4225 r, tt))) (eq-eqb (length u) 64 l)
+
+      fed-beyond : (v : List ℕ) → fed g (beyond u) v ≡ beyond u
+      unfolding fed
+      fed-beyond [] = refl
+      fed-beyond (m ∷ v) = ap (λ (x : Recognition). fed g x v) (take-beyond m) ∙ fed-beyond v
+
+      fed-after-beyond : (v : List ℕ) → 0 < length v → fed g (after u) v ≡ beyond u
+      unfolding fed
+      fed-after-beyond [] h = absurd (omega arith)
+      fed-after-beyond (m ∷ v) h = ap (λ (x : Recognition). fed g x v) (take-beyond m) ∙ fed-beyond v
+
+    -- ---- from opening on
+
+    pub fed-short : (ms : List ℕ) → length ms ≤ 64 → fed g (openOf g found) ms ≡ after ms
+    fed-short ms l = ap (λ (x : Recognition). fed g x ms) open-after ∙ fed-after [] ms (omega arith)
+
+    pub fed-long : (ms : List ℕ) → 64 < length ms → fed g (openOf g found) ms ≡ beyond (take 64 ms)
+    fed-long ms l =
+        let e : length (take 64 ms) ≡ 64 = length-take-le 64 ms (omega arith) in
+        ap (fed g (openOf g found)) (sym (take-append-drop 64 ms))
+        ∙ fed-append g (openOf g found) (take 64 ms) (drop 64 ms)
+        ∙ ap (λ (x : Recognition). fed g x (drop 64 ms)) (fed-short (take 64 ms) (omega arith))
+        ∙ fed-after-beyond (take 64 ms) e (drop 64 ms) (omega (arith, length-drop 64 ms))
+
+    -- ---- what is said of these results
+
+    module _ (v : List ℕ) (l : length v ≤ 64) (r : Recognition) (c : r .chart ≡ filled (grammarOf g) v found) where
+      cells-of : (i j k : ℕ) → i ≤ j → j ≤ length v
+          → (has k (cell (r .chart) i j) ≡ true) ↔ ((t : Row) × Parse (grammarOf g) k (slice i j v) t)
+      cells-of i j k a b = rw c (filled-true (grammarOf g) (valid-bounded g valid) v found l room i j k a b)
+
+      zero-of : (i j : ℕ) → i ≤ 64 → j ≤ 64 → (j < i) ⊎ (length v < j) → cell (r .chart) i j ≡ 0
+      zero-of i j a b d = rw c (filled-zero (grammarOf g) v found l i j a b d)
+
+    module _ (ms : List ℕ) (l : length ms ≤ 64) where
+      has-tree : (complete (grammarOf g) (length ms) (filled (grammarOf g) ms found) ≡ true) ↔ HasTree (grammarOf g) ms
+      has-tree = complete-tree (grammarOf g) (valid-bounded g valid) ms found l room
+
+      tree-of : (saying (complete (grammarOf g) (length ms) (filled (grammarOf g) ms found)) ≡ affirmed) ↔ HasTree (grammarOf g) ms
+      tree-of = (λ e. has-tree .0 (saying-affirmed _ e), λ t. ap saying (has-tree .1 t))
+
+      no-tree-of : (saying (complete (grammarOf g) (length ms) (filled (grammarOf g) ms found)) ≡ denied) ↔ (HasTree (grammarOf g) ms → ⊥)
+      no-tree-of = (λ e t. true-false (has-tree .1 t) (saying-denied _ e), λ f. by _ (λ e. f (has-tree .0 e)))
+        where
+          by : (b : Bool) → (b ≡ true → ⊥) → saying b ≡ denied
+          by true f = absurd (f refl)
+          by false f = refl
+
+    -- ---- the theorem
+
+    recognized-short : (ms : List ℕ) → length ms ≤ 64 → (r : Recognition) → r ≡ after ms → Recognized (grammarOf g) found ms r
+    recognized-short ms l r e =
+        let s : ms ≡ take 64 ms = sym (take-all 64 ms l) in
+        let c : r .chart ≡ filled (grammarOf g) ms found = ap (λ (x : Recognition). x .chart) e in
+        let a : r .answer ≡ saying (complete (grammarOf g) (length ms) (filled (grammarOf g) ms found)) =
+        ap (λ (x : Recognition). x .answer) e in
+        record {
+          state = ap (λ (x : Recognition). x .state) e ∙ ap stateOf s;
+          chart = c ∙ ap (λ (x : List ℕ). filled (grammarOf g) x found) s;
+          tree = λ _. rw a (tree-of ms l);
+          no-tree = λ _. rw a (no-tree-of ms l);
+          full = λ h. absurd (omega arith);
+          cells = rw (take-all 64 ms l) (cells-of ms l r c);
+          zeros = rw (take-all 64 ms l) (zero-of ms l r c);
+        }
+
+    recognized-long : (ms : List ℕ) → 64 < length ms → (r : Recognition) → r ≡ beyond (take 64 ms) → Recognized (grammarOf g) found ms r
+    recognized-long ms l r e =
+        let h : length (take 64 ms) ≤ 64 = omega (arith, length-take-le 64 ms (omega arith)) in
+        let c : r .chart ≡ filled (grammarOf g) (take 64 ms) found = ap (λ (x : Recognition). x .chart) e in
+        record {
+          state = ap (λ (x : Recognition). x .state) e;
+          chart = c;
+          tree = λ h. absurd (omega arith);
+          no-tree = λ h. absurd (omega arith);
+          full = λ _. ap (λ (x : Recognition). x .answer) e;
+          cells = cells-of (take 64 ms) h r c;
+          zeros = zero-of (take 64 ms) h r c;
+        }
+
+    pub recognized : (ms : List ℕ) → Recognized (grammarOf g) found ms (fed g (openOf g found) ms)
+    recognized ms = by (decLt 64 (length ms))
+      where
+        by : Dec (64 < length ms) → Recognized (grammarOf g) found ms (fed g (openOf g found) ms)
+        by (yes l) = recognized-long ms l (fed g (openOf g found) ms) (fed-long ms l)
+        by (no l) =
+            let h : length ms ≤ 64 = omega arith in
+            recognized-short ms h (fed g (openOf g found) ms) (fed-short ms h)

@@ -1,0 +1,7 @@
+-- The statements that the theorems over the decided results share.
+pub mod Kept
+pub mod Ready
+pub mod Order
+pub mod LoadOrder
+pub mod OrderAfter
+pub mod Recognized

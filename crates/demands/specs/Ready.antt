@@ -1,0 +1,27 @@
+-- When the checks 8 to 11 of a call on an input are passed, in plain terms.
+-- Assumes nothing.
+use Prim.Native.Nat.{ℕ, _≤_}
+use mathlib.Core.Bool.{true}
+use mathlib.Core.List.{List}
+use mathlib.Core.Path.{_≡_}
+use lib.ListN.{length}
+use Rattle.grammar.specs.declared.Grammar.{Grammar}
+use Rattle.grammar.specs.Valid.{validGrammar}
+
+-- checks 8, 9 and 10 are passed
+pub record Ready (g : Grammar) (w chart : List ℕ) : Type 0 where
+  -- 8
+  pub valid : validGrammar g ≡ true
+  -- 9: at least one byte
+  pub nonempty : 1 ≤ length w
+  -- 9: at most 64 bytes
+  pub short : length w ≤ 64
+  -- 10
+  pub room : 4225 ≤ length chart
+
+-- checks 8 to 11 are passed
+pub record ReadyOut (g : Grammar) (w chart out : List ℕ) : Type 0 where
+  -- 8, 9 and 10
+  pub input : Ready g w chart
+  -- 11
+  pub space : 1024 ≤ length out

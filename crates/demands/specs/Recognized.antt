@@ -1,0 +1,33 @@
+-- What opening and then taking any row of bytes gives: the first 64 bytes count, each byte beyond them is refused and changes nothing.
+-- Assumes nothing.
+use Prim.Native.Nat.{ℕ, _≤_, _<_}
+use mathlib.Core.Bool.{true}
+use mathlib.Core.List.{List}
+use mathlib.Core.Logic.{_↔_, _⊎_}
+use mathlib.Core.Path.{_≡_}
+use lib.ListN.{length, take}
+use lib.Seq.{slice}
+use Rattle.sets.specs.Set.{has}
+use Rattle.cfg.specs.Grammar.{Cfg}
+use Rattle.cfg.specs.Tree.{Row, Parse, HasTree}
+use Rattle.chart.specs.Cell.{cell}
+use Rattle.chart.specs.Column.{filled}
+use Rattle.results.specs.Answer.{refused, affirmed, denied}
+use Rattle.results.specs.Recognize.{stateOf, Recognition}
+
+-- the result of feeding ms after opening over the chart found, for the grammar G
+pub record Recognized (G : Cfg) (found ms : List ℕ) (r : Recognition) : Type 0 where
+  -- the state has taken the first 64 bytes, or all of fewer
+  pub state : r .state ≡ stateOf (take 64 ms)
+  -- the chart is the one that is filled with these
+  pub chart : r .chart ≡ filled G (take 64 ms) found
+  -- up to 64 bytes: "complete" exactly if the bytes have a tree; without bytes this is opening's own answer
+  pub tree : length ms ≤ 64 → (r .answer ≡ affirmed) ↔ HasTree G ms
+  pub no-tree : length ms ≤ 64 → (r .answer ≡ denied) ↔ (HasTree G ms → ⊥)
+  -- more than 64: refused
+  pub full : 64 < length ms → r .answer ≡ refused 15
+  -- the cell of the span from i to j has exactly the nonterminals with a parse tree over the span
+  pub cells : (i j k : ℕ) → i ≤ j → j ≤ length (take 64 ms)
+      → (has k (cell (r .chart) i j) ≡ true) ↔ ((t : Row) × Parse G k (slice i j (take 64 ms)) t)
+  -- the other cells are zero
+  pub zeros : (i j : ℕ) → i ≤ 64 → j ≤ 64 → (j < i) ⊎ (length (take 64 ms) < j) → cell (r .chart) i j ≡ 0

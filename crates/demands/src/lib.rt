@@ -1,0 +1,1 @@
+// Theorems over the decided results, for all inputs: theory only, no code.
