@@ -11,3 +11,4 @@ pub mod Trees
 pub mod Filled
 pub mod Exact
 pub mod Truth
+pub mod SameRules

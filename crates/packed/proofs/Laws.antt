@@ -1,0 +1,118 @@
+-- What a packed grammar means, rule by rule and place by place.
+-- Assumes nothing.
+use Prim.Native.Nat.{ℕ, zero, suc, _+_, _-_, _≤_, _<_}
+use mathlib.Core.Bool.{Bool, true, false, cond}
+use mathlib.Core.List.{List, [], _∷_}
+use mathlib.Core.Option.{Option, none, some}
+use mathlib.Core.Path.{_≡_, refl, sym, ap, _∙_}
+use native.Mathlib.Decide.{decLt}
+use native.Mathlib.Omega.{arith}
+use lib.Dec.{ltb}
+use lib.ListN.{getElem?}
+use borrow.Author.Tests.{lt-ltb, le-ltb, ltb-true}
+use Rattle.cfg.specs.Grammar.{Rule, joined, rule, Of}
+use Rattle.chart.proofs.Derived.{Bounded}
+use Rattle.packed.specs.Packed.{leftIn, countIn, symbolIn, placesFrom, placesIn, ruleIn, packedRules, rulesIn, cfgIn}
+
+-- ---- places
+
+pub count-le : (p : List ℕ) (r : ℕ) → countIn p r ≤ 8
+unfolding countIn
+count-le p r = omega arith
+
+pub places-step : (p : List ℕ) (r q : ℕ) → q < countIn p r
+    → placesFrom p r q (countIn p r - q) ≡ symbolIn p r q ∷ placesFrom p r (suc q) (countIn p r - suc q)
+unfolding placesFrom
+places-step p r q h =
+    let e : countIn p r - q ≡ suc (countIn p r - suc q) = omega arith in
+    ap (placesFrom p r q) e
+
+pub places-end : (p : List ℕ) (r q : ℕ) → countIn p r ≤ q → placesFrom p r q (countIn p r - q) ≡ []
+unfolding placesFrom
+places-end p r q h =
+    let e : countIn p r - q ≡ 0 = omega arith in
+    ap (placesFrom p r q) e
+
+pub places-start : (p : List ℕ) (r : ℕ) → placesFrom p r 0 (countIn p r - 0) ≡ placesIn p r
+unfolding placesIn
+places-start p r =
+    let e : countIn p r - 0 ≡ countIn p r = omega arith in
+    ap (placesFrom p r 0) e
+
+-- ---- one rule
+
+-- the rule that row r describes
+abbrev pub rowRule : List ℕ → ℕ → Rule
+rowRule p r = record { left = leftIn p r; places = placesIn p r }
+
+pub rule-used : (p : List ℕ) (r : ℕ) → leftIn p r < 32 → ruleIn p r ≡ some (rowRule p r)
+unfolding ruleIn
+rule-used p r h = ap (λ (b : Bool). cond b (some (rowRule p r)) none) (lt-ltb (leftIn p r) 32 h)
+
+pub rule-unused : (p : List ℕ) (r : ℕ) → 32 ≤ leftIn p r → ruleIn p r ≡ none
+unfolding ruleIn
+rule-unused p r h = ap (λ (b : Bool). cond b (some (rowRule p r)) none) (le-ltb (leftIn p r) 32 h)
+
+used-rule : (p : List ℕ) (r : ℕ) (ρ : Rule) → ruleIn p r ≡ some ρ → (leftIn p r < 32) × (rowRule p r ≡ ρ)
+unfolding ruleIn
+used-rule p r ρ e = go (ltb (leftIn p r) 32) refl e
+  where
+    go : (b : Bool) → ltb (leftIn p r) 32 ≡ b → cond b (some (rowRule p r)) none ≡ some ρ → (leftIn p r < 32) × (rowRule p r ≡ ρ)
+    go true q h = (ltb-true (leftIn p r) 32 q, cc)
+    go false q h = let z : _≡_ {A = ℕ} 0 1 = cc in absurd (omega arith)
+
+-- ---- the rules by their numbers
+
+rules-at : (p : List ℕ) (n a r : ℕ) → r < n → getElem? (packedRules p a n) r ≡ some (ruleIn p (a + r))
+unfolding packedRules
+rules-at p zero a r h = absurd (omega arith)
+rules-at p (suc n) a zero h =
+    let e : a ≡ a + 0 = omega arith in
+    ap (λ (x : ℕ). some (ruleIn p x)) e
+rules-at p (suc n) a (suc r) h =
+    let e : suc a + r ≡ a + suc r = omega arith in
+    rules-at p n (suc a) r (omega arith) ∙ ap (λ (x : ℕ). some (ruleIn p x)) e
+
+rules-past : (p : List ℕ) (n a r : ℕ) → n ≤ r → getElem? (packedRules p a n) r ≡ none
+unfolding packedRules
+rules-past p zero a r h = refl
+rules-past p (suc n) a zero h = absurd (omega arith)
+rules-past p (suc n) a (suc r) h = rules-past p n (suc a) r (omega arith)
+
+none-some : {A : Type 0} {a : A} → _≡_ {A = Option A} none (some a) → ⊥
+none-some e =
+    let z : _≡_ {A = ℕ} 0 1 = cc in
+    omega arith
+
+module _ (s : ℕ) (p : List ℕ) where
+  pub rule-in : (r : ℕ) → r < 128 → rule (cfgIn s p) r ≡ ruleIn p r
+  unfolding cfgIn rulesIn joined
+  rule-in r h =
+      let e : 0 + r ≡ r = omega arith in
+      ap joined (rules-at p 128 0 r h) ∙ ap (ruleIn p) e
+
+  pub rule-in-past : (r : ℕ) → 128 ≤ r → rule (cfgIn s p) r ≡ none
+  unfolding cfgIn rulesIn joined
+  rule-in-past r h = ap joined (rules-past p 128 0 r h)
+
+  -- ---- the rules of a nonterminal
+
+  pub of-in : (r k : ℕ) (o : Of (cfgIn s p) r k)
+      → (r < 128) × (leftIn p r ≡ k) × (leftIn p r < 32) × (o .the .places ≡ placesIn p r)
+  of-in r k o = go (decLt r 128)
+    where
+      go : Dec (r < 128) → (r < 128) × (leftIn p r ≡ k) × (leftIn p r < 32) × (o .the .places ≡ placesIn p r)
+      go (yes h) =
+          let u = used-rule p r (o .the) (sym (rule-in r h) ∙ o .here) in
+          (h, ap (λ (ρ : Rule). ρ .left) (u .1) ∙ o .left, u .0, sym (ap (λ (ρ : Rule). ρ .places) (u .1)))
+      go (no h) = absurd (none-some (sym (rule-in-past r (omega arith)) ∙ o .here))
+
+  unfoldable pub in-of : (r k : ℕ) → r < 128 → leftIn p r ≡ k → leftIn p r < 32 → Of (cfgIn s p) r k
+  in-of r k h e l = record { the = rowRule p r; here = rule-in r h ∙ rule-used p r l; left = e }
+
+  pub in-of-places : (r k : ℕ) (h : r < 128) (e : leftIn p r ≡ k) (l : leftIn p r < 32) → in-of r k h e l .the .places ≡ placesIn p r
+  unfolding in-of
+  in-of-places r k h e l = refl
+
+  pub cfg-in-bounded : Bounded (cfgIn s p)
+  cfg-in-bounded r k o = let u = of-in r k o in omega (arith, u .1, u .2)

@@ -1,0 +1,5 @@
+-- The laws of packed grammars. What others cite: Laws.
+pub mod Laws
+pub mod Fitting
+pub mod Row
+pub mod Rows

@@ -1,0 +1,3 @@
+-- The flat copy of a grammar, and what it means.
+pub mod Packed
+pub mod Place

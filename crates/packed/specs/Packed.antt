@@ -1,0 +1,62 @@
+-- A packed grammar is 2304 bytes, 18 for each of 128 rules: the left side (32 or more: no rule of this number), the number of places,
+-- and for each of 8 places a tag (0 a nonterminal, else a terminal) and a value. What such bytes mean.
+-- Assumes nothing.
+use Prim.Native.Nat.{ℕ, zero, suc, _+_, _*_, min}
+use mathlib.Core.Bool.{Bool, false, cond}
+use mathlib.Core.List.{List, [], _∷_}
+use mathlib.Core.Option.{Option, none, some}
+use lib.Dec.{eqb, ltb}
+use lib.ListN.{getD}
+use Rattle.cfg.specs.Grammar.{Cfg, Rule, Symbol, nonterminal, terminal, byte}
+use Rattle.chart.specs.Cell.{fitsAt}
+
+-- the byte of rule r's left side
+unfoldable pub leftIn : List ℕ → ℕ → ℕ
+leftIn p r = getD p (18 * r) 0
+
+-- the number of places of rule r, 8 at most
+unfoldable pub countIn : List ℕ → ℕ → ℕ
+countIn p r = min (getD p (18 * r + 1) 0) 8
+
+-- the tag of place q of rule r
+unfoldable pub tagIn : List ℕ → ℕ → ℕ → ℕ
+tagIn p r q = getD p (18 * r + 2 + 2 * q) 0
+
+-- the value of place q of rule r
+unfoldable pub valueIn : List ℕ → ℕ → ℕ → ℕ
+valueIn p r q = getD p (18 * r + 3 + 2 * q) 0
+
+-- the symbol in place q of rule r
+unfoldable pub symbolIn : List ℕ → ℕ → ℕ → Symbol
+symbolIn p r q = cond (eqb (tagIn p r q) 0) (nonterminal (valueIn p r q)) (terminal (byte (valueIn p r q)))
+
+-- the symbols of n places of rule r, from place q on
+unfoldable pub placesFrom : List ℕ → ℕ → ℕ → ℕ → List Symbol
+placesFrom p r q zero = []
+placesFrom p r q (suc n) = symbolIn p r q ∷ placesFrom p r (suc q) n
+
+-- the symbols of the places of rule r
+unfoldable pub placesIn : List ℕ → ℕ → List Symbol
+placesIn p r = placesFrom p r 0 (countIn p r)
+
+-- rule r, if there is one
+unfoldable pub ruleIn : List ℕ → ℕ → Option Rule
+ruleIn p r = cond (ltb (leftIn p r) 32) (some (record { left = leftIn p r; places = placesIn p r })) none
+
+-- n rules, from rule r on
+unfoldable pub packedRules : List ℕ → ℕ → ℕ → List (Option Rule)
+packedRules p r zero = []
+packedRules p r (suc n) = ruleIn p r ∷ packedRules p (suc r) n
+
+-- the rules 0 to 127
+unfoldable pub rulesIn : List ℕ → List (Option Rule)
+rulesIn p = packedRules p 0 128
+
+-- the grammar of these rules with this start symbol
+unfoldable pub cfgIn : ℕ → List ℕ → Cfg
+cfgIn s p = record { start = s; rules = rulesIn p }
+
+-- whether the byte at position i of the input fits a symbol: never a nonterminal
+unfoldable pub fitsPlace : List ℕ → Symbol → ℕ → Bool
+fitsPlace w (nonterminal k) i = false
+fitsPlace w (terminal t) i = fitsAt w i t

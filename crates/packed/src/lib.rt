@@ -1,0 +1,128 @@
+// The flat copy of a grammar for inner loops: 2304 bytes, which loops and recursion take by reference.
+use grammar::Grammar;
+use grammar::Rule;
+use grammar::Symbol;
+ghost use mathlib.Core.Bool.{true};
+ghost use mathlib.Core.Path.{_≡_};
+ghost use Prim.Native.Nat.{ℕ, _<_, _≤_};
+ghost use lib.Dec.{eqb};
+ghost use lib.ListN.{length};
+ghost use Rattle.sets.specs.Set.{has as inSet};
+ghost use Rattle.cfg.specs.Grammar.{rule as ruleOfNumber};
+ghost use Rattle.grammar.specs.Valid.{validRule, validGrammar};
+ghost use Rattle.grammar.specs.View.{grammarOf};
+ghost use Rattle.packed.specs.Packed.{leftIn, countIn, tagIn, valueIn, symbolIn, cfgIn, fitsPlace};
+ghost use Rattle.packed.specs.Place.{tagOf, valueOf, RulePut};
+
+// A byte as a number.
+fn wide(x: u8) -> usize
+    ensures { λ n. ⌜ (n ≡ x) × (n < 256) ⌝ }
+{
+    x as usize
+}
+
+// The left side of rule r: 32 or more where there is no such rule.
+pub fn left(p: &[u8; 2304], r: usize) -> usize
+    requires { ⌜ r < 128 ⌝ }
+    ensures { λ k. ⌜ k ≡ leftIn (now (p .entry)) r ⌝ }
+{
+    wide(p[18 * r])
+}
+
+// How many places rule r has.
+pub fn count(p: &[u8; 2304], r: usize) -> usize
+    requires { ⌜ r < 128 ⌝ }
+    ensures { λ n. ⌜ (n ≡ countIn (now (p .entry)) r) × (n ≤ 8) ⌝ }
+{
+    let n = wide(p[18 * r + 1]);
+    if n < 8 { n } else { 8 }
+}
+
+// Whether place q of rule r holds a nonterminal.
+pub fn is_nonterminal(p: &[u8; 2304], r: usize, q: usize) -> bool
+    requires { ⌜ (r < 128) × (q < 8) ⌝ }
+    ensures { λ b. ⌜ b ≡ eqb (tagIn (now (p .entry)) r q) 0 ⌝ }
+{
+    p[18 * r + 2 + 2 * q] == 0
+}
+
+// The number that place q of rule r holds.
+pub fn value(p: &[u8; 2304], r: usize, q: usize) -> usize
+    requires { ⌜ (r < 128) × (q < 8) ⌝ }
+    ensures { λ v. ⌜ (v ≡ valueIn (now (p .entry)) r q) × (v < 256) ⌝ }
+{
+    wide(p[18 * r + 3 + 2 * q])
+}
+
+// Whether k is in the set, for every k.
+pub fn contains(word: u32, k: usize) -> bool
+    ensures { λ b. ⌜ b ≡ inSet k word ⌝ }
+{
+    if k < 32 { sets::has(word, k) } else { false }
+}
+
+// Whether the byte at position i of the input fits place q of rule r. The only reading of the input.
+pub fn fits_at(p: &[u8; 2304], r: usize, q: usize, w: &[u8], i: usize) -> bool
+    requires { ⌜ (r < 128) × (q < 8) ⌝ }
+    ensures { λ b. ⌜ b ≡ fitsPlace (now (w .entry)) (symbolIn (now (p .entry)) r q) i ⌝ }
+{
+    if is_nonterminal(p, r, q) {
+        return false;
+    }
+    if i < w.len() {
+        return value(p, r, q) == wide(w[i]);
+    }
+    false
+}
+
+fn tag_of(s: Symbol) -> u8
+    ensures { λ t. ⌜ t ≡ tagOf s ⌝ }
+{
+    match s {
+        Symbol::Nonterminal(_) => 0,
+        Symbol::Terminal(_) => 1,
+    }
+}
+
+fn value_of(s: Symbol) -> u8
+    ensures { λ v. ⌜ v ≡ valueOf s ⌝ }
+{
+    match s {
+        Symbol::Nonterminal(k) => k,
+        Symbol::Terminal(m) => m,
+    }
+}
+
+// Writes the rule into row r.
+fn pack_rule(rule: Rule, r: usize, p: &mut [u8; 2304])
+    requires { ⌜ (r < 128) × (validRule rule ≡ true) × (length (now p) ≡ 2304) ⌝ }
+    ensures { λ _. ⌜ RulePut rule r (now (p .entry)) (now (p .exit)) ⌝ }
+{
+    let n = rule.count;
+    p[18 * r] = rule.left;
+    p[18 * r + 1] = n as u8;
+    let mut q = 0;
+    while q < n {
+        let place = rule.places[q];
+        let s = place.symbol;
+        p[18 * r + 2 + 2 * q] = tag_of(s);
+        p[18 * r + 3 + 2 * q] = value_of(s);
+        q += 1;
+    }
+}
+
+// The packed grammar. Rules that are not used have the left side 255.
+pub fn pack(g: Grammar) -> [u8; 2304]
+    requires { ⌜ validGrammar g ≡ true ⌝ }
+    ensures { λ p. ⌜ ((r : ℕ) → ruleOfNumber (cfgIn (g .start) p) r ≡ ruleOfNumber (grammarOf g) r) ⌝ }
+{
+    let mut p = [255u8; 2304];
+    let n = g.count;
+    let mut r = 0;
+    while r < n {
+        let rule = g.rules[r];
+        pack_rule(rule, r, &mut p);
+        r += 1;
+    }
+    p
+}
