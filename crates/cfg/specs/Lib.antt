@@ -4,4 +4,3 @@ pub mod Tree
 pub mod Derivation
 pub mod Listing
 pub mod Nullable
-pub mod Walk

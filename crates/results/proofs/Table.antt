@@ -5,7 +5,7 @@ use Prim.Native.Nat.{ℕ}
 use mathlib.Core.List.{List, [], _∷_, map}
 use mathlib.Core.Path.{_≡_, refl}
 use lib.IntN.{pos, negℤ}
-use lib.ListN.{replicate}
+use lib.ListN.{take, replicate}
 use Rattle.cfg.specs.Grammar.{fits, joined}
 use Rattle.cfg.specs.Listing.{L, over, when, from, among, keep, rulesFrom, items, upTo, listing, derivations}
 use Rattle.sets.specs.Set.{has, insert}
@@ -13,7 +13,7 @@ use Rattle.chart.specs.Cell.{fitsAt, piece, someFrom, cuts, derived}
 use Rattle.chart.specs.Column as Column
 use Rattle.grammar.specs.Valid.{all, validRule, validGrammar}
 use Rattle.grammar.specs.View.{grammarOf}
-use Rattle.results.specs.Answer.{Answer, refused, loaded, affirmed, denied, handed, noDerivation, counted, tenths, decide}
+use Rattle.results.specs.Answer.{Answer, refused, loaded, affirmed, denied, handed, noDerivation, noneLeft, counted, tenths, decide}
 use Rattle.results.specs.Load as Load
 use Rattle.results.specs.Recognize as Recognize
 use Rattle.results.specs.Check.{same, listed, onInput}
@@ -85,6 +85,19 @@ table =
 pub table-holds : map (λ r. outcome (r .book) (r .input)) table ≡ map (λ r. r .gives) table
 unfolding outcome table row
 table-holds = refl
+
+-- what next answers for T and `A`, offered a row, with what it hands out
+unfoldable pub nextOn : List ℕ → Answer × List ℕ
+unfolding outcome Enumerate.afterIn Enumerate.nextOf
+nextOn offered =
+    let r = Enumerate.nextOf (Load.loadOf T 0 .grammar) (As 1) offered (replicate 4225 7) (replicate 1024 9) in
+    (r .answer, take 7 (r .output))
+
+-- after the first comes the second, after that none; a row that is no derivation is refused
+pub next-holds : (nextOn (1 ∷ 0 ∷ 0 ∷ 1 ∷ 1 ∷ 2 ∷ []) ≡ (handed 3, 1 ∷ 0 ∷ 1 ∷ 2 ∷ 0 ∷ 1 ∷ 9 ∷ []))
+    × (nextOn (1 ∷ 0 ∷ 1 ∷ 2 ∷ 0 ∷ 1 ∷ []) ≡ (noneLeft, replicate 7 9)) × (nextOn [] ≡ (refused 12, replicate 7 9))
+unfolding nextOn
+next-holds = (refl, refl, refl)
 
 -- the bush of 512 nodes has one derivation
 pub limit-met : (outcome (bush 0 close) (As 1) .first ≡ handed 512) × (outcome (bush 0 close) (As 1) .count ≡ counted 1)

@@ -5,8 +5,8 @@ use Prim.Native.Nat.{ℕ, _*_, _≤_}
 use mathlib.Core.List.{List, [], _∷_}
 use lib.ListN.{length, take}
 use Rattle.cfg.specs.Derivation.{Derivation, limit}
-use Rattle.cfg.specs.Walk.{Call, Said, handsOut, noDerivation, noneLeft, refuses, counts, more}
-use Rattle.cfg.specs.Walk as Walk
+use Rattle.results.specs.Walk.{Call, Said, handsOut, noDerivation, noneLeft, refuses, counts, more}
+use Rattle.results.specs.Walk as Walk
 use Rattle.grammar.specs.declared.Grammar.{Grammar}
 use Rattle.grammar.specs.View.{grammarOf}
 use Rattle.results.specs.Answer as Answer

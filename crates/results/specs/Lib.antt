@@ -5,4 +5,5 @@ pub mod Recognize
 pub mod Check
 pub mod Measure
 pub mod Enumerate
+pub mod Walk
 pub mod History
