@@ -1,0 +1,2 @@
+-- The final theorems.
+pub mod Theorems

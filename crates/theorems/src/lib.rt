@@ -1,0 +1,1 @@
+// The final theorems, each proved by citation: proofs/Theorems.antt.
