@@ -16,7 +16,7 @@ use Rattle.results.specs.Check.{Checking, onInput, checkOf}
 use Rattle.results.specs.Measure.{lengthOf, sameBuildOf}
 use Rattle.results.specs.Enumerate.{Enumeration, firstOf, nextOf, countOf}
 use Rattle.demands.specs.Ready.{Ready, ReadyOut}
-use Rattle.demands.proofs.Decide.{decide-either}
+use Rattle.results.proofs.Decide.{decide-either}
 use Rattle.demands.proofs.Kept.{handing-chart, first-kept, next-kept}
 use Rattle.demands.proofs.Later.{open-passed, onInput-passed, first-passed, next-passed}
 

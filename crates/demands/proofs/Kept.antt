@@ -24,10 +24,11 @@ use Rattle.results.specs.Measure.{lengthOf, sameBuildOf}
 use Rattle.results.specs.Enumerate.{Enumeration, handingOut, firstOf, nextOf, countOf}
 use Rattle.demands.specs.Kept.{ChartKept, OutputKept}
 use Rattle.demands.specs.Ready.{Ready, ReadyOut}
-use Rattle.demands.proofs.Decide.{decide-either}
+use Rattle.results.proofs.Decide.{decide-either}
 use Rattle.demands.proofs.Answers.{handed-inj}
 use Rattle.demands.proofs.Passed.{pass→ready, pass→readyOut}
-use Rattle.demands.proofs.Handed.{headOf-member, afterIn-member, member-even, member-length}
+use Rattle.demands.proofs.Handed.{headOf-member, afterIn-member}
+use Rattle.results.proofs.Demand3.Listed.{row-even, row-short}
 
 -- ---- the chart
 
@@ -113,7 +114,7 @@ module _ (g : Grammar) (w chart out : List ℕ) (answer : Answer) (space : 1024 
   handing-kept none m = output-same answer out
   handing-kept (some e) m =
       let i = m e refl in
-      output-handed e out (member-even (grammarOf g) w e i) (omega (arith, member-length (grammarOf g) w e i))
+      output-handed e out (row-even (grammarOf g) w e i) (omega (arith, row-short (grammarOf g) w e i))
 
 -- the chart and the output
 Both : (chart out : List ℕ) → Enumeration → Type 0

@@ -20,7 +20,7 @@ use Rattle.results.specs.Check.{listed, Checking, onInput, checkOf}
 use Rattle.results.specs.Measure.{unlisted, rulesUsed, sameBag, lengthOf, sameBuildOf}
 use Rattle.results.specs.Enumerate.{Enumeration, handingOut, headOf, afterIn, treeIn, firstOf, nextOf, countOf}
 use Rattle.demands.specs.Ready.{Ready, ReadyOut}
-use Rattle.demands.proofs.Decide.{decide-passed, decide-cases}
+use Rattle.results.proofs.Decide.{decide-passed, decide-cases}
 use Rattle.demands.proofs.Answers.{refused-inj, saying-not-refused, handed-not-refused, noDerivation-not-refused}
 use Rattle.demands.proofs.Answers.{noneLeft-not-refused, counted-not-refused, more-not-refused, tenths-not-refused}
 use Rattle.demands.proofs.Passed.{ready→pass, readyOut→pass}

@@ -1,5 +1,4 @@
 -- Theorems over the decided results, for all inputs.
-pub mod Decide
 pub mod Answers
 pub mod Passed
 pub mod Handed

@@ -12,7 +12,7 @@ use Rattle.results.specs.Answer.{Check, decide}
 use Rattle.results.specs.Load.{operands, after, Fault, fault, unknown, outOfTurn, commandChecks, Step, stop, next, done, step}
 use Rattle.results.specs.Load.{refusedBook, run}
 use Rattle.demands.specs.LoadOrder.{ended, endsInside, nonterminalOver, rulesOver, placesOver, furtherByte, CommandOrder}
-use Rattle.demands.proofs.Decide.{decide-first, decide-passed}
+use Rattle.results.proofs.Decide.{decide-first, decide-passed}
 
 -- what comes after the checks is no stop
 goes-on : (b : Bool) (at : ℕ) (g h : Grammar) (f : Fault) → cond b (done g) (next at h) ≡ stop f → ⊥

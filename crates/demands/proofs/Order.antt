@@ -16,7 +16,7 @@ use Rattle.results.specs.Measure.{lengthOf, sameBuildOf}
 use Rattle.results.specs.Enumerate.{outputCheck, Enumeration, firstOf, nextOf, countOf}
 use Rattle.demands.specs.Ready.{Ready, ReadyOut}
 use Rattle.demands.specs.Order.{OpenOrder, TakeOrder, InputOrder, OutputOrder}
-use Rattle.demands.proofs.Decide.{decide-first}
+use Rattle.results.proofs.Decide.{decide-first}
 use Rattle.demands.proofs.Passed.{input-fails, input-passes, ready→pass}
 use Rattle.demands.proofs.Later.{open-later, take-later, check-later, length-later, same-build-later, count-later}
 use Rattle.demands.proofs.Later.{first-later, next-later}

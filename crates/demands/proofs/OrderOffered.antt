@@ -14,7 +14,7 @@ use Rattle.results.specs.Measure.{unlisted, rulesUsed, sameBag, lengthOf, sameB
 use Rattle.results.specs.Enumerate.{Enumeration, nextOf}
 use Rattle.demands.specs.Ready.{Ready, ReadyOut}
 use Rattle.demands.specs.OrderAfter.{OfferedOrder}
-use Rattle.demands.proofs.Decide.{decide-first, decide-passed}
+use Rattle.results.proofs.Decide.{decide-first, decide-passed}
 use Rattle.demands.proofs.Answers.{saying-not-refused, noneLeft-not-refused, tenths-not-refused}
 use Rattle.demands.proofs.Later.{onInput-passed, next-passed, handing-refused}
 use Rattle.demands.proofs.Listed.{derivation→offered, offered→derivation}

@@ -14,7 +14,7 @@ use Rattle.grammar.specs.Valid.{validGrammar}
 use Rattle.results.specs.Check.{inputCheck, inputChecks}
 use Rattle.results.specs.Enumerate.{outputCheck}
 use Rattle.demands.specs.Ready.{Ready, ReadyOut}
-use Rattle.demands.proofs.Decide.{Pass}
+use Rattle.results.proofs.Decide.{Pass}
 
 -- neither of two tests
 or-false : (a b : Bool) → (a || b) ≡ false → (a ≡ false) × (b ≡ false)

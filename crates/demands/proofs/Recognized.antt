@@ -25,7 +25,7 @@ use Rattle.grammar.proofs.Bounds.{valid-bounded}
 use Rattle.results.specs.Answer.{refused, affirmed, denied, check}
 use Rattle.results.specs.Recognize.{stateOf, Recognition, saying, grammarCheck, stateCheck, chartCheck, openOf, takeOf, fed}
 use Rattle.demands.specs.Recognized.{Recognized}
-use Rattle.demands.proofs.Decide.{decide-first}
+use Rattle.results.proofs.Decide.{decide-first}
 use Rattle.demands.proofs.Answers.{saying-affirmed, saying-denied}
 use Rattle.demands.proofs.Later.{open-passed, take-passed}
 

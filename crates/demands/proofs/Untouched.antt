@@ -16,7 +16,7 @@ use Rattle.results.specs.Check.{Checking, onInput, checkOf}
 use Rattle.results.specs.Measure.{lengthOf, sameBuildOf}
 use Rattle.results.specs.Enumerate.{Enumeration, firstOf, nextOf, countOf}
 use Rattle.demands.specs.Ready.{Ready}
-use Rattle.demands.proofs.Decide.{decide-or}
+use Rattle.results.proofs.Decide.{decide-or}
 use Rattle.demands.proofs.Passed.{pass→ready, pass→readyOut}
 use Rattle.demands.proofs.Later.{open-later, take-later, check-later, length-later, same-build-later, count-later}
 use Rattle.demands.proofs.Later.{first-later, next-later}

@@ -17,32 +17,16 @@ use Rattle.grammar.specs.declared.Grammar.{Grammar}
 use Rattle.grammar.specs.Valid.{validGrammar}
 use Rattle.grammar.specs.View.{grammarOf}
 use Rattle.grammar.proofs.Bounds.{valid-bounded}
-use Rattle.results.specs.Answer.{refused, handed, noDerivation, noneLeft, counted, more, Check, check, decide}
+use Rattle.results.specs.Answer.{refused, handed, noDerivation, noneLeft, counted, more, check, decide}
 use Rattle.results.specs.Check.{inputChecks, onInput}
 use Rattle.results.specs.Measure.{unlisted}
 use Rattle.results.specs.Enumerate.{outputCheck, treeIn, handingOut, headOf, afterIn, firstOf, nextOf, countOf}
+use Rattle.results.proofs.Decide.{Pass, decide-first, decide-passed}
 use Rattle.results.proofs.Demand3.Rows.{head-some, head-none, member-listed, not-member-listed}
-
--- no check fails
-abbrev pub Passes : List (Check ℕ) → Type 0
-Passes [] = Unit {0}
-Passes (c ∷ checks) = (c .fails ≡ false) × Passes checks
-
-pub decide-passes : {B : Type 0} (checks : List (Check ℕ)) (refuse : ℕ → B) (go : Unit {0} → B) → Passes checks
-    → decide checks refuse go ≡ go tt
-unfolding decide
-decide-passes [] refuse go p = refl
-decide-passes (c ∷ checks) refuse go p = rw (p .0, decide) (decide-passes checks refuse go (p .1))
-
--- a single check that fails
-pub decide-fails : {B : Type 0} (c : Check ℕ) (checks : List (Check ℕ)) (refuse : ℕ → B) (go : Unit {0} → B) → c .fails ≡ true
-    → decide (c ∷ checks) refuse go ≡ refuse (c .refusal)
-unfolding decide
-decide-fails c checks refuse go p = rw (p, decide)
 
 module _ (g : Grammar) (valid : validGrammar g ≡ true) (w : List ℕ) (low : 1 ≤ length w) (high : length w ≤ 64) where
   module _ (chart : List ℕ) (c : 4225 ≤ length chart) where
-    input-passes : Passes (inputChecks g w chart)
+    input-passes : Pass (inputChecks g w chart)
     input-passes = (ap not valid, (either, (le-ltb (length chart) 4225 c, tt)))
       where
         either : (eqb (length w) 0 || ltb 64 (length w)) ≡ false
@@ -64,7 +48,7 @@ module _ (g : Grammar) (valid : validGrammar g ≡ true) (w : List ℕ) (low : 1
 
     pub countOf-none : length (L (grammarOf g) w) ≡ 0 → countOf g w chart .answer ≡ cond (treeIn g w chart) (refused 13) (counted 0)
     unfolding countOf onInput
-    countOf-none h = rw (decide-passes (inputChecks g w chart) _ _ input-passes, eq-eqb (length (L (grammarOf g) w)) 0 h)
+    countOf-none h = rw (decide-passed _ _ (inputChecks g w chart) input-passes, eq-eqb (length (L (grammarOf g) w)) 0 h)
 
     pub count-answer-none : length (L (grammarOf g) w) ≡ 0 → (tree : Dec (HasTree (grammarOf g) w))
         → countOf g w chart .answer ≡ ite tree (refused 13) (counted 0)
@@ -74,7 +58,7 @@ module _ (g : Grammar) (valid : validGrammar g ≡ true) (w : List ℕ) (low : 1
         → countOf g w chart .answer ≡ counted (length (L (grammarOf g) w))
     unfolding countOf onInput
     countOf-some h k = rw (
-      decide-passes (inputChecks g w chart) _ _ input-passes,
+      decide-passed _ _ (inputChecks g w chart) input-passes,
       ne-eqb (length (L (grammarOf g) w)) 0 (omega arith),
       le-leb (length (L (grammarOf g) w)) 4096 k,
     )
@@ -82,19 +66,19 @@ module _ (g : Grammar) (valid : validGrammar g ≡ true) (w : List ℕ) (low : 1
     pub countOf-more : 4096 < length (L (grammarOf g) w) → countOf g w chart .answer ≡ more
     unfolding countOf onInput
     countOf-more h = rw (
-      decide-passes (inputChecks g w chart) _ _ input-passes,
+      decide-passed _ _ (inputChecks g w chart) input-passes,
       ne-eqb (length (L (grammarOf g) w)) 0 (omega arith),
       lt-leb (length (L (grammarOf g) w)) 4096 h,
     )
 
     module _ (out : List ℕ) (o : 1024 ≤ length out) where
-      output-passes : Passes (inputChecks g w chart ++ (outputCheck out ∷ []))
+      output-passes : Pass (inputChecks g w chart ++ (outputCheck out ∷ []))
       output-passes = let p = input-passes in (p .0, (p .1 .0, (p .1 .1 .0, (le-ltb (length out) 1024 o, tt))))
 
       pub firstOf-goes : firstOf g w chart out ≡ handingOut (headOf (L (grammarOf g) w))
           (cond (treeIn g w chart) (refused 13) noDerivation) (filled (grammarOf g) w chart) out
       unfolding firstOf
-      firstOf-goes = decide-passes (inputChecks g w chart ++ (outputCheck out ∷ [])) _ _ output-passes
+      firstOf-goes = decide-passed _ _ (inputChecks g w chart ++ (outputCheck out ∷ [])) output-passes
 
       pub first-answer-some : 0 < length (L (grammarOf g) w)
           → firstOf g w chart out .answer ≡ handed (length (getD (L (grammarOf g) w) 0 []) / 2)
@@ -110,15 +94,15 @@ module _ (g : Grammar) (valid : validGrammar g ≡ true) (w : List ℕ) (low : 1
           ≡ handingOut (afterIn e (L (grammarOf g) w)) noneLeft (filled (grammarOf g) w chart) out
       unfolding nextOf unlisted
       nextOf-listed e i =
-          decide-passes (inputChecks g w chart ++ (outputCheck out ∷ [])) _ _ output-passes
-          ∙ decide-passes (check (unlisted g w e) 12 ∷ []) _ _ (ap not (member-listed e i), tt)
+          decide-passed _ _ (inputChecks g w chart ++ (outputCheck out ∷ [])) output-passes
+          ∙ decide-passed _ _ (check (unlisted g w e) 12 ∷ []) (ap not (member-listed e i), tt)
 
       pub nextOf-other : (e : List ℕ) → (List·Memᴰ e (L (grammarOf g) w) → ⊥)
           → nextOf g w e chart out ≡ record { answer = refused 12; chart = filled (grammarOf g) w chart; output = out }
       unfolding nextOf unlisted
       nextOf-other e n =
-          decide-passes (inputChecks g w chart ++ (outputCheck out ∷ [])) _ _ output-passes
-          ∙ decide-fails (check (unlisted g w e) 12) [] _ _ (ap not (not-member-listed e (L (grammarOf g) w) n))
+          decide-passed _ _ (inputChecks g w chart ++ (outputCheck out ∷ [])) output-passes
+          ∙ decide-first _ _ [] (check (unlisted g w e) 12) [] tt (ap not (not-member-listed e (L (grammarOf g) w) n))
 
   -- whether the input has a tree is decided by the chart of a fresh filling
   pub tree-decided : Dec (HasTree (grammarOf g) w)

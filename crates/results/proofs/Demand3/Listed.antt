@@ -27,7 +27,7 @@ module _ (G : Cfg) (w : List ℕ) where
     row-nodes = let d = listed→derivation G limit w e i in
         (nodes (d .tree), ap length (sym (d .coded)) ∙ length-code (d .tree), d .small)
 
-    pub row-even : length e / 2 * 2 ≡ length e
+    pub row-even : 2 * (length e / 2) ≡ length e
     row-even = let r = row-nodes in omega arith
 
     pub row-short : length e ≤ 1024
@@ -36,8 +36,7 @@ module _ (G : Cfg) (w : List ℕ) where
     -- handed out: the front of the output, twice as many numbers as it has nodes, is the row
     pub row-back : (out : List ℕ) → take (2 * (length e / 2)) (e ++ drop (length e) out) ≡ e
     row-back out =
-        let h : 2 * (length e / 2) ≡ length e = let r = row-nodes in omega arith in
-        rw h (take-append-seam e (drop (length e) out))
+        rw row-even (take-append-seam e (drop (length e) out))
 
   pub L-none : length (L G w) ≡ 0 → (t : Row) → Parse G (G .start) w t → 512 < nodes t
   L-none h = no-derivation→large G limit w (λ e d. none (L G w) h (derivation→listed G limit w e d))
