@@ -8,7 +8,7 @@ use mathlib.Core.Path.{_≡_, refl, sym, ap}
 use native.Mathlib.Omega.{arith}
 use lib.ListN.{length, replicate}
 use Rattle.cfg.specs.Grammar.{Cfg, Rule, Symbol, nonterminal, terminal, byte, fits, joined, Of}
-use Rattle.cfg.specs.Tree.{Row, end, leaf, node, yield}
+use Rattle.cfg.specs.Tree.{end, leaf, node, yield}
 use Rattle.cfg.specs.Derivation.{Has, has-here, has-below, has-beside, has-after, first-less, first-same}
 use Rattle.cfg.specs.Derivation.{Superfluous, super-here, super-below, super-beside, super-after, Rising, rising-one, rising-more}
 use Rattle.cfg.specs.Listing.{L, over, when, from, among, keep, rulesFrom, items, upTo, listing, derivations}

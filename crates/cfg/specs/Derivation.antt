@@ -5,7 +5,7 @@ use mathlib.Core.List.{List, [], _∷_}
 use mathlib.Core.Path.{_≡_}
 use lib.ListN.{length}
 use Rattle.cfg.specs.Grammar.{Cfg, Of}
-use Rattle.cfg.specs.Tree.{Row, end, leaf, node, yield, nodes, code, Parse}
+use Rattle.cfg.specs.Tree.{Row, leaf, node, yield, nodes, code, Parse}
 
 -- somewhere in the row, at any depth, there is a node of the nonterminal k that covers n bytes
 pub data Has (G : Cfg) (k n : ℕ) : Row → Type 0 where
@@ -15,7 +15,7 @@ pub data Has (G : Cfg) (k n : ℕ) : Row → Type 0 where
   has-after : {m : ℕ} {rest : Row} → Has G k n rest → Has G k n (leaf m rest)
 
 -- superfluous recursion: some node has a proper descendant of its own nonterminal over the same bytes.
--- A descendant lies inside its ancestor, so it covers the same bytes exactly if it covers as many.
+-- A descendant lies inside its ancestor, so it covers the same bytes exactly if it covers as many; two empty nodes cover the same bytes.
 pub data Superfluous (G : Cfg) : Row → Type 0 where
   super-here : {k r : ℕ} {below rest : Row} → Of G r k → Has G k (length (yield below)) below → Superfluous G (node r below rest)
   super-below : {r : ℕ} {below rest : Row} → Superfluous G below → Superfluous G (node r below rest)

@@ -1,1 +1,2 @@
-// Meaning only: abstract grammars, parse trees, derivations, their order, the list of all of them, and the walk. Everything is in specs/.
+// Meaning only: abstract grammars, parse trees, derivations, their order and the list of all of them, in specs/; rows that these
+// definitions must give, in proofs/.

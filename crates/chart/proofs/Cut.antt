@@ -13,22 +13,22 @@ use Rattle.sets.specs.Set.{has}
 use Rattle.cfg.specs.Grammar.{Symbol, nonterminal, terminal, Terminal}
 use Rattle.chart.specs.Cell.{piece, someFrom, cuts}
 
--- the places cut the span from a to n, where `part k a b` says that the nonterminal k may cover the span from a to b
-pub data Cut (fit : ℕ → Terminal → Bool) (part : ℕ → ℕ → ℕ → Type 0) (n : ℕ) : List Symbol → ℕ → Type 0 where
-  cut-end : {a : ℕ} → a ≡ n → Cut fit part n [] a
+-- the places cut the span from a to n, where `covers k a b` says that the nonterminal k may cover the span from a to b
+pub data Cut (fit : ℕ → Terminal → Bool) (covers : ℕ → ℕ → ℕ → Type 0) (n : ℕ) : List Symbol → ℕ → Type 0 where
+  cut-end : {a : ℕ} → a ≡ n → Cut fit covers n [] a
   cut-leaf : {t : Terminal} {places : List Symbol} {a : ℕ}
-      → a < n → fit a t ≡ true → Cut fit part n places (suc a) → Cut fit part n (terminal t ∷ places) a
+      → a < n → fit a t ≡ true → Cut fit covers n places (suc a) → Cut fit covers n (terminal t ∷ places) a
   cut-node : {k : ℕ} {places : List Symbol} {a : ℕ} (b : ℕ)
-      → a ≤ b → b ≤ n → part k a b → Cut fit part n places b → Cut fit part n (nonterminal k ∷ places) a
+      → a ≤ b → b ≤ n → covers k a b → Cut fit covers n places b → Cut fit covers n (nonterminal k ∷ places) a
 
 -- the pieces that the sets have
 abbrev pub InSets : (ℕ → ℕ → ℕ) → ℕ → ℕ → ℕ → Type 0
 InSets sets k a b = has k (sets a b) ≡ true
 
-pub cut-mono : {fit fit' : ℕ → Terminal → Bool} {part part' : ℕ → ℕ → ℕ → Type 0} (i n : ℕ)
+pub cut-mono : {fit fit' : ℕ → Terminal → Bool} {covers covers' : ℕ → ℕ → ℕ → Type 0} (i n : ℕ)
     → ((a : ℕ) (t : Terminal) → a < n → fit a t ≡ true → fit' a t ≡ true)
-    → ((k a b : ℕ) → i ≤ a → a ≤ b → b ≤ n → part k a b → part' k a b)
-    → {places : List Symbol} {a : ℕ} → i ≤ a → Cut fit part n places a → Cut fit' part' n places a
+    → ((k a b : ℕ) → i ≤ a → a ≤ b → b ≤ n → covers k a b → covers' k a b)
+    → {places : List Symbol} {a : ℕ} → i ≤ a → Cut fit covers n places a → Cut fit' covers' n places a
 cut-mono i n f p h (cut-end e) = cut-end e
 cut-mono i n f p h (cut-leaf {t = t} {a = a} l q c) = cut-leaf l (f a t l q) (cut-mono i n f p (omega arith) c)
 cut-mono i n f p h (cut-node {k = k} {a = a} b l m q c) = cut-node b l m (p k a b h l m q) (cut-mono i n f p (omega arith) c)

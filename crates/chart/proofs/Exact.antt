@@ -20,7 +20,7 @@ use Rattle.chart.proofs.Inside.{Piece, ClosedBy, column-closed-by, colu
 use Rattle.chart.proofs.Slices.{slice-before}
 use Rattle.chart.proofs.Trees.{Node, cut→row, row→cut}
 use Rattle.chart.proofs.Written.{written-cell, written-cell-other}
-use Rattle.chart.proofs.Filled.{length-snoc, extended-length, opened-length, blank, blank-length}
+use Rattle.chart.proofs.Filled.{length-snoc, extended-length, opened-length, cleared, cleared-length}
 
 -- the cells of the spans that end before m have exactly what derives them
 pub record Exact (G : Cfg) (w : List ℕ) (m : ℕ) (chart : List ℕ) : Type 0 where
@@ -92,8 +92,8 @@ exact-written G low w n l h chart c x = record { sound = sound; full = full }
 
 pub exact-opened : (G : Cfg) → Bounded G → (chart : List ℕ) → 4225 ≤ length chart → Exact G [] 1 (opened G chart)
 unfolding opened
-exact-opened G low chart c = exact-written G low [] 0 (omega arith) (omega arith) (blank cells chart)
-    (omega (arith, blank-length cells chart c))
+exact-opened G low chart c = exact-written G low [] 0 (omega arith) (omega arith) (cleared cells chart)
+    (omega (arith, cleared-length cells chart c))
     (record { sound = λ i j k a b. absurd (omega arith); full = λ i j k a b. absurd (omega arith) })
 
 -- a longer input, for the same columns

@@ -91,37 +91,37 @@ module _ (G : Cfg) where
 
 -- c times 0, and then what stood behind
 module _ (c : ℕ) (chart : List ℕ) where
-  abbrev pub blank : List ℕ
-  blank = replicate c 0 ++ drop c chart
+  abbrev pub cleared : List ℕ
+  cleared = replicate c 0 ++ drop c chart
 
-  pub blank-length : c ≤ length chart → length blank ≡ length chart
-  blank-length h = omega (arith, length-append (replicate c 0) (drop c chart), length-replicate {A = ℕ} c 0, length-drop c chart)
+  pub cleared-length : c ≤ length chart → length cleared ≡ length chart
+  cleared-length h = omega (arith, length-append (replicate c 0) (drop c chart), length-replicate {A = ℕ} c 0, length-drop c chart)
 
-  pub blank-behind : drop c blank ≡ drop c chart
-  blank-behind = drop-at (replicate c 0) (drop c chart) c (length-replicate {A = ℕ} c 0)
+  pub cleared-behind : drop c cleared ≡ drop c chart
+  cleared-behind = drop-at (replicate c 0) (drop c chart) c (length-replicate {A = ℕ} c 0)
 
-  pub blank-before : take c blank ≡ replicate c 0
-  blank-before = take-at (replicate c 0) (drop c chart) c (length-replicate {A = ℕ} c 0)
+  pub cleared-before : take c cleared ≡ replicate c 0
+  cleared-before = take-at (replicate c 0) (drop c chart) c (length-replicate {A = ℕ} c 0)
 
-  pub blank-zero : (p : ℕ) → p < c → getD blank p 0 ≡ 0
-  blank-zero p h = List·getD-append (replicate c 0) (drop c chart) 0 p (omega (arith, length-replicate {A = ℕ} c 0))
+  pub cleared-zero : (p : ℕ) → p < c → getD cleared p 0 ≡ 0
+  cleared-zero p h = List·getD-append (replicate c 0) (drop c chart) 0 p (omega (arith, length-replicate {A = ℕ} c 0))
       ∙ getD-replicate c p 0 0 h
 
 module _ (G : Cfg) (chart : List ℕ) where
   pub opened-length : 4225 ≤ length chart → length (opened G chart) ≡ length chart
   unfolding opened
-  opened-length h = written-length G (fitsAt []) 0 (blank cells chart) ∙ blank-length cells chart h
+  opened-length h = written-length G (fitsAt []) 0 (cleared cells chart) ∙ cleared-length cells chart h
 
   pub opened-behind : drop 4225 (opened G chart) ≡ drop 4225 chart
   unfolding opened
-  opened-behind = written-behind G (fitsAt []) 0 (blank cells chart) (omega arith) ∙ blank-behind cells chart
+  opened-behind = written-behind G (fitsAt []) 0 (cleared cells chart) (omega arith) ∙ cleared-behind cells chart
 
   pub opened-before : take 4225 (opened G chart) ≡ written G (fitsAt []) 0 (replicate cells 0)
   unfolding opened
-  opened-before = written-before G (fitsAt []) 0 (blank cells chart) (omega arith)
-      ∙ ap (written G (fitsAt []) 0) (blank-before cells chart)
+  opened-before = written-before G (fitsAt []) 0 (cleared cells chart) (omega arith)
+      ∙ ap (written G (fitsAt []) 0) (cleared-before cells chart)
 
   pub opened-zero : (i j : ℕ) → i ≤ 64 → j ≤ 64 → (j ≡ 0 → 0 < i) → cell (opened G chart) i j ≡ 0
   unfolding opened
   opened-zero i j h l d =
-      written-cell-other G (fitsAt []) 0 (blank cells chart) (omega arith) i j l d ∙ blank-zero cells chart (place i j) (omega arith)
+      written-cell-other G (fitsAt []) 0 (cleared cells chart) (omega arith) i j l d ∙ cleared-zero cells chart (place i j) (omega arith)

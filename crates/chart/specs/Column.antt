@@ -18,7 +18,7 @@ unfoldable pub times : ℕ → (ℕ → ℕ) → ℕ → ℕ
 times zero step v = v
 times (suc n) step v = step (times n step v)
 
--- cell (i, n): the least set closed under the rules. Each round adds a nonterminal or none, and there are 32
+-- cell (i, n): the least set closed under the rules. A round that adds nothing is the last that could, and there are 32 nonterminals
 unfoldable pub least : Cfg → (ℕ → Terminal → Bool) → List ℕ → ℕ → ℕ → List ℕ → ℕ
 least G fit chart n i later = times 32 (λ own. derived fit (seen chart n i later own) (G .rules) i n) 0
 

@@ -11,4 +11,5 @@ pub mod LoadOrder
 pub mod Listed
 pub mod OrderOffered
 pub mod OrderTrees
+pub mod Check
 pub mod Recognized

@@ -10,7 +10,7 @@ use lib.ListN.{length, getD}
 use Rattle.grammar.specs.declared.Grammar.{Grammar}
 use Rattle.results.specs.Answer.{Check, decide}
 use Rattle.results.specs.Load.{operands, after, Fault, fault, unknown, outOfTurn, commandChecks, Step, stop, next, done, step}
-use Rattle.results.specs.Load.{refusedBook, run}
+use Rattle.results.specs.Load.{refusedLoad, run}
 use Rattle.demands.specs.LoadOrder.{ended, endsInside, nonterminalOver, rulesOver, placesOver, furtherByte, CommandOrder}
 use Rattle.results.proofs.Decide.{decide-first, decide-passed}
 
@@ -76,7 +76,7 @@ step-order bytes at g =
 -- ---- the first command that is refused decides
 
 module _ (d : ℕ) (bytes : List ℕ) (n at : ℕ) (g : Grammar) where
-  pub run-stop : (f : Fault) → step bytes at g ≡ stop f → run d bytes (suc n) at g ≡ refusedBook f
+  pub run-stop : (f : Fault) → step bytes at g ≡ stop f → run d bytes (suc n) at g ≡ refusedLoad f
   unfolding run
   run-stop f e = rw (e, run)
 

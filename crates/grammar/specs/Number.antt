@@ -4,6 +4,7 @@ use Prim.Native.Nat.{ℕ}
 use Rattle.grammar.specs.declared.Refusal.{Refusal}
 use Rattle.grammar.specs.declared.Refusal.the-variants as R
 
+-- the number of each refusal
 abbrev pub numberOf : Refusal → ℕ
 numberOf R.UnexpectedEnd = 1
 numberOf R.UnknownCommand = 2

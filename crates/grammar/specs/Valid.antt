@@ -16,15 +16,19 @@ unfoldable pub all : {A : Type 0} → (A → Bool) → List A → Bool
 all test [] = true
 all test (a ∷ l) = test a && all test l
 
+-- a nonterminal is at most 31
 abbrev pub validSymbol : Symbol → Bool
 validSymbol (Nonterminal k) = leb k 31
 validSymbol (Terminal m) = true
 
+-- per place
 abbrev pub validPlace : Place → Bool
 validPlace p = validSymbol (p .symbol)
 
+-- per rule: its left side, its count, and its used places
 unfoldable pub validRule : Rule → Bool
 validRule r = leb (r .left) 31 && leb (r .count) 8 && all validPlace (take (r .count) (r .places))
 
+-- per grammar: its start symbol, its count, and its used rules
 unfoldable pub validGrammar : Grammar → Bool
 validGrammar g = leb (g .start) 31 && leb (g .count) 128 && all validRule (take (g .count) (g .rules))

@@ -8,9 +8,11 @@ use Rattle.grammar.specs.declared.Place.{Place}
 use Rattle.grammar.specs.declared.Rule.{Rule}
 use Rattle.grammar.specs.declared.Grammar.{Grammar}
 
+-- an unused place
 abbrev pub zeroPlace : Place
 zeroPlace = record { symbol = Nonterminal 0 }
 
+-- an unused rule record
 abbrev pub zeroRule : Rule
 zeroRule = record { left = 0; length = pos 0; count = 0; places = replicate 8 zeroPlace }
 

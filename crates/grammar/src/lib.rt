@@ -10,6 +10,7 @@ pub enum Symbol {
     Terminal(u8),
 }
 
+// A place of a rule.
 pub struct Place {
     pub symbol: Symbol,
 }
@@ -72,6 +73,7 @@ pub fn number(r: Refusal) -> u8
     }
 }
 
+// What is unused is handed back as zeros: a place, a rule record, a whole grammar.
 pub fn zero_place() -> Place
     ensures { λ p. ⌜ p ≡ zeroPlace ⌝ }
 {
@@ -102,6 +104,7 @@ pub fn zero_grammar() -> Grammar
     }
 }
 
+// Check 8 for one place.
 pub fn valid_place(p: Place) -> bool
     ensures { λ r. ⌜ r ≡ validPlace p ⌝ }
 {
@@ -112,6 +115,7 @@ pub fn valid_place(p: Place) -> bool
     }
 }
 
+// Check 8 for one rule record.
 pub fn valid_rule(rule: Rule) -> bool
     ensures { λ r. ⌜ r ≡ validRule rule ⌝ }
 {

@@ -6,17 +6,17 @@ use mathlib.Core.Path.{_≡_, refl}
 use Rattle.grammar.specs.Zero.{zeroGrammar}
 use Rattle.results.specs.Answer.{refusedAt}
 use Rattle.results.specs.Load.{Loading, loadOf}
-use Rattle.results.proofs.Books.{start, rule, A, close, times}
+use Rattle.results.proofs.Samples.{start, rule, A, close, times}
 use Rattle.results.proofs.Table.{outcome}
 
 -- a faulty book: its bytes, and the number and the offset of its refusal
 pub record Faulty : Type 0 where
-  pub book : List ℕ
+  pub bytes : List ℕ
   pub number : ℕ
   pub offset : ℕ
 
 abbrev pub faulty : List ℕ → ℕ → ℕ → Faulty
-faulty book n at = record { book = book; number = n; offset = at }
+faulty bytes n at = record { bytes = bytes; number = n; offset = at }
 
 -- 128 rules, and a rule of eight places, each with what comes next
 abbrev pub full : List ℕ → List ℕ
@@ -35,9 +35,10 @@ faults =
     -- 2: an unknown byte, also where another command was due
     ∷ faulty (0x60 ∷ []) 2 0
     ∷ faulty (0x10 ∷ 0x00 ∷ 0x21 ∷ 0x00 ∷ []) 2 2
-    -- 3: 10 again, another command first, 30 and 40 before any 20; before 1 and 4
+    -- 3: 10 again, another command first, 30 and 40 before any 20; before 1, 4 and 7
     ∷ faulty (0x10 ∷ 0x00 ∷ 0x10 ∷ []) 3 2
     ∷ faulty (0x50 ∷ []) 3 0
+    ∷ faulty (0x50 ∷ 0x00 ∷ []) 3 0
     ∷ faulty (0x20 ∷ 0xFF ∷ 0x00 ∷ 0x00 ∷ []) 3 0
     ∷ faulty (0x10 ∷ 0x00 ∷ 0x30 ∷ []) 3 2
     ∷ faulty (0x10 ∷ 0x00 ∷ 0x40 ∷ 0x41 ∷ []) 3 2
@@ -62,6 +63,6 @@ faults =
 unfoldable pub refusal : Faulty → Loading
 refusal f = record { answer = refusedAt (f .number) (f .offset); grammar = zeroGrammar }
 
-pub faults-refused : map (λ f. loadOf (f .book) 5) faults ≡ map refusal faults
+pub faults-refused : map (λ f. loadOf (f .bytes) 5) faults ≡ map refusal faults
 unfolding outcome faults refusal
 faults-refused = refl

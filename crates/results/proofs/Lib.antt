@@ -1,7 +1,9 @@
--- The tables of document 01, each proved by computation, and demand 3.
+-- The tables of document 01, and demand 3.
 pub mod Decide
-pub mod Books
+pub mod Samples
 pub mod Table
 pub mod Faults
 pub mod NoTree
+pub mod Starred
+pub mod Extra
 pub mod Demand3

@@ -14,12 +14,12 @@ use Rattle.grammar.specs.Valid.{validGrammar}
 use Rattle.grammar.specs.View.{grammarOf}
 use Rattle.grammar.proofs.Bounds.{valid-bounded}
 use Rattle.results.specs.Load.{loadOf}
-use Rattle.results.proofs.Books.{T, bare}
+use Rattle.results.proofs.Samples.{T, bare}
 use Rattle.results.proofs.Table.{outcome, As}
 
 -- the grammar of a book
 abbrev pub grammarIn : List ℕ → Grammar
-grammarIn book = loadOf book 0 .grammar
+grammarIn bytes = loadOf bytes 0 .grammar
 
 -- where the chart of an input is not complete, the input has no tree
 pub incomplete-no-tree : (g : Grammar) (w : List ℕ) → validGrammar g ≡ true → length w ≤ 64

@@ -19,7 +19,7 @@ use Rattle.results.specs.Recognize as Recognize
 use Rattle.results.specs.Check.{same, listed, onInput}
 use Rattle.results.specs.Measure as Measure
 use Rattle.results.specs.Enumerate as Enumerate
-use Rattle.results.proofs.Books.{T, unit, left, pairs, nullablePairs, emptyUnit, bush, bare, recess, rule, N, close}
+use Rattle.results.proofs.Samples.{T, unit, left, pairs, nullablePairs, emptyUnit, bush, bare, recess, rule, N, close}
 
 -- what is asked of a book and an input: the answers of loading, first and count, L, and the length of each row of L
 pub record Outcome : Type 0 where
@@ -33,14 +33,14 @@ unfoldable pub outcome : List ℕ → List ℕ → Outcome
 unfolding fits joined over when from among keep rulesFrom items upTo listing derivations has insert fitsAt piece someFrom cuts derived
     Column.seen Column.times Column.least Column.column Column.putColumn Column.written Column.opened Column.extended
     Column.extendedBy Column.filled Column.complete all validRule validGrammar decide Load.operands Load.signed Load.openRule
-    Load.withStart Load.withRule Load.withPlace Load.after Load.unknown Load.outOfTurn Load.commandChecks Load.step Load.refusedBook
-    Load.loadedBook Load.run Load.loadOf same listed onInput Measure.sum Measure.rounded Measure.unlisted Measure.lengthOf
+    Load.withStart Load.withRule Load.withPlace Load.after Load.unknown Load.outOfTurn Load.commandChecks Load.step Load.refusedLoad
+    Load.acceptedLoad Load.run Load.loadOf same listed onInput Measure.sum Measure.rounded Measure.unlisted Measure.lengthOf
     Enumerate.treeIn Enumerate.handingOut Enumerate.headOf Enumerate.firstOf Enumerate.countOf
-outcome book w =
-    let g = Load.loadOf book 0 .grammar in
+outcome bytes w =
+    let g = Load.loadOf bytes 0 .grammar in
     let chart : List ℕ = replicate 4225 7 in
     record {
-      loads = Load.loadOf book 0 .answer;
+      loads = Load.loadOf bytes 0 .answer;
       first = Enumerate.firstOf g w chart (replicate 1024 9) .answer;
       count = Enumerate.countOf g w chart .answer;
       list = L (grammarOf g) w;
@@ -49,13 +49,13 @@ outcome book w =
 
 -- a row of the table: a book, an input, and what comes of them
 pub record Row : Type 0 where
-  pub book : List ℕ
+  pub bytes : List ℕ
   pub input : List ℕ
   pub gives : Outcome
 
 unfoldable pub row : List ℕ → List ℕ → Answer → Answer → List (List ℕ) → List Answer → Row
-row book w first count list lengths =
-    record { book = book; input = w; gives = record { loads = loaded; first = first; count = count; list = list; lengths = lengths } }
+row bytes w first count list lengths =
+    record { bytes = bytes; input = w; gives = record { loads = loaded; first = first; count = count; list = list; lengths = lengths } }
 
 -- lengths of zero
 abbrev pub zeros : ℕ → List Answer
@@ -82,7 +82,7 @@ table =
     ∷ row recess (As 1) (handed 1) (counted 1) ((1 ∷ 0 ∷ []) ∷ []) (tenths (negℤ (pos 3)) ∷ [])
     ∷ []
 
-pub table-holds : map (λ r. outcome (r .book) (r .input)) table ≡ map (λ r. r .gives) table
+pub table-holds : map (λ r. outcome (r .bytes) (r .input)) table ≡ map (λ r. r .gives) table
 unfolding outcome table row
 table-holds = refl
 
@@ -116,8 +116,8 @@ limit-passed = (refl, refl, refl)
 -- the answers of opening with a book and of taking one byte
 unfoldable pub recognized : List ℕ → ℕ → Answer × Answer
 unfolding outcome Recognize.stateOf Recognize.openOf Recognize.takeOf
-recognized book m =
-    let g = Load.loadOf book 0 .grammar in
+recognized bytes m =
+    let g = Load.loadOf bytes 0 .grammar in
     let o = Recognize.openOf g (replicate 4225 7) in
     (o .answer, Recognize.takeOf g (o .state) m (o .chart) .answer)
 

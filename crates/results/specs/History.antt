@@ -10,8 +10,7 @@ use Rattle.results.specs.Walk as Walk
 use Rattle.grammar.specs.declared.Grammar.{Grammar}
 use Rattle.grammar.specs.View.{grammarOf}
 use Rattle.results.specs.Answer as Answer
-use Rattle.results.specs.Check.{Checking}
-use Rattle.results.specs.Enumerate.{Enumeration, firstOf, nextOf, countOf}
+use Rattle.results.specs.Enumerate.{firstOf, nextOf, countOf}
 
 -- a call with what is lent to it: chart and output, and for a next that is not offered the copy the row that is
 pub data Made : Type 0 where
@@ -33,26 +32,27 @@ Allowed g w (first chart out) = (4225 ≤ length chart) × (1024 ≤ length out)
 Allowed g w (nextCopy chart out) = (4225 ≤ length chart) × (1024 ≤ length out)
 Allowed g w (nextOther e chart out) =
     (4225 ≤ length chart) × (1024 ≤ length out) × (Derivation (grammarOf g) limit w e → ⊥)
-Allowed g w (count chart) = (4225 ≤ length chart) × Unit {0}
+Allowed g w (count chart) = 4225 ≤ length chart
 
 -- every call of the list is allowed
 abbrev pub AllAllowed : Grammar → List ℕ → List Made → Type 0
 AllAllowed g w [] = Unit {0}
 AllAllowed g w (m ∷ calls) = Allowed g w m × AllAllowed g w calls
 
--- an answer as the caller of the walk sees it, with the front of the output: twice as many numbers as it answers nodes
+-- an answer as the caller of the walk sees it, with the front of the output: twice as many numbers as it answers nodes. The answers of
+-- other calls become a refusal that the walk never gives
 unfoldable pub saidOf : Answer.Answer → List ℕ → Said
 saidOf (Answer.refused n) out = refuses n
-saidOf (Answer.refusedAt n at) out = refuses n
-saidOf Answer.loaded out = more
-saidOf Answer.affirmed out = more
-saidOf Answer.denied out = more
-saidOf (Answer.handed n) out = handsOut (take (2 * n) out)
+saidOf (Answer.refusedAt n at) out = refuses 0
+saidOf Answer.loaded out = refuses 0
+saidOf Answer.affirmed out = refuses 0
+saidOf Answer.denied out = refuses 0
+saidOf (Answer.handed n) out = handsOut n (take (2 * n) out)
 saidOf Answer.noDerivation out = noDerivation
 saidOf Answer.noneLeft out = noneLeft
 saidOf (Answer.counted n) out = counts n
 saidOf Answer.more out = more
-saidOf (Answer.tenths z) out = more
+saidOf (Answer.tenths z) out = refuses 0
 
 -- what one call says, by the decided results, the copy being what was handed out last
 unfoldable pub says : Grammar → List ℕ → List ℕ → Made → Said
@@ -63,7 +63,7 @@ says g w copy (count chart) = saidOf (countOf g w chart .answer) []
 
 -- the copy after a call: the row that was handed out, if one was
 unfoldable pub copied : Said → List ℕ → List ℕ
-copied (handsOut e) copy = e
+copied (handsOut n e) copy = e
 copied noDerivation copy = copy
 copied noneLeft copy = copy
 copied (refuses n) copy = copy

@@ -1,20 +1,19 @@
 -- Loading: from the bytes of a book to the loaded grammar, or the number and the offset of the first fault, with a grammar of no rules.
 -- Assumes nothing.
 use Prim.Native.Nat.{ℕ, zero, suc, _+_, _*_, _-_}
-use mathlib.Core.Bool.{Bool, true, false, cond, _&&_, _||_, not}
+use mathlib.Core.Bool.{Bool, cond, _&&_, _||_, not, true, false}
 use mathlib.Core.List.{List, [], _∷_}
 use lib.Dec.{eqb, ltb}
 use lib.IntN.{ℤ, pos, negℤ}
 use lib.ListN.{length, getD, set, replicate}
 use Rattle.grammar.specs.declared.Symbol.{Symbol}
 use Rattle.grammar.specs.declared.Symbol.the-variants.{Nonterminal, Terminal}
-use Rattle.grammar.specs.declared.Place.{Place}
 use Rattle.grammar.specs.declared.Rule.{Rule}
 use Rattle.grammar.specs.declared.Grammar.{Grammar}
 use Rattle.grammar.specs.Zero.{zeroPlace, zeroGrammar, noRule}
 use Rattle.results.specs.Answer.{Answer, refusedAt, loaded, Check, check, decide}
 
--- the bytes after a command byte that are its operands
+-- how many bytes after the command byte are its operands
 unfoldable pub operands : ℕ → ℕ
 operands c = cond (eqb c 0x20) 3 (cond (eqb c 0x50) 0 1)
 
@@ -108,18 +107,18 @@ pub record Loading : Type 0 where
   pub grammar : Grammar
 
 -- a refused book leaves its number, its offset and the grammar of no rules
-unfoldable pub refusedBook : Fault → Loading
-refusedBook f = record { answer = refusedAt (f .number) (f .offset); grammar = zeroGrammar }
+unfoldable pub refusedLoad : Fault → Loading
+refusedLoad f = record { answer = refusedAt (f .number) (f .offset); grammar = zeroGrammar }
 
 -- a loaded book, with d as its nullable depth (blank depth)
-unfoldable pub loadedBook : ℕ → Grammar → Loading
-loadedBook d g = record { answer = loaded; grammar = record { start = g .start; count = g .count; depth = d; rules = g .rules } }
+unfoldable pub acceptedLoad : ℕ → Grammar → Loading
+acceptedLoad d g = record { answer = loaded; grammar = record { start = g .start; count = g .count; depth = d; rules = g .rules } }
 
 -- at most n commands, from an offset and a grammar on. A book has at most as many commands as bytes, so after these it has ended
 unfoldable pub run : ℕ → List ℕ → ℕ → ℕ → Grammar → Loading
-run d bytes zero at g = refusedBook (record { number = 1; offset = length bytes })
+run d bytes zero at g = refusedLoad (record { number = 1; offset = length bytes })
 run d bytes (suc n) at g =
-    elim (step bytes at g) [ stop f ↦ refusedBook f | next at′ g′ ↦ run d bytes n at′ g′ | done g′ ↦ loadedBook d g′ ]
+    elim (step bytes at g) [ stop f ↦ refusedLoad f | next at′ g′ ↦ run d bytes n at′ g′ | done g′ ↦ acceptedLoad d g′ ]
 
 -- loading. The nullable depth d is the only result that the definitions leave open: `Depth` says what holds of it
 unfoldable pub loadOf : List ℕ → ℕ → Loading

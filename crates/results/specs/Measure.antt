@@ -1,7 +1,7 @@
 -- The total length of a derivation (stack length of a reading), and whether two are the same build.
 -- Assumes nothing.
 use Prim.Native.Nat.{ℕ, suc, _+_, _/_}
-use mathlib.Core.Bool.{Bool, true, false, cond, _&&_, not}
+use mathlib.Core.Bool.{Bool, true, false, cond, not}
 use mathlib.Core.List.{List, [], _∷_, _++_}
 use lib.Dec.{eqb}
 use lib.IntN.{ℤ, pos, negsuc, negℤ, _+ℤ_}
@@ -11,7 +11,7 @@ use Rattle.grammar.specs.declared.Grammar.{Grammar}
 use Rattle.grammar.specs.Valid.{all}
 use Rattle.grammar.specs.View.{grammarOf}
 use Rattle.grammar.specs.Zero.{noRule}
-use Rattle.results.specs.Answer.{Answer, refused, tenths, check, decide}
+use Rattle.results.specs.Answer.{refused, tenths, check, decide}
 use Rattle.results.specs.Check.{listed, Checking, onInput}
 use Rattle.results.specs.Recognize.{saying}
 

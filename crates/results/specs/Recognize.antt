@@ -48,8 +48,8 @@ unfoldable pub openOf : Grammar → List ℕ → Recognition
 openOf g chart =
     decide (grammarCheck g ∷ chartCheck chart ∷ [])
     (λ n. record { answer = refused n; state = stateOf []; chart = chart })
-    (λ _. let filled = opened (grammarOf g) chart in
-    record { answer = saying (complete (grammarOf g) 0 filled); state = stateOf []; chart = filled })
+    (λ _. let left = opened (grammarOf g) chart in
+    record { answer = saying (complete (grammarOf g) 0 left); state = stateOf []; chart = left })
 
 -- taking a byte. Refused, it leaves the state and the chart as found
 unfoldable pub takeOf : Grammar → State → ℕ → List ℕ → Recognition
@@ -57,8 +57,8 @@ takeOf g h m chart =
     decide (grammarCheck g ∷ stateCheck h ∷ chartCheck chart ∷ check (eqb (h .count) 64) 15 ∷ [])
     (λ n. record { answer = refused n; state = h; chart = chart })
     (λ _. let w = take (h .count) (h .bytes) ++ (m ∷ []) in
-    let filled = extended (grammarOf g) w chart in
-    record { answer = saying (complete (grammarOf g) (h .count + 1) filled); state = stateOf w; chart = filled })
+    let left = extended (grammarOf g) w chart in
+    record { answer = saying (complete (grammarOf g) (h .count + 1) left); state = stateOf w; chart = left })
 
 -- taking bytes one after the other, each with the state and the chart that the call before it left
 unfoldable pub fed : Grammar → Recognition → List ℕ → Recognition

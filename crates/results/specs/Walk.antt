@@ -1,6 +1,6 @@
 -- The walk of demand 3: a plain machine for one grammar and one input, fed only which of the four calls comes.
 -- Assumes nothing.
-use Prim.Native.Nat.{ℕ, zero, suc}
+use Prim.Native.Nat.{ℕ, zero, suc, _/_}
 use mathlib.Core.Bool.{true, false}
 use mathlib.Core.List.{List, [], _∷_}
 use mathlib.Core.Logic.{ite}
@@ -14,9 +14,9 @@ use Rattle.cfg.specs.Listing.{L}
 pub data Call : Type 0 where
   first nextCopy nextOther count : Call
 
--- what is answered, with the row that is handed out, if one is
+-- what is answered; where a row is handed out, how many nodes it has and the row
 pub data Said : Type 0 where
-  handsOut : List ℕ → Said
+  handsOut : ℕ → List ℕ → Said
   noDerivation noneLeft : Said
   refuses : ℕ → Said
   counts : ℕ → Said
@@ -30,28 +30,32 @@ pub record Move : Type 0 where
 abbrev pub move : Said → ℕ → Move
 move s p = record { said = s; place = p }
 
+-- N of document 01
+abbrev pub N : Cfg → List ℕ → ℕ
+N G w = length (L G w)
+
+-- row i of L, counted from 1
+abbrev pub row : Cfg → List ℕ → ℕ → List ℕ
+row G w zero = []
+row G w (suc i) = getD (L G w) i []
+
+-- a row is handed out: it has two numbers for each node
+abbrev pub hands : List ℕ → Said
+hands e = handsOut (length e / 2) e
+
 module _ (G : Cfg) (w : List ℕ) (tree : Dec (HasTree G w)) where
-  -- N of document 01
-  abbrev pub N : ℕ
-  N = length (L G w)
-
-  -- row i of L, counted from 1
-  abbrev pub row : ℕ → List ℕ
-  row zero = []
-  row (suc i) = getD (L G w) i []
-
   -- one call at the place p, which stays unless a line says otherwise
   unfoldable pub walk : Call → ℕ → Move
   walk first p =
-      elim (ltb 0 N) [ true ↦ move (handsOut (row 1)) 1 | false ↦ move (ite tree (refuses 13) noDerivation) p ]
+      elim (ltb 0 (N G w)) [ true ↦ move (hands (row G w 1)) 1 | false ↦ move (ite tree (refuses 13) noDerivation) p ]
   walk nextCopy zero = move (refuses 12) zero
   walk nextCopy (suc p) =
-      elim (ltb (suc p) N) [ true ↦ move (handsOut (row (suc (suc p)))) (suc (suc p)) | false ↦ move noneLeft (suc p) ]
+      elim (ltb (suc p) (N G w)) [ true ↦ move (hands (row G w (suc (suc p)))) (suc (suc p)) | false ↦ move noneLeft (suc p) ]
   walk nextOther p = move (refuses 12) p
   walk count p =
-      elim (eqb N 0) [
+      elim (eqb (N G w) 0) [
         | true ↦ move (ite tree (refuses 13) (counts 0)) p
-        | false ↦ elim (leb N 4096) [ true ↦ move (counts N) p | false ↦ move more p ]
+        | false ↦ elim (leb (N G w) 4096) [ true ↦ move (counts (N G w)) p | false ↦ move more p ]
       ]
 
   -- what a list of calls says, from the place p on
@@ -67,7 +71,7 @@ module _ (G : Cfg) (w : List ℕ) (tree : Dec (HasTree G w)) where
 -- the rows that are handed out
 unfoldable pub handedOut : List Said → List (List ℕ)
 handedOut [] = []
-handedOut (handsOut e ∷ said) = e ∷ handedOut said
+handedOut (handsOut n e ∷ said) = e ∷ handedOut said
 handedOut (noDerivation ∷ said) = handedOut said
 handedOut (noneLeft ∷ said) = handedOut said
 handedOut (refuses n ∷ said) = handedOut said

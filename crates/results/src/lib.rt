@@ -1,1 +1,1 @@
-// Meaning only: what each call answers and leaves, decided from what goes in. The definitions are in specs/, the tables in proofs/.
+// Meaning only: what each call answers and leaves, decided from what goes in, in specs/; the tables and demand 3, in proofs/.

@@ -35,8 +35,8 @@ use Rattle.demands.proofs.Kept as Kept
 use Rattle.demands.proofs.Order as Order
 use Rattle.demands.proofs.Recognized as Fed
 
--- THE STARRED TABLE: from the bytes of each book to the answers of first and count, L and the lengths
-pub starred-table : map (λ r. Table.outcome (r .book) (r .input)) Table.table ≡ map (λ r. r .gives) Table.table
+-- THE STARRED TABLE: from the bytes of each bytes to the answers of first and count, L and the lengths
+pub starred-table : map (λ r. Table.outcome (r .bytes) (r .input)) Table.table ≡ map (λ r. r .gives) Table.table
 starred-table = Table.table-holds
 
 -- THE LIST L: a row is in it exactly if it is a derivation (reading) of the input, and it is strictly rising

@@ -12,7 +12,7 @@ use lib.ListN.{length, take, getD, replicate, length-map, getD-replicate}
 use lib.Seq.{take-length, getD-append-add}
 use Rattle.cfg.specs.Tree.{Row, nodes, Parse, HasTree}
 use Rattle.cfg.specs.Listing.{L}
-use Rattle.results.specs.Walk.{Call, Said, handsOut, handedOut, nexts, NoFirst}
+use Rattle.results.specs.Walk.{Call, Said, hands, handedOut, nexts, NoFirst}
 use Rattle.results.specs.Walk as Walk
 use Rattle.grammar.specs.declared.Grammar.{Grammar}
 use Rattle.grammar.specs.Valid.{validGrammar}
@@ -69,7 +69,7 @@ module _ (g : Grammar) (valid : validGrammar g ≡ true) (w : List ℕ) (low : 1
     -- with n at least N - 1 the answers are the rows of L, one after the other, and then "none"
     pub first-then-next-said : 1 ≤ length (L (grammarOf g) w) → length (L (grammarOf g) w) ≤ suc (length lent)
         → history g w [] (first chart out ∷ nextCalls lent)
-        ≡ map handsOut (L (grammarOf g) w) ++ replicate (suc (length lent) - length (L (grammarOf g) w)) Walk.noneLeft
+        ≡ map hands (L (grammarOf g) w) ++ replicate (suc (length lent) - length (L (grammarOf g) w)) Walk.noneLeft
     first-then-next-said l h =
         let tree = tree-decided g valid w low high in
         walk-holds g valid w low high tree (first chart out ∷ nextCalls lent) a
@@ -81,7 +81,7 @@ module _ (g : Grammar) (valid : validGrammar g ≡ true) (w : List ℕ) (low : 1
         → getD (history g w [] (first chart out ∷ nextCalls lent)) (length lent) Walk.more ≡ Walk.noneLeft
     last-none-left l h =
         rw (first-then-next-said l (omega arith))
-        (at-end (map handsOut (L (grammarOf g) w)) (length (L (grammarOf g) w)) (length lent) (length-map (L (grammarOf g) w) handsOut) h)
+        (at-end (map hands (L (grammarOf g) w)) (length (L (grammarOf g) w)) (length lent) (length-map (L (grammarOf g) w) hands) h)
       where
         at-end : (s : List Said) (m n : ℕ) → length s ≡ m → m ≤ n
             → getD (s ++ replicate (suc n - m) Walk.noneLeft) n Walk.more ≡ Walk.noneLeft

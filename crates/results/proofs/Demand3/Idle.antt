@@ -11,7 +11,7 @@ use lib.ListN.{length, drop}
 use lib.Seq.{drop-append-seam}
 use Rattle.cfg.specs.Grammar.{Cfg}
 use Rattle.cfg.specs.Tree.{HasTree}
-use Rattle.results.specs.Walk.{Call, first, nextCopy, nextOther, count, Said, handsOut, noDerivation, refuses, counts}
+use Rattle.results.specs.Walk.{Call, first, nextCopy, nextOther, count, Said, hands, noDerivation, refuses, counts}
 use Rattle.results.specs.Walk.{Move, move, N, walk, walked, placeAfter, handedOut}
 use Rattle.results.proofs.Demand3.Machine.{first-none, next-zero, next-last, next-other, count-none, count-some, count-more, walk-keeps}
 
@@ -44,7 +44,7 @@ module _ (G : Cfg) (w : List ℕ) (tree : Dec (HasTree G w)) where
   walked-length [] p = refl
   walked-length (c ∷ calls) p = ap suc (walked-length calls (walk G w tree c p .place))
 
-  pub placeAfter-small : (calls : List Call) (p : ℕ) → p ≤ N G w tree → placeAfter G w tree calls p ≤ N G w tree
+  pub placeAfter-small : (calls : List Call) (p : ℕ) → p ≤ N G w → placeAfter G w tree calls p ≤ N G w
   unfolding placeAfter
   placeAfter-small [] p h = h
   placeAfter-small (c ∷ calls) p h = placeAfter-small calls (walk G w tree c p .place) (walk-keeps G w tree c p h .0)
@@ -63,8 +63,8 @@ module _ (G : Cfg) (w : List ℕ) (tree : Dec (HasTree G w)) where
 
   pub idle-count : (p : ℕ) → Idle p (walk G w tree count p)
   unfolding handedOut
-  idle-count p = dite (decLt 0 (N G w tree))
-      (λ h. dite (decLe (N G w tree) 4096)
+  idle-count p = dite (decLt 0 (N G w))
+      (λ h. dite (decLe (N G w) 4096)
       (λ k. subst (Idle p) (sym (count-some G w tree p h k)) (refl, λ said. refl))
       (λ k. subst (Idle p) (sym (count-more G w tree p (omega arith))) (refl, λ said. refl)))
       (λ h. subst (Idle p) (sym (count-none G w tree p (omega arith))) (idle-choice tree 13 (counts 0) p (refl, λ said. refl)))
@@ -73,11 +73,11 @@ module _ (G : Cfg) (w : List ℕ) (tree : Dec (HasTree G w)) where
   unfolding handedOut
   idle-next-zero = subst (Idle 0) (sym (next-zero G w tree)) (refl, λ said. refl)
 
-  pub idle-next-last : (p : ℕ) → N G w tree ≤ suc p → Idle (suc p) (walk G w tree nextCopy (suc p))
+  pub idle-next-last : (p : ℕ) → N G w ≤ suc p → Idle (suc p) (walk G w tree nextCopy (suc p))
   unfolding handedOut
   idle-next-last p h = subst (Idle (suc p)) (sym (next-last G w tree p h)) (refl, λ said. refl)
 
-  pub idle-first : (p : ℕ) → N G w tree ≡ 0 → Idle p (walk G w tree first p)
+  pub idle-first : (p : ℕ) → N G w ≡ 0 → Idle p (walk G w tree first p)
   unfolding handedOut
   idle-first p h = subst (Idle p) (sym (first-none G w tree p h)) (idle-choice tree 13 noDerivation p (refl, λ said. refl))
 
@@ -93,12 +93,12 @@ module _ (G : Cfg) (w : List ℕ) (tree : Dec (HasTree G w)) where
   idle-handed c calls p i = i .1 _ ∙ ap (λ (q : ℕ). handedOut (walked G w tree calls q)) (i .0)
 
   -- a call that hands out the row e and goes to the place q
-  pub moves-place : (c : Call) (calls : List Call) (p q : ℕ) (e : List ℕ) → walk G w tree c p ≡ move (handsOut e) q
+  pub moves-place : (c : Call) (calls : List Call) (p q : ℕ) (e : List ℕ) → walk G w tree c p ≡ move (hands e) q
       → placeAfter G w tree (c ∷ calls) p ≡ placeAfter G w tree calls q
   unfolding placeAfter
   moves-place c calls p q e m = ap (λ (k : Move). placeAfter G w tree calls (k .place)) m
 
-  pub moves-handed : (c : Call) (calls : List Call) (p q : ℕ) (e : List ℕ) → walk G w tree c p ≡ move (handsOut e) q
+  pub moves-handed : (c : Call) (calls : List Call) (p q : ℕ) (e : List ℕ) → walk G w tree c p ≡ move (hands e) q
       → handedOut (walked G w tree (c ∷ calls) p) ≡ e ∷ handedOut (walked G w tree calls q)
   unfolding walked handedOut
   moves-handed c calls p q e m = ap (λ (k : Move). handedOut (k .said ∷ walked G w tree calls (k .place))) m

@@ -10,55 +10,55 @@ use mathlib.Core.Path.{_≡_, refl, sym, subst}
 use borrow.Author.Tests.{lt-ltb, le-ltb, le-leb, lt-leb, eq-eqb, ne-eqb}
 use Rattle.cfg.specs.Grammar.{Cfg}
 use Rattle.cfg.specs.Tree.{HasTree}
-use Rattle.results.specs.Walk.{Call, first, nextCopy, nextOther, count, handsOut, noDerivation, noneLeft, refuses, counts, more}
+use Rattle.results.specs.Walk.{Call, first, nextCopy, nextOther, count, hands, noDerivation, noneLeft, refuses, counts, more}
 use Rattle.results.specs.Walk.{Move, move, N, row, walk}
 use Rattle.results.specs.History.{copied}
 
 module _ (G : Cfg) (w : List ℕ) (tree : Dec (HasTree G w)) where
-  pub first-some : (p : ℕ) → 0 < N G w tree → walk G w tree first p ≡ move (handsOut (row G w tree 1)) 1
+  pub first-some : (p : ℕ) → 0 < N G w → walk G w tree first p ≡ move (hands (row G w 1)) 1
   unfolding walk
-  first-some p h = rw (lt-ltb 0 (N G w tree) h, walk)
+  first-some p h = rw (lt-ltb 0 (N G w) h, walk)
 
-  pub first-none : (p : ℕ) → N G w tree ≡ 0 → walk G w tree first p ≡ move (ite tree (refuses 13) noDerivation) p
+  pub first-none : (p : ℕ) → N G w ≡ 0 → walk G w tree first p ≡ move (ite tree (refuses 13) noDerivation) p
   unfolding walk
-  first-none p h = rw (le-ltb 0 (N G w tree) (omega arith), walk)
+  first-none p h = rw (le-ltb 0 (N G w) (omega arith), walk)
 
   pub next-zero : walk G w tree nextCopy 0 ≡ move (refuses 12) 0
   unfolding walk
   next-zero = refl
 
-  pub next-some : (p : ℕ) → suc p < N G w tree
-      → walk G w tree nextCopy (suc p) ≡ move (handsOut (row G w tree (suc (suc p)))) (suc (suc p))
+  pub next-some : (p : ℕ) → suc p < N G w
+      → walk G w tree nextCopy (suc p) ≡ move (hands (row G w (suc (suc p)))) (suc (suc p))
   unfolding walk
-  next-some p h = rw (lt-ltb (suc p) (N G w tree) h, walk)
+  next-some p h = rw (lt-ltb (suc p) (N G w) h, walk)
 
-  pub next-last : (p : ℕ) → N G w tree ≤ suc p → walk G w tree nextCopy (suc p) ≡ move noneLeft (suc p)
+  pub next-last : (p : ℕ) → N G w ≤ suc p → walk G w tree nextCopy (suc p) ≡ move noneLeft (suc p)
   unfolding walk
-  next-last p h = rw (le-ltb (suc p) (N G w tree) h, walk)
+  next-last p h = rw (le-ltb (suc p) (N G w) h, walk)
 
   pub next-other : (p : ℕ) → walk G w tree nextOther p ≡ move (refuses 12) p
   unfolding walk
   next-other p = refl
 
-  pub count-none : (p : ℕ) → N G w tree ≡ 0 → walk G w tree count p ≡ move (ite tree (refuses 13) (counts 0)) p
+  pub count-none : (p : ℕ) → N G w ≡ 0 → walk G w tree count p ≡ move (ite tree (refuses 13) (counts 0)) p
   unfolding walk
-  count-none p h = rw (eq-eqb (N G w tree) 0 h, walk)
+  count-none p h = rw (eq-eqb (N G w) 0 h, walk)
 
-  pub count-some : (p : ℕ) → 0 < N G w tree → N G w tree ≤ 4096 → walk G w tree count p ≡ move (counts (N G w tree)) p
+  pub count-some : (p : ℕ) → 0 < N G w → N G w ≤ 4096 → walk G w tree count p ≡ move (counts (N G w)) p
   unfolding walk
-  count-some p h k = rw (ne-eqb (N G w tree) 0 (omega arith), le-leb (N G w tree) 4096 k, walk)
+  count-some p h k = rw (ne-eqb (N G w) 0 (omega arith), le-leb (N G w) 4096 k, walk)
 
-  pub count-more : (p : ℕ) → 4096 < N G w tree → walk G w tree count p ≡ move more p
+  pub count-more : (p : ℕ) → 4096 < N G w → walk G w tree count p ≡ move more p
   unfolding walk
-  count-more p h = rw (ne-eqb (N G w tree) 0 (omega arith), lt-leb (N G w tree) 4096 h, walk)
+  count-more p h = rw (ne-eqb (N G w) 0 (omega arith), lt-leb (N G w) 4096 h, walk)
 
   -- a move from the place p keeps to L: its place is at most N, and the copy after it is the row of its place
   abbrev pub Keeps : ℕ → Move → Type 0
-  Keeps p m = (m .place ≤ N G w tree) × (copied (m .said) (row G w tree p) ≡ row G w tree (m .place))
+  Keeps p m = (m .place ≤ N G w) × (copied (m .said) (row G w p) ≡ row G w (m .place))
 
-  pub walk-keeps : (c : Call) (p : ℕ) → p ≤ N G w tree → Keeps p (walk G w tree c p)
+  pub walk-keeps : (c : Call) (p : ℕ) → p ≤ N G w → Keeps p (walk G w tree c p)
   unfolding copied
-  walk-keeps first p h = dite (decLt 0 (N G w tree))
+  walk-keeps first p h = dite (decLt 0 (N G w))
       (λ k. subst (Keeps p) (sym (first-some p k)) (k, refl))
       (λ k. subst (Keeps p) (sym (first-none p (omega arith))) (none tree))
     where
@@ -66,12 +66,12 @@ module _ (G : Cfg) (w : List ℕ) (tree : Dec (HasTree G w)) where
       none (yes t) = (h, refl)
       none (no n) = (h, refl)
   walk-keeps nextCopy zero h = subst (Keeps 0) (sym next-zero) (h, refl)
-  walk-keeps nextCopy (suc p) h = dite (decLt (suc p) (N G w tree))
+  walk-keeps nextCopy (suc p) h = dite (decLt (suc p) (N G w))
       (λ k. subst (Keeps (suc p)) (sym (next-some p k)) (k, refl))
       (λ k. subst (Keeps (suc p)) (sym (next-last p (omega arith))) (h, refl))
   walk-keeps nextOther p h = subst (Keeps p) (sym (next-other p)) (h, refl)
-  walk-keeps count p h = dite (decLt 0 (N G w tree))
-      (λ k. dite (decLe (N G w tree) 4096)
+  walk-keeps count p h = dite (decLt 0 (N G w))
+      (λ k. dite (decLe (N G w) 4096)
       (λ l. subst (Keeps p) (sym (count-some p k l)) (h, refl))
       (λ l. subst (Keeps p) (sym (count-more p (omega arith))) (h, refl)))
       (λ k. subst (Keeps p) (sym (count-none p (omega arith))) (none tree))

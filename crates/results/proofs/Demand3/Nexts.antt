@@ -10,7 +10,7 @@ use lib.Seq.{drop-cons}
 use Rattle.cfg.specs.Grammar.{Cfg}
 use Rattle.cfg.specs.Tree.{HasTree}
 use Rattle.cfg.specs.Listing.{L}
-use Rattle.results.specs.Walk.{Call, first, nextCopy, Said, handsOut, noneLeft, Move, move, N, row, walk, walked}
+use Rattle.results.specs.Walk.{Call, first, nextCopy, Said, hands, noneLeft, Move, move, N, row, walk, walked}
 use Rattle.results.proofs.Demand3.Machine.{first-some, next-some, next-last}
 
 module _ (G : Cfg) (w : List ℕ) (tree : Dec (HasTree G w)) where
@@ -21,7 +21,7 @@ module _ (G : Cfg) (w : List ℕ) (tree : Dec (HasTree G w)) where
   walked-move c calls p q s m = ap (λ (k : Move). k .said ∷ walked G w tree calls (k .place)) m
 
   -- at the last row each next says "none"
-  pub nexts-at-end : (n i : ℕ) → N G w tree ≤ suc i → walked G w tree (replicate n nextCopy) (suc i) ≡ replicate n noneLeft
+  pub nexts-at-end : (n i : ℕ) → N G w ≤ suc i → walked G w tree (replicate n nextCopy) (suc i) ≡ replicate n noneLeft
   unfolding walked
   nexts-at-end zero i h = refl
   nexts-at-end (suc n) i h =
@@ -29,26 +29,26 @@ module _ (G : Cfg) (w : List ℕ) (tree : Dec (HasTree G w)) where
       ∙ ap (λ (l : List Said). noneLeft ∷ l) (nexts-at-end n i h)
 
   -- k rows before the end: k rows, and then "none"
-  pub nexts-to-end : (k n i : ℕ) → suc i + k ≡ N G w tree
-      → walked G w tree (replicate (k + n) nextCopy) (suc i) ≡ map handsOut (drop (suc i) (L G w)) ++ replicate n noneLeft
+  pub nexts-to-end : (k n i : ℕ) → suc i + k ≡ N G w
+      → walked G w tree (replicate (k + n) nextCopy) (suc i) ≡ map hands (drop (suc i) (L G w)) ++ replicate n noneLeft
   nexts-to-end zero n i h =
       rw (zero-add n, drop-of-length-le (L G w) {i = suc i} (omega arith)) (nexts-at-end n i (omega arith))
   nexts-to-end (suc k) n i h =
       rw (suc-add k n, drop-cons (L G w) (suc i) [] (omega arith))
-      (walked-move nextCopy (replicate (k + n) nextCopy) (suc i) (suc (suc i)) (handsOut (getD (L G w) (suc i) []))
+      (walked-move nextCopy (replicate (k + n) nextCopy) (suc i) (suc (suc i)) (hands (getD (L G w) (suc i) []))
       (next-some G w tree i (omega arith))
-      ∙ ap (λ (l : List Said). handsOut (getD (L G w) (suc i) []) ∷ l) (nexts-to-end k n (suc i) (omega arith)))
+      ∙ ap (λ (l : List Said). hands (getD (L G w) (suc i) []) ∷ l) (nexts-to-end k n (suc i) (omega arith)))
 
   -- a first and n nexts, where L has a row and at most one row more than there are nexts
-  pub first-nexts : (n p : ℕ) → 1 ≤ N G w tree → N G w tree ≤ suc n
-      → walked G w tree (first ∷ replicate n nextCopy) p ≡ map handsOut (L G w) ++ replicate (suc n - N G w tree) noneLeft
+  pub first-nexts : (n p : ℕ) → 1 ≤ N G w → N G w ≤ suc n
+      → walked G w tree (first ∷ replicate n nextCopy) p ≡ map hands (L G w) ++ replicate (suc n - N G w) noneLeft
   first-nexts n p l h =
-      walked-move first (replicate n nextCopy) p 1 (handsOut (row G w tree 1)) (first-some G w tree p l)
-      ∙ ap (λ (s : List Said). handsOut (row G w tree 1) ∷ s) later
-      ∙ ap (λ (r : List (List ℕ)). map handsOut r ++ replicate (suc n - N G w tree) noneLeft) (sym (drop-cons (L G w) 0 [] l))
+      walked-move first (replicate n nextCopy) p 1 (hands (row G w 1)) (first-some G w tree p l)
+      ∙ ap (λ (s : List Said). hands (row G w 1) ∷ s) later
+      ∙ ap (λ (r : List (List ℕ)). map hands r ++ replicate (suc n - N G w) noneLeft) (sym (drop-cons (L G w) 0 [] l))
     where
-      later : walked G w tree (replicate n nextCopy) 1 ≡ map handsOut (drop 1 (L G w)) ++ replicate (suc n - N G w tree) noneLeft
+      later : walked G w tree (replicate n nextCopy) 1 ≡ map hands (drop 1 (L G w)) ++ replicate (suc n - N G w) noneLeft
       later =
-          let e : (N G w tree - 1) + (suc n - N G w tree) ≡ n = omega arith in
+          let e : (N G w - 1) + (suc n - N G w) ≡ n = omega arith in
           ap (λ (k : ℕ). walked G w tree (replicate k nextCopy) 1) (sym e)
-          ∙ nexts-to-end (N G w tree - 1) (suc n - N G w tree) 0 (omega arith)
+          ∙ nexts-to-end (N G w - 1) (suc n - N G w) 0 (omega arith)

@@ -13,7 +13,7 @@ use lib.Seq.{take-suc, append-snoc}
 use Rattle.cfg.specs.Grammar.{Cfg}
 use Rattle.cfg.specs.Tree.{HasTree}
 use Rattle.cfg.specs.Listing.{L}
-use Rattle.results.specs.Walk.{Call, first, nextCopy, nextOther, count, handsOut}
+use Rattle.results.specs.Walk.{Call, first, nextCopy, nextOther, count, hands}
 use Rattle.results.specs.Walk.{move, N, row, walk, walked, placeAfter, handedOut, nexts, NoFirst}
 use Rattle.results.proofs.Demand3.Machine.{first-some, next-some}
 use Rattle.results.proofs.Demand3.Idle.{placeAfter-append, placeAfter-small, walked-since, Idle, idle-other, idle-count, idle-next-zero}
@@ -43,17 +43,17 @@ module _ (G : Cfg) (w : List ℕ) (tree : Dec (HasTree G w)) where
   -- from the place p these calls go to the smaller of N and n, and the rows up to p together with those handed out are as many of L
   abbrev pub Firsts : List Call → ℕ → ℕ → Type 0
   Firsts calls p n =
-      (placeAfter G w tree calls p ≡ min (N G w tree) n)
-      × (take p (L G w) ++ handedOut (walked G w tree calls p) ≡ take (min (N G w tree) n) (L G w))
+      (placeAfter G w tree calls p ≡ min (N G w) n)
+      × (take p (L G w) ++ handedOut (walked G w tree calls p) ≡ take (min (N G w) n) (L G w))
 
-  firsts-same : (calls : List Call) (p m n : ℕ) → min (N G w tree) m ≡ min (N G w tree) n → Firsts calls p m → Firsts calls p n
+  firsts-same : (calls : List Call) (p m n : ℕ) → min (N G w) m ≡ min (N G w) n → Firsts calls p m → Firsts calls p n
   firsts-same calls p m n e f = (f .0 ∙ e, f .1 ∙ ap (λ (k : ℕ). take k (L G w)) e)
 
   firsts-idle : (c : Call) (calls : List Call) (p n : ℕ) → Idle p (walk G w tree c p) → Firsts calls p n → Firsts (c ∷ calls) p n
   firsts-idle c calls p n i f =
       (idle-place G w tree c calls p i ∙ f .0, ap (λ (l : List (List ℕ)). take p (L G w) ++ l) (idle-handed G w tree c calls p i) ∙ f .1)
 
-  firsts-moves : (c : Call) (calls : List Call) (p n : ℕ) → p < N G w tree → walk G w tree c p ≡ move (handsOut (getD (L G w) p [])) (suc p)
+  firsts-moves : (c : Call) (calls : List Call) (p n : ℕ) → p < N G w → walk G w tree c p ≡ move (hands (getD (L G w) p [])) (suc p)
       → Firsts calls (suc p) n → Firsts (c ∷ calls) p n
   firsts-moves c calls p n h m f = (
     moves-place G w tree c calls p (suc p) (getD (L G w) p []) m ∙ f .0,
@@ -63,14 +63,14 @@ module _ (G : Cfg) (w : List ℕ) (tree : Dec (HasTree G w)) where
         ∙ f .1,
   )
 
-  pub from-place : (calls : List Call) → NoFirst calls → (p : ℕ) → 1 ≤ p → p ≤ N G w tree → Firsts calls p (p + nexts calls)
+  pub from-place : (calls : List Call) → NoFirst calls → (p : ℕ) → 1 ≤ p → p ≤ N G w → Firsts calls p (p + nexts calls)
   unfolding placeAfter walked handedOut nexts
   from-place [] n p l h =
-      let e : p ≡ min (N G w tree) (p + 0) = omega arith in
+      let e : p ≡ min (N G w) (p + 0) = omega arith in
       (e, append-nil (take p (L G w)) ∙ ap (λ (k : ℕ). take k (L G w)) e)
   from-place (first ∷ calls) n p l h = absurd n
   from-place (nextCopy ∷ calls) n zero l h = absurd (omega arith)
-  from-place (nextCopy ∷ calls) n (suc p) l h = dite (decLt (suc p) (N G w tree))
+  from-place (nextCopy ∷ calls) n (suc p) l h = dite (decLt (suc p) (N G w))
       (λ k. firsts-moves nextCopy calls (suc p) (suc p + suc (nexts calls)) k (next-some G w tree p k)
       (firsts-same calls (suc (suc p)) (suc (suc p) + nexts calls) (suc p + suc (nexts calls)) (omega arith)
       (from-place calls n (suc (suc p)) (omega arith) k)))
@@ -81,25 +81,25 @@ module _ (G : Cfg) (w : List ℕ) (tree : Dec (HasTree G w)) where
   from-place (count ∷ calls) n p l h = firsts-idle count calls p (p + nexts calls) (idle-count G w tree p) (from-place calls n p l h)
 
   -- the claim for a first at any place p that can be reached
-  pub since-first-at : (p : ℕ) → p ≤ N G w tree → (after : List Call) → NoFirst after
-      → (placeAfter G w tree (first ∷ after) p ≡ min (N G w tree) (1 + nexts after))
-      × (handedOut (walked G w tree (first ∷ after) p) ≡ take (min (N G w tree) (1 + nexts after)) (L G w))
-  since-first-at p h after n = dite (decLt 0 (N G w tree))
+  pub since-first-at : (p : ℕ) → p ≤ N G w → (after : List Call) → NoFirst after
+      → (placeAfter G w tree (first ∷ after) p ≡ min (N G w) (1 + nexts after))
+      × (handedOut (walked G w tree (first ∷ after) p) ≡ take (min (N G w) (1 + nexts after)) (L G w))
+  since-first-at p h after n = dite (decLt 0 (N G w))
       (λ k. let f = from-place after n 1 (omega arith) k in
       let m = first-some G w tree p k in (
-        moves-place G w tree first after p 1 (row G w tree 1) m ∙ f .0,
-        moves-handed G w tree first after p 1 (row G w tree 1) m
+        moves-place G w tree first after p 1 (row G w 1) m ∙ f .0,
+        moves-handed G w tree first after p 1 (row G w 1) m
             ∙ ap (λ (l : List (List ℕ)). l ++ handedOut (walked G w tree after 1)) (sym (take-suc (L G w) 0 [] k))
             ∙ f .1,
       ))
       (λ k. none (omega arith) (omega arith))
     where
-      none : p ≡ 0 → N G w tree ≡ 0
-          → (placeAfter G w tree (first ∷ after) p ≡ min (N G w tree) (1 + nexts after))
-          × (handedOut (walked G w tree (first ∷ after) p) ≡ take (min (N G w tree) (1 + nexts after)) (L G w))
+      none : p ≡ 0 → N G w ≡ 0
+          → (placeAfter G w tree (first ∷ after) p ≡ min (N G w) (1 + nexts after))
+          × (handedOut (walked G w tree (first ∷ after) p) ≡ take (min (N G w) (1 + nexts after)) (L G w))
       none z k =
           let b = before-first after n in
-          let e : 0 ≡ min (N G w tree) (1 + nexts after) = omega arith in
+          let e : 0 ≡ min (N G w) (1 + nexts after) = omega arith in
           let i = idle-first G w tree p k in (
             idle-place G w tree first after p i ∙ ap (placeAfter G w tree after) z ∙ b .0 ∙ e,
             idle-handed G w tree first after p i ∙ ap (λ (q : ℕ). handedOut (walked G w tree after q)) z ∙ b .1
@@ -108,9 +108,9 @@ module _ (G : Cfg) (w : List ℕ) (tree : Dec (HasTree G w)) where
 
   -- the claim over the whole list of calls
   pub since-first : (before after : List Call) → NoFirst after
-      → (placeAfter G w tree (before ++ first ∷ after) 0 ≡ min (N G w tree) (1 + nexts after))
+      → (placeAfter G w tree (before ++ first ∷ after) 0 ≡ min (N G w) (1 + nexts after))
       × (handedOut (drop (length before) (walked G w tree (before ++ first ∷ after) 0))
-      ≡ take (min (N G w tree) (1 + nexts after)) (L G w))
+      ≡ take (min (N G w) (1 + nexts after)) (L G w))
   since-first before after n =
       let s = since-first-at (placeAfter G w tree before 0) (placeAfter-small G w tree before 0 (omega arith)) after n in
       (placeAfter-append G w tree before (first ∷ after) 0 ∙ s .0, ap handedOut (walked-since G w tree before (first ∷ after) 0) ∙ s .1)

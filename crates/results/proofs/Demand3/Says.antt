@@ -1,6 +1,6 @@
 -- What one allowed call says by the decided results is what the machine says, the copy being the row of the place.
 -- Assumes nothing.
-use Prim.Native.Nat.{ℕ, zero, suc, _≤_}
+use Prim.Native.Nat.{_/_, ℕ, zero, suc, _≤_}
 use native.Mathlib.Decide.{decLt, decLe}
 use native.Mathlib.Omega.{arith}
 use mathlib.Core.Bool.{true, cond}
@@ -12,7 +12,7 @@ use lib.ListN.{length, getD}
 use Rattle.cfg.specs.Tree.{HasTree}
 use Rattle.cfg.specs.Derivation.{Derivation, limit}
 use Rattle.cfg.specs.Listing.{L}
-use Rattle.results.specs.Walk.{Said, Move, handsOut, refuses, N, row, walk}
+use Rattle.results.specs.Walk.{Said, Move, handsOut, hands, refuses, N, row, walk}
 use Rattle.results.specs.Walk as Walk
 use Rattle.chart.specs.Column.{filled}
 use Rattle.grammar.specs.declared.Grammar.{Grammar}
@@ -42,9 +42,9 @@ said-choice (no t) n a out = refl
 module _ (g : Grammar) (valid : validGrammar g ≡ true) (w : List ℕ) (low : 1 ≤ length w) (high : length w ≤ 64) where
   -- a row of L that is handed out is seen whole
   seen-some : (e : List ℕ) → List·Memᴰ e (L (grammarOf g) w) → (o : Option (List ℕ)) → o ≡ some e → (a : Answer) (chart out : List ℕ)
-      → seen (handingOut o a chart out) ≡ handsOut e
+      → seen (handingOut o a chart out) ≡ hands e
   unfolding handingOut saidOf
-  seen-some e i o q a chart out = rw q (ap handsOut (row-back (grammarOf g) w e i out))
+  seen-some e i o q a chart out = rw q (ap (handsOut (length e / 2)) (row-back (grammarOf g) w e i out))
 
   seen-none : (o : Option (List ℕ)) → o ≡ none → (a : Answer) (chart out : List ℕ) → seen (handingOut o a chart out) ≡ saidOf a out
   unfolding handingOut
@@ -54,9 +54,9 @@ module _ (g : Grammar) (valid : validGrammar g ≡ true) (w : List ℕ) (low : 1
     module _ (out : List ℕ) (o : 1024 ≤ length out) where
       pub first-said : (p : ℕ) → seen (firstOf g w chart out) ≡ walk (grammarOf g) w tree Walk.first p .said
       unfolding saidOf
-      first-said p = dite (decLt 0 (N (grammarOf g) w tree))
+      first-said p = dite (decLt 0 (N (grammarOf g) w))
           (λ h. ap seen goes
-          ∙ seen-some (row (grammarOf g) w tree 1) (at-member (L (grammarOf g) w) 0 h) (headOf (L (grammarOf g) w)) (head-some _ h) _ _ out
+          ∙ seen-some (row (grammarOf g) w 1) (at-member (L (grammarOf g) w) 0 h) (headOf (L (grammarOf g) w)) (head-some _ h) _ _ out
           ∙ sym (ap (λ (m : Move). m .said) (first-some (grammarOf g) w tree p h)))
           (λ h. ap seen goes
           ∙ seen-none (headOf (L (grammarOf g) w)) (head-none _ (omega arith)) _ _ out
@@ -68,13 +68,13 @@ module _ (g : Grammar) (valid : validGrammar g ≡ true) (w : List ℕ) (low : 1
               (filled (grammarOf g) w chart) out
           goes = firstOf-goes g valid w low high chart c out o
 
-      pub next-said : (p : ℕ) → p ≤ N (grammarOf g) w tree
-          → seen (nextOf g w (row (grammarOf g) w tree p) chart out) ≡ walk (grammarOf g) w tree Walk.nextCopy p .said
+      pub next-said : (p : ℕ) → p ≤ N (grammarOf g) w
+          → seen (nextOf g w (row (grammarOf g) w p) chart out) ≡ walk (grammarOf g) w tree Walk.nextCopy p .said
       unfolding saidOf
       next-said zero h =
           ap seen (nextOf-other g valid w low high chart c out o [] (row-not-empty (grammarOf g) w))
           ∙ sym (ap (λ (m : Move). m .said) (next-zero (grammarOf g) w tree))
-      next-said (suc i) h = dite (decLt (suc i) (N (grammarOf g) w tree))
+      next-said (suc i) h = dite (decLt (suc i) (N (grammarOf g) w))
           (λ k. ap seen goes
           ∙ seen-some (getD l (suc i) []) (at-member l (suc i) k) (afterIn e l) (after-next l (L-rising (grammarOf g) w) i k) noneLeft _ out
           ∙ sym (ap (λ (m : Move). m .said) (next-some (grammarOf g) w tree i k)))
@@ -100,8 +100,8 @@ module _ (g : Grammar) (valid : validGrammar g ≡ true) (w : List ℕ) (low : 1
 
     pub count-said : (p : ℕ) → saidOf (countOf g w chart .answer) [] ≡ walk (grammarOf g) w tree Walk.count p .said
     unfolding saidOf
-    count-said p = dite (decLt 0 (N (grammarOf g) w tree))
-        (λ h. dite (decLe (N (grammarOf g) w tree) 4096)
+    count-said p = dite (decLt 0 (N (grammarOf g) w))
+        (λ h. dite (decLe (N (grammarOf g) w) 4096)
         (λ k. ap saying (countOf-some g valid w low high chart c h k)
         ∙ sym (ap (λ (m : Move). m .said) (count-some (grammarOf g) w tree p h k)))
         (λ k. ap saying (countOf-more g valid w low high chart c (omega arith))
@@ -115,10 +115,10 @@ module _ (g : Grammar) (valid : validGrammar g ≡ true) (w : List ℕ) (low : 1
         saying a = saidOf a []
 
   -- one allowed call
-  pub says-walk : (tree : Dec (HasTree (grammarOf g) w)) (m : Made) → Allowed g w m → (p : ℕ) → p ≤ N (grammarOf g) w tree
-      → says g w (row (grammarOf g) w tree p) m ≡ walk (grammarOf g) w tree (which m) p .said
+  pub says-walk : (tree : Dec (HasTree (grammarOf g) w)) (m : Made) → Allowed g w m → (p : ℕ) → p ≤ N (grammarOf g) w
+      → says g w (row (grammarOf g) w p) m ≡ walk (grammarOf g) w tree (which m) p .said
   unfolding says
   says-walk tree (first chart out) a p h = first-said tree chart (a .0) out (a .1) p
   says-walk tree (nextCopy chart out) a p h = next-said tree chart (a .0) out (a .1) p h
   says-walk tree (nextOther e chart out) a p h = other-said tree chart (a .0) out (a .1) e (a .2) p
-  says-walk tree (count chart) a p h = count-said tree chart (a .0) p
+  says-walk tree (count chart) a p h = count-said tree chart a p

@@ -20,22 +20,22 @@ pub use Rattle.results.proofs.Demand3.Decided.{tree-decided}
 module _ (g : Grammar) (valid : validGrammar g ≡ true) (w : List ℕ) (low : 1 ≤ length w) (high : length w ≤ 64)
     (tree : Dec (HasTree (grammarOf g) w)) where
   -- from any place, with its row as the copy
-  pub walk-from : (calls : List Made) → AllAllowed g w calls → (p : ℕ) → p ≤ N (grammarOf g) w tree → (copy : List ℕ)
-      → copy ≡ row (grammarOf g) w tree p → history g w copy calls ≡ walked (grammarOf g) w tree (map which calls) p
+  pub walk-from : (calls : List Made) → AllAllowed g w calls → (p : ℕ) → p ≤ N (grammarOf g) w → (copy : List ℕ)
+      → copy ≡ row (grammarOf g) w p → history g w copy calls ≡ walked (grammarOf g) w tree (map which calls) p
   unfolding history walked
   walk-from [] a p h copy e = refl
   walk-from (m ∷ calls) a p h copy e =
       ap₂ _∷_ said (walk-from calls (a .1) (walk (grammarOf g) w tree (which m) p .place) (keeps .0) _ copied-row)
     where
-      keeps : (walk (grammarOf g) w tree (which m) p .place ≤ N (grammarOf g) w tree)
-          × (copied (walk (grammarOf g) w tree (which m) p .said) (row (grammarOf g) w tree p)
-          ≡ row (grammarOf g) w tree (walk (grammarOf g) w tree (which m) p .place))
+      keeps : (walk (grammarOf g) w tree (which m) p .place ≤ N (grammarOf g) w)
+          × (copied (walk (grammarOf g) w tree (which m) p .said) (row (grammarOf g) w p)
+          ≡ row (grammarOf g) w (walk (grammarOf g) w tree (which m) p .place))
       keeps = walk-keeps (grammarOf g) w tree (which m) p h
 
       said : says g w copy m ≡ walk (grammarOf g) w tree (which m) p .said
       said = rw e (says-walk g valid w low high tree m (a .0) p h)
 
-      copied-row : copied (says g w copy m) copy ≡ row (grammarOf g) w tree (walk (grammarOf g) w tree (which m) p .place)
+      copied-row : copied (says g w copy m) copy ≡ row (grammarOf g) w (walk (grammarOf g) w tree (which m) p .place)
       copied-row = ap₂ copied said e ∙ keeps .1
 
   pub walk-holds : (calls : List Made) → AllAllowed g w calls → history g w [] calls ≡ walked (grammarOf g) w tree (map which calls) 0

@@ -1,7 +1,7 @@
 -- The books of document 01's drawer, as bytes. `A` is the byte 41.
 -- Assumes nothing.
 use Prim.Native.Nat.{ℕ, zero, suc}
-use mathlib.Core.List.{List, [], _∷_, _++_}
+use mathlib.Core.List.{List, [], _∷_}
 
 -- the commands of a book; a rule is opened with length 0
 abbrev pub start : ℕ → List ℕ → List ℕ

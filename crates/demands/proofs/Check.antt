@@ -1,0 +1,44 @@
+-- Demand 2, second half: the check says yes exactly if the offered row is a derivation (reading) of the input, and no exactly if not.
+-- Assumes nothing.
+use Prim.Native.Nat.{ℕ}
+use mathlib.Core.Bool.{Bool, true, false}
+use mathlib.Core.List.{List}
+use mathlib.Core.Logic.{_↔_}
+use mathlib.Core.Path.{_≡_, refl, sym, ap, _∙_}
+use Rattle.cfg.specs.Derivation.{Derivation, limit}
+use Rattle.cfg.specs.Listing.{L}
+use Rattle.grammar.specs.declared.Grammar.{Grammar}
+use Rattle.grammar.specs.View.{grammarOf}
+use Rattle.grammar.proofs.All.{true-false}
+use Rattle.listing.proofs.Exact.{listed→derivation, derivation→listed}
+use Rattle.results.specs.Answer.{affirmed, denied}
+use Rattle.results.specs.Recognize.{saying}
+use Rattle.results.specs.Check.{Checking, listed, checkOf}
+use Rattle.demands.specs.Ready.{Ready}
+use Rattle.demands.proofs.Answers.{saying-affirmed, saying-denied}
+use Rattle.demands.proofs.Later.{onInput-passed}
+use Rattle.results.proofs.Demand3.Rows.{listed-member, member-listed}
+
+module _ (g : Grammar) (w chart : List ℕ) (ready : Ready g w chart) (offered : List ℕ) where
+  said : checkOf g w offered chart .answer ≡ saying (listed offered (L (grammarOf g) w))
+  unfolding checkOf
+  said = ap (λ (x : Checking). x .answer) (onInput-passed g w chart _ ready)
+
+  derivation-listed : (listed offered (L (grammarOf g) w) ≡ true) ↔ Derivation (grammarOf g) limit w offered
+  derivation-listed = (
+    λ e. listed→derivation (grammarOf g) limit w offered (listed-member offered (L (grammarOf g) w) e),
+    λ d. member-listed offered (derivation→listed (grammarOf g) limit w offered d),
+  )
+
+  pub check-yes : (checkOf g w offered chart .answer ≡ affirmed) ↔ Derivation (grammarOf g) limit w offered
+  check-yes = (λ e. derivation-listed .0 (saying-affirmed _ (sym said ∙ e)), λ d. said ∙ ap saying (derivation-listed .1 d))
+
+  pub check-no : (checkOf g w offered chart .answer ≡ denied) ↔ (Derivation (grammarOf g) limit w offered → ⊥)
+  check-no = (
+    λ e d. true-false (derivation-listed .1 d) (saying-denied _ (sym said ∙ e)),
+    λ f. said ∙ by (listed offered (L (grammarOf g) w)) (λ e. f (derivation-listed .0 e)),
+  )
+    where
+      by : (b : Bool) → (b ≡ true → ⊥) → saying b ≡ denied
+      by true n = absurd (n refl)
+      by false n = refl
