@@ -12,4 +12,5 @@ pub mod Listed
 pub mod OrderOffered
 pub mod OrderTrees
 pub mod Check
+pub mod Demand1
 pub mod Recognized

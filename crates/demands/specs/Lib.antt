@@ -4,4 +4,5 @@ pub mod Ready
 pub mod Order
 pub mod LoadOrder
 pub mod OrderAfter
+pub mod Demand1
 pub mod Recognized

@@ -1,12 +1,13 @@
 -- The final theorems over the definitions, each proved by citation: the starred table, the exact list, demand 1, demand 2 and demand 3 of
--- document 01. The statements use the definitions of `cfg/specs`, `chart/specs`, `grammar/specs`, `results/specs` and `demands/specs` alone.
+-- document 01. The statements use the definitions of `cfg/specs`, `chart/specs`, `grammar/specs`, `results/specs` and `demands/specs`, the
+-- rows of `results/proofs/Starred.antt`, and `nextCalls`, which is a list of nexts with the copy.
 -- Assumes nothing.
 use Prim.Native.Nat.{ℕ, _+_, _≤_, _<_, min}
 use mathlib.Core.Bool.{true}
 use mathlib.Core.List.{List, [], _∷_, _++_, List·Memᴰ, map}
 use mathlib.Core.Logic.{_↔_, _⊎_}
 use mathlib.Core.Path.{_≡_}
-use lib.ListN.{length, take, drop}
+use lib.ListN.{length, getD, take, drop}
 use Rattle.cfg.specs.Grammar.{Cfg}
 use Rattle.cfg.specs.Tree.{Row, nodes, Parse, HasTree}
 use Rattle.cfg.specs.Derivation.{Derivation, Rising, limit}
@@ -14,7 +15,8 @@ use Rattle.cfg.specs.Listing.{L}
 use Rattle.grammar.specs.declared.Grammar.{Grammar}
 use Rattle.grammar.specs.Valid.{validGrammar}
 use Rattle.grammar.specs.View.{grammarOf}
-use Rattle.results.specs.Answer.{refused, noDerivation, counted, more}
+use Rattle.results.specs.Answer.{refused, affirmed, denied, noDerivation, counted, more}
+use Rattle.results.specs.Load.{step}
 use Rattle.results.specs.Recognize.{State, openOf, takeOf, fed}
 use Rattle.results.specs.Check.{checkOf}
 use Rattle.results.specs.Measure.{lengthOf, sameBuildOf}
@@ -22,22 +24,28 @@ use Rattle.results.specs.Enumerate.{firstOf, nextOf, countOf}
 use Rattle.results.specs.Walk as Walk
 use Rattle.results.specs.Walk.{Call, walked, placeAfter, handedOut, nexts, NoFirst}
 use Rattle.results.specs.History.{Made, first, which, AllAllowed, history}
-use Rattle.demands.specs.Kept.{ChartKept, OutputKept}
-use Rattle.demands.specs.Order.{OpenOrder, TakeOrder, InputOrder, OutputOrder}
+use Rattle.demands.specs.Demand1.{OpenDemand, TakeDemand, InputDemand, OutputDemand}
+use Rattle.demands.specs.Ready.{Ready, ReadyOut}
+use Rattle.demands.specs.OrderAfter.{OfferedOrder, TreesOrder}
+use Rattle.demands.specs.LoadOrder.{CommandOrder}
 use Rattle.demands.specs.Recognized.{Recognized}
 use Rattle.listing.proofs.Exact as Exact
-use Rattle.results.proofs.Table as Table
+use Rattle.results.proofs.Starred as Starred
 use Rattle.results.proofs.Demand3.Walk as Claim
 use Rattle.results.proofs.Demand3.Places as Places
 use Rattle.results.proofs.Demand3.Handed as Handed
 use Rattle.results.proofs.Demand3.Consequences as Consequences
-use Rattle.demands.proofs.Kept as Kept
-use Rattle.demands.proofs.Order as Order
+use Rattle.demands.proofs.Demand1 as Demand1
+use Rattle.demands.proofs.OrderOffered as Offered
+use Rattle.demands.proofs.OrderTrees as Trees
+use Rattle.demands.proofs.LoadOrder as LoadOrder
+use Rattle.demands.proofs.Check as Check
 use Rattle.demands.proofs.Recognized as Fed
 
--- THE STARRED TABLE: from the bytes of each bytes to the answers of first and count, L and the lengths
-pub starred-table : map (λ r. Table.outcome (r .bytes) (r .input)) Table.table ≡ map (λ r. r .gives) Table.table
-starred-table = Table.table-holds
+-- THE STARRED TABLE: from the bytes of each book to the answers of first and count, L and the lengths; the inputs without a tree of any
+-- size; the empty book; the sums
+pub starred-table : Starred.Starred
+starred-table = Starred.starred
 
 -- THE LIST L: a row is in it exactly if it is a derivation (reading) of the input, and it is strictly rising
 pub list-exact : (G : Cfg) (w e : List ℕ) → List·Memᴰ e (L G w) ↔ Derivation G limit w e
@@ -46,64 +54,72 @@ list-exact G w e = (Exact.listed→derivation G limit w e, Exact.derivation→li
 pub list-rising : (G : Cfg) (w : List ℕ) → Rising (L G w)
 list-rising G w = Exact.derivations-rising G limit w
 
--- DEMAND 1: of a chart only the first 4,225 cells change, of an output only the derivation handed out; for every input of every call
-pub open-keeps : (g : Grammar) (chart : List ℕ) → ChartKept chart (openOf g chart .chart)
-open-keeps = Kept.open-kept
+-- DEMAND 1, for every input of every call: of a chart only the first 4,225 cells change, of an output only the derivation handed out;
+-- the refusal given is the first that applies; and what each refusal leaves
+pub open-demand : (g : Grammar) (chart : List ℕ) → OpenDemand g chart (openOf g chart)
+open-demand = Demand1.open-demand
 
-pub take-keeps : (g : Grammar) (h : State) (m : ℕ) (chart : List ℕ) → ChartKept chart (takeOf g h m chart .chart)
-take-keeps = Kept.take-kept
+pub take-demand : (g : Grammar) (h : State) (m : ℕ) (chart : List ℕ) → TakeDemand g h chart (takeOf g h m chart)
+take-demand = Demand1.take-demand
 
-pub check-keeps : (g : Grammar) (w e chart : List ℕ) → ChartKept chart (checkOf g w e chart .chart)
-check-keeps g w e chart = Kept.check-kept g w chart e
+pub check-demand : (g : Grammar) (w e chart : List ℕ) → InputDemand g w chart (checkOf g w e chart)
+check-demand = Demand1.check-demand
 
-pub length-keeps : (g : Grammar) (w e chart : List ℕ) → ChartKept chart (lengthOf g w e chart .chart)
-length-keeps g w e chart = Kept.length-kept g w chart e
+pub length-demand : (g : Grammar) (w e chart : List ℕ) → InputDemand g w chart (lengthOf g w e chart)
+length-demand = Demand1.length-demand
 
-pub same-build-keeps : (g : Grammar) (w a b chart : List ℕ) → ChartKept chart (sameBuildOf g w a b chart .chart)
-same-build-keeps g w a b chart = Kept.same-build-kept g w chart a b
+pub same-build-demand : (g : Grammar) (w a b chart : List ℕ) → InputDemand g w chart (sameBuildOf g w a b chart)
+same-build-demand = Demand1.same-build-demand
 
-pub count-keeps : (g : Grammar) (w chart : List ℕ) → ChartKept chart (countOf g w chart .chart)
-count-keeps = Kept.count-kept
+pub count-demand : (g : Grammar) (w chart : List ℕ) → InputDemand g w chart (countOf g w chart)
+count-demand = Demand1.count-demand
 
-pub first-keeps : (g : Grammar) (w chart out : List ℕ)
-    → ChartKept chart (firstOf g w chart out .chart) × OutputKept (firstOf g w chart out .answer) out (firstOf g w chart out .output)
-first-keeps = Kept.first-kept
+pub first-demand : (g : Grammar) (w chart out : List ℕ) → OutputDemand g w chart out (firstOf g w chart out)
+first-demand = Demand1.first-demand
 
-pub next-keeps : (g : Grammar) (w e chart out : List ℕ)
-    → ChartKept chart (nextOf g w e chart out .chart) × OutputKept (nextOf g w e chart out .answer) out (nextOf g w e chart out .output)
-next-keeps g w e chart out = Kept.next-kept g w chart out e
+pub next-demand : (g : Grammar) (w e chart out : List ℕ) → OutputDemand g w chart out (nextOf g w e chart out)
+next-demand = Demand1.next-demand
 
--- DEMAND 1, THE ORDER: the refusal given is the first that applies. 12 and 13: demands/proofs/OrderOffered.antt and OrderTrees.antt; those
--- of loading: LoadOrder.antt; what each refusal leaves: Untouched.antt and Filled.antt
-pub open-order : (g : Grammar) (chart : List ℕ) → OpenOrder g chart (openOf g chart .answer)
-open-order = Order.open-order
+-- refusal 12 exactly where an offered row is no derivation, 13 exactly where there are trees and no derivation
+pub length-twelve : (g : Grammar) (w chart e : List ℕ)
+    → OfferedOrder (Ready g w chart) (Derivation (grammarOf g) limit w e) (lengthOf g w e chart .answer)
+length-twelve = Offered.length-twelve
 
-pub take-order : (g : Grammar) (h : State) (m : ℕ) (chart : List ℕ) → TakeOrder g h chart (takeOf g h m chart .answer)
-take-order = Order.take-order
+pub same-build-twelve : (g : Grammar) (w chart a b : List ℕ)
+    → OfferedOrder (Ready g w chart) (Derivation (grammarOf g) limit w a × Derivation (grammarOf g) limit w b)
+    (sameBuildOf g w a b chart .answer)
+same-build-twelve = Offered.same-build-twelve
 
-pub check-order : (g : Grammar) (w e chart : List ℕ) → InputOrder g w chart (checkOf g w e chart .answer)
-check-order g w e chart = Order.check-order g w chart e
+pub next-twelve : (g : Grammar) (w chart out e : List ℕ)
+    → OfferedOrder (ReadyOut g w chart out) (Derivation (grammarOf g) limit w e) (nextOf g w e chart out .answer)
+next-twelve = Offered.next-twelve
 
-pub length-order : (g : Grammar) (w e chart : List ℕ) → InputOrder g w chart (lengthOf g w e chart .answer)
-length-order g w e chart = Order.length-order g w chart e
+pub first-thirteen : (g : Grammar) (w chart out : List ℕ)
+    → TreesOrder (ReadyOut g w chart out) (grammarOf g) w (firstOf g w chart out .answer)
+first-thirteen = Trees.first-thirteen
 
-pub same-build-order : (g : Grammar) (w a b chart : List ℕ) → InputOrder g w chart (sameBuildOf g w a b chart .answer)
-same-build-order g w a b chart = Order.same-build-order g w chart a b
+pub count-thirteen : (g : Grammar) (w chart : List ℕ) → TreesOrder (Ready g w chart) (grammarOf g) w (countOf g w chart .answer)
+count-thirteen = Trees.count-thirteen
 
-pub count-order : (g : Grammar) (w chart : List ℕ) → InputOrder g w chart (countOf g w chart .answer)
-count-order = Order.count-order
-
-pub first-order : (g : Grammar) (w chart out : List ℕ) → OutputOrder g w chart out (firstOf g w chart out .answer)
-first-order = Order.first-order
-
-pub next-order : (g : Grammar) (w e chart out : List ℕ) → OutputOrder g w chart out (nextOf g w e chart out .answer)
-next-order g w e chart out = Order.next-order g w chart out e
+-- loading: at each command the first fault that applies decides
+pub load-order : (bytes : List ℕ) (at : ℕ) (g : Grammar)
+    → CommandOrder bytes at (getD bytes at 0) (getD bytes (at + 1) 0) g (step bytes at g)
+load-order = LoadOrder.step-order
 
 -- DEMAND 2: opened over any chart and fed any row of bytes, the recognizer says "complete" exactly if the bytes so far have a parse tree,
 -- and each cell holds exactly the nonterminals that derive its span
 pub demand-2 : (g : Grammar) (found : List ℕ) → validGrammar g ≡ true → 4225 ≤ length found → (ms : List ℕ)
     → Recognized (grammarOf g) found ms (fed g (openOf g found) ms)
 demand-2 = Fed.recognized
+
+-- the check says yes exactly of the derivations, whoever wrote the row
+pub check-yes : (g : Grammar) (w chart : List ℕ) → Ready g w chart → (e : List ℕ)
+    → (checkOf g w e chart .answer ≡ affirmed) ↔ Derivation (grammarOf g) limit w e
+check-yes = Check.check-yes
+
+pub check-no : (g : Grammar) (w chart : List ℕ) → Ready g w chart → (e : List ℕ)
+    → (checkOf g w e chart .answer ≡ denied) ↔ (Derivation (grammarOf g) limit w e → ⊥)
+check-no = Check.check-no
 
 -- DEMAND 3, for every grammar that check 8 lets through, every input that check 9 lets through and every list of allowed calls
 module _ (g : Grammar) (valid : validGrammar g ≡ true) (w : List ℕ) (low : 1 ≤ length w) (high : length w ≤ 64) where

@@ -1,0 +1,53 @@
+-- Demand 1 for each call: what it keeps, which refusal it gives, and what it leaves after each.
+-- Assumes nothing.
+use Prim.Native.Nat.{ℕ, _≤_, _<_}
+use mathlib.Core.Bool.{true}
+use mathlib.Core.List.{List, []}
+use mathlib.Core.Path.{_≡_}
+use lib.ListN.{length}
+use Rattle.chart.specs.Column.{filled}
+use Rattle.grammar.specs.declared.Grammar.{Grammar}
+use Rattle.grammar.specs.Valid.{validGrammar}
+use Rattle.grammar.specs.View.{grammarOf}
+use Rattle.results.specs.Answer.{refused}
+use Rattle.results.specs.Recognize.{State, stateOf, Recognition}
+use Rattle.results.specs.Check.{Checking}
+use Rattle.results.specs.Enumerate.{Enumeration}
+use Rattle.demands.specs.Kept.{ChartKept, OutputKept}
+use Rattle.demands.specs.Ready.{Ready, ReadyOut}
+use Rattle.demands.specs.Order.{OpenOrder, TakeOrder, InputOrder, OutputOrder}
+
+-- opening
+pub record OpenDemand (g : Grammar) (chart : List ℕ) (r : Recognition) : Type 0 where
+  pub kept : ChartKept chart (r .chart)
+  pub order : OpenOrder g chart (r .answer)
+  -- refused, it leaves the chart as found and gives a state of zeros
+  pub untouched : (n : ℕ) → r .answer ≡ refused n → (r .chart ≡ chart) × (r .state ≡ stateOf [])
+  -- else the chart is the one of no bytes
+  pub opened : validGrammar g ≡ true → 4225 ≤ length chart → r .chart ≡ filled (grammarOf g) [] chart
+
+-- taking
+pub record TakeDemand (g : Grammar) (h : State) (chart : List ℕ) (r : Recognition) : Type 0 where
+  pub kept : ChartKept chart (r .chart)
+  pub order : TakeOrder g h chart (r .answer)
+  -- refused, it leaves the chart and the state as found
+  pub untouched : (n : ℕ) → r .answer ≡ refused n → (r .chart ≡ chart) × (r .state ≡ h)
+
+-- check, length, same build and count
+pub record InputDemand (g : Grammar) (w chart : List ℕ) (r : Checking) : Type 0 where
+  pub kept : ChartKept chart (r .chart)
+  pub order : InputOrder g w chart (r .answer)
+  -- refusals 8 to 10 leave the chart as found
+  pub untouched : (n : ℕ) → n < 12 → r .answer ≡ refused n → r .chart ≡ chart
+  -- once these checks are passed, the chart is filled for the input, whatever the answer
+  pub chart-filled : Ready g w chart → r .chart ≡ filled (grammarOf g) w chart
+
+-- first and next
+pub record OutputDemand (g : Grammar) (w chart out : List ℕ) (r : Enumeration) : Type 0 where
+  pub kept : ChartKept chart (r .chart)
+  pub output : OutputKept (r .answer) out (r .output)
+  pub order : OutputOrder g w chart out (r .answer)
+  -- refusals 8 to 11 leave chart and output as found
+  pub untouched : (n : ℕ) → n < 12 → r .answer ≡ refused n → (r .chart ≡ chart) × (r .output ≡ out)
+  -- once these checks are passed, the chart is filled for the input, whatever the answer
+  pub chart-filled : ReadyOut g w chart out → r .chart ≡ filled (grammarOf g) w chart
