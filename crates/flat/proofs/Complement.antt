@@ -1,0 +1,106 @@
+-- The signed number of 16 bits, read and written: what the machine computes is what the specification says.
+-- Assumes nothing.
+use Prim.Native.Nat.{ℕ, zero, suc, _-_, _≤_, _<_}
+use native.Mathlib.Nat.{zero-add}
+use native.Mathlib.Omega.{arith}
+use mathlib.Core.Bool.{true, false}
+use mathlib.Core.Path.{_≡_, refl, sym, ap, _∙_, subst}
+use lib.Dec.{T}
+use lib.IntN.{ℤ, pos, negsuc, natAbs, _-ℤ_}
+use lib.Signed.{ltZ, nonNeg}
+use borrow.Author.Tests.{lt-ltb, le-ltb, ltb-true}
+use mir.Syntax.{w16}
+use mir.Val.{Fits, SFits, toZ, ofZ}
+use mir.Facts.{toZ-pos, toZ-ofZ}
+use Rattle.flat.specs.Flat.{signedIn, unsignedOf}
+
+-- ---- reading
+
+-- one below minus m
+below-minus : (m : ℕ) → negsuc 0 -ℤ pos m ≡ negsuc m
+below-minus zero = refl
+below-minus (suc m) = rw zero-add
+
+machine-negative : (m : ℕ) → m < 32768 → negsuc 0 -ℤ toZ w16 m ≡ negsuc m
+machine-negative m h = ap (λ (z : ℤ). negsuc 0 -ℤ z) (toZ-pos w16 h) ∙ below-minus m
+
+module _ (n : ℕ) where
+  pub signed-small : n < 32768 → toZ w16 n ≡ signedIn n
+  unfolding signedIn
+  signed-small h = rw (lt-ltb n 32768 h)
+
+  module _ (h : 32768 ≤ n) where
+    pub negative-fits : SFits w16 (negsuc 0 -ℤ toZ w16 (65535 - n))
+    negative-fits =
+        let l : 65535 - n < 32768 = omega arith in
+        subst (SFits w16) (sym (machine-negative (65535 - n) l)) (record { sfits = l })
+
+    pub signed-large : n ≤ 65535 → toZ w16 (ofZ w16 (negsuc 0 -ℤ toZ w16 (65535 - n))) ≡ signedIn n
+    unfolding signedIn
+    signed-large k =
+        let l : 65535 - n < 32768 = omega arith in
+        let e : 65536 - n ≡ suc (65535 - n) = omega arith in
+        toZ-ofZ negative-fits ∙ machine-negative (65535 - n) l ∙ rw (le-ltb n 32768 h, e)
+
+-- ---- writing
+
+-- minus one minus a signed number, as the machine has it
+abbrev flip : ℤ → ℤ
+flip z = negsuc 0 -ℤ toZ w16 (ofZ w16 z)
+
+minus-below : (n : ℕ) → negsuc 0 -ℤ negsuc n ≡ pos n
+minus-below n =
+    let e : suc n - 1 ≡ n = omega arith in
+    rw (le-ltb (suc n) 1 (omega arith), e)
+
+flip-is : (n : ℕ) → n < 32768 → flip (negsuc n) ≡ pos n
+flip-is n h = ap (λ (z : ℤ). negsuc 0 -ℤ z) (toZ-ofZ {w = w16} {z = negsuc n} (record { sfits = h })) ∙ minus-below n
+
+kept-is : (n : ℕ) → n < 32768 → toZ w16 (ofZ w16 (flip (negsuc n))) ≡ pos n
+kept-is n h = ap (λ (z : ℤ). toZ w16 (ofZ w16 z)) (flip-is n h) ∙ toZ-pos w16 h
+
+same-is : (n : ℕ) → n < 32768 → toZ w16 (ofZ w16 (pos n)) ≡ pos n
+same-is n h = toZ-pos w16 h
+
+module _ (P : ℤ → Type 0) where
+  -- what holds of every negative number holds where the test says so
+  negative : ((n : ℕ) → n < 32768 → P (negsuc n)) → (z : ℤ) → SFits w16 z → ltZ (toZ w16 (ofZ w16 z)) (pos 0) ≡ true → P z
+  negative step (negsuc n) f t = step n (f .sfits)
+  negative step (pos n) f t =
+      let b : n < 0 = ltb-true n 0 (ap (λ (y : ℤ). ltZ y (pos 0)) (sym (same-is n (f .sfits))) ∙ t) in
+      absurd (omega arith)
+
+  natural : ((n : ℕ) → n < 32768 → P (pos n)) → (z : ℤ) → SFits w16 z → ltZ (toZ w16 (ofZ w16 z)) (pos 0) ≡ false → P z
+  natural step (pos n) f t = step n (f .sfits)
+  natural step (negsuc n) f t =
+      let e : ltZ (negsuc n) (pos 0) ≡ false = ap (λ (y : ℤ). ltZ y (pos 0)) (sym (toZ-ofZ {w = w16} {z = negsuc n} f)) ∙ t in
+      let z : _≡_ {A = ℕ} 0 1 = cc in
+      absurd (omega arith)
+
+pub flip-fits : (z : ℤ) → SFits w16 z → ltZ (toZ w16 (ofZ w16 z)) (pos 0) ≡ true → SFits w16 (flip z)
+flip-fits = negative (λ z. SFits w16 (flip z)) (λ n h. rw (flip-is n h) (record { sfits = h }))
+
+pub flip-casts : (z : ℤ) → SFits w16 z → ltZ (toZ w16 (ofZ w16 z)) (pos 0) ≡ true
+    → T (nonNeg (toZ w16 (ofZ w16 (flip z)))) × Fits w16 (natAbs (toZ w16 (ofZ w16 (flip z))))
+flip-casts =
+    negative (λ z. T (nonNeg (toZ w16 (ofZ w16 (flip z)))) × Fits w16 (natAbs (toZ w16 (ofZ w16 (flip z)))))
+    (λ n h. rw (kept-is n h) (tt, record { fits = omega arith }))
+
+pub flip-below : (z : ℤ) → SFits w16 z → ltZ (toZ w16 (ofZ w16 z)) (pos 0) ≡ true → natAbs (toZ w16 (ofZ w16 (flip z))) < 32768
+flip-below = negative (λ z. natAbs (toZ w16 (ofZ w16 (flip z))) < 32768) (λ n h. rw (kept-is n h) h)
+
+pub unsigned-negative : (z : ℤ) → SFits w16 z → ltZ (toZ w16 (ofZ w16 z)) (pos 0) ≡ true
+    → 65535 - natAbs (toZ w16 (ofZ w16 (flip z))) ≡ unsignedOf z
+unfolding unsignedOf
+unsigned-negative =
+    negative (λ z. 65535 - natAbs (toZ w16 (ofZ w16 (flip z))) ≡ unsignedOf z) (λ n h. rw (kept-is n h) (omega arith))
+
+pub natural-casts : (z : ℤ) → SFits w16 z → ltZ (toZ w16 (ofZ w16 z)) (pos 0) ≡ false
+    → T (nonNeg (toZ w16 (ofZ w16 z))) × Fits w16 (natAbs (toZ w16 (ofZ w16 z)))
+natural-casts =
+    natural (λ z. T (nonNeg (toZ w16 (ofZ w16 z))) × Fits w16 (natAbs (toZ w16 (ofZ w16 z))))
+    (λ n h. rw (same-is n h) (tt, record { fits = omega arith }))
+
+pub unsigned-natural : (z : ℤ) → SFits w16 z → ltZ (toZ w16 (ofZ w16 z)) (pos 0) ≡ false → natAbs (toZ w16 (ofZ w16 z)) ≡ unsignedOf z
+unfolding unsignedOf
+unsigned-natural = natural (λ z. natAbs (toZ w16 (ofZ w16 z)) ≡ unsignedOf z) (λ n h. rw (same-is n h) (omega arith))

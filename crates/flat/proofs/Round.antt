@@ -1,0 +1,133 @@
+-- A grammar that a flat row holds whole is read back as it was written.
+-- Assumes nothing.
+use Prim.Native.Nat.{ℕ, zero, suc, _+_, _*_, _-_, _%_, _<_}
+use native.Mathlib.Omega.{arith}
+use mathlib.Core.Bool.{cond}
+use mathlib.Core.List.{List, [], _∷_, _++_, flatMap, append-assoc, append-nil}
+use mathlib.Core.Path.{_≡_, refl, sym, ap, _∙_}
+use lib.Dec.{eqb}
+use lib.IntN.{ℤ, pos, negsuc}
+use lib.ListN.{length, getD, drop}
+use lib.Seq.{getD-drop, drop-drop, drop-at}
+use lib.Signed.{mag}
+use borrow.Author.Tests.{lt-ltb, le-ltb}
+use Rattle.grammar.specs.declared.Symbol.{Symbol}
+use Rattle.grammar.specs.declared.Symbol.the-variants.{Nonterminal, Terminal}
+use Rattle.grammar.specs.declared.Place.{Place}
+use Rattle.grammar.specs.declared.Rule.{Rule}
+use Rattle.grammar.specs.declared.Grammar.{Grammar}
+use Rattle.grammar.specs.Zero.{zeroPlace, noRule}
+use Rattle.flat.specs.Flat.{signedIn, recordsFrom, placeIn, placesIn, ruleIn, rulesIn, grammarIn}
+use Rattle.flat.specs.Flat.{unsignedOf, tagOf, valueOf, flatPlace, flatRule, flatOf}
+use Rattle.flat.specs.Fits.{FitsRule, Fits16}
+
+-- ---- one number and one place
+
+pub signed-round : (z : ℤ) → mag z < 32768 → signedIn (unsignedOf z) ≡ z
+unfolding signedIn unsignedOf
+signed-round (pos n) h =
+    let e : n % 65536 ≡ n = omega arith in
+    rw (e, lt-ltb n 32768 h)
+signed-round (negsuc n) h =
+    let e : 65535 - n % 65536 ≡ 65535 - n = omega arith in
+    let d : 65536 - (65535 - n) ≡ suc n = omega arith in
+    rw (e, le-ltb (65535 - n) 32768 (omega arith), d)
+
+symbol-round : (s : Symbol) (t v : ℕ) → t ≡ tagOf s → v ≡ valueOf s → valueOf s < 256
+    → cond (eqb t 0) (Nonterminal (v % 256)) (Terminal (v % 256)) ≡ s
+unfolding tagOf valueOf
+symbol-round (Nonterminal k) t v e f h =
+    let d : k % 256 ≡ k = omega arith in
+    rw (e, f, d)
+symbol-round (Terminal m) t v e f h =
+    let d : m % 256 ≡ m = omega arith in
+    rw (e, f, d)
+
+-- ---- records
+
+-- the number at j, where the row goes on from the index at as l does
+at-index : (f l : List ℕ) (at k j : ℕ) → j ≡ at + k → drop at f ≡ l → getD f j 0 ≡ getD l k 0
+at-index f l at k j e h =
+    ap (λ (x : ℕ). getD f x 0) e ∙ sym (getD-drop at f k 0) ∙ ap (λ (x : List ℕ). getD x k 0) h
+
+-- w numbers further on
+further : (f a l : List ℕ) (at w : ℕ) → length a ≡ w → drop at f ≡ a ++ l → drop (at + w) f ≡ l
+further f a l at w n h = sym (drop-drop w at f) ∙ ap (drop w) h ∙ drop-at a l w n
+
+module _ {A : Type 0} (d : A) (flat : A → List ℕ) (read : ℕ → A) (w : ℕ) (f : List ℕ) (Fits : A → Type 0)
+    (size : (a : A) → Fits a → length (flat a) ≡ w)
+    (back : (a : A) (at : ℕ) (rest : List ℕ) → Fits a → drop at f ≡ flat a ++ rest → read at ≡ a) where
+  records-round : (l : List A) (at n : ℕ) (rest : List ℕ) → length l ≡ n → ((k : ℕ) → k < n → Fits (getD l k d))
+      → drop at f ≡ flatMap flat l ++ rest → recordsFrom read w at n ≡ l
+  unfolding recordsFrom flatMap
+  records-round [] at zero rest e fits h = refl
+  records-round [] at (suc n) rest e fits h = absurd (omega arith)
+  records-round (a ∷ l) at zero rest e fits h = absurd (omega arith)
+  records-round (a ∷ l) at (suc n) rest e fits h =
+      let g : drop at f ≡ flat a ++ (flatMap flat l ++ rest) = h ∙ append-assoc (flat a) (flatMap flat l) rest in
+      let x = back a at (flatMap flat l ++ rest) (fits 0 (omega arith)) g in
+      let y =
+      records-round l (at + w) n rest (omega arith) (λ k m. fits (suc k) (omega arith))
+      (further f (flat a) (flatMap flat l ++ rest) at w (size a (fits 0 (omega arith))) g)
+      in
+      λ i. x i ∷ y i
+
+-- ---- places, rules, the grammar
+
+place-size : (p : Place) → length (flatPlace p) ≡ 2
+unfolding flatPlace
+place-size p = refl
+
+places-size : (l : List Place) → length (flatMap flatPlace l) ≡ 2 * length l
+unfolding flatMap flatPlace
+places-size [] = refl
+places-size (p ∷ l) = omega (arith, places-size l)
+
+rule-size : (ρ : Rule) → FitsRule ρ → length (flatRule ρ) ≡ 19
+unfolding flatRule
+rule-size ρ fits = omega (arith, places-size (ρ .places), fits .places)
+
+module _ (f : List ℕ) where
+  place-round : (p : Place) (at : ℕ) (rest : List ℕ) → valueOf (p .symbol) < 256 → drop at f ≡ flatPlace p ++ rest → placeIn f at ≡ p
+  unfolding placeIn flatPlace
+  place-round p at rest v h =
+      let t : getD f at 0 ≡ tagOf (p .symbol) = at-index f (flatPlace p ++ rest) at 0 at (omega arith) h in
+      let n : getD f (at + 1) 0 ≡ valueOf (p .symbol) = at-index f (flatPlace p ++ rest) at 1 (at + 1) refl h in
+      let e = symbol-round (p .symbol) (getD f at 0) (getD f (at + 1) 0) t n v in
+      λ i. record { symbol = e i }
+
+  places-round : (l : List Place) (at : ℕ) (rest : List ℕ) → length l ≡ 8
+      → ((q : ℕ) → q < 8 → valueOf (getD l q zeroPlace .symbol) < 256) → drop at f ≡ flatMap flatPlace l ++ rest → placesIn f at ≡ l
+  unfolding placesIn
+  places-round l at rest n v h =
+      records-round zeroPlace flatPlace (placeIn f) 2 f (λ p. valueOf (p .symbol) < 256) (λ p _. place-size p) place-round l at 8 rest n v h
+
+  rule-round : (ρ : Rule) (at : ℕ) (rest : List ℕ) → FitsRule ρ → drop at f ≡ flatRule ρ ++ rest → ruleIn f at ≡ ρ
+  unfolding ruleIn flatRule
+  rule-round ρ at rest fits h =
+      let k : getD f at 0 ≡ ρ .left = at-index f (flatRule ρ ++ rest) at 0 at (omega arith) h in
+      let m : getD f (at + 1) 0 ≡ unsignedOf (ρ .length) = at-index f (flatRule ρ ++ rest) at 1 (at + 1) refl h in
+      let n : getD f (at + 2) 0 ≡ ρ .count % 65536 = at-index f (flatRule ρ ++ rest) at 2 (at + 2) refl h in
+      let a : getD f at 0 % 256 ≡ ρ .left = omega (arith, fits .left) in
+      let b : signedIn (getD f (at + 1) 0) ≡ ρ .length = ap signedIn m ∙ signed-round (ρ .length) (fits .length) in
+      let c : getD f (at + 2) 0 ≡ ρ .count = omega (arith, fits .count) in
+      let e : placesIn f (at + 3) ≡ ρ .places =
+      places-round (ρ .places) (at + 3) rest (fits .places) (fits .values)
+      (further f (ρ .left ∷ unsignedOf (ρ .length) ∷ ρ .count % 65536 ∷ []) (flatMap flatPlace (ρ .places) ++ rest) at 3 refl h)
+      in
+      λ i. record { left = a i; length = b i; count = c i; places = e i }
+
+rules-round : (g : Grammar) → Fits16 g → rulesIn (flatOf g) ≡ g .rules
+unfolding rulesIn flatOf
+rules-round g fits =
+    records-round noRule flatRule (ruleIn (flatOf g)) 19 (flatOf g) FitsRule rule-size (rule-round (flatOf g)) (g .rules) 3 128 []
+    (fits .rules) (fits .each) (sym (append-nil (flatMap flatRule (g .rules))))
+
+pub read-write : (g : Grammar) → Fits16 g → grammarIn (flatOf g) ≡ g
+unfolding grammarIn flatOf
+read-write g fits =
+    let a : g .start % 256 ≡ g .start = omega (arith, fits .start) in
+    let b : g .count % 65536 ≡ g .count = omega (arith, fits .count) in
+    let c : g .depth % 256 ≡ g .depth = omega (arith, fits .depth) in
+    let e = rules-round g fits in
+    λ i. record { start = a i; count = b i; depth = c i; rules = e i }

@@ -1,0 +1,89 @@
+-- Records written one after the other into a row of 2435 numbers, behind what stands there already.
+-- Assumes nothing.
+use Prim.Native.Nat.{ℕ, _+_, _*_, _%_, _≤_, _<_}
+use native.Mathlib.Omega.{arith}
+use mathlib.Core.List.{List, [], _∷_, _++_, flatMap, append-assoc, append-nil}
+use mathlib.Core.Path.{_≡_, sym, ap, _∙_}
+use lib.ListN.{length, getD, take, set, length-set}
+use lib.Seq.{take-all}
+use mir.Syntax.{w16}
+use mir.Val.{SFits, toZ, ofZ}
+use mir.Facts.{toZ-ofZ}
+use Rattle.grammar.specs.declared.Rule.{Rule}
+use Rattle.grammar.specs.declared.Grammar.{Grammar}
+use Rattle.grammar.specs.Zero.{zeroPlace}
+use Rattle.flat.specs.Flat.{unsignedOf, tagOf, valueOf, flatPlace, flatRule, flatOf}
+use Rattle.flat.proofs.Records.{put-two, put-three, flat-step}
+
+-- in f, what stands before b is as in f₀, and the first q elements of l follow, w numbers each
+pub record Written {A : Type 0} (flat : A → List ℕ) (w b : ℕ) (l : List A) (f₀ : List ℕ) (q : ℕ) (f : List ℕ) : Type 0 where
+  pub long : length f ≡ 2435
+  pub front : take (b + w * q) f ≡ take b f₀ ++ flatMap flat (take q l)
+
+module _ {A : Type 0} (flat : A → List ℕ) (w b : ℕ) (l : List A) where
+  pub written-start : (f : List ℕ) → length f ≡ 2435 → Written flat w b l f 0 f
+  unfolding flatMap
+  written-start f h =
+      let e : b + w * 0 ≡ b = omega arith in
+      record { long = h; front = ap (λ (k : ℕ). take k f) e ∙ sym (append-nil (take b f)) }
+
+  pub written-step : (d : A) (q : ℕ) (f₀ f g : List ℕ) → q < length l → length g ≡ 2435
+      → take (b + w * q + w) g ≡ take (b + w * q) f ++ flat (getD l q d) → Written flat w b l f₀ q f → Written flat w b l f₀ (q + 1) g
+  written-step d q f₀ f g h n e r =
+      let k : b + w * (q + 1) ≡ b + w * q + w = omega arith in
+      record {
+        long = n;
+        front =
+            ap (λ (j : ℕ). take j g) k
+            ∙ flat-step flat l d q (take b f₀) (take (b + w * q) f) (take (b + w * q + w) g) h (r .front) e;
+      }
+
+  -- all of l is written
+  pub written-all : (q m : ℕ) (f₀ f : List ℕ) → q ≡ length l → m ≡ b + w * q → Written flat w b l f₀ q f
+      → take m f ≡ take b f₀ ++ flatMap flat l
+  written-all q m f₀ f e h r =
+      ap (λ (j : ℕ). take j f) h ∙ r .front ∙ ap (λ (x : List A). take b f₀ ++ flatMap flat x) (take-all q l (omega arith))
+
+-- ---- a rule
+
+module _ (ρ : Rule) (at : ℕ) (low : at + 19 ≤ 2435) where
+  -- one more place
+  pub place-step : (f₀ f : List ℕ) (q t v : ℕ) → length (ρ .places) ≡ 8 → q < 8
+      → t ≡ tagOf (getD (ρ .places) q zeroPlace .symbol) → v ≡ valueOf (getD (ρ .places) q zeroPlace .symbol)
+      → Written flatPlace 2 (at + 3) (ρ .places) f₀ q f
+      → Written flatPlace 2 (at + 3) (ρ .places) f₀ (q + 1) (set (set f (at + 3 + 2 * q) t) (at + 4 + 2 * q) v)
+  unfolding flatPlace
+  place-step f₀ f q t v n h et ev r =
+      written-step flatPlace 2 (at + 3) (ρ .places) zeroPlace q f₀ f (set (set f (at + 3 + 2 * q) t) (at + 4 + 2 * q) v) (omega arith)
+      (length-set (set f (at + 3 + 2 * q) t) (at + 4 + 2 * q) v ∙ length-set f (at + 3 + 2 * q) t ∙ r .long)
+      (put-two f (at + 3 + 2 * q) (at + 4 + 2 * q) (at + 3 + 2 * q + 2) t v (omega arith) (omega arith) (omega (arith, r .long))
+      ∙ λ i. take (at + 3 + 2 * q) f ++ (et i ∷ ev i ∷ []))
+      r
+
+  -- the whole rule
+  pub rule-done : (f₀ f : List ℕ) (u k q : ℕ) → length f₀ ≡ 2435 → length (ρ .places) ≡ 8 → SFits w16 (ρ .length) → q ≤ 8 → 8 ≤ q
+      → u ≡ unsignedOf (toZ w16 (ofZ w16 (ρ .length))) → k ≡ ρ .count % 65536
+      → Written flatPlace 2 (at + 3) (ρ .places) (set (set (set f₀ at (ρ .left)) (at + 1) u) (at + 2) k) q f
+      → take (at + 19) f ≡ take at f₀ ++ flatRule ρ
+  unfolding flatRule
+  rule-done f₀ f u k q n m s h j eu ek r =
+      let e : u ≡ unsignedOf (ρ .length) = eu ∙ ap unsignedOf (toZ-ofZ s) in
+      written-all flatPlace 2 (at + 3) (ρ .places) q (at + 19) _ f (omega arith) (omega arith) r
+      ∙ ap (λ (x : List ℕ). x ++ flatMap flatPlace (ρ .places))
+      (put-three f₀ at (at + 1) (at + 2) (at + 3) (ρ .left) u k (omega arith) (omega arith) (omega arith) (omega arith)
+      ∙ λ i. take at f₀ ++ (ρ .left ∷ e i ∷ ek i ∷ []))
+      ∙ append-assoc (take at f₀) (ρ .left ∷ unsignedOf (ρ .length) ∷ ρ .count % 65536 ∷ []) (flatMap flatPlace (ρ .places))
+
+-- ---- a grammar
+
+pub grammar-done : (g : Grammar) (f₀ f : List ℕ) (k r : ℕ) → length f₀ ≡ 2435 → length (g .rules) ≡ 128 → r ≤ 128 → 128 ≤ r
+    → k ≡ g .count % 65536
+    → Written flatRule 19 3 (g .rules) (set (set (set f₀ 0 (g .start)) 1 k) 2 (g .depth)) r f
+    → f ≡ flatOf g
+unfolding flatOf
+grammar-done g f₀ f k r n m h j ek w =
+    sym (take-all 2435 f (omega (arith, w .long)))
+    ∙ written-all flatRule 19 3 (g .rules) r 2435 _ f (omega arith) (omega arith) w
+    ∙ ap (λ (x : List ℕ). x ++ flatMap flatRule (g .rules))
+    (put-three f₀ 0 1 2 3 (g .start) k (g .depth) (omega arith) (omega arith) (omega arith) (omega arith)
+    ∙ λ i. g .start ∷ ek i ∷ g .depth ∷ [])

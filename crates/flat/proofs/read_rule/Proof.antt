@@ -1,0 +1,67 @@
+-- `flat::read_rule` meets its contract: the rule of the parts that were read.
+-- Assumes nothing.
+use borrow.Author.Needs.{needs}
+use Rattle.flat.proofs.Reading.{read-rule-of}
+use Rattle.flat.proofs.read_rule.Statement.{statement}
+use Rattle.flat.proofs.read_rule.Tie as tie
+
+mul-low : tie.Need-mul-low
+mul-low c = search needs
+
+element-copy-out-low : tie.Need-element-copy-out-low
+element-copy-out-low c = search needs
+
+low-requires : tie.Need-low-requires
+low-requires c κs = search needs
+
+add-signed : tie.Need-add-signed
+add-signed c = search needs
+
+mul-signed : tie.Need-mul-signed
+mul-signed c = search needs
+
+element-copy-out-signed : tie.Need-element-copy-out-signed
+element-copy-out-signed c = search needs
+
+signed-requires : tie.Need-signed-requires
+signed-requires c κs = search needs
+
+add-wide : tie.Need-add-wide
+add-wide c = search needs
+
+mul-wide : tie.Need-mul-wide
+mul-wide c = search needs
+
+element-copy-out-wide : tie.Need-element-copy-out-wide
+element-copy-out-wide c = search needs
+
+wide-requires : tie.Need-wide-requires
+wide-requires c κs = search needs
+
+add-read-places : tie.Need-add-read-places
+add-read-places c = search needs
+
+read-places-requires : tie.Need-read-places-requires
+read-places-requires c κs = search needs
+
+returns : tie.Need-returns
+returns c = search read-rule-of
+
+pub read-rule-spec : {M : Type 1} → statement M
+read-rule-spec =
+    tie.close
+    (tie.spec
+    mul-low
+    element-copy-out-low
+    low-requires
+    add-signed
+    mul-signed
+    element-copy-out-signed
+    signed-requires
+    add-wide
+    mul-wide
+    element-copy-out-wide
+    wide-requires
+    add-read-places
+    read-places-requires
+    returns)

@@ -1,0 +1,80 @@
+-- A flat row is 2435 numbers of 16 bits: the start symbol, the number of rules used, the nullable depth, and 19 numbers for each of 128
+-- rules: the left side, the length (two's complement), the number of places used, and for each of 8 places a tag (0 a nonterminal, else a
+-- terminal) and a value. The grammar of a row, and the row of a grammar.
+-- Assumes nothing.
+use Prim.Native.Nat.{ℕ, zero, suc, _+_, _-_, _%_}
+use mathlib.Core.Bool.{cond}
+use mathlib.Core.List.{List, [], _∷_, flatMap}
+use lib.Dec.{eqb, ltb}
+use lib.IntN.{ℤ, pos, negsuc, negℤ}
+use lib.ListN.{getD}
+use Rattle.grammar.specs.declared.Symbol.{Symbol}
+use Rattle.grammar.specs.declared.Symbol.the-variants.{Nonterminal, Terminal}
+use Rattle.grammar.specs.declared.Place.{Place}
+use Rattle.grammar.specs.declared.Rule.{Rule}
+use Rattle.grammar.specs.declared.Grammar.{Grammar}
+
+-- ---- the grammar of a row
+
+-- the signed number of 16 bits
+unfoldable pub signedIn : ℕ → ℤ
+signedIn n = cond (ltb n 32768) (pos n) (negℤ (pos (65536 - n)))
+
+-- n records of w numbers each, from an index on
+unfoldable pub recordsFrom : {A : Type 0} → (ℕ → A) → ℕ → ℕ → ℕ → List A
+recordsFrom read w at zero = []
+recordsFrom read w at (suc n) = read at ∷ recordsFrom read w (at + w) n
+
+-- the place at an index
+unfoldable pub placeIn : List ℕ → ℕ → Place
+placeIn f at = record { symbol = cond (eqb (getD f at 0) 0) (Nonterminal (getD f (at + 1) 0 % 256)) (Terminal (getD f (at + 1) 0 % 256)) }
+
+-- the 8 places from an index on
+unfoldable pub placesIn : List ℕ → ℕ → List Place
+placesIn f at = recordsFrom (placeIn f) 2 at 8
+
+-- the rule at an index
+unfoldable pub ruleIn : List ℕ → ℕ → Rule
+ruleIn f at = record {
+  left = getD f at 0 % 256;
+  length = signedIn (getD f (at + 1) 0);
+  count = getD f (at + 2) 0;
+  places = placesIn f (at + 3);
+}
+
+-- the 128 rules
+unfoldable pub rulesIn : List ℕ → List Rule
+rulesIn f = recordsFrom (ruleIn f) 19 3 128
+
+-- the grammar of a row
+unfoldable pub grammarIn : List ℕ → Grammar
+grammarIn f = record { start = getD f 0 0 % 256; count = getD f 1 0; depth = getD f 2 0 % 256; rules = rulesIn f }
+
+-- ---- the row of a grammar
+
+-- the two's complement of 16 bits
+unfoldable pub unsignedOf : ℤ → ℕ
+unsignedOf (pos n) = n % 65536
+unsignedOf (negsuc n) = 65535 - n % 65536
+
+-- 0 for a nonterminal, 1 for a terminal
+unfoldable pub tagOf : Symbol → ℕ
+tagOf (Nonterminal k) = 0
+tagOf (Terminal m) = 1
+
+-- the number that a symbol holds
+unfoldable pub valueOf : Symbol → ℕ
+valueOf (Nonterminal k) = k
+valueOf (Terminal m) = m
+
+-- the two numbers of a place
+unfoldable pub flatPlace : Place → List ℕ
+flatPlace p = tagOf (p .symbol) ∷ valueOf (p .symbol) ∷ []
+
+-- the numbers of a rule
+unfoldable pub flatRule : Rule → List ℕ
+flatRule r = r .left ∷ unsignedOf (r .length) ∷ r .count % 65536 ∷ flatMap flatPlace (r .places)
+
+-- the row of a grammar
+unfoldable pub flatOf : Grammar → List ℕ
+flatOf g = g .start ∷ g .count % 65536 ∷ g .depth ∷ flatMap flatRule (g .rules)

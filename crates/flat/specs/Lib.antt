@@ -1,0 +1,3 @@
+-- A declared grammar as a flat row of numbers of 16 bits.
+pub mod Flat
+pub mod Fits

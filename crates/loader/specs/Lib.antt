@@ -1,0 +1,5 @@
+-- What loading promises, and what its parts compute.
+pub mod Answer
+pub mod Command
+pub mod Rule
+pub mod Nullable
