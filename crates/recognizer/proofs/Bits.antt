@@ -1,0 +1,44 @@
+-- Membership after an insertion that depends on a test; and tests.
+-- Assumes nothing.
+use Prim.Native.Nat.{ℕ}
+use mathlib.Core.Bool.{Bool, true, false, cond, _&&_, _||_, false≢true}
+use mathlib.Core.Logic.{_≢_}
+use mathlib.Core.Path.{_≡_, refl, sym, _∙_}
+use Rattle.sets.specs.Set.{has, insert}
+use Rattle.sets.proofs.Laws.{has-insert-same, has-insert-other}
+
+module _ (q v : ℕ) where
+  pub has-if-same : (f : Bool) → has q v ≡ false → has q (cond f (insert q v) v) ≡ f
+  has-if-same true e = has-insert-same q v
+  has-if-same false e = e
+
+  pub has-if-other : (f : Bool) (j : ℕ) → j ≢ q → has j (cond f (insert q v) v) ≡ has j v
+  has-if-other true j d = has-insert-other j q v d
+  has-if-other false j d = refl
+
+pub and-both : (a b : Bool) → a ≡ true → b ≡ true → (a && b) ≡ true
+and-both a b e f = rw (e, f)
+
+pub and-parts : (a b : Bool) → (a && b) ≡ true → (a ≡ true) × (b ≡ true)
+and-parts true b e = (refl, e)
+and-parts false b e = absurd (false≢true e)
+
+pub not-both : (a b : Bool) → (a && b) ≡ false → a ≡ true → b ≡ true → ⊥
+not-both a b e f g = false≢true (sym e ∙ and-both a b f g)
+
+pub true-false : {b : Bool} → b ≡ true → b ≡ false → ⊥
+true-false e f = false≢true (sym f ∙ e)
+
+-- ---- what the branches of the code give
+
+pub and-then : (a b t u : Bool) → t ≡ a → t ≡ true → u ≡ b → u ≡ (a && b)
+and-then a b t u e f g = g ∙ rw (sym e ∙ f)
+
+pub and-stop : (a b t : Bool) → t ≡ a → t ≡ false → false ≡ (a && b)
+and-stop a b t e f = rw (sym e ∙ f)
+
+pub if-true : (t : Bool) (q v x : ℕ) → t ≡ true → x ≡ insert q v → x ≡ cond t (insert q v) v
+if-true t q v x e f = rw e f
+
+pub if-false : (t : Bool) (q v : ℕ) → t ≡ false → v ≡ cond t (insert q v) v
+if-false t q v e = rw e

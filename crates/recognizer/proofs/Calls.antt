@@ -1,0 +1,140 @@
+-- What opening and taking give, by the checks that the code makes: one law for each way through the code.
+-- Assumes nothing.
+use Prim.Native.Nat.{ℕ, _+_, _-_, _≤_, _<_}
+use mathlib.Core.Bool.{Bool, true, false, not}
+use mathlib.Core.List.{List, [], _∷_, _++_}
+use mathlib.Core.Path.{_≡_, refl, sym, ap, _∙_, subst}
+use native.Mathlib.Omega.{arith}
+use lib.Dec.{eqb, ltb}
+use lib.ListN.{length, take, replicate, length-append}
+use lib.Seq.{take-at, length-take-le}
+use borrow.Author.Tests.{not-true, not-false, lt-ltb, le-ltb, eq-eqb, ne-eqb}
+use Rattle.sets.specs.Set.{has}
+use Rattle.cfg.specs.Grammar.{Cfg, rule}
+use Rattle.chart.specs.Cell.{cell}
+use Rattle.chart.specs.Column.{opened, extended, complete}
+use Rattle.chart.proofs.SameRules.{SameRules, opened-same-rules, extended-same-rules}
+use Rattle.grammar.specs.declared.Grammar.{Grammar}
+use Rattle.grammar.specs.Valid.{validGrammar}
+use Rattle.grammar.specs.View.{grammarOf}
+use Rattle.packed.specs.Packed.{cfgIn}
+use Rattle.packed.proofs.Laws.{cfg-in-bounded}
+use Rattle.results.specs.Answer.{Answer, refused, affirmed, denied, decide}
+use Rattle.results.specs.Recognize.{State, Recognition, stateOf, saying, openOf, takeOf}
+use Rattle.recognizer.specs.Columns.{columnOf}
+
+-- the three parts of what a call gives
+abbrev given : Answer → State → List ℕ → Recognition
+given a h chart = record { answer = a; state = h; chart = chart }
+
+given-same : (a a' : Answer) (h h' : State) (c c' : List ℕ) → a ≡ a' → h ≡ h' → c ≡ c' → given a h c ≡ given a' h' c'
+given-same a a' h h' c c' e f g = λ i. given (e i) (f i) (g i)
+
+-- the count of a state that has taken w is within its bytes
+module _ (k : State) (w : List ℕ) (next : k ≡ stateOf w) where
+  pub count-fits : k .count ≤ length (k .bytes)
+  unfolding stateOf
+  count-fits = subst (λ (s : State). s .count ≤ length (s .bytes)) (sym next)
+      (omega (arith, length-append w (replicate (64 - length w) 0)))
+
+  pub count-part : k .count ≡ length (take (k .count) (k .bytes))
+  count-part = sym (length-take-le (k .count) (k .bytes) count-fits)
+
+-- the packed grammar's rules are the grammar's, whatever its start symbol is
+same-rules : (g : Grammar) (s : ℕ) (p : List ℕ) → SameRules (cfgIn s p) (grammarOf g) → SameRules (cfgIn 0 p) (grammarOf g)
+unfolding cfgIn
+same-rules g s p same r = same r
+
+-- what the test of the grammar says
+pub was-invalid : (t v : Bool) → t ≡ v → not t ≡ true → v ≡ false
+was-invalid t v e f = sym e ∙ not-true t f
+
+pub was-valid : (t v : Bool) → t ≡ v → not t ≡ false → v ≡ true
+was-valid t v e f = sym e ∙ not-false t f
+
+-- the answer "complete"
+module _ (chart : List ℕ) (n k s : ℕ) (b : Bool) (start : k ≡ s) (read : b ≡ has k (cell chart 0 n)) where
+  pub says-yes : b ≡ true → affirmed ≡ saying (has s (cell chart 0 n))
+  says-yes e = sym (ap saying (ap (λ (x : ℕ). has x (cell chart 0 n)) (sym start) ∙ sym read ∙ e))
+
+  pub says-no : b ≡ false → denied ≡ saying (has s (cell chart 0 n))
+  says-no e = sym (ap saying (ap (λ (x : ℕ). has x (cell chart 0 n)) (sym start) ∙ sym read ∙ e))
+
+module _ (g : Grammar) (chart : List ℕ) where
+  -- ---- opening
+
+  module _ (a : Answer) (h : State) (zeros : h ≡ stateOf []) where
+    pub open-invalid : validGrammar g ≡ false → a ≡ refused 8 → given a h chart ≡ openOf g chart
+    unfolding openOf decide
+    open-invalid v e = rw v (given-same a (refused 8) h (stateOf []) chart chart e zeros refl)
+
+    pub open-short : validGrammar g ≡ true → length chart < 4225 → a ≡ refused 10 → given a h chart ≡ openOf g chart
+    unfolding openOf decide
+    open-short v l e =
+        rw (v, lt-ltb (length chart) 4225 l) (given-same a (refused 10) h (stateOf []) chart chart e zeros refl)
+
+    pub open-right : (p chart' : List ℕ) → validGrammar g ≡ true → 4225 ≤ length chart
+        → ((r : ℕ) → rule (cfgIn (g .start) p) r ≡ rule (grammarOf g) r)
+        → chart' ≡ opened (cfgIn 0 p) chart → a ≡ saying (has (g .start) (cell chart' 0 0)) → given a h chart' ≡ openOf g chart
+    unfolding openOf decide complete
+    open-right p chart' v l same e f =
+        let c : chart' ≡ opened (grammarOf g) chart =
+        e ∙ opened-same-rules (cfgIn 0 p) (grammarOf g) (same-rules g (g .start) p same) (cfg-in-bounded 0 p) chart in
+        rw (v, le-ltb (length chart) 4225 l)
+        (given-same a (saying (complete (grammarOf g) 0 (opened (grammarOf g) chart))) h (stateOf []) chart' (opened (grammarOf g) chart)
+        (f ∙ ap (λ (x : List ℕ). saying (has (g .start) (cell x 0 0))) c) zeros c)
+
+  -- ---- taking
+
+  module _ (h : State) (m : ℕ) where
+    module _ (a : Answer) (k : State) (kept : k ≡ h) where
+      pub take-invalid : validGrammar g ≡ false → a ≡ refused 8 → given a k chart ≡ takeOf g h m chart
+      unfolding takeOf decide
+      take-invalid v e = rw v (given-same a (refused 8) k h chart chart e kept refl)
+
+      pub take-over : validGrammar g ≡ true → 64 < h .count → a ≡ refused 14 → given a k chart ≡ takeOf g h m chart
+      unfolding takeOf decide
+      take-over v o e = rw (v, lt-ltb 64 (h .count) o) (given-same a (refused 14) k h chart chart e kept refl)
+
+      pub take-short : validGrammar g ≡ true → h .count ≤ 64 → length chart < 4225 → a ≡ refused 10
+          → given a k chart ≡ takeOf g h m chart
+      unfolding takeOf decide
+      take-short v o l e =
+          rw (v, le-ltb 64 (h .count) o, lt-ltb (length chart) 4225 l) (given-same a (refused 10) k h chart chart e kept refl)
+
+      pub take-full : validGrammar g ≡ true → h .count ≤ 64 → 4225 ≤ length chart → h .count ≡ 64 → a ≡ refused 15
+          → given a k chart ≡ takeOf g h m chart
+      unfolding takeOf decide
+      take-full v o l f e =
+          rw (v, le-ltb 64 (h .count) o, le-ltb (length chart) 4225 l, eq-eqb (h .count) 64 f)
+          (given-same a (refused 15) k h chart chart e kept refl)
+
+    -- the input so far, and the byte
+    abbrev input : List ℕ
+    input = take (h .count) (h .bytes) ++ (m ∷ [])
+
+    module _ (a : Answer) (k : State) (next : k ≡ stateOf input) (count : k .count ≡ h .count + 1) where
+      size : length input ≡ k .count
+      unfolding stateOf
+      size = sym (ap (λ (s : State). s .count) next)
+
+      bytes : take (k .count) (k .bytes) ≡ input
+      unfolding stateOf
+      bytes = ap (λ (x : List ℕ). take (k .count) x) (ap (λ (s : State). s .bytes) next)
+          ∙ take-at input (replicate (64 - length input) 0) (k .count) size
+
+      pub take-right : (p chart' : List ℕ) → validGrammar g ≡ true → h .count < 64 → 4225 ≤ length chart
+          → ((r : ℕ) → rule (cfgIn (g .start) p) r ≡ rule (grammarOf g) r)
+          → chart' ≡ columnOf p (take (k .count) (k .bytes)) (k .count) chart
+          → a ≡ saying (has (g .start) (cell chart' 0 (k .count))) → given a k chart' ≡ takeOf g h m chart
+      unfolding takeOf decide complete extended
+      take-right p chart' v o l same e f =
+          let c : chart' ≡ extended (grammarOf g) input chart =
+          e ∙ ap (λ (x : List ℕ). columnOf p x (k .count) chart) bytes ∙ ap (λ (x : ℕ). columnOf p input x chart) (sym size)
+          ∙ extended-same-rules (cfgIn 0 p) (grammarOf g) (same-rules g (g .start) p same) (cfg-in-bounded 0 p) input chart in
+          let d : h .count ≤ 64 = omega arith in
+          rw (v, le-ltb 64 (h .count) d, le-ltb (length chart) 4225 l, ne-eqb (h .count) 64 (omega arith))
+          (given-same a (saying (complete (grammarOf g) (h .count + 1) (extended (grammarOf g) input chart))) k (stateOf input)
+          chart' (extended (grammarOf g) input chart)
+          (f ∙ ap (λ (x : ℕ). saying (has (g .start) (cell chart' 0 x))) count
+          ∙ ap (λ (x : List ℕ). saying (has (g .start) (cell x 0 (h .count + 1)))) c) next c)

@@ -1,0 +1,104 @@
+-- Clearing the chart, opening it, and taking the bytes of an input one after the other; and the bytes of the state.
+-- Assumes nothing.
+use Prim.Native.Nat.{ℕ, zero, suc, _+_, _-_, _≤_, _<_}
+use mathlib.Core.List.{List, [], _∷_, _++_}
+use mathlib.Core.Path.{_≡_, refl, sym, ap, _∙_, subst}
+use native.Mathlib.Numerals.{add-one}
+use native.Mathlib.Omega.{arith}
+use lib.ListN.{length, getD, take, drop, set, replicate, length-take, length-replicate, length-append, replicate-append-replicate}
+use lib.Seq.{append-snoc, set-at, drop-cons, take-suc, take-all, length-take-le}
+use Rattle.chart.specs.Cell.{cells, fitsAt}
+use Rattle.chart.specs.Column.{written, opened, extended, extendedBy, filled}
+use Rattle.chart.proofs.Filled.{extendedBy-append}
+use Rattle.packed.specs.Packed.{cfgIn}
+use Rattle.results.specs.Recognize.{State, stateOf}
+use Rattle.recognizer.specs.Columns.{columnOf}
+
+-- a store at the end of what was stored so far
+set-next : (pre l : List ℕ) (i b : ℕ) → length pre ≡ i → i < length l → set (pre ++ drop i l) i b ≡ (pre ++ (b ∷ [])) ++ drop (i + 1) l
+set-next pre l i b e h =
+    ap (λ (x : List ℕ). set (pre ++ x) i b) (drop-cons l i 0 h)
+    ∙ set-at pre (getD l i 0) (drop (suc i) l) b i e
+    ∙ sym (append-snoc pre b (drop (suc i) l))
+    ∙ ap (λ (x : ℕ). (pre ++ (b ∷ [])) ++ drop x l) (sym (add-one i))
+
+-- ---- clearing
+
+pub clear-step : (l chart : List ℕ) (i : ℕ) → i < length l → chart ≡ replicate i 0 ++ drop i l
+    → set chart i 0 ≡ replicate (i + 1) 0 ++ drop (i + 1) l
+clear-step l chart i h e =
+    ap (λ (x : List ℕ). set x i 0) e
+    ∙ set-next (replicate i 0) l i 0 (length-replicate {A = ℕ} i 0) h
+    ∙ ap (λ (x : List ℕ). x ++ drop (i + 1) l) (replicate-append-replicate {A = ℕ} i 1 0)
+
+pub clear-done : (l chart : List ℕ) (i : ℕ) → i ≤ 4225 → 4225 ≤ i → chart ≡ replicate i 0 ++ drop i l
+    → chart ≡ replicate 4225 0 ++ drop 4225 l
+clear-done l chart i h m e =
+    let d : i ≡ 4225 = omega arith in
+    subst (λ (x : ℕ). chart ≡ replicate x 0 ++ drop x l) d e
+
+-- ---- opening and filling
+
+pub opened-is : (p chart chart₁ chart₂ : List ℕ) → chart₁ ≡ replicate 4225 0 ++ drop 4225 chart → chart₂ ≡ columnOf p [] 0 chart₁
+    → chart₂ ≡ opened (cfgIn 0 p) chart
+unfolding opened
+opened-is p chart chart₁ chart₂ e f = f ∙ ap (written (cfgIn 0 p) (fitsAt []) 0) e
+
+pub fill-start : (p start : List ℕ) → start ≡ extendedBy (cfgIn 0 p) [] [] start
+unfolding extendedBy
+fill-start p start = refl
+
+module _ (p w start : List ℕ) where
+  pub fill-step : (m m' : ℕ) (chart chart' : List ℕ) → m' ≡ m + 1 → m < length w → chart ≡ extendedBy (cfgIn 0 p) [] (take m w) start
+      → chart' ≡ columnOf p (take m' w) m' chart → chart' ≡ extendedBy (cfgIn 0 p) [] (take m' w) start
+  unfolding extendedBy extended
+  fill-step m m' chart chart' s h e f =
+      let t : take m' w ≡ take m w ++ (getD w m 0 ∷ []) = ap (λ (x : ℕ). take x w) (s ∙ add-one m) ∙ take-suc w m 0 h in
+      let l : m' ≡ length (take m' w) = sym (length-take-le m' w (omega arith)) in
+      f ∙ ap (λ (x : ℕ). columnOf p (take m' w) x chart) l
+      ∙ ap (extended (cfgIn 0 p) (take m' w)) e
+      ∙ ap (λ (x : List ℕ). extended (cfgIn 0 p) x (extendedBy (cfgIn 0 p) [] (take m w) start)) t
+      ∙ sym (extendedBy-append (cfgIn 0 p) [] (take m w) (getD w m 0 ∷ []) start)
+      ∙ ap (λ (x : List ℕ). extendedBy (cfgIn 0 p) [] x start) (sym t)
+
+  pub fill-done : (m : ℕ) (chart found : List ℕ) → length w ≤ m → start ≡ opened (cfgIn 0 p) found
+      → chart ≡ extendedBy (cfgIn 0 p) [] (take m w) start → chart ≡ filled (cfgIn 0 p) w found
+  unfolding filled
+  fill-done m chart found h e f = f ∙ ap (λ (x : List ℕ). extendedBy (cfgIn 0 p) [] x start) (take-all m w h)
+      ∙ ap (extendedBy (cfgIn 0 p) [] w) e
+
+-- ---- the bytes of the state
+
+drop-replicate : (k m a : ℕ) → drop k (replicate m a) ≡ replicate (m - k) a
+drop-replicate zero m a =
+    let e : m ≡ m - 0 = omega arith in
+    ap (λ (x : ℕ). replicate x a) e
+drop-replicate (suc k) zero a =
+    let e : 0 ≡ 0 - suc k = omega arith in
+    ap (λ (x : ℕ). replicate x a) e
+drop-replicate (suc k) (suc m) a =
+    let e : m - k ≡ suc m - suc k = omega arith in
+    drop-replicate k m a ∙ ap (λ (x : ℕ). replicate x a) e
+
+module _ (old : List ℕ) (long : length old ≡ 64) where
+  pub bytes-step : (i : ℕ) (bytes : List ℕ) → i < 64 → bytes ≡ take i old ++ drop i (replicate 64 0)
+      → set bytes i (getD old i 0) ≡ take (i + 1) old ++ drop (i + 1) (replicate 64 0)
+  bytes-step i bytes h e =
+      ap (λ (x : List ℕ). set x i (getD old i 0)) e
+      ∙ set-next (take i old) (replicate 64 0) i (getD old i 0) (length-take-le i old (omega arith)) h
+      ∙ ap (λ (x : List ℕ). x ++ drop (i + 1) (replicate 64 0)) (sym (take-suc old i 0 (omega arith)) ∙ ap (λ (x : ℕ). take x old) (sym (add-one i)))
+
+  pub bytes-done : (i n b : ℕ) (bytes : List ℕ) → i ≤ n → n ≤ i → n < 64 → bytes ≡ take i old ++ drop i (replicate 64 0)
+      → _≡_ {A = State} (record { bytes = set bytes n b; count = n + 1 }) (stateOf (take n old ++ (b ∷ [])))
+  unfolding stateOf
+  bytes-done i n b bytes h l m e =
+      let d : i ≡ n = omega arith in
+      let s : length (take n old ++ (b ∷ [])) ≡ n + 1 =
+      length-append (take n old) (b ∷ []) ∙ ap (λ (x : ℕ). x + 1) (length-take-le n old (omega arith)) in
+      let q : set bytes n b ≡ (take n old ++ (b ∷ [])) ++ replicate (64 - length (take n old ++ (b ∷ []))) 0 =
+      ap (λ (x : List ℕ). set x n b) (subst (λ (x : ℕ). bytes ≡ take x old ++ drop x (replicate 64 0)) d e)
+      ∙ set-next (take n old) (replicate 64 0) n b (length-take-le n old (omega arith)) m
+      ∙ ap (λ (x : List ℕ). (take n old ++ (b ∷ [])) ++ x) (drop-replicate (n + 1) 64 0)
+      ∙ ap (λ (x : ℕ). (take n old ++ (b ∷ [])) ++ replicate (64 - x) 0) (sym s) in
+      let t : n + 1 ≡ length (take n old ++ (b ∷ [])) = sym s in
+      λ j. record { bytes = q j; count = t j }

@@ -1,0 +1,54 @@
+-- `recognizer::passes::pass` meets its contract. The loop's invariant: the same of the rules passed.
+-- The measure is what is left of the 128 rules. Assumes nothing.
+use borrow.Author.Needs.{needs}
+use Rattle.recognizer.proofs.Passing.{passed-start, passed-step, passed-done}
+use Rattle.recognizer.specs.Passes.{Passed}
+use native.Mathlib.Omega.{arith}
+use Prim.Native.Nat.{_≤_, _-_}
+use Rattle.recognizer.proofs.passes.pass.Statement.{statement}
+use Rattle.recognizer.proofs.passes.pass.Tie as tie
+
+abbrev Inv-loop : tie.InvT-loop
+Inv-loop p i n own start masks flags₀ v₀ r₀ flags v r = (r ≤ 128) × Passed p i n own start masks flags₀ r v flags
+
+abbrev μ-loop : tie.MeasureT-loop
+μ-loop p i n own start masks flags₀ v₀ r₀ flags v r = 128 - r
+
+loop-holds : tie.Need-loop-holds Inv-loop μ-loop
+loop-holds c = (omega arith, search passed-start)
+
+mul-rule-step : tie.Need-mul-rule-step Inv-loop μ-loop
+mul-rule-step c = omega arith
+
+element-copy-out-rule-step : tie.Need-element-copy-out-rule-step Inv-loop μ-loop
+element-copy-out-rule-step c = omega arith
+
+rule-step-requires : tie.Need-rule-step-requires Inv-loop μ-loop
+rule-step-requires c κs = search needs
+
+add-r : tie.Need-add-r Inv-loop μ-loop
+add-r c = omega arith
+
+loop-less : tie.Need-loop-less Inv-loop μ-loop
+loop-less c = omega arith
+
+loop-again : tie.Need-loop-again Inv-loop μ-loop
+loop-again c = (omega arith, search passed-step)
+
+returns : tie.Need-returns Inv-loop μ-loop
+returns c = search passed-done
+
+pub pass-spec : {M : Type 1} → statement M
+pass-spec =
+    tie.close
+    (tie.spec
+    Inv-loop
+    μ-loop
+    loop-holds
+    mul-rule-step
+    element-copy-out-rule-step
+    rule-step-requires
+    add-r
+    loop-less
+    loop-again
+    returns)
