@@ -1,14 +1,15 @@
 -- What a packed grammar means, rule by rule and place by place.
 -- Assumes nothing.
-use Prim.Native.Nat.{ℕ, zero, suc, _+_, _-_, _≤_, _<_}
+use Prim.Native.Nat.{ℕ, zero, suc, _+_, _*_, _-_, _≤_, _<_, min}
 use mathlib.Core.Bool.{Bool, true, false, cond}
 use mathlib.Core.List.{List, [], _∷_}
 use mathlib.Core.Option.{Option, none, some}
 use mathlib.Core.Path.{_≡_, refl, sym, ap, _∙_}
+use mathlib.Core.Logic.{dite}
 use native.Mathlib.Decide.{decLt}
 use native.Mathlib.Omega.{arith}
 use lib.Dec.{ltb}
-use lib.ListN.{getElem?}
+use lib.ListN.{getElem?, getD}
 use borrow.Author.Tests.{lt-ltb, le-ltb, ltb-true}
 use Rattle.cfg.specs.Grammar.{Rule, joined, rule, Of}
 use Rattle.chart.proofs.Derived.{Bounded}
@@ -16,9 +17,28 @@ use Rattle.packed.specs.Packed.{leftIn, countIn, symbolIn, placesFrom, p
 
 -- ---- places
 
-pub count-le : (p : List ℕ) (r : ℕ) → countIn p r ≤ 8
+-- a rule that is there has the count that its byte says
+pub count-used : (p : List ℕ) (r : ℕ) → leftIn p r < 32 → countIn p r ≡ min (getD p (18 * r + 1) 0) 8
 unfolding countIn
-count-le p r = omega arith
+count-used p r h = rw (lt-ltb (leftIn p r) 32 h)
+
+-- one that is not there has no places
+pub count-unused : (p : List ℕ) (r : ℕ) → 32 ≤ leftIn p r → countIn p r ≡ 0
+unfolding countIn
+count-unused p r h = rw (le-ltb (leftIn p r) 32 h)
+
+pub count-le : (p : List ℕ) (r : ℕ) → countIn p r ≤ 8
+count-le p r = dite (decLt (leftIn p r) 32) (λ h. omega (arith, count-used p r h)) (λ h. omega (arith, count-unused p r (omega arith)))
+
+-- what `count` answers: the byte of a rule that is there, 8 where it is larger, and 0 for one that is not
+pub count-small : (p : List ℕ) (r k n : ℕ) → k ≡ leftIn p r → k < 32 → n ≡ getD p (18 * r + 1) 0 → n < 8 → (n ≡ countIn p r) × (n ≤ 8)
+count-small p r k n e h f l = let c = count-used p r (omega arith) in (omega arith, omega arith)
+
+pub count-large : (p : List ℕ) (r k n : ℕ) → k ≡ leftIn p r → k < 32 → n ≡ getD p (18 * r + 1) 0 → 8 ≤ n → (8 ≡ countIn p r) × (8 ≤ 8)
+count-large p r k n e h f l = let c = count-used p r (omega arith) in (omega arith, omega arith)
+
+pub count-none : (p : List ℕ) (r k : ℕ) → k ≡ leftIn p r → 32 ≤ k → (0 ≡ countIn p r) × (0 ≤ 8)
+count-none p r k e h = let c = count-unused p r (omega arith) in (omega arith, omega arith)
 
 pub places-step : (p : List ℕ) (r q : ℕ) → q < countIn p r
     → placesFrom p r q (countIn p r - q) ≡ symbolIn p r q ∷ placesFrom p r (suc q) (countIn p r - suc q)

@@ -22,7 +22,7 @@ use Rattle.grammar.specs.Zero.{zeroPlace}
 use Rattle.grammar.proofs.Bounds.{rule-parts}
 use Rattle.packed.specs.Packed.{leftIn, countIn, tagIn, valueIn, symbolIn, placesFrom, placesIn, ruleIn}
 use Rattle.packed.specs.Place.{tagOf, valueOf, RulePut}
-use Rattle.packed.proofs.Laws.{count-le, rule-used}
+use Rattle.packed.proofs.Laws.{count-used, count-le, rule-used}
 
 -- the two bytes of a symbol
 two-bytes : (s : Symbol) (t v : ℕ) → t ≡ tagOf s → v ≡ valueOf s
@@ -136,7 +136,10 @@ module _ (p p' : List ℕ) (s : ℕ) (same : (b : ℕ) → b < 18 → getD p (18
 
   count-same : countIn p s ≡ countIn p' s
   unfolding countIn
-  count-same = ap (λ (x : ℕ). min x 8) (byte-same (18 * s + 1) 1 refl (omega arith))
+  count-same =
+      let e = left-same in
+      let f = byte-same (18 * s + 1) 1 refl (omega arith) in
+      λ i. cond (ltb (e i) 32) (min (f i) 8) 0
 
   symbol-same : (q : ℕ) → q < 8 → symbolIn p s q ≡ symbolIn p' s q
   unfolding symbolIn tagIn valueIn
@@ -165,8 +168,9 @@ module _ (p p' : List ℕ) (s : ℕ) (same : (b : ℕ) → b < 18 → getD p (18
 module _ (ρ : Rule) (r q : ℕ) (p₀ p : List ℕ) (full : length (ρ .places) ≡ 8) (valid : validRule ρ ≡ true) (h : ρ .count ≤ q)
     (row : Row ρ r q (headed p₀ r (ρ .left) (ρ .count)) p) where
   count-is : countIn p r ≡ ρ .count
-  unfolding countIn
-  count-is = omega (arith, row .count, rule-parts ρ valid .1)
+  count-is =
+      let c = count-used p r (omega (arith, row .left, rule-parts ρ valid .0)) in
+      omega (arith, c, row .count, rule-parts ρ valid .1)
 
   places-done : placesIn p r ≡ map placeOf (take (ρ .count) (ρ .places))
   unfolding placesIn

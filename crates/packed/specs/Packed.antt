@@ -14,9 +14,9 @@ use Rattle.chart.specs.Cell.{fitsAt}
 unfoldable pub leftIn : List ℕ → ℕ → ℕ
 leftIn p r = getD p (18 * r) 0
 
--- the number of places of rule r, 8 at most
+-- the number of places of rule r, 8 at most; none where there is no such rule
 unfoldable pub countIn : List ℕ → ℕ → ℕ
-countIn p r = min (getD p (18 * r + 1) 0) 8
+countIn p r = cond (ltb (leftIn p r) 32) (min (getD p (18 * r + 1) 0) 8) 0
 
 -- the tag of place q of rule r
 unfoldable pub tagIn : List ℕ → ℕ → ℕ → ℕ

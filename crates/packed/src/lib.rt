@@ -29,13 +29,17 @@ pub fn left(p: &[u8; 2304], r: usize) -> usize
     wide(p[18 * r])
 }
 
-// How many places rule r has.
+// How many places rule r has: none where there is no such rule, so that loops pass it over.
 pub fn count(p: &[u8; 2304], r: usize) -> usize
     requires { ⌜ r < 128 ⌝ }
     ensures { λ n. ⌜ (n ≡ countIn (now (p .entry)) r) × (n ≤ 8) ⌝ }
 {
-    let n = wide(p[18 * r + 1]);
-    if n < 8 { n } else { 8 }
+    if left(p, r) < 32 {
+        let n = wide(p[18 * r + 1]);
+        if n < 8 { n } else { 8 }
+    } else {
+        0
+    }
 }
 
 // Whether place q of rule r holds a nonterminal.

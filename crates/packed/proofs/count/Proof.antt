@@ -1,9 +1,12 @@
--- `packed::count` meets its contract: the byte read, or 8 where it is larger.
+-- `packed::count` meets its contract: the byte read, or 8 where it is larger; 0 for a rule that is not there.
 -- Assumes nothing.
 use borrow.Author.Needs.{needs}
-use Rattle.packed.specs.Packed.{countIn}
+use Rattle.packed.proofs.Laws.{count-small, count-large, count-none}
 use Rattle.packed.proofs.count.Statement.{statement}
 use Rattle.packed.proofs.count.Tie as tie
+
+left-requires : tie.Need-left-requires
+left-requires c κs = search needs
 
 mul-wide : tie.Need-mul-wide
 mul-wide c = search needs
@@ -18,13 +21,27 @@ wide-requires : tie.Need-wide-requires
 wide-requires c κs = search needs
 
 returns : tie.Need-returns
-unfolding countIn
-returns c = search needs
+returns c =
+    count-small _ _ _ _ (c .before .before .before .before .left .ensures) (c .before .before .before .if1 .taken)
+    (c .before .wide .ensures .0) (c .if2 .taken)
 
 returns-2 : tie.Need-returns-2
-unfolding countIn
-returns-2 c = search needs
+returns-2 c =
+    count-large _ _ _ _ (c .before .before .before .before .left .ensures) (c .before .before .before .if1 .taken)
+    (c .before .wide .ensures .0) (c .if2 .left)
+
+returns-3 : tie.Need-returns-3
+returns-3 c = count-none _ _ _ (c .before .left .ensures) (c .if1 .left)
 
 pub count-spec : {M : Type 1} → statement M
 count-spec =
-    tie.close (tie.spec mul-wide add-wide element-copy-out-wide wide-requires returns returns-2)
+    tie.close
+    (tie.spec
+    left-requires
+    mul-wide
+    add-wide
+    element-copy-out-wide
+    wide-requires
+    returns
+    returns-2
+    returns-3)
