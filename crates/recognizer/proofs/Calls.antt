@@ -5,12 +5,11 @@ use mathlib.Core.Bool.{Bool, true, false, not}
 use mathlib.Core.List.{List, [], _∷_, _++_}
 use mathlib.Core.Path.{_≡_, refl, sym, ap, _∙_, subst}
 use native.Mathlib.Omega.{arith}
-use lib.Dec.{eqb, ltb}
 use lib.ListN.{length, take, replicate, length-append}
 use lib.Seq.{take-at, length-take-le}
 use borrow.Author.Tests.{not-true, not-false, lt-ltb, le-ltb, eq-eqb, ne-eqb}
 use Rattle.sets.specs.Set.{has}
-use Rattle.cfg.specs.Grammar.{Cfg, rule}
+use Rattle.cfg.specs.Grammar.{rule}
 use Rattle.chart.specs.Cell.{cell}
 use Rattle.chart.specs.Column.{opened, extended, complete}
 use Rattle.chart.proofs.SameRules.{SameRules, opened-same-rules, extended-same-rules}

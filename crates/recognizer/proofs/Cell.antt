@@ -1,29 +1,28 @@
 -- The set that passes over one cell come to is that cell of the column: it has nothing that the column lacks, since the column is closed
 -- under the rules, and all that the column has, since the column is the least that is.
 -- Assumes nothing.
-use Prim.Native.Nat.{ℕ, suc, _+_, _*_, _^_, _≤_, _<_}
-use mathlib.Core.Bool.{Bool, true}
+use Prim.Native.Nat.{ℕ, suc, _^_, _≤_, _<_}
+use mathlib.Core.Bool.{true}
 use mathlib.Core.List.{List}
 use mathlib.Core.Logic.{_≢_}
 use mathlib.Core.Path.{_≡_, refl, sym, ap, ap₂, _∙_, subst}
-use native.Mathlib.Decide.{decLt, ℕ-discrete}
+use native.Mathlib.Decide.{decLt}
 use native.Mathlib.Omega.{arith}
-use lib.ListN.{length, getD}
+use lib.ListN.{length}
 use Rattle.sets.specs.Set.{has}
 use Rattle.sets.proofs.Laws.{set-ext}
 use Rattle.cfg.specs.Grammar.{Symbol, Of}
-use Rattle.chart.specs.Cell.{cell, place, cuts, fitsAt}
-use Rattle.chart.specs.Column.{column}
+use Rattle.chart.specs.Cell.{cell, cuts, fitsAt}
 use Rattle.chart.proofs.Cut.{Cut, InSets, cut-mono, cuts→cut, cut→cuts, cuts-cong, bool-ext}
 use Rattle.chart.proofs.Cells.{inColumn, column-lt}
 use Rattle.chart.proofs.Inside.{Piece, ClosedBy, column-closed-by, column-inside}
 use Rattle.chart.proofs.Written.{written-cell, written-cell-other}
 use Rattle.packed.specs.Packed.{leftIn, placesIn, cfgIn}
 use Rattle.packed.proofs.Laws.{of-in, in-of, in-of-places, cfg-in-bounded, places-start}
-use Rattle.recognizer.specs.Flags.{Fit, Sets, tail, Cutting, owned}
-use Rattle.recognizer.specs.Passes.{Within, ClosedAt, Settled}
+use Rattle.recognizer.specs.Flags.{Sets, tail, Cutting, owned}
+use Rattle.recognizer.specs.Passes.{Within, Used, ClosedAt, Settled}
 use Rattle.recognizer.specs.Columns.{columnOf}
-use Rattle.recognizer.proofs.Owned.{owned-start, owned-end, owned-here, owned-cases}
+use Rattle.recognizer.proofs.Owned.{owned-cases}
 
 module _ (p w found : List ℕ) (n : ℕ) (small : n ≤ 64) (room : 4225 ≤ length found) where
   -- the sets of the chart with column n written
@@ -63,7 +62,8 @@ module _ (p w found : List ℕ) (n : ℕ) (small : n ≤ 64) (room : 4225 ≤ le
         ap (has (leftIn p r)) (full-column i n order refl)
         ∙ column-closed-by (cfgIn 0 p) (fitsAt w) found n (cfg-in-bounded 0 p) i r (leftIn p r) order o c
 
-    module _ (v : ℕ) (word : ℕ → ℕ) (settled : (r : ℕ) → r < 128 → Settled (fitsAt w) full p r i n v (word r)) where
+    module _ (rules v : ℕ) (word : ℕ → ℕ) (used : Used p rules)
+        (settled : (r : ℕ) → r < rules → Settled (fitsAt w) full p r i n v (word r)) where
       -- v in the cell (i, n), the column in those of the later starts, and anything in those of the earlier ones
       abbrev From : ℕ → ℕ → Type 0
       From k a = (a ≡ i → has k v ≡ true) × (i < a → has k (col a) ≡ true)
@@ -90,8 +90,8 @@ module _ (p w found : List ℕ) (n : ℕ) (small : n ≤ 64) (room : 4225 ≤ le
           let d : Cut (fitsAt w) (InSets (owned full i n v)) n (placesIn p r) i =
           subst (λ (x : List Symbol). Cut (fitsAt w) (InSets (owned full i n v)) n x i) s
           (cut-mono i n (λ a t _ q. q) from-owned (omega arith) c) in
-          subst (λ (x : ℕ). has x v ≡ true) e (settled r h .closed l
-          (settled r h .exact 0 (omega arith)
+          subst (λ (x : ℕ). has x v ≡ true) e (settled r (used r h l) .closed l
+          (settled r (used r h l) .exact 0 (omega arith)
           ∙ ap (λ (x : List Symbol). cuts (fitsAt w) (owned full i n v) x i n) (places-start p r)
           ∙ cut→cuts (fitsAt w) (owned full i n v) n order d))
 
@@ -113,6 +113,6 @@ module _ (p w found : List ℕ) (n : ℕ) (small : n ≤ 64) (room : 4225 ≤ le
           (λ k _. bool-ext (has k v) (has k (full i n)) (s k) (column-within k))
 
       -- the flags are right for the column
-      pub flags-are : v ≡ full i n → (r : ℕ) → r < 128 → Cutting (fitsAt w) full p r i n (word r)
+      pub flags-are : v ≡ full i n → (r : ℕ) → r < rules → Cutting (fitsAt w) full p r i n (word r)
       flags-are e r h q l = settled r h .exact q l
           ∙ cuts-cong i n order (λ a t _. refl) (λ a b _ _ _. ap (λ (x : ℕ). owned full i n x a b) e ∙ owned-full i a b) (tail p r q)

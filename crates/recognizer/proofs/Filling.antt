@@ -5,9 +5,9 @@ use mathlib.Core.List.{List, [], _∷_, _++_}
 use mathlib.Core.Path.{_≡_, refl, sym, ap, _∙_, subst}
 use native.Mathlib.Numerals.{add-one}
 use native.Mathlib.Omega.{arith}
-use lib.ListN.{length, getD, take, drop, set, replicate, length-take, length-replicate, length-append, replicate-append-replicate}
+use lib.ListN.{length, getD, take, drop, set, replicate, length-replicate, length-append, replicate-append-replicate}
 use lib.Seq.{append-snoc, set-at, drop-cons, take-suc, take-all, length-take-le}
-use Rattle.chart.specs.Cell.{cells, fitsAt}
+use Rattle.chart.specs.Cell.{fitsAt}
 use Rattle.chart.specs.Column.{written, opened, extended, extendedBy, filled}
 use Rattle.chart.proofs.Filled.{extendedBy-append}
 use Rattle.packed.specs.Packed.{cfgIn}
@@ -86,7 +86,8 @@ module _ (old : List ℕ) (long : length old ≡ 64) where
   bytes-step i bytes h e =
       ap (λ (x : List ℕ). set x i (getD old i 0)) e
       ∙ set-next (take i old) (replicate 64 0) i (getD old i 0) (length-take-le i old (omega arith)) h
-      ∙ ap (λ (x : List ℕ). x ++ drop (i + 1) (replicate 64 0)) (sym (take-suc old i 0 (omega arith)) ∙ ap (λ (x : ℕ). take x old) (sym (add-one i)))
+      ∙ ap (λ (x : List ℕ). x ++ drop (i + 1) (replicate 64 0))
+      (sym (take-suc old i 0 (omega arith)) ∙ ap (λ (x : ℕ). take x old) (sym (add-one i)))
 
   pub bytes-done : (i n b : ℕ) (bytes : List ℕ) → i ≤ n → n ≤ i → n < 64 → bytes ≡ take i old ++ drop i (replicate 64 0)
       → _≡_ {A = State} (record { bytes = set bytes n b; count = n + 1 }) (stateOf (take n old ++ (b ∷ [])))

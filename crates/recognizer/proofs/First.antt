@@ -3,7 +3,7 @@
 use Prim.Native.Nat.{ℕ, suc, _≤_, _<_}
 use mathlib.Core.Bool.{true}
 use mathlib.Core.List.{List, _∷_}
-use mathlib.Core.Path.{_≡_, refl, sym, ap, _∙_, subst}
+use mathlib.Core.Path.{_≡_, refl, sym, subst}
 use native.Mathlib.Decide.{ℕ-discrete}
 use native.Mathlib.Omega.{arith}
 use Rattle.sets.specs.Set.{has}
@@ -23,10 +23,12 @@ module _ (fit : Fit) (sets : Sets) (n : ℕ) where
   cut-first (nonterminal k) rest a h (cut-node b l m q c) = go (ℕ-discrete b a) (ℕ-discrete b n) (cut→cuts fit sets n m c)
     where
       go : Dec (b ≡ a) → Dec (b ≡ n) → cuts fit sets rest b n ≡ true → FirstCut (nonterminal k) rest a
-      go (yes e) d u = first-empty k refl (subst (λ (x : ℕ). has k (sets a x) ≡ true) e q) (subst (λ (x : ℕ). cuts fit sets rest x n ≡ true) e u)
+      go (yes e) d u = first-empty k refl (subst (λ (x : ℕ). has k (sets a x) ≡ true) e q)
+          (subst (λ (x : ℕ). cuts fit sets rest x n ≡ true) e u)
       go (no e) (yes d) u =
           let f : ¬ (b ≡ a) = e in
-          first-whole k refl (omega arith) (subst (λ (x : ℕ). has k (sets a x) ≡ true) d q) (subst (λ (x : ℕ). cuts fit sets rest x n ≡ true) d u)
+          first-whole k refl (omega arith) (subst (λ (x : ℕ). has k (sets a x) ≡ true) d q)
+          (subst (λ (x : ℕ). cuts fit sets rest x n ≡ true) d u)
       go (no e) (no d) u =
           let f : ¬ (b ≡ a) = e in
           let g : ¬ (b ≡ n) = d in

@@ -1,6 +1,6 @@
 -- The places of a rule at which a cut begins whose first piece lies inside the span: what the steps of the code give.
 -- Assumes nothing.
-use Prim.Native.Nat.{ℕ, suc, _+_, _*_, _≤_, _<_}
+use Prim.Native.Nat.{ℕ, suc, _+_, _≤_, _<_}
 use mathlib.Core.Bool.{Bool, true, false, cond, _&&_}
 use mathlib.Core.List.{List}
 use mathlib.Core.Logic.{_↔_, _≢_}
@@ -17,7 +17,7 @@ use Rattle.cfg.specs.Grammar.{Symbol, nonterminal, terminal, Terminal, byte}
 use Rattle.chart.specs.Cell.{cell, cuts, fitsAt}
 use Rattle.packed.specs.Packed.{countIn, tagIn, valueIn, symbolIn, fitsPlace}
 use Rattle.packed.proofs.Fitting.{symbol-nonterminal, symbol-terminal}
-use Rattle.recognizer.specs.Flags.{Fit, Sets, tail, flag, InnerCut, inner-leaf, inner-node, InnerAt, Later}
+use Rattle.recognizer.specs.Flags.{Fit, Sets, tail, flag, inner-leaf, inner-node, InnerAt, Later}
 use Rattle.recognizer.specs.Flags.{Between, InnerPlace, InnerMask, InnerMasks}
 use Rattle.recognizer.proofs.Bits.{has-if-same, has-if-other, and-parts, not-both, true-false}
 
@@ -51,11 +51,11 @@ module _ (k r q i n : ℕ) (chart flags : List ℕ) where
 
 -- ---- one place
 
-module _ (p w : List ℕ) (r q i n : ℕ) (chart flags : List ℕ) (below : r < 128) (used : q < countIn p r) where
+module _ (p w : List ℕ) (r q i n : ℕ) (chart flags : List ℕ) (used : q < countIn p r) where
   -- the flags of a later start say whether the places behind q cut the rest
-  rest-cuts : (sets : Sets) → Later (fitsAt w) sets p i n chart flags → (b : ℕ) → i < b → b ≤ n
+  rest-cuts : (sets : Sets) → Later (fitsAt w) sets p r i n chart flags → (b : ℕ) → i < b → b ≤ n
       → has (q + 1) (flag flags b r) ≡ cuts (fitsAt w) sets (tail p r (suc q)) b n
-  rest-cuts sets later b l m = ap (λ (x : ℕ). has x (flag flags b r)) (add-one q) ∙ later .rests r b below l m (suc q) used
+  rest-cuts sets later b l m = ap (λ (x : ℕ). has x (flag flags b r)) (add-one q) ∙ later .rests b l m (suc q) used
 
   pub place-nonterminal : (t : Bool) (k : ℕ) (f : Bool) → t ≡ eqb (tagIn p r q) 0 → t ≡ true → k ≡ valueIn p r q
       → Between k r (q + 1) i n chart flags f → InnerPlace (fitsAt w) p r q i n chart flags f
@@ -64,12 +64,12 @@ module _ (p w : List ℕ) (r q i n : ℕ) (chart flags : List ℕ) (below : r < 
       s : symbolIn p r q ≡ nonterminal k
       s = symbol-nonterminal p r q (sym e ∙ g) ∙ ap nonterminal (sym v)
 
-      to : (sets : Sets) → Later (fitsAt w) sets p i n chart flags → f ≡ true → InnerAt (fitsAt w) sets p r i n q
+      to : (sets : Sets) → Later (fitsAt w) sets p r i n chart flags → f ≡ true → InnerAt (fitsAt w) sets p r i n q
       to sets later h =
           let (b, l, m, x, y) = between .found h in
           inner-node k b s l m (ap (has k) (later .cells b l m) ∙ x) (sym (rest-cuts sets later b l (omega arith)) ∙ y)
 
-      from : (sets : Sets) → Later (fitsAt w) sets p i n chart flags → InnerAt (fitsAt w) sets p r i n q → f ≡ true
+      from : (sets : Sets) → Later (fitsAt w) sets p r i n chart flags → InnerAt (fitsAt w) sets p r i n q → f ≡ true
       from sets later (inner-leaf u d l x y) =
           let h : symbolIn p r q ≡ nonterminal k = s in
           let z : _≡_ {A = ℕ} 0 1 = cc in
@@ -101,15 +101,15 @@ module _ (p w : List ℕ) (r q i n : ℕ) (chart flags : List ℕ) (below : r < 
         → InnerPlace (fitsAt w) p r q i n chart flags f
     place-fits t f l e g v = record { exact = λ sets later. (to sets later, from sets later) }
       where
-        rest : (sets : Sets) → Later (fitsAt w) sets p i n chart flags → f ≡ cuts (fitsAt w) sets (tail p r (suc q)) (suc i) n
+        rest : (sets : Sets) → Later (fitsAt w) sets p r i n chart flags → f ≡ cuts (fitsAt w) sets (tail p r (suc q)) (suc i) n
         rest sets later = v ∙ rest-cuts sets later (i + 1) (omega arith) (omega arith)
             ∙ ap (λ (x : ℕ). cuts (fitsAt w) sets (tail p r (suc q)) x n) (add-one i)
 
-        to : (sets : Sets) → Later (fitsAt w) sets p i n chart flags → f ≡ true → InnerAt (fitsAt w) sets p r i n q
+        to : (sets : Sets) → Later (fitsAt w) sets p r i n chart flags → f ≡ true → InnerAt (fitsAt w) sets p r i n q
         to sets later h = inner-leaf (byte (valueIn p r q)) leaf l (sym (leaf-fits (byte (valueIn p r q)) leaf) ∙ sym e ∙ g)
             (sym (rest sets later) ∙ h)
 
-        from : (sets : Sets) → Later (fitsAt w) sets p i n chart flags → InnerAt (fitsAt w) sets p r i n q → f ≡ true
+        from : (sets : Sets) → Later (fitsAt w) sets p r i n chart flags → InnerAt (fitsAt w) sets p r i n q → f ≡ true
         from sets later c = rest sets later ∙ leaf-only sets c .2
 
     pub place-misses : (t : Bool) → t ≡ fitsPlace w (symbolIn p r q) i → t ≡ false → InnerPlace (fitsAt w) p r q i n chart flags false
@@ -133,7 +133,7 @@ module _ (p w : List ℕ) (r q i n : ℕ) (chart flags : List ℕ) (below : r < 
 module _ (fit : Fit) (p : List ℕ) (r i n : ℕ) (chart flags : List ℕ) where
   -- v has those of the places below q at which an inner cut begins, and no others
   pub record MaskTo (q v : ℕ) : Type 0 where
-    pub done : (sets : Sets) → Later fit sets p i n chart flags → (j : ℕ) → j < q → (has j v ≡ true) ↔ InnerAt fit sets p r i n j
+    pub done : (sets : Sets) → Later fit sets p r i n chart flags → (j : ℕ) → j < q → (has j v ≡ true) ↔ InnerAt fit sets p r i n j
     pub rest : (j : ℕ) → q ≤ j → has j v ≡ false
 
   pub mask-to-start : MaskTo 0 0
@@ -149,7 +149,7 @@ module _ (fit : Fit) (p : List ℕ) (r i n : ℕ) (chart flags : List ℕ) where
       same : has q x ≡ f
       same = ap (has q) e ∙ has-if-same q v f (mask .rest q (omega arith))
 
-      done : (sets : Sets) → Later fit sets p i n chart flags → (j : ℕ) → j < q + 1 → (has j x ≡ true) ↔ InnerAt fit sets p r i n j
+      done : (sets : Sets) → Later fit sets p r i n chart flags → (j : ℕ) → j < q + 1 → (has j x ≡ true) ↔ InnerAt fit sets p r i n j
       done sets later j l = go (ℕ-discrete j q)
         where
           go : Dec (j ≡ q) → (has j x ≡ true) ↔ InnerAt fit sets p r i n j
@@ -167,7 +167,7 @@ module _ (fit : Fit) (p : List ℕ) (r i n : ℕ) (chart flags : List ℕ) where
 
 -- ---- all rules
 
-module _ (fit : Fit) (p : List ℕ) (i n : ℕ) (chart flags : List ℕ) where
+module _ (fit : Fit) (p : List ℕ) (rules i n : ℕ) (chart flags : List ℕ) where
   -- the words of the rules below r are right
   pub record MasksTo (r : ℕ) (masks : List ℕ) : Type 0 where
     pub long : length masks ≡ 128
@@ -190,6 +190,6 @@ module _ (fit : Fit) (p : List ℕ) (i n : ℕ) (chart flags : List ℕ) where
               let u : s ≢ r = d in
               subst (λ (y : ℕ). InnerMask fit p s i n chart flags y) (sym (getD-set-other masks r s v 0 d)) (to .done s (omega arith))
 
-  pub masks-to-done : (r : ℕ) (masks : List ℕ) → 128 ≤ r → MasksTo r masks → InnerMasks fit p i n chart flags masks
+  pub masks-to-done : (r : ℕ) (masks : List ℕ) → rules ≤ r → MasksTo r masks → InnerMasks fit p rules i n chart flags masks
   masks-to-done r masks h to =
-      record { long = to .long; exact = λ sets later s l. to .done s (omega arith) .exact sets later }
+      record { long = to .long; each = λ s l. to .done s (omega arith) }

@@ -2,14 +2,13 @@
 -- Assumes nothing.
 use Prim.Native.Nat.{ℕ, suc, _+_, _-_, _≤_, _<_}
 use mathlib.Core.Bool.{Bool, true, false, cond, _&&_, _||_}
-use mathlib.Core.List.{List, []}
+use mathlib.Core.List.{List}
 use mathlib.Core.Logic.{_≢_, _⊎_, inl, inr}
 use mathlib.Core.Path.{_≡_, refl, sym, ap, _∙_, subst}
 use native.Mathlib.Decide.{decLt, ℕ-discrete}
 use native.Mathlib.Numerals.{add-one}
 use native.Mathlib.Omega.{arith}
 use lib.Dec.{eqb}
-use borrow.Author.Tests.{eqb-true, eqb-false}
 use Rattle.sets.specs.Set.{has, insert}
 use Rattle.sets.proofs.Laws.{has-empty}
 use Rattle.cfg.specs.Grammar.{Symbol, nonterminal, terminal}
@@ -17,7 +16,7 @@ use Rattle.chart.specs.Cell.{cuts}
 use Rattle.chart.proofs.Cut.{bool-ext}
 use Rattle.packed.specs.Packed.{countIn, symbolIn}
 use Rattle.packed.proofs.Laws.{places-step, places-end}
-use Rattle.recognizer.specs.Flags.{Fit, Sets, tail, Cutting}
+use Rattle.recognizer.specs.Flags.{Fit, Sets, tail}
 use Rattle.recognizer.specs.Passes.{placeCuts, Words, RuleMask}
 use Rattle.recognizer.proofs.Bits.{has-if-same, has-if-other, and-both, and-parts, true-false}
 use Rattle.recognizer.proofs.First.{FirstCut, first-inner, first-empty, first-whole, cuts-first, first-cuts}
@@ -108,7 +107,8 @@ module _ (p : List ℕ) (r i n empty own inner last : ℕ) where
     rest = λ j l. ap (has j) e ∙ has-if-other q 0 (eqb i n) j (omega arith) ∙ has-empty j;
   }
 
-  pub mask-from-step : (q' q v x : ℕ) (b : Bool) → i ≤ n → q' ≡ suc q → q < countIn p r → b ≡ placeCuts (symbolIn p r q) q empty own inner last v
+  pub mask-from-step : (q' q v x : ℕ) (b : Bool) → i ≤ n → q' ≡ suc q → q < countIn p r
+      → b ≡ placeCuts (symbolIn p r q) q empty own inner last v
       → x ≡ cond b (insert q v) v → MaskFrom q' v → MaskFrom q x
   mask-from-step q' q v x b order s h e f mask = record { done = done; rest = rest }
     where

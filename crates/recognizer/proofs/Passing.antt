@@ -1,6 +1,6 @@
 -- One rule, all rules, and passes until nothing changes, over one cell: what the steps of the code give.
 -- Assumes nothing.
-use Prim.Native.Nat.{ℕ, suc, _+_, _*_, _≤_, _<_}
+use Prim.Native.Nat.{ℕ, _+_, _*_, _≤_, _<_}
 use mathlib.Core.Bool.{Bool, true, false, cond, _&&_}
 use mathlib.Core.List.{List}
 use mathlib.Core.Logic.{_≢_}
@@ -18,7 +18,7 @@ use Rattle.chart.specs.Cell.{cuts}
 use Rattle.chart.proofs.Rounds.{sub-empty}
 use Rattle.packed.specs.Packed.{leftIn, placesIn}
 use Rattle.packed.proofs.Laws.{places-start}
-use Rattle.recognizer.specs.Flags.{Fit, Sets, tail, flag, Cutting, Inner, owned}
+use Rattle.recognizer.specs.Flags.{Fit, Sets, flag, Cutting, Inner, owned}
 use Rattle.recognizer.specs.Passes.{Within, Words, RuleMask, addedIn, Stepped, Ready, ClosedAt, Settled, Passed, Reached, Closing}
 use Rattle.recognizer.proofs.Bits.{and-both, and-parts}
 use Rattle.recognizer.proofs.Owned.{owned-here, owned-end, cutting-owned, inner-owned, owned-mono}
@@ -94,19 +94,19 @@ module _ (p : List ℕ) (r i n own start inner : ℕ) (flags : List ℕ) where
 
 -- ---- all rules
 
--- the start does not matter where the words are read
-ready-same : (fit : Fit) (sets : Sets) (p : List ℕ) (i n start : ℕ) (masks flags flags' : List ℕ)
+-- what the passes over one start change is not what they start from
+ready-same : (fit : Fit) (sets : Sets) (p : List ℕ) (rules i n start : ℕ) (masks flags flags' : List ℕ) → rules ≤ 128
     → ((a r : ℕ) → r < 128 → a ≢ i → flag flags' a r ≡ flag flags a r)
-    → Ready fit sets p i n start masks flags → Ready fit sets p i n start masks flags'
-ready-same fit sets p i n start masks flags flags' other ready =
+    → Ready fit sets p rules i n start masks flags → Ready fit sets p rules i n start masks flags'
+ready-same fit sets p rules i n start masks flags flags' few other ready =
     record {
       empty = ready .empty;
       inside = ready .inside;
-      after = λ r h l. subst (Cutting fit sets p r n n) (sym (other n r h (omega arith))) (ready .after r h l);
+      after = λ r h l. subst (Cutting fit sets p r n n) (sym (other n r (omega arith) (omega arith))) (ready .after r h l);
     }
 
-module _ (p : List ℕ) (i n own start : ℕ) (masks flags : List ℕ) where
-  pub passed-start : length flags ≡ 8320 → Passed p i n own start masks flags 0 own flags
+module _ (p : List ℕ) (rules i n own start : ℕ) (masks flags : List ℕ) where
+  pub passed-start : length flags ≡ 8320 → Passed p rules i n own start masks flags 0 own flags
   passed-start long =
       record {
         long = long;
@@ -116,36 +116,37 @@ module _ (p : List ℕ) (i n own start : ℕ) (masks flags : List ℕ) where
         settled = λ e fit sets ready r h. absurd (omega arith);
       }
 
-  pub passed-done : (m v : ℕ) (flags' : List ℕ) → m ≤ 128 → 128 ≤ m → Passed p i n own start masks flags m v flags'
-      → Passed p i n own start masks flags 128 v flags'
+  pub passed-done : (m v : ℕ) (flags' : List ℕ) → m ≤ rules → rules ≤ m → Passed p rules i n own start masks flags m v flags'
+      → Passed p rules i n own start masks flags rules v flags'
   passed-done m v flags' h l passed =
-      let e : m ≡ 128 = omega arith in
-      subst (λ (x : ℕ). Passed p i n own start masks flags x v flags') e passed
+      let e : m ≡ rules = omega arith in
+      subst (λ (x : ℕ). Passed p rules i n own start masks flags x v flags') e passed
 
-  module _ (order : i ≤ n) (m v v' : ℕ) (flags₁ flags₂ : List ℕ) (below : m < 128) (passed : Passed p i n own start masks flags m v flags₁)
+  module _ (order : i ≤ n) (few : rules ≤ 128) (m v v' : ℕ) (flags₁ flags₂ : List ℕ) (below : m < rules)
+      (passed : Passed p rules i n own start masks flags m v flags₁)
       (step : Stepped p m i n v start (getD masks m 0) flags₁ flags₂ v') where
     -- the flags of rule m are right for the set v
-    exact-step : (fit : Fit) (sets : Sets) → Ready fit sets p i n start masks flags
+    exact-step : (fit : Fit) (sets : Sets) → Ready fit sets p rules i n start masks flags
         → Cutting fit (owned sets i n v) p m i n (flag flags₂ i m)
     exact-step fit sets ready =
-        let ready' = ready-same fit sets p i n start masks flags flags₁ (passed .other) ready in
+        let ready' = ready-same fit sets p rules i n start masks flags flags₁ few (passed .other) ready in
         step .exact fit (owned sets i n v) (owned-here sets i n v)
         (λ l. owned-end sets i n v i i (omega arith) ∙ ready .empty l)
         (inner-owned fit sets i n p v m (getD masks m 0) (ready .inside m below))
         (λ l. cutting-owned fit sets i n p v m n (flag flags₁ n m) l (omega arith) (ready' .after m below l))
 
-    sound-step : (fit : Fit) (sets : Sets) → Ready fit sets p i n start masks flags → (T : ℕ) → ClosedAt fit sets p i n T
+    sound-step : (fit : Fit) (sets : Sets) → Ready fit sets p rules i n start masks flags → (T : ℕ) → ClosedAt fit sets p i n T
         → Within own T → Within v' T
     sound-step fit sets ready T closed s =
         subst (λ (x : ℕ). Within x T) (sym (step .result)) (added-within p m (flag flags₂ i m) v T inT
-        (λ l h. closed m below l (owned-mono fit sets i n v T order inT (placesIn p m)
+        (λ l h. closed m (omega arith) l (owned-mono fit sets i n v T order inT (placesIn p m)
         (ap (λ (x : List Symbol). cuts fit (owned sets i n v) x i n) (sym (places-start p m))
         ∙ sym (exact-step fit sets ready 0 (omega arith)) ∙ h))))
       where
         inT : Within v T
         inT = passed .sound fit sets ready T closed s
 
-    settled-step : v' ≡ own → (fit : Fit) (sets : Sets) → Ready fit sets p i n start masks flags
+    settled-step : v' ≡ own → (fit : Fit) (sets : Sets) → Ready fit sets p rules i n start masks flags
         → (r : ℕ) → r < m + 1 → Settled fit sets p r i n own (flag flags₂ i r)
     settled-step e fit sets ready r h = go (ℕ-discrete r m)
       where
@@ -166,7 +167,7 @@ module _ (p : List ℕ) (i n own start : ℕ) (masks flags : List ℕ) where
             subst (Settled fit sets p r i n own) (sym (step .other (128 * i + r) (omega arith)))
             (passed .settled same fit sets ready r (omega arith))
 
-    pub passed-step : Passed p i n own start masks flags (m + 1) v' flags₂
+    pub passed-step : Passed p rules i n own start masks flags (m + 1) v' flags₂
     passed-step =
         record {
           long = step .long;
@@ -178,17 +179,17 @@ module _ (p : List ℕ) (i n own start : ℕ) (masks flags : List ℕ) where
 
 -- ---- until nothing changes
 
-module _ (p : List ℕ) (i n start : ℕ) (masks flags : List ℕ) where
-  pub reached-start : length flags ≡ 8320 → Reached p i n start masks flags 0 flags
+module _ (p : List ℕ) (rules i n start : ℕ) (masks flags : List ℕ) where
+  pub reached-start : length flags ≡ 8320 → Reached p rules i n start masks flags 0 flags
   reached-start long =
       record { long = long; other = λ a r h d. refl; sound = λ fit sets ready T c. sub-empty T }
 
-  module _ (own v : ℕ) (flags₁ flags₂ : List ℕ) (reached : Reached p i n start masks flags own flags₁)
-      (passed : Passed p i n own start masks flags₁ 128 v flags₂) where
-    ready-on : (fit : Fit) (sets : Sets) → Ready fit sets p i n start masks flags → Ready fit sets p i n start masks flags₁
-    ready-on fit sets = ready-same fit sets p i n start masks flags flags₁ (reached .other)
+  module _ (few : rules ≤ 128) (own v : ℕ) (flags₁ flags₂ : List ℕ) (reached : Reached p rules i n start masks flags own flags₁)
+      (passed : Passed p rules i n own start masks flags₁ rules v flags₂) where
+    ready-on : (fit : Fit) (sets : Sets) → Ready fit sets p rules i n start masks flags → Ready fit sets p rules i n start masks flags₁
+    ready-on fit sets = ready-same fit sets p rules i n start masks flags flags₁ few (reached .other)
 
-    pub reached-step : Reached p i n start masks flags v flags₂
+    pub reached-step : Reached p rules i n start masks flags v flags₂
     reached-step =
         record {
           long = passed .long;
@@ -196,7 +197,7 @@ module _ (p : List ℕ) (i n start : ℕ) (masks flags : List ℕ) where
           sound = λ fit sets ready T c. passed .sound fit sets (ready-on fit sets ready) T c (reached .sound fit sets ready T c);
         }
 
-    pub closing : v ≡ own → Closing p i n start masks flags v flags₂
+    pub closing : v ≡ own → Closing p rules i n start masks flags v flags₂
     closing e =
         record {
           reached = reached-step;

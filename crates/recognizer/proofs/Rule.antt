@@ -1,16 +1,19 @@
--- The tests of one place of a rule, and the adding of its left side, as the branches of the code make them.
+-- The tests of one place of a rule, the adding of its left side, and the number of rules, as the branches of the code make them.
 -- Assumes nothing.
-use Prim.Native.Nat.{ℕ, _+_, _≤_, _<_}
-use mathlib.Core.Bool.{Bool, true, false, cond, _&&_, _||_}
+use Prim.Native.Nat.{ℕ, _+_, _-_, _≤_, _<_}
+use mathlib.Core.Bool.{Bool, true, false, _&&_, _||_}
 use mathlib.Core.List.{List}
-use mathlib.Core.Path.{_≡_, refl, sym, ap, _∙_, subst}
-use lib.Dec.{eqb, ltb}
+use mathlib.Core.Logic.{_≢_}
+use mathlib.Core.Path.{_≡_, sym, ap, _∙_, subst}
+use native.Mathlib.Decide.{ℕ-discrete}
+use native.Mathlib.Omega.{arith}
+use lib.Dec.{eqb}
 use borrow.Author.Tests.{lt-ltb, le-ltb}
 use Rattle.sets.specs.Set.{has, insert}
 use Rattle.cfg.specs.Grammar.{Symbol, nonterminal, terminal}
 use Rattle.packed.specs.Packed.{leftIn, tagIn, valueIn, symbolIn}
 use Rattle.packed.proofs.Fitting.{symbol-nonterminal, symbol-terminal}
-use Rattle.recognizer.specs.Passes.{placeCuts, addedIn}
+use Rattle.recognizer.specs.Passes.{placeCuts, addedIn, Used}
 
 -- ---- whether a place and those behind it cut the span
 
@@ -55,3 +58,15 @@ module _ (p : List ℕ) (r m own : ℕ) (b : Bool) (e : b ≡ has 0 m) where
   pub added-none : b ≡ false → own ≡ addedIn p r m own
   unfolding addedIn
   added-none f = sym (rw (sym e ∙ f))
+
+-- ---- the number of rules
+
+pub used-all : (p : List ℕ) → Used p 128
+used-all p r h l = h
+
+pub used-fewer : (p : List ℕ) (m k : ℕ) → 0 < m → k ≡ leftIn p (m - 1) → 32 ≤ k → Used p m → Used p (m - 1)
+used-fewer p m k z e h used r l u = go (ℕ-discrete r (m - 1)) (used r l u)
+  where
+    go : Dec (r ≡ m - 1) → r < m → r < m - 1
+    go (yes d) v = let w : leftIn p (m - 1) < 32 = subst (λ (x : ℕ). leftIn p x < 32) d u in absurd (omega arith)
+    go (no d) v = let w : r ≢ m - 1 = d in omega arith

@@ -14,14 +14,15 @@ use Rattle.recognizer.specs.Flags.{flag, Cutting}
 abbrev pub columnOf : List ℕ → List ℕ → ℕ → List ℕ → List ℕ
 columnOf p w n chart = written (cfgIn 0 p) (fitsAt w) n chart
 
--- the cells of column n of the starts from i on are written, and all else is as it was in the chart found; the flags are those of these starts
-pub record WrittenFrom (p w found : List ℕ) (n i : ℕ) (chart flags : List ℕ) : Type 0 where
+-- the cells of column n of the starts from i on are written, and all else is as it was in the chart found; the flags of the rules below
+-- a number are those of these starts
+pub record WrittenFrom (p w found : List ℕ) (rules n i : ℕ) (chart flags : List ℕ) : Type 0 where
   pub long : length chart ≡ length found
   pub cells : (x : ℕ) → ((a : ℕ) → a < i → x ≢ place a n) → getD chart x 0 ≡ getD (columnOf p w n found) x 0
   pub room : length flags ≡ 8320
-  pub exact : (a r : ℕ) → i ≤ a → a ≤ n → r < 128 → Cutting (fitsAt w) (cell (columnOf p w n found)) p r a n (flag flags a r)
+  pub exact : (a r : ℕ) → i ≤ a → a ≤ n → r < rules → Cutting (fitsAt w) (cell (columnOf p w n found)) p r a n (flag flags a r)
 
 -- one cell more
-pub record CellWritten (p w : List ℕ) (n i : ℕ) (chart flags chart' flags' : List ℕ) : Type 0 where
-  pub step : (found : List ℕ) → 4225 ≤ length found → (j : ℕ) → j ≡ i + 1 → WrittenFrom p w found n j chart flags
-      → WrittenFrom p w found n i chart' flags'
+pub record CellWritten (p w : List ℕ) (rules n i : ℕ) (chart flags chart' flags' : List ℕ) : Type 0 where
+  pub step : (found : List ℕ) → 4225 ≤ length found → (j : ℕ) → j ≡ i + 1 → WrittenFrom p w found rules n j chart flags
+      → WrittenFrom p w found rules n i chart' flags'

@@ -52,10 +52,10 @@ Inner fit sets p r a n v = (q : ℕ) → q < countIn p r → (has q v ≡ true) 
 unfoldable pub owned : Sets → ℕ → ℕ → ℕ → Sets
 owned sets i n v a b = cond (eqb a i && eqb b n) v (sets a b)
 
--- what is known when the start i is looked at: the sets of the spans from i that end before n, and the flags of the later starts
-pub record Later (fit : Fit) (sets : Sets) (p : List ℕ) (i n : ℕ) (chart flags : List ℕ) : Type 0 where
+-- what is known when the start i is looked at: the sets of the spans from i that end before n, and the flags of rule r at the later starts
+pub record Later (fit : Fit) (sets : Sets) (p : List ℕ) (r i n : ℕ) (chart flags : List ℕ) : Type 0 where
   pub cells : (b : ℕ) → i < b → b < n → sets i b ≡ cell chart i b
-  pub rests : (r b : ℕ) → r < 128 → i < b → b ≤ n → Cutting fit sets p r b n (flag flags b r)
+  pub rests : (b : ℕ) → i < b → b ≤ n → Cutting fit sets p r b n (flag flags b r)
 
 -- f says whether k is in the set of a span from i to some b between i and n, at which the flags of rule r have q
 pub record Between (k r q i n : ℕ) (chart flags : List ℕ) (f : Bool) : Type 0 where
@@ -64,13 +64,13 @@ pub record Between (k r q i n : ℕ) (chart flags : List ℕ) (f : Bool) : Type 
 
 -- f says whether an inner cut begins at place q
 pub record InnerPlace (fit : Fit) (p : List ℕ) (r q i n : ℕ) (chart flags : List ℕ) (f : Bool) : Type 0 where
-  pub exact : (sets : Sets) → Later fit sets p i n chart flags → (f ≡ true) ↔ InnerAt fit sets p r i n q
+  pub exact : (sets : Sets) → Later fit sets p r i n chart flags → (f ≡ true) ↔ InnerAt fit sets p r i n q
 
 -- v is the set of the places at which an inner cut begins
 pub record InnerMask (fit : Fit) (p : List ℕ) (r i n : ℕ) (chart flags : List ℕ) (v : ℕ) : Type 0 where
-  pub exact : (sets : Sets) → Later fit sets p i n chart flags → Inner fit sets p r i n v
+  pub exact : (sets : Sets) → Later fit sets p r i n chart flags → Inner fit sets p r i n v
 
--- the same of each rule
-pub record InnerMasks (fit : Fit) (p : List ℕ) (i n : ℕ) (chart flags masks : List ℕ) : Type 0 where
+-- the same of each rule below a number
+pub record InnerMasks (fit : Fit) (p : List ℕ) (rules i n : ℕ) (chart flags masks : List ℕ) : Type 0 where
   pub long : length masks ≡ 128
-  pub exact : (sets : Sets) → Later fit sets p i n chart flags → (r : ℕ) → r < 128 → Inner fit sets p r i n (getD masks r 0)
+  pub each : (r : ℕ) → r < rules → InnerMask fit p r i n chart flags (getD masks r 0)

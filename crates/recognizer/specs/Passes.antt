@@ -53,11 +53,15 @@ pub record Stepped (p : List ℕ) (r i n own start inner : ℕ) (flags flags' : 
 
 -- ---- all rules
 
--- what the words and the flags mean that passes over the cell (i, n) start from
-pub record Ready (fit : Fit) (sets : Sets) (p : List ℕ) (i n start : ℕ) (masks flags : List ℕ) : Type 0 where
+-- the rules that are used are below a number
+abbrev pub Used : List ℕ → ℕ → Type 0
+Used p rules = (r : ℕ) → r < 128 → leftIn p r < 32 → r < rules
+
+-- what the words and the flags of these rules mean that passes over the cell (i, n) start from
+pub record Ready (fit : Fit) (sets : Sets) (p : List ℕ) (rules i n start : ℕ) (masks flags : List ℕ) : Type 0 where
   pub empty : i < n → sets i i ≡ start
-  pub inside : (r : ℕ) → r < 128 → Inner fit sets p r i n (getD masks r 0)
-  pub after : (r : ℕ) → r < 128 → i < n → Cutting fit sets p r n n (flag flags n r)
+  pub inside : (r : ℕ) → r < rules → Inner fit sets p r i n (getD masks r 0)
+  pub after : (r : ℕ) → r < rules → i < n → Cutting fit sets p r n n (flag flags n r)
 
 -- T is closed under the rules as the set of the cell (i, n)
 abbrev pub ClosedAt : Fit → Sets → List ℕ → ℕ → ℕ → ℕ → Type 0
@@ -70,23 +74,23 @@ pub record Settled (fit : Fit) (sets : Sets) (p : List ℕ) (r i n own v : ℕ) 
   pub closed : leftIn p r < 32 → has 0 v ≡ true → has (leftIn p r) own ≡ true
 
 -- the rules below m were looked at, and own became v
-pub record Passed (p : List ℕ) (i n own start : ℕ) (masks flags : List ℕ) (m v : ℕ) (flags' : List ℕ) : Type 0 where
+pub record Passed (p : List ℕ) (rules i n own start : ℕ) (masks flags : List ℕ) (m v : ℕ) (flags' : List ℕ) : Type 0 where
   pub long : length flags' ≡ 8320
   pub other : (a r : ℕ) → r < 128 → a ≢ i → flag flags' a r ≡ flag flags a r
   pub grows : own ≤ v
-  pub sound : (fit : Fit) (sets : Sets) → Ready fit sets p i n start masks flags → (T : ℕ) → ClosedAt fit sets p i n T
+  pub sound : (fit : Fit) (sets : Sets) → Ready fit sets p rules i n start masks flags → (T : ℕ) → ClosedAt fit sets p i n T
       → Within own T → Within v T
-  pub settled : v ≡ own → (fit : Fit) (sets : Sets) → Ready fit sets p i n start masks flags
+  pub settled : v ≡ own → (fit : Fit) (sets : Sets) → Ready fit sets p rules i n start masks flags
       → (r : ℕ) → r < m → Settled fit sets p r i n own (flag flags' i r)
 
 -- passes from the empty set on came to v: it has nothing that a closed set lacks
-pub record Reached (p : List ℕ) (i n start : ℕ) (masks flags : List ℕ) (v : ℕ) (flags' : List ℕ) : Type 0 where
+pub record Reached (p : List ℕ) (rules i n start : ℕ) (masks flags : List ℕ) (v : ℕ) (flags' : List ℕ) : Type 0 where
   pub long : length flags' ≡ 8320
   pub other : (a r : ℕ) → r < 128 → a ≢ i → flag flags' a r ≡ flag flags a r
-  pub sound : (fit : Fit) (sets : Sets) → Ready fit sets p i n start masks flags → (T : ℕ) → ClosedAt fit sets p i n T → Within v T
+  pub sound : (fit : Fit) (sets : Sets) → Ready fit sets p rules i n start masks flags → (T : ℕ) → ClosedAt fit sets p i n T → Within v T
 
 -- and the last of them added nothing
-pub record Closing (p : List ℕ) (i n start : ℕ) (masks flags : List ℕ) (v : ℕ) (flags' : List ℕ) : Type 0 where
-  pub reached : Reached p i n start masks flags v flags'
-  pub settled : (fit : Fit) (sets : Sets) → Ready fit sets p i n start masks flags
-      → (r : ℕ) → r < 128 → Settled fit sets p r i n v (flag flags' i r)
+pub record Closing (p : List ℕ) (rules i n start : ℕ) (masks flags : List ℕ) (v : ℕ) (flags' : List ℕ) : Type 0 where
+  pub reached : Reached p rules i n start masks flags v flags'
+  pub settled : (fit : Fit) (sets : Sets) → Ready fit sets p rules i n start masks flags
+      → (r : ℕ) → r < rules → Settled fit sets p r i n v (flag flags' i r)

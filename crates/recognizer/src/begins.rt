@@ -116,9 +116,10 @@ fn inner_mask(
     v
 }
 
-// The same of every rule.
+// The same of every rule below a number.
 pub fn inner_masks(
     p: &[u8; 2304],
+    rules: usize,
     w: &[u8],
     i: usize,
     n: usize,
@@ -126,11 +127,13 @@ pub fn inner_masks(
     flags: &[u32; 8320],
     masks: &mut [u32; 128],
 )
-    requires { ⌜ (i ≤ n) × (n ≤ 64) × (4225 ≤ length (now chart)) × (length (now masks) ≡ 128) ⌝ }
-    ensures { λ _. ⌜ InnerMasks (fitsAt (now (w .entry))) (now (p .entry)) i n (now (chart .entry)) (now (flags .entry)) (now (masks .exit)) ⌝ }
+    requires { ⌜ (rules ≤ 128) × (i ≤ n) × (n ≤ 64) × (4225 ≤ length (now chart)) × (length (now masks) ≡ 128) ⌝ }
+    ensures { λ _.
+        ⌜ InnerMasks (fitsAt (now (w .entry))) (now (p .entry)) rules i n
+        (now (chart .entry)) (now (flags .entry)) (now (masks .exit)) ⌝ }
 {
     let mut r = 0;
-    while r < 128 {
+    while r < rules {
         masks[r] = inner_mask(p, r, w, i, n, chart, flags);
         r += 1;
     }

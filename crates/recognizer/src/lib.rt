@@ -19,6 +19,7 @@ ghost use Rattle.grammar.specs.Valid.{validGrammar};
 ghost use Rattle.packed.specs.Packed.{cfgIn};
 ghost use Rattle.results.specs.Answer.{Answer};
 ghost use Rattle.results.specs.Recognize.{stateOf, saying, openOf, takeOf};
+ghost use Rattle.recognizer.specs.Passes.{Used};
 ghost use Rattle.recognizer.specs.Columns.{columnOf, CellWritten};
 ghost use Rattle.recognizer.specs.Recognizer.{stateIn, answerOf, recognitionOf};
 
@@ -42,21 +43,39 @@ pub struct Advanced {
 
 // ---- columns
 
+// A number that no used rule reaches: one past the last of them.
+fn rule_count(p: &[u8; 2304]) -> usize
+    ensures { λ m. ⌜ (m ≤ 128) × Used (now (p .entry)) m ⌝ }
+{
+    let mut m = 128;
+    while m > 0 {
+        let k = packed::left(p, m - 1);
+        if k < 32 {
+            return m;
+        }
+        m -= 1;
+    }
+    m
+}
+
 // Writes the cell (i, n), those of the later starts being written.
 fn close_cell(
     p: &[u8; 2304],
+    rules: usize,
     w: &[u8],
     i: usize,
     n: usize,
     chart: &mut [u32],
     flags: &mut [u32; 8320],
 )
-    requires { ⌜ (i ≤ n) × (n ≤ 64) × (4225 ≤ length (now chart)) × (length (now flags) ≡ 8320) ⌝ }
-    ensures { λ _. ⌜ CellWritten (now (p .entry)) (now (w .entry)) n i (now (chart .entry)) (now (flags .entry)) (now (chart .exit)) (now (flags .exit)) ⌝ }
+    requires { ⌜ (rules ≤ 128) × Used (now p) rules × (i ≤ n) × (n ≤ 64) × (4225 ≤ length (now chart)) × (length (now flags) ≡ 8320) ⌝ }
+    ensures { λ _.
+        ⌜ CellWritten (now (p .entry)) (now (w .entry)) rules n i
+        (now (chart .entry)) (now (flags .entry)) (now (chart .exit)) (now (flags .exit)) ⌝ }
 {
     let mut masks = [0u32; 128];
-    inner_masks(p, w, i, n, chart, flags, &mut masks);
-    let own = closure(p, i, n, chart[65 * i + i], &masks, flags);
+    inner_masks(p, rules, w, i, n, chart, flags, &mut masks);
+    let own = closure(p, rules, i, n, chart[65 * i + i], &masks, flags);
     chart[65 * i + n] = own;
 }
 
@@ -65,11 +84,12 @@ pub fn write_column(p: &[u8; 2304], w: &[u8], n: usize, chart: &mut [u32])
     requires { ⌜ (n ≤ 64) × (4225 ≤ length (now chart)) ⌝ }
     ensures { λ _. ⌜ now (chart .exit) ≡ columnOf (now (p .entry)) (now (w .entry)) n (now (chart .entry)) ⌝ }
 {
+    let rules = rule_count(p);
     let mut flags = [0u32; 8320];
     let mut i = n + 1;
     while i > 0 {
         i -= 1;
-        close_cell(p, w, i, n, chart, &mut flags);
+        close_cell(p, rules, w, i, n, chart, &mut flags);
     }
 }
 

@@ -1,4 +1,4 @@
-// Passes of all rules over one cell of a column, until nothing is added.
+// Passes of the rules over one cell of a column, until nothing is added.
 use super::begins::both;
 use super::begins::with_if;
 ghost use mathlib.Core.Path.{_≡_};
@@ -99,9 +99,10 @@ fn rule_step(
     added(p, r, m, own)
 }
 
-// All rules, once.
+// The rules below a number, once.
 fn pass(
     p: &[u8; 2304],
+    rules: usize,
     i: usize,
     n: usize,
     own: u32,
@@ -109,33 +110,34 @@ fn pass(
     masks: &[u32; 128],
     flags: &mut [u32; 8320],
 ) -> u32
-    requires { ⌜ (i ≤ n) × (n ≤ 64) × (length (now flags) ≡ 8320) ⌝ }
-    ensures { λ v. ⌜ Passed (now (p .entry)) i n own start (now (masks .entry)) (now (flags .entry)) 128 v (now (flags .exit)) ⌝ }
+    requires { ⌜ (rules ≤ 128) × (i ≤ n) × (n ≤ 64) × (length (now flags) ≡ 8320) ⌝ }
+    ensures { λ v. ⌜ Passed (now (p .entry)) rules i n own start (now (masks .entry)) (now (flags .entry)) rules v (now (flags .exit)) ⌝ }
 {
     let mut v = own;
     let mut r = 0;
-    while r < 128 {
+    while r < rules {
         v = rule_step(p, r, i, n, v, start, masks[r], flags);
         r += 1;
     }
     v
 }
 
-// All rules, until nothing is added.
+// These rules, until nothing is added.
 pub fn closure(
     p: &[u8; 2304],
+    rules: usize,
     i: usize,
     n: usize,
     start: u32,
     masks: &[u32; 128],
     flags: &mut [u32; 8320],
 ) -> u32
-    requires { ⌜ (i ≤ n) × (n ≤ 64) × (length (now flags) ≡ 8320) ⌝ }
-    ensures { λ v. ⌜ Closing (now (p .entry)) i n start (now (masks .entry)) (now (flags .entry)) v (now (flags .exit)) ⌝ }
+    requires { ⌜ (rules ≤ 128) × (i ≤ n) × (n ≤ 64) × (length (now flags) ≡ 8320) ⌝ }
+    ensures { λ v. ⌜ Closing (now (p .entry)) rules i n start (now (masks .entry)) (now (flags .entry)) v (now (flags .exit)) ⌝ }
 {
     let mut own: u32 = 0;
     loop {
-        let next = pass(p, i, n, own, start, masks, flags);
+        let next = pass(p, rules, i, n, own, start, masks, flags);
         if next == own {
             return next;
         }

@@ -2,7 +2,6 @@
 -- Assumes nothing.
 use borrow.Author.Needs.{needs}
 use Rattle.recognizer.proofs.Column.{cell-written}
-use native.Mathlib.Omega.{arith}
 use Rattle.recognizer.proofs.close_cell.Statement.{statement}
 use Rattle.recognizer.proofs.close_cell.Tie as tie
 

@@ -17,7 +17,9 @@ contains-requires : tie.Need-contains-requires
 contains-requires c κs = search needs
 
 returns : tie.Need-returns
-returns c = c .contains .ensures ∙ ap (has (c .before .before .before .args .start)) (cell-first-row (c .before .before .before .args .chart .now) (c .before .before .before .args .n))
+returns c =
+    let s = c .before .before .before in
+    c .contains .ensures ∙ ap (has (s .args .start)) (cell-first-row (s .args .chart .now) (s .args .n))
 
 pub complete-spec : {M : Type 1} → statement M
 complete-spec =

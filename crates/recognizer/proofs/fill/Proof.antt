@@ -40,13 +40,20 @@ loop-less : tie.Need-loop-less Inv-loop μ-loop
 loop-less c = omega arith
 
 loop-again : tie.Need-loop-again Inv-loop μ-loop
-loop-again c = (omega arith, c .before .before .write-column .kept .1 .1 .1 .0 ∙ c .before .before .before .before .before .before .loop .inv .1, fill-step _ (c .before .before .before .before .before .before .before .before .before .before .before .before .before .args .w .now) _ (c .before .before .before .before .before .before .loop .m) _ _ _ refl (omega arith) (c .before .before .before .before .before .before .loop .inv .2) (c .before .before .write-column .ensures))
+loop-again c =
+    let l = c .before .before .before .before .before .before in
+    let d = c .before .before in
+    let w = c .before .before .before .before .before .before .before .before .before .before .before .before .before .args .w .now in
+    let e = fill-step _ w _ (l .loop .m) _ _ _ refl (omega arith) (l .loop .inv .2) (d .write-column .ensures) in
+    (omega arith, d .write-column .kept .1 .1 .1 .0 ∙ l .loop .inv .1, e)
 
 same-length : tie.Need-same-length Inv-loop μ-loop
 same-length c = c .before .loop .inv .1 ∙ c .before .before .before .before .open-chart .kept .1 .0
 
 returns : tie.Need-returns Inv-loop μ-loop
-returns c = fill-done _ (c .before .before .before .before .before .before .before .before .args .w .now) _ (c .before .loop .m) _ _ (omega arith) (c .before .before .before .before .open-chart .ensures) (c .before .loop .inv .2)
+returns c =
+    fill-done _ (c .before .before .before .before .before .before .before .before .args .w .now) _ (c .before .loop .m) _ _ (omega arith)
+    (c .before .before .before .before .open-chart .ensures) (c .before .loop .inv .2)
 
 pub fill-spec : {M : Type 1} → statement M
 fill-spec =

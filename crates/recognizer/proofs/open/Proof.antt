@@ -5,7 +5,6 @@ use Rattle.recognizer.proofs.Calls.{was-invalid, was-valid}
 use Rattle.recognizer.specs.Recognizer.{stateIn}
 use mathlib.Core.Path.{ap, _∙_}
 use Rattle.recognizer.proofs.Calls.{open-invalid, open-short}
-use native.Mathlib.Omega.{arith}
 use Rattle.recognizer.proofs.open.Statement.{statement}
 use Rattle.recognizer.proofs.open.Tie as tie
 
@@ -19,7 +18,9 @@ refused-requires : tie.Need-refused-requires
 refused-requires c κs = search needs
 
 returns : tie.Need-returns
-returns c = open-invalid _ _ _ _ (ap stateIn (c .refused .ensures .1) ∙ c .before .blank .ensures) (was-invalid _ _ (c .before .before .before .valid .ensures) (c .before .before .if1 .taken)) (c .refused .ensures .0)
+returns c =
+    open-invalid _ _ _ _ (ap stateIn (c .refused .ensures .1) ∙ c .before .blank .ensures)
+    (was-invalid _ _ (c .before .before .before .valid .ensures) (c .before .before .if1 .taken)) (c .refused .ensures .0)
 
 blank-requires-2 : tie.Need-blank-requires-2
 blank-requires-2 c κs = search needs
@@ -28,10 +29,15 @@ refused-requires-2 : tie.Need-refused-requires-2
 refused-requires-2 c κs = search needs
 
 returns-2 : tie.Need-returns-2
-returns-2 c = open-short _ _ _ _ (ap stateIn (c .refused2 .ensures .1) ∙ c .before .blank2 .ensures) (was-valid _ _ (c .before .before .before .before .valid .ensures) (c .before .before .before .if1 .left)) (c .before .before .if2 .taken) (c .refused2 .ensures .0)
+returns-2 c =
+    let d = c .before .before in
+    let v = was-valid _ _ (d .before .before .valid .ensures) (d .before .if1 .left) in
+    open-short _ _ _ _ (ap stateIn (c .refused2 .ensures .1) ∙ c .before .blank2 .ensures) v (d .if2 .taken) (c .refused2 .ensures .0)
 
 opening-requires : tie.Need-opening-requires
-opening-requires c κs = (was-valid _ _ (c .before .before .before .valid .ensures) (c .before .before .if1 .left), c .before .if2 .left)
+opening-requires c κs =
+    let d = c .before in
+    (was-valid _ _ (d .before .before .valid .ensures) (d .before .if1 .left), d .if2 .left)
 
 same-length : tie.Need-same-length
 same-length c = search needs

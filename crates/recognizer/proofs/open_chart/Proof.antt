@@ -2,7 +2,6 @@
 -- Assumes nothing.
 use borrow.Author.Needs.{needs}
 use Rattle.recognizer.proofs.Filling.{opened-is}
-use native.Mathlib.Omega.{arith}
 use Rattle.recognizer.proofs.open_chart.Statement.{statement}
 use Rattle.recognizer.proofs.open_chart.Tie as tie
 

@@ -2,7 +2,6 @@
 -- Assumes nothing.
 use borrow.Author.Needs.{needs}
 use Rattle.recognizer.proofs.Calls.{open-right}
-use native.Mathlib.Omega.{arith}
 use Rattle.recognizer.proofs.opening.Statement.{statement}
 use Rattle.recognizer.proofs.opening.Tie as tie
 
@@ -22,7 +21,11 @@ same-length : tie.Need-same-length
 same-length c = search needs
 
 returns : tie.Need-returns
-returns c = open-right _ _ _ _ (c .blank .ensures) _ _ (c .before .before .before .before .before .before .before .before .before .before .pre .0) (c .before .before .before .before .before .before .before .before .before .before .pre .1) (c .before .before .before .before .before .before .before .before .pack .ensures) (c .before .before .before .before .before .open-chart .ensures) (c .before .says .ensures)
+returns c =
+    let s = c .before .before .before .before .before .before .before .before .before .before in
+    open-right _ _ _ _ (c .blank .ensures) _ _ (s .pre .0) (s .pre .1)
+    (c .before .before .before .before .before .before .before .before .pack .ensures)
+    (c .before .before .before .before .before .open-chart .ensures) (c .before .says .ensures)
 
 pub opening-spec : {M : Type 1} → statement M
 opening-spec =

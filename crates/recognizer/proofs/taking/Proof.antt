@@ -4,7 +4,6 @@ use borrow.Author.Needs.{needs}
 use Rattle.recognizer.proofs.Calls.{count-fits, count-part}
 use Rattle.recognizer.specs.Recognizer.{stateIn}
 use Rattle.recognizer.proofs.Calls.{take-right}
-use native.Mathlib.Omega.{arith}
 use Rattle.recognizer.proofs.taking.Statement.{statement}
 use Rattle.recognizer.proofs.taking.Tie as tie
 
@@ -18,7 +17,9 @@ array-share-prefix-bytes : tie.Need-array-share-prefix-bytes
 array-share-prefix-bytes c = count-fits (stateIn (c .before .before .with-byte .result)) _ (c .before .before .with-byte .ensures .0)
 
 slice-aggregate-write-column : tie.Need-slice-aggregate-write-column
-slice-aggregate-write-column c = count-part (stateIn (c .before .before .before .with-byte .result)) _ (c .before .before .before .with-byte .ensures .0)
+slice-aggregate-write-column c =
+    let h = c .before .before .before in
+    count-part (stateIn (h .with-byte .result)) _ (h .with-byte .ensures .0)
 
 write-column-requires : tie.Need-write-column-requires
 write-column-requires c κs = search needs
@@ -30,7 +31,11 @@ same-length : tie.Need-same-length
 same-length c = search needs
 
 returns : tie.Need-returns
-returns c = take-right _ _ _ _ _ _ (c .before .before .before .before .before .before .before .before .before .with-byte .ensures .0) (c .before .before .before .before .before .before .before .before .before .with-byte .ensures .1) _ _ (c .before .before .before .before .before .before .before .before .before .before .before .before .pre .0) (c .before .before .before .before .before .before .before .before .before .before .before .before .pre .1) (c .before .before .before .before .before .before .before .before .before .before .before .before .pre .2) (c .before .before .before .before .before .before .before .before .before .before .pack .ensures) (c .before .before .before .before .write-column .ensures) (c .says .ensures)
+returns c =
+    let s = c .before .before .before .before .before .before .before .before .before .before .before .before in
+    let h = c .before .before .before .before .before .before .before .before .before in
+    take-right _ _ _ _ _ _ (h .with-byte .ensures .0) (h .with-byte .ensures .1) _ _ (s .pre .0) (s .pre .1) (s .pre .2)
+    (h .before .pack .ensures) (c .before .before .before .before .write-column .ensures) (c .says .ensures)
 
 pub taking-spec : {M : Type 1} → statement M
 taking-spec =

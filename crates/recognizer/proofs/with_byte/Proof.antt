@@ -1,7 +1,7 @@
 -- `recognizer::with_byte` meets its contract. The loop's invariant: the bytes passed are copied, and zeros stand behind them.
 -- The measure is what is left of the count. Assumes nothing.
 use Rattle.recognizer.proofs.Filling.{bytes-step, bytes-done}
-use lib.ListN.{length, take, drop, replicate, length-map}
+use lib.ListN.{take, drop, replicate, length-map}
 use native.Mathlib.Omega.{arith}
 use mathlib.Core.Path.{_≡_, refl}
 use mathlib.Core.List.{_++_}
@@ -31,7 +31,9 @@ loop-less : tie.Need-loop-less Inv-loop μ-loop
 loop-less c = omega arith
 
 loop-again : tie.Need-loop-again Inv-loop μ-loop
-loop-again c = (omega arith, bytes-step _ (simp length-map at (c .before .before .before .good .0 .1 .1 .0 .1 .0 .1)) _ _ (omega arith) (c .before .before .loop .inv .1))
+loop-again c =
+    let l = c .before .before in
+    (omega arith, bytes-step _ (simp length-map at (l .before .good .0 .1 .1 .0 .1 .0 .1)) _ _ (omega arith) (l .loop .inv .1))
 
 array-write-bytes-2 : tie.Need-array-write-bytes-2 Inv-loop μ-loop
 array-write-bytes-2 c = omega arith
@@ -40,7 +42,12 @@ add-t16 : tie.Need-add-t16 Inv-loop μ-loop
 add-t16 c = omega arith
 
 returns : tie.Need-returns Inv-loop μ-loop
-returns c = (bytes-done _ (simp length-map at (c .before .before .good .0 .1 .1 .0 .1 .0 .1)) (c .before .loop .i) (c .before .before .args .t1 .count) _ _ (omega arith) (omega arith) (omega arith) (c .before .loop .inv .1), refl)
+returns c =
+    let l = c .before in (
+      bytes-done _ (simp length-map at (l .before .good .0 .1 .1 .0 .1 .0 .1)) (l .loop .i) (l .before .args .t1 .count) _ _
+          (omega arith) (omega arith) (omega arith) (l .loop .inv .1),
+      refl,
+    )
 
 pub with-byte-spec : {M : Type 1} → statement M
 with-byte-spec =

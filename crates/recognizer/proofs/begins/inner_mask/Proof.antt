@@ -1,4 +1,4 @@
--- `recognizer::begins::inner_mask` meets its contract. The loop's invariant: the places passed are right, and no others are in the set.
+-- `recognizer::begins::inner_mask` meets its contract. The loop's invariant: the places passed are right, no others are in the set.
 -- The measure is what is left of the count. Assumes nothing.
 use borrow.Author.Needs.{needs}
 use Rattle.recognizer.proofs.Inner.{MaskTo, mask-to-start, mask-to-step, mask-to-done}
@@ -11,7 +11,8 @@ use Rattle.recognizer.proofs.begins.inner_mask.Statement.{statement}
 use Rattle.recognizer.proofs.begins.inner_mask.Tie as tie
 
 abbrev Inv-loop : tie.InvT-loop
-Inv-loop p r w i n chart flags count v₀ q₀ v q = (q ≤ count) × (count ≡ countIn p r) × (count ≤ 8) × MaskTo (fitsAt w) p r i n chart flags q v
+Inv-loop p r w i n chart flags count v₀ q₀ v q =
+    (q ≤ count) × (count ≡ countIn p r) × (count ≤ 8) × MaskTo (fitsAt w) p r i n chart flags q v
 
 abbrev μ-loop : tie.MeasureT-loop
 μ-loop p r w i n chart flags count v₀ q₀ v q = count - q
@@ -35,7 +36,12 @@ loop-less : tie.Need-loop-less Inv-loop μ-loop
 loop-less c = omega arith
 
 loop-again : tie.Need-loop-again Inv-loop μ-loop
-loop-again c = (omega arith, search needs, omega arith, mask-to-step _ _ _ _ _ _ _ _ _ _ _ (c .before .inner-place .ensures) (c .with-if .ensures) (c .before .before .before .loop .inv .3))
+loop-again c = (
+  omega arith,
+  search needs,
+  omega arith,
+  mask-to-step _ _ _ _ _ _ _ _ _ _ _ (c .before .inner-place .ensures) (c .with-if .ensures) (c .before .before .before .loop .inv .3),
+)
 
 returns : tie.Need-returns Inv-loop μ-loop
 returns c = mask-to-done _ _ _ _ _ _ _ _ _ (omega arith) (c .before .loop .inv .3)

@@ -1,5 +1,5 @@
 -- `recognizer::begins::inner_masks` meets its contract. The loop's invariant: the words of the rules passed are right.
--- The measure is what is left of the 128 rules. Assumes nothing.
+-- The measure is what is left of the rules. Assumes nothing.
 use Rattle.recognizer.proofs.Inner.{MasksTo, masks-to-start, masks-to-step, masks-to-done}
 use Rattle.chart.specs.Cell.{fitsAt}
 use native.Mathlib.Omega.{arith}
@@ -8,10 +8,10 @@ use Rattle.recognizer.proofs.begins.inner_masks.Statement.{statement}
 use Rattle.recognizer.proofs.begins.inner_masks.Tie as tie
 
 abbrev Inv-loop : tie.InvT-loop
-Inv-loop p w i n chart flags masks₀ r₀ masks r = (r ≤ 128) × MasksTo (fitsAt w) p i n chart flags r masks
+Inv-loop p rules w i n chart flags masks₀ r₀ masks r = (r ≤ rules) × MasksTo (fitsAt w) p rules i n chart flags r masks
 
 abbrev μ-loop : tie.MeasureT-loop
-μ-loop p w i n chart flags masks₀ r₀ masks r = 128 - r
+μ-loop p rules w i n chart flags masks₀ r₀ masks r = rules - r
 
 loop-holds : tie.Need-loop-holds Inv-loop μ-loop
 loop-holds c = (omega arith, search masks-to-start)
@@ -32,7 +32,7 @@ loop-less : tie.Need-loop-less Inv-loop μ-loop
 loop-less c = omega arith
 
 loop-again : tie.Need-loop-again Inv-loop μ-loop
-loop-again c = (omega arith, search masks-to-step)
+loop-again c = (omega arith, masks-to-step _ _ _ _ _ _ _ _ _ _ (omega arith) (c .inner-mask .ensures) (c .before .before .loop .inv .1))
 
 returns : tie.Need-returns Inv-loop μ-loop
 returns c = search masks-to-done

@@ -1,9 +1,9 @@
 -- `recognizer::begins::inner_nonterminal` meets its contract. The loop's invariant: none of the ends passed will do.
 -- The measure is what is left of the span. Assumes nothing.
 use borrow.Author.Needs.{needs}
-use Rattle.recognizer.proofs.Inner.{Missed, missed-start, missed-step, between-found, between-none}
+use Rattle.recognizer.proofs.Inner.{Missed, missed-step, between-found, between-none}
 use native.Mathlib.Omega.{arith}
-use Prim.Native.Nat.{_≤_, _<_, _-_}
+use Prim.Native.Nat.{_<_, _-_}
 use Rattle.recognizer.proofs.begins.inner_nonterminal.Statement.{statement}
 use Rattle.recognizer.proofs.begins.inner_nonterminal.Tie as tie
 

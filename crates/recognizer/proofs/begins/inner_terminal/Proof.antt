@@ -2,7 +2,6 @@
 -- Assumes nothing.
 use borrow.Author.Needs.{needs}
 use Rattle.recognizer.proofs.Inner.{place-fits, place-misses, place-end}
-use native.Mathlib.Omega.{arith}
 use Rattle.recognizer.proofs.begins.inner_terminal.Statement.{statement}
 use Rattle.recognizer.proofs.begins.inner_terminal.Tie as tie
 

@@ -9,10 +9,10 @@ use Rattle.recognizer.proofs.passes.closure.Statement.{statement}
 use Rattle.recognizer.proofs.passes.closure.Tie as tie
 
 abbrev Inv-loop : tie.InvT-loop
-Inv-loop p i n start masks flags₀ own₀ flags own = (own < 2 ^ 32) × Reached p i n start masks flags₀ own flags
+Inv-loop p rules i n start masks flags₀ own₀ flags own = (own < 2 ^ 32) × Reached p rules i n start masks flags₀ own flags
 
 abbrev μ-loop : tie.MeasureT-loop
-μ-loop p i n start masks flags₀ own₀ flags own = 2 ^ 32 - own
+μ-loop p rules i n start masks flags₀ own₀ flags own = 2 ^ 32 - own
 
 loop-holds : tie.Need-loop-holds Inv-loop μ-loop
 loop-holds c = (omega arith, search reached-start)

@@ -1,5 +1,5 @@
 -- `recognizer::passes::pass` meets its contract. The loop's invariant: the same of the rules passed.
--- The measure is what is left of the 128 rules. Assumes nothing.
+-- The measure is what is left of the rules. Assumes nothing.
 use borrow.Author.Needs.{needs}
 use Rattle.recognizer.proofs.Passing.{passed-start, passed-step, passed-done}
 use Rattle.recognizer.specs.Passes.{Passed}
@@ -9,10 +9,10 @@ use Rattle.recognizer.proofs.passes.pass.Statement.{statement}
 use Rattle.recognizer.proofs.passes.pass.Tie as tie
 
 abbrev Inv-loop : tie.InvT-loop
-Inv-loop p i n own start masks flags₀ v₀ r₀ flags v r = (r ≤ 128) × Passed p i n own start masks flags₀ r v flags
+Inv-loop p rules i n own start masks flags₀ v₀ r₀ flags v r = (r ≤ rules) × Passed p rules i n own start masks flags₀ r v flags
 
 abbrev μ-loop : tie.MeasureT-loop
-μ-loop p i n own start masks flags₀ v₀ r₀ flags v r = 128 - r
+μ-loop p rules i n own start masks flags₀ v₀ r₀ flags v r = rules - r
 
 loop-holds : tie.Need-loop-holds Inv-loop μ-loop
 loop-holds c = (omega arith, search passed-start)
@@ -24,7 +24,7 @@ element-copy-out-rule-step : tie.Need-element-copy-out-rule-step Inv-loop μ-loo
 element-copy-out-rule-step c = omega arith
 
 rule-step-requires : tie.Need-rule-step-requires Inv-loop μ-loop
-rule-step-requires c κs = search needs
+rule-step-requires c κs = (omega arith, omega arith, omega arith, search needs)
 
 add-r : tie.Need-add-r Inv-loop μ-loop
 add-r c = omega arith

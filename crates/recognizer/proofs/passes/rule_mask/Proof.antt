@@ -36,7 +36,12 @@ loop-less : tie.Need-loop-less Inv-loop μ-loop
 loop-less c = omega arith
 
 loop-again : tie.Need-loop-again Inv-loop μ-loop
-loop-again c = (omega arith, omega arith, mask-from-step _ _ _ _ _ _ _ _ _ _ _ _ _ (c .before .before .before .before .before .before .pre .1) (omega arith) (omega arith) (c .before .place-cuts .ensures) (c .with-if2 .ensures) (c .before .before .before .loop .inv .2))
+loop-again c = (
+  omega arith,
+  omega arith,
+  mask-from-step _ _ _ _ _ _ _ _ _ _ _ _ _ (c .before .before .before .before .before .before .pre .1) (omega arith) (omega arith)
+      (c .before .place-cuts .ensures) (c .with-if2 .ensures) (c .before .before .before .loop .inv .2),
+)
 
 returns : tie.Need-returns Inv-loop μ-loop
 returns c = search mask-from-done

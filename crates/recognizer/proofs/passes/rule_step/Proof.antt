@@ -43,7 +43,11 @@ added-requires : tie.Need-added-requires
 added-requires c κs = search needs
 
 returns : tie.Need-returns
-returns c = let s = c .before .before .before .before .before in stepped _ _ _ _ _ _ _ _ _ _ _ _ (s .pre .0) (s .pre .1) (s .pre .2) (s .pre .3) (c .before .before .before .before .pick .ensures) (c .before .before .pick2 .ensures) (c .before .rule-mask .ensures) (c .added .ensures)
+returns c =
+    let s = c .before .before .before .before .before in
+    let d = c .before .before in
+    stepped _ _ _ _ _ _ _ _ _ _ _ _ (s .pre .0) (s .pre .1) (s .pre .2) (s .pre .3)
+    (d .before .before .pick .ensures) (d .pick2 .ensures) (c .before .rule-mask .ensures) (c .added .ensures)
 
 pub rule-step-spec : {M : Type 1} → statement M
 rule-step-spec =

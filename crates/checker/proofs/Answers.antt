@@ -1,0 +1,124 @@
+-- What the three exported calls answer: over the list of the packed grammar's derivations, and then over the grammar that the struct means.
+-- Assumes nothing.
+use Prim.Native.Nat.{ℕ, _≤_}
+use mathlib.Core.Bool.{Bool, true, false, not}
+use mathlib.Core.List.{List}
+use mathlib.Core.Path.{_≡_, sym, ap, _∙_}
+use lib.IntN.{ℤ}
+use lib.ListN.{length}
+use borrow.Author.Tests.{not-true, not-false}
+use mir.Syntax.{w32}
+use mir.Val.{SFits, toZ, ofZ}
+use mir.Facts.{toZ-ofZ}
+use Rattle.cfg.specs.Grammar.{rule}
+use Rattle.cfg.specs.Derivation.{limit}
+use Rattle.cfg.specs.Listing.{L}
+use Rattle.listing.proofs.Exact.{derivation-length}
+use Rattle.chart.specs.Column.{filled}
+use Rattle.grammar.specs.declared.Grammar.{Grammar}
+use Rattle.grammar.specs.declared.Refusal.{Refusal}
+use Rattle.grammar.specs.Number.{numberOf}
+use Rattle.grammar.specs.View.{grammarOf}
+use Rattle.packed.specs.Packed.{cfgIn}
+use Rattle.results.specs.Answer.{Answer, refused, affirmed, denied, tenths, decide}
+use Rattle.results.specs.Recognize.{saying}
+use Rattle.results.specs.Check.{listed, checkOf}
+use Rattle.results.specs.Measure.{sum, rounded, unlisted, lengthOf, rulesUsed, sameBag, sameBuildOf}
+use Rattle.checker.specs.declared.Judged.{Judged}
+use Rattle.checker.specs.declared.Judged.the-variants as J
+use Rattle.checker.specs.Build.{Low}
+use Rattle.checker.specs.Calls.{checkingOf, checkAnswer, lengthAnswer, buildAnswer, Judging}
+use Rattle.checker.proofs.Whole.{listed-derivation}
+use Rattle.checker.proofs.Bags.{derivation-low}
+use Rattle.checker.proofs.Calls.{list-packed, call-refused, call-passed}
+
+-- ---- a row that `is_derivation` affirms
+
+module _ (p w e : List ℕ) (s : ℕ) (b : Bool) (answered : b ≡ listed e (L (cfgIn s p) w)) where
+  pub offered-short : b ≡ true → length e ≤ 1024
+  offered-short h = derivation-length (cfgIn s p) limit w e (listed-derivation (cfgIn s p) w e (sym answered ∙ h))
+
+  offered-low : b ≡ true → Low e
+  offered-low h = derivation-low s p w e (listed-derivation (cfgIn s p) w e (sym answered ∙ h))
+
+pub both-ready : (p w d e : List ℕ) (s : ℕ) (a b : Bool) → a ≡ listed d (L (cfgIn s p) w) → b ≡ listed e (L (cfgIn s p) w) → not a ≡ false
+    → not b ≡ false → (length d ≤ 1024) × (length e ≤ 1024) × Low d × Low e
+both-ready p w d e s a b first second h k = (
+  offered-short p w d s a first (not-false a h),
+  offered-short p w e s b second (not-false b k),
+  offered-low p w d s a first (not-false a h),
+  offered-low p w e s b second (not-false b k),
+)
+
+-- ---- the answers over a list of derivations
+
+module _ (l : List (List ℕ)) (e : List ℕ) (b : Bool) (answered : b ≡ listed e l) where
+  pub check-yes : b ≡ true → affirmed ≡ checkAnswer l e
+  check-yes h = ap saying (sym h ∙ answered)
+
+  pub check-no : b ≡ false → denied ≡ checkAnswer l e
+  check-no h = ap saying (sym h ∙ answered)
+
+  pub length-yes : (g : Grammar) (z : ℤ) → b ≡ true → SFits w32 z → z ≡ rounded (sum g e)
+      → tenths (toZ w32 (ofZ w32 z)) ≡ lengthAnswer g l e
+  unfolding decide
+  length-yes g z h f d = rw (← answered, h) (ap tenths (toZ-ofZ f ∙ d))
+
+  pub length-no : (g : Grammar) → b ≡ false → refused 12 ≡ lengthAnswer g l e
+  unfolding decide
+  length-no g h = rw (← answered, h)
+
+module _ (l : List (List ℕ)) (d e : List ℕ) (a : Bool) (first : a ≡ listed d l) where
+  pub build-first : not a ≡ true → refused 12 ≡ buildAnswer l d e
+  unfolding decide
+  build-first h = rw (← first, not-true a h)
+
+  module _ (h : not a ≡ false) (b : Bool) (second : b ≡ listed e l) where
+    pub build-second : not b ≡ true → refused 12 ≡ buildAnswer l d e
+    unfolding decide
+    build-second k = rw (← first, ← second, not-false a h, not-true b k)
+
+    module _ (k : not b ≡ false) (c : Bool) (compared : c ≡ sameBag (rulesUsed d) (rulesUsed e)) where
+      pub build-same : c ≡ true → affirmed ≡ buildAnswer l d e
+      unfolding decide
+      build-same m = rw (← first, ← second, ← compared, not-false a h, not-false b k, m)
+
+      pub build-different : c ≡ false → denied ≡ buildAnswer l d e
+      unfolding decide
+      build-different m = rw (← first, ← second, ← compared, not-false a h, not-false b k, m)
+
+-- ---- the calls
+
+module _ (g : Grammar) (w chart : List ℕ) (j : Judged) (judging : Judging g (length w) (length chart) j) where
+  module _ (r : Refusal) (is : j ≡ J.Refused r) where
+    pub check-refused : (e : List ℕ) → checkingOf (refused (numberOf r)) chart ≡ checkOf g w e chart
+    unfolding checkOf
+    check-refused e = call-refused g w chart _ j judging r is
+
+    pub length-refused : (e : List ℕ) → checkingOf (refused (numberOf r)) chart ≡ lengthOf g w e chart
+    unfolding lengthOf
+    length-refused e = call-refused g w chart _ j judging r is
+
+    pub build-refused : (a b : List ℕ) → checkingOf (refused (numberOf r)) chart ≡ sameBuildOf g w a b chart
+    unfolding sameBuildOf
+    build-refused a b = call-refused g w chart _ j judging r is
+
+  module _ (is : j ≡ J.Passed) (p chart' : List ℕ) (s : ℕ) (start : s ≡ g .start) (a : Answer)
+      (filling : (chart' ≡ filled (grammarOf g) w chart) × ((r : ℕ) → rule (cfgIn (g .start) p) r ≡ rule (grammarOf g) r)) where
+    same : L (cfgIn s p) w ≡ L (grammarOf g) w
+    same = list-packed g p w (filling .1) s start
+
+    pub check-answered : (e : List ℕ) → a ≡ checkAnswer (L (cfgIn s p) w) e → checkingOf a chart' ≡ checkOf g w e chart
+    unfolding checkOf
+    check-answered e d =
+        call-passed g w chart _ j judging chart' a is (filling .0) (d ∙ ap (λ (l : List (List ℕ)). checkAnswer l e) same)
+
+    pub length-answered : (e : List ℕ) → a ≡ lengthAnswer g (L (cfgIn s p) w) e → checkingOf a chart' ≡ lengthOf g w e chart
+    unfolding lengthOf unlisted
+    length-answered e d =
+        call-passed g w chart _ j judging chart' a is (filling .0) (d ∙ ap (λ (l : List (List ℕ)). lengthAnswer g l e) same)
+
+    pub build-answered : (b c : List ℕ) → a ≡ buildAnswer (L (cfgIn s p) w) b c → checkingOf a chart' ≡ sameBuildOf g w b c chart
+    unfolding sameBuildOf unlisted
+    build-answered b c d =
+        call-passed g w chart _ j judging chart' a is (filling .0) (d ∙ ap (λ (l : List (List ℕ)). buildAnswer l b c) same)

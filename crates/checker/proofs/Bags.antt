@@ -1,0 +1,118 @@
+-- When two lists agree as bags; and the rules of a derivation are below 128.
+-- Assumes nothing.
+use Prim.Native.Nat.{ℕ, suc, _+_, _≤_, _<_}
+use mathlib.Core.Bool.{Bool, true, false, cond}
+use mathlib.Core.List.{List, [], _∷_, _++_, append-nil}
+use mathlib.Core.Path.{_≡_, refl, sym, ap, _∙_}
+use native.Mathlib.Decide.{decLt}
+use native.Mathlib.Omega.{arith}
+use lib.Dec.{eqb}
+use lib.ListN.{length, getD}
+use borrow.Author.Tests.{eq-eqb, ne-eqb, eqb-true}
+use Rattle.cfg.specs.Grammar.{Symbol}
+use Rattle.cfg.specs.Tree.{Row, yield, code, Fits, fits-end, fits-leaf, fits-node}
+use Rattle.cfg.specs.Derivation.{Derivation, limit}
+use Rattle.grammar.specs.Valid.{all}
+use Rattle.grammar.proofs.All.{and-parts, and-both}
+use Rattle.packed.specs.Packed.{cfgIn}
+use Rattle.packed.proofs.Laws.{of-in}
+use Rattle.results.specs.Measure.{rulesUsed, occurrences, sameBag}
+use Rattle.checker.specs.Build.{Tallied, Low}
+use Rattle.checker.proofs.Nodes.{code-first}
+
+-- ---- the test `all`
+
+all-true : (test : ℕ → Bool) (l : List ℕ) → ((k : ℕ) → test k ≡ true) → all test l ≡ true
+unfolding all
+all-true test [] f = refl
+all-true test (a ∷ l) f = and-both (test a) (all test l) (f a) (all-true test l f)
+
+all-member : (test : ℕ → Bool) (l : List ℕ) (k : ℕ) → 0 < occurrences k l → all test l ≡ true → test k ≡ true
+unfolding all occurrences
+all-member test [] k h e = absurd (omega arith)
+all-member test (a ∷ l) k h e = go (eqb k a) refl h (λ m. all-member test l k m (both .1))
+  where
+    both : (test a ≡ true) × (all test l ≡ true)
+    both = and-parts (test a) (all test l) e
+
+    go : (t : Bool) → eqb k a ≡ t → 0 < cond t (suc (occurrences k l)) (occurrences k l) → (0 < occurrences k l → test k ≡ true)
+        → test k ≡ true
+    go true q m later = ap test (eqb-true k a q) ∙ both .0
+    go false q m later = later m
+
+occurrences-append : (k : ℕ) (x y : List ℕ) → occurrences k (x ++ y) ≡ occurrences k x + occurrences k y
+unfolding occurrences
+occurrences-append k [] y = omega arith
+occurrences-append k (a ∷ x) y = go (eqb k a) (occurrences-append k x y)
+  where
+    go : (t : Bool) → occurrences k (x ++ y) ≡ occurrences k x + occurrences k y
+        → cond t (suc (occurrences k (x ++ y))) (occurrences k (x ++ y))
+        ≡ cond t (suc (occurrences k x)) (occurrences k x) + occurrences k y
+    go true e = omega arith
+    go false e = e
+
+-- ---- bags
+
+module _ (x y : List ℕ) where
+  -- the test that `sameBag` makes of each number
+  abbrev equal : ℕ → Bool
+  equal k = eqb (occurrences k x) (occurrences k y)
+
+  pub bags-same : ((k : ℕ) → occurrences k x ≡ occurrences k y) → true ≡ sameBag x y
+  unfolding sameBag
+  bags-same f = sym (all-true equal (x ++ y) (λ k. eq-eqb (occurrences k x) (occurrences k y) (f k)))
+
+  pub bags-differ : (k : ℕ) → (occurrences k x ≡ occurrences k y → ⊥) → false ≡ sameBag x y
+  unfolding sameBag
+  bags-differ k d = go (all equal (x ++ y)) refl
+    where
+      some : 0 < occurrences k (x ++ y)
+      some = omega (arith, occurrences-append k x y)
+
+      go : (t : Bool) → all equal (x ++ y) ≡ t → false ≡ all equal (x ++ y)
+      go true e = absurd (d (eqb-true (occurrences k x) (occurrences k y) (all-member equal (x ++ y) k some e)))
+      go false e = sym e
+
+-- ---- two tallies
+
+module _ (a b s t : List ℕ) (one : Tallied a s) (two : Tallied b t) where
+  pub tallies-differ : (k : ℕ) → k < 128 → (getD s k 0 ≡ getD t k 0 → ⊥) → false ≡ sameBag (rulesUsed a) (rulesUsed b)
+  tallies-differ k h d = bags-differ (rulesUsed a) (rulesUsed b) k (λ e. d (one k h ∙ e ∙ sym (two k h)))
+
+  pub tallies-same : (r : ℕ) → 128 ≤ r → ((k : ℕ) → k < r → getD s k 0 ≡ getD t k 0) → Low a → Low b
+      → true ≡ sameBag (rulesUsed a) (rulesUsed b)
+  tallies-same r h f la lb = bags-same (rulesUsed a) (rulesUsed b) (λ k. go k (decLt k 128))
+    where
+      go : (k : ℕ) → Dec (k < 128) → occurrences k (rulesUsed a) ≡ occurrences k (rulesUsed b)
+      go k (yes l) = sym (one k l) ∙ f k (omega arith) ∙ two k l
+      go k (no l) = la k (omega arith) ∙ sym (lb k (omega arith))
+
+-- ---- the rules of a derivation
+
+module _ (k : ℕ) (high : 128 ≤ k) where
+  node-low : (c r : ℕ) (l : List ℕ) → r < 128 → occurrences k (rulesUsed l) ≡ 0 → occurrences k (rulesUsed (c ∷ r ∷ l)) ≡ 0
+  unfolding rulesUsed occurrences
+  node-low c r l h e = go (eqb c 0)
+    where
+      other : eqb k r ≡ false
+      other = ne-eqb k r (omega arith)
+
+      go : (t : Bool) → occurrences k (elim t [ true ↦ rulesUsed l | false ↦ r ∷ rulesUsed l ]) ≡ 0
+      go true = e
+      go false = ap (λ (b : Bool). cond b (suc (occurrences k (rulesUsed l))) (occurrences k (rulesUsed l))) other ∙ e
+
+  row-low : (s : ℕ) (p : List ℕ) {places : List Symbol} {t : Row} (x : List ℕ) → Fits (cfgIn s p) places t
+      → occurrences k (rulesUsed x) ≡ 0 → occurrences k (rulesUsed (code t ++ x)) ≡ 0
+  unfolding code
+  row-low s p x fits-end e = e
+  row-low s p x (fits-leaf h f) e = row-low s p x f e
+  row-low s p x (fits-node {k = j} {r} {below = below} {rest = rest} o f g) e =
+      ap (λ (l : List ℕ). occurrences k (rulesUsed l)) (code-first r below rest x)
+      ∙ node-low (length (yield below)) r (code below ++ (code rest ++ x)) (of-in s p r j o .0)
+      (row-low s p (code rest ++ x) f (row-low s p x g e))
+
+pub derivation-low : (s : ℕ) (p w e : List ℕ) → Derivation (cfgIn s p) limit w e → Low e
+unfolding rulesUsed occurrences
+derivation-low s p w e d k h =
+    ap (λ (l : List ℕ). occurrences k (rulesUsed l)) (sym (d .coded) ∙ sym (append-nil (code (d .tree))))
+    ∙ row-low k h s p [] (d .parse .0) refl

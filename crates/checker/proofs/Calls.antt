@@ -1,0 +1,124 @@
+-- The exported calls by their steps, with premises as their code gives them: the checks 8, 9 and 10, the filled chart, and the answers.
+-- Assumes nothing.
+use Prim.Native.Nat.{ℕ, _≤_, _<_}
+use mathlib.Core.Bool.{Bool, true, false, not, _||_, true≢false}
+use mathlib.Core.List.{List, [], _∷_}
+use mathlib.Core.Path.{_≡_, refl, sym, ap, ap₂, subst, _∙_}
+use native.Mathlib.Omega.{arith}
+use lib.Dec.{eqb, ltb}
+use lib.ListN.{length}
+use borrow.Author.Tests.{eq-eqb, ne-eqb, eqb-false, lt-ltb, ltb-false, not-true, not-false}
+use Rattle.cfg.specs.Grammar.{rule}
+use Rattle.cfg.specs.Derivation.{limit}
+use Rattle.cfg.specs.Listing.{L}
+use Rattle.chart.specs.Column.{filled}
+use Rattle.chart.proofs.SameRules.{SameRules, filled-same-rules}
+use Rattle.grammar.specs.declared.Grammar.{Grammar}
+use Rattle.grammar.specs.declared.Refusal.{Refusal}
+use Rattle.grammar.specs.declared.Refusal.the-variants.{InvalidGrammar, InputLength, ChartTooShort}
+use Rattle.grammar.specs.Number.{numberOf}
+use Rattle.grammar.specs.Valid.{validGrammar}
+use Rattle.grammar.specs.View.{grammarOf}
+use Rattle.packed.specs.Packed.{cfgIn}
+use Rattle.packed.proofs.Laws.{cfg-in-bounded}
+use Rattle.results.specs.Answer.{Answer, refused, decide}
+use Rattle.results.specs.Recognize.{grammarCheck, chartCheck}
+use Rattle.results.specs.Check.{inputCheck, Checking, onInput}
+use Rattle.demands.specs.Ready.{Ready}
+use Rattle.results.proofs.Decide.{decide-first}
+use Rattle.demands.proofs.Later.{onInput-passed}
+use Rattle.checker.specs.declared.Judged.{Judged}
+use Rattle.checker.specs.declared.Judged.the-variants as J
+use Rattle.checker.specs.Calls.{checkingOf, Judging, passed, invalid, bad-input, no-room}
+use Rattle.checker.proofs.SameRules.{derivations-same-rules}
+
+-- ---- checks 8, 9 and 10
+
+module _ (n : ℕ) where
+  pub bad-empty : n ≡ 0 → true ≡ (eqb n 0 || ltb 64 n)
+  bad-empty h = sym (ap (λ (b : Bool). b || ltb 64 n) (eq-eqb n 0 h))
+
+  pub bad-long : (n ≡ 0 → ⊥) → ltb 64 n ≡ (eqb n 0 || ltb 64 n)
+  bad-long h = sym (ap (λ (b : Bool). b || ltb 64 n) (ne-eqb n 0 h))
+
+  good-length : (eqb n 0 || ltb 64 n) ≡ false → (0 < n) × (n ≤ 64)
+  good-length h = go (eqb n 0) (ltb 64 n) refl refl h
+    where
+      go : (a b : Bool) → eqb n 0 ≡ a → ltb 64 n ≡ b → (a || b) ≡ false → (0 < n) × (n ≤ 64)
+      go true b p q e = absurd (true≢false e)
+      go false true p q e = absurd (true≢false e)
+      go false false p q e =
+          let d = eqb-false n 0 p in
+          (omega arith, ltb-false 64 n q)
+
+module _ (g : Grammar) (n m : ℕ) (v : Bool) (valid : v ≡ validGrammar g) where
+  pub judge-invalid : not v ≡ true → Judging g n m (J.Refused InvalidGrammar)
+  judge-invalid h = invalid (sym valid ∙ not-true v h)
+
+  module _ (h : not v ≡ false) (b : Bool) (bad : b ≡ (eqb n 0 || ltb 64 n)) where
+    fine : validGrammar g ≡ true
+    fine = sym valid ∙ not-false v h
+
+    pub judge-input : b ≡ true → Judging g n m (J.Refused InputLength)
+    judge-input e = bad-input fine (sym bad ∙ e)
+
+    pub judge-room : b ≡ false → m < 4225 → Judging g n m (J.Refused ChartTooShort)
+    judge-room e l = no-room fine (sym bad ∙ e) l
+
+    pub judge-passed : b ≡ false → 4225 ≤ m → Judging g n m J.Passed
+    judge-passed e l = passed fine (sym bad ∙ e) l
+
+-- ---- the chart
+
+module _ (g : Grammar) (p w : List ℕ) (same : (r : ℕ) → rule (cfgIn (g .start) p) r ≡ rule (grammarOf g) r) where
+  same-zero : SameRules (cfgIn 0 p) (grammarOf g)
+  unfolding cfgIn
+  same-zero r = same r
+
+  pub filled-packed : (chart chart' : List ℕ) → chart' ≡ filled (cfgIn 0 p) w chart → chart' ≡ filled (grammarOf g) w chart
+  filled-packed chart chart' e = e ∙ filled-same-rules (cfgIn 0 p) (grammarOf g) same-zero (cfg-in-bounded 0 p) w chart
+
+  -- the list L of the packed grammar
+  pub list-packed : (s : ℕ) → s ≡ g .start → L (cfgIn s p) w ≡ L (grammarOf g) w
+  unfolding cfgIn
+  list-packed s h =
+      ap (λ (x : ℕ). L (cfgIn x p) w) h ∙ derivations-same-rules (cfgIn (g .start) p) (grammarOf g) same refl limit w
+
+-- ---- a call on an input
+
+-- once the checks are passed, what filling asks
+pub judged-ready : (g : Grammar) (n m : ℕ) (j : Judged) → Judging g n m j → j ≡ J.Passed
+    → (validGrammar g ≡ true) × (n ≤ 64) × (4225 ≤ m)
+judged-ready g n m j judging h = go (subst (Judging g n m) h judging)
+  where
+    go : Judging g n m J.Passed → (validGrammar g ≡ true) × (n ≤ 64) × (4225 ≤ m)
+    go (passed v a l) = (v, good-length n a .1, l)
+
+module _ (g : Grammar) (w chart : List ℕ) (answer : Unit {0} → Answer) (j : Judged) (judging : Judging g (length w) (length chart) j) where
+  pub call-refused : (r : Refusal) → j ≡ J.Refused r → checkingOf (refused (numberOf r)) chart ≡ onInput g w chart answer
+  unfolding onInput
+  call-refused r h = sym (go (subst (Judging g (length w) (length chart)) h judging))
+    where
+      refuse : ℕ → Checking
+      refuse n = record { answer = refused n; chart = chart }
+
+      on : Unit {0} → Checking
+      on _ = record { answer = answer tt; chart = filled (grammarOf g) w chart }
+
+      go : {r : Refusal} → Judging g (length w) (length chart) (J.Refused r)
+          → decide (grammarCheck g ∷ inputCheck w ∷ chartCheck chart ∷ []) refuse on ≡ refuse (numberOf r)
+      go (invalid v) = decide-first refuse on [] (grammarCheck g) (inputCheck w ∷ chartCheck chart ∷ []) tt (ap not v)
+      go (bad-input v b) =
+          decide-first refuse on (grammarCheck g ∷ []) (inputCheck w) (chartCheck chart ∷ []) (ap not v, tt) b
+      go (no-room v b l) =
+          decide-first refuse on (grammarCheck g ∷ inputCheck w ∷ []) (chartCheck chart) [] (ap not v, (b, tt)) (lt-ltb (length chart) 4225 l)
+
+  ready : j ≡ J.Passed → Ready g w chart
+  ready h = go (subst (Judging g (length w) (length chart)) h judging)
+    where
+      go : Judging g (length w) (length chart) J.Passed → Ready g w chart
+      go (passed v a l) = record { valid = v; nonempty = good-length (length w) a .0; short = good-length (length w) a .1; room = l }
+
+  pub call-passed : (chart' : List ℕ) (a : Answer) → j ≡ J.Passed → chart' ≡ filled (grammarOf g) w chart → a ≡ answer tt
+      → checkingOf a chart' ≡ onInput g w chart answer
+  call-passed chart' a h c d = ap₂ (λ (x : Answer) (y : List ℕ). checkingOf x y) d c ∙ sym (onInput-passed g w chart answer (ready h))

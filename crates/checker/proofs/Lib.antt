@@ -1,0 +1,14 @@
+-- The laws of the checker.
+pub mod Spans
+pub mod Walks
+pub mod Nodes
+pub mod Tests
+pub mod Steps
+pub mod SameRules
+pub mod Whole
+pub mod Signed
+pub mod Lengths
+pub mod Tally
+pub mod Bags
+pub mod Calls
+pub mod Answers

@@ -1,0 +1,140 @@
+-- Counting the rules of the nodes that cover something, node by node.
+-- Assumes nothing.
+use Prim.Native.Nat.{ℕ, suc, _+_, _*_, _/_, _≤_, _<_, min}
+use mathlib.Core.Bool.{Bool, true, false, cond}
+use mathlib.Core.List.{List, [], _∷_}
+use mathlib.Core.Logic.{_≢_}
+use mathlib.Core.Path.{_≡_, refl, sym, ap, _∙_}
+use native.Mathlib.Decide.{ℕ-discrete, decLt}
+use native.Mathlib.Omega.{arith}
+use lib.Dec.{eqb}
+use lib.ListN.{length, getD, drop, set, replicate, length-drop, length-set, length-replicate, getD-replicate, List·getD-eq-default}
+use lib.Seq.{getD-set-same, getD-set-other}
+use borrow.Author.Tests.{eq-eqb, ne-eqb}
+use Rattle.results.specs.Measure.{rulesUsed, occurrences}
+use Rattle.checker.specs.Build.{usedAt, Tallied}
+use Rattle.checker.proofs.Nodes.{at-two}
+
+-- ---- the rule of a node, by the tests of `used`
+
+module _ (e : List ℕ) (i c : ℕ) (cover : c ≡ getD e (2 * i) 0) where
+  pub used-none : c ≡ 0 → 128 ≡ usedAt e i
+  used-none h =
+      sym (ap (λ (t : Bool). cond t 128 (min (getD e (2 * i + 1) 0) 128)) (eq-eqb (getD e (2 * i) 0) 0 (sym cover ∙ h)))
+
+  pub used-some : (r : ℕ) → r ≡ min (getD e (2 * i + 1) 0) 128 → (c ≡ 0 → ⊥) → r ≡ usedAt e i
+  used-some r number some =
+      number
+      ∙ sym (ap (λ (t : Bool). cond t 128 (min (getD e (2 * i + 1) 0) 128)) (ne-eqb (getD e (2 * i) 0) 0 (λ h. some (cover ∙ h))))
+
+-- ---- one node more
+
+-- how often k is in a list of one
+abbrev once : ℕ → ℕ → ℕ
+once k r = cond (eqb k r) 1 0
+
+occurrences-cons : (k r : ℕ) (l : List ℕ) → occurrences k (r ∷ l) ≡ once k r + occurrences k l
+unfolding occurrences
+occurrences-cons k r l = go (eqb k r)
+  where
+    go : (t : Bool) → cond t (suc (occurrences k l)) (occurrences k l) ≡ cond t 1 0 + occurrences k l
+    go true = omega arith
+    go false = omega arith
+
+once-other : (k r : ℕ) → k ≢ r → once k r ≡ 0
+once-other k r d = ap (λ (t : Bool). cond t 1 0) (ne-eqb k r d)
+
+-- a node, with what is below it and after it
+occurrences-node : (k c r : ℕ) (l : List ℕ) → k < 128
+    → occurrences k (rulesUsed (c ∷ r ∷ l)) ≡ once k (cond (eqb c 0) 128 (min r 128)) + occurrences k (rulesUsed l)
+unfolding rulesUsed
+occurrences-node k c r l h = go (eqb c 0)
+  where
+    bounded : once k r ≡ once k (min r 128)
+    bounded = at (ℕ-discrete k r)
+      where
+        at : Dec (k ≡ r) → once k r ≡ once k (min r 128)
+        at (yes e) = let m : r ≡ min r 128 = omega arith in ap (once k) m
+        at (no d) = once-other k r d ∙ sym (once-other k (min r 128) (omega arith))
+
+    go : (t : Bool) → occurrences k (elim t [ true ↦ rulesUsed l | false ↦ r ∷ rulesUsed l ])
+        ≡ once k (cond t 128 (min r 128)) + occurrences k (rulesUsed l)
+    go true = let z : once k 128 ≡ 0 = once-other k 128 (omega arith) in omega arith
+    go false = occurrences-cons k r (rulesUsed l) ∙ ap (λ (x : ℕ). x + occurrences k (rulesUsed l)) bounded
+
+module _ (e : List ℕ) where
+  used-step : (i k : ℕ) → i < length e / 2 → k < 128
+      → occurrences k (rulesUsed (drop (2 * i) e)) ≡ once k (usedAt e i) + occurrences k (rulesUsed (drop (2 * (i + 1)) e))
+  used-step i k h l =
+      let j : 2 * i + 2 ≡ 2 * (i + 1) = omega arith in
+      ap (λ (x : List ℕ). occurrences k (rulesUsed x))
+      (at-two e (2 * i) (getD e (2 * i) 0) (getD e (2 * i + 1) 0) (omega arith) refl refl)
+      ∙ occurrences-node k (getD e (2 * i) 0) (getD e (2 * i + 1) 0) (drop (2 * i + 2) e) l
+      ∙ ap (λ (x : ℕ). once k (usedAt e i) + occurrences k (rulesUsed (drop x e))) j
+
+  used-end : (i k : ℕ) → length e / 2 ≤ i → occurrences k (rulesUsed (drop (2 * i) e)) ≡ 0
+  unfolding rulesUsed occurrences
+  used-end i k h = go (drop (2 * i) e) (omega (arith, length-drop (2 * i) e))
+    where
+      go : (l : List ℕ) → length l ≤ 1 → occurrences k (rulesUsed l) ≡ 0
+      go [] m = refl
+      go (a ∷ []) m = refl
+      go (a ∷ b ∷ l) m = absurd (omega arith)
+
+  -- t has the counts of the first i nodes
+  pub record Counted (i : ℕ) (t : List ℕ) : Type 0 where
+    pub long : length t ≡ 129
+    pub few : (k : ℕ) → getD t k 0 ≤ i
+    pub counts : (k : ℕ) → k < 128 → getD t k 0 + occurrences k (rulesUsed (drop (2 * i) e)) ≡ occurrences k (rulesUsed e)
+
+  counted-of : (n : ℕ) → n ≡ 129 → Counted 0 (replicate n 0)
+  counted-of n h =
+      record {
+        long = length-replicate {A = ℕ} n 0 ∙ h;
+        few = λ k. zeros k;
+        counts = λ k l. let z = zeros k in omega arith;
+      }
+    where
+      zeros : (k : ℕ) → getD (replicate n 0) k 0 ≤ 0
+      zeros k = go (decLt k n)
+        where
+          go : Dec (k < n) → getD (replicate n 0) k 0 ≤ 0
+          go (yes l) = omega (arith, getD-replicate {A = ℕ} n k 0 0 l)
+          go (no l) =
+              omega (arith, List·getD-eq-default {A = ℕ} (replicate n 0) 0 {n = k} (omega (arith, length-replicate {A = ℕ} n 0)))
+
+  pub counted-start : Counted 0 (replicate 129 0)
+  counted-start = counted-of 129 (λ i. 129)
+
+  pub counted-step : (i r : ℕ) (t : List ℕ) → i < length e / 2 → r ≡ usedAt e i → r ≤ 128 → Counted i t
+      → Counted (i + 1) (set t r (getD t r 0 + 1))
+  counted-step i r t h q l c =
+      record {
+        long = length-set t r (getD t r 0 + 1) ∙ c .long;
+        few = λ k. few k (ℕ-discrete k r);
+        counts = λ k m. counts k m (ℕ-discrete k r);
+      }
+    where
+      t' : List ℕ
+      t' = set t r (getD t r 0 + 1)
+
+      here : (k : ℕ) → k ≡ r → getD t' k 0 ≡ getD t k 0 + 1
+      here k d =
+          ap (λ (x : ℕ). getD t' x 0) d ∙ getD-set-same t r (getD t r 0 + 1) 0 (omega (arith, c .long))
+          ∙ ap (λ (x : ℕ). getD t x 0 + 1) (sym d)
+
+      few : (k : ℕ) → Dec (k ≡ r) → getD t' k 0 ≤ i + 1
+      few k (yes d) = omega (arith, here k d, c .few k)
+      few k (no d) = omega (arith, getD-set-other t r k (getD t r 0 + 1) 0 d, c .few k)
+
+      counts : (k : ℕ) → k < 128 → Dec (k ≡ r)
+          → getD t' k 0 + occurrences k (rulesUsed (drop (2 * (i + 1)) e)) ≡ occurrences k (rulesUsed e)
+      counts k m (yes d) =
+          let one : once k (usedAt e i) ≡ 1 = ap (λ (b : Bool). cond b 1 0) (eq-eqb k (usedAt e i) (d ∙ q)) in
+          omega (arith, here k d, c .counts k m, used-step i k h m)
+      counts k m (no d) =
+          let none : once k (usedAt e i) ≡ 0 = once-other k (usedAt e i) (λ x. d (x ∙ sym q)) in
+          omega (arith, getD-set-other t r k (getD t r 0 + 1) 0 d, c .counts k m, used-step i k h m)
+
+  pub counted-done : (i : ℕ) (t : List ℕ) → length e / 2 ≤ i → Counted i t → Tallied e t
+  counted-done i t h c k l = omega (arith, c .counts k l, used-end i k h)

@@ -1,0 +1,82 @@
+-- `checker::build::same_rules` meets its contract. The loop's invariant: the counts agree so far. The measure is the number of rules left.
+-- Assumes nothing.
+use Prim.Native.Nat.{ℕ, _-_, _≤_, _<_}
+use mathlib.Core.Path.{_≡_}
+use native.Mathlib.Omega.{arith}
+use lib.ListN.{getD}
+use borrow.Author.Count.{below-more}
+use borrow.Author.Needs.{needs}
+use Rattle.checker.proofs.Bags.{tallies-differ, tallies-same}
+use Rattle.checker.proofs.build.same_rules.Statement.{statement}
+use Rattle.checker.proofs.build.same_rules.Tie as tie
+
+abbrev Inv-loop : tie.InvT-loop
+Inv-loop a b x y r₀ r = (r ≤ 128) × ((k : ℕ) → k < r → getD x k 0 ≡ getD y k 0)
+
+abbrev μ-loop : tie.MeasureT-loop
+μ-loop a b x y r₀ r = 128 - r
+
+tally-requires : tie.Need-tally-requires Inv-loop μ-loop
+tally-requires c κs = search needs
+
+tally-requires-2 : tie.Need-tally-requires-2 Inv-loop μ-loop
+tally-requires-2 c κs = search needs
+
+loop-holds : tie.Need-loop-holds Inv-loop μ-loop
+loop-holds c = (omega arith, λ k h. absurd (omega arith))
+
+mul-if1 : tie.Need-mul-if1 Inv-loop μ-loop
+mul-if1 c = search needs
+
+array-read-if1 : tie.Need-array-read-if1 Inv-loop μ-loop
+array-read-if1 c = search needs
+
+mul-if1-2 : tie.Need-mul-if1-2 Inv-loop μ-loop
+mul-if1-2 c = search needs
+
+array-read-if1-2 : tie.Need-array-read-if1-2 Inv-loop μ-loop
+array-read-if1-2 c = search needs
+
+returns : tie.Need-returns Inv-loop μ-loop
+returns c =
+    let y = c .before .before .before in
+    let x = y .before in
+    tallies-differ _ _ (x .tally .result) (y .tally2 .result) (x .tally .ensures) (y .tally2 .ensures) (c .before .before .loop .r)
+    (c .before .loop-test .taken) (c .if1 .taken)
+
+add-r : tie.Need-add-r Inv-loop μ-loop
+add-r c = search needs
+
+loop-less : tie.Need-loop-less Inv-loop μ-loop
+loop-less c = search needs
+
+loop-again : tie.Need-loop-again Inv-loop μ-loop
+loop-again c = (omega arith, below-more _ _ (c .before .before .loop .inv .1) (c .if1 .left))
+
+returns-2 : tie.Need-returns-2 Inv-loop μ-loop
+returns-2 c =
+    let y = c .before .before in
+    let x = y .before in
+    let start = x .before .before .before in
+    tallies-same _ _ (x .tally .result) (y .tally2 .result) (x .tally .ensures) (y .tally2 .ensures) (c .before .loop .r)
+    (c .loop-test .left)
+    (c .before .loop .inv .1) (start .pre .2) (start .pre .3)
+
+pub same-rules-spec : {M : Type 1} → statement M
+same-rules-spec =
+    tie.close
+    (tie.spec
+    Inv-loop
+    μ-loop
+    tally-requires
+    tally-requires-2
+    loop-holds
+    mul-if1
+    array-read-if1
+    mul-if1-2
+    array-read-if1-2
+    returns
+    add-r
+    loop-less
+    loop-again
+    returns-2)

@@ -1,0 +1,14 @@
+-- `checker::measure::length_of` meets its contract: a number of 16 bits is one of 32 bits.
+-- Assumes nothing.
+use Rattle.checker.proofs.Lengths.{wide-fits, wide, wide-size}
+use Rattle.checker.proofs.measure.length_of.Statement.{statement}
+use Rattle.checker.proofs.measure.length_of.Tie as tie
+
+cast-result : tie.Need-cast-result
+cast-result c = search wide-fits
+
+returns : tie.Need-returns
+returns c = (search wide, search wide-size)
+
+pub length-of-spec : {M : Type 1} → statement M
+length-of-spec = tie.close (tie.spec cast-result returns)

@@ -1,0 +1,21 @@
+-- How often each rule is used by the nodes that cover something.
+-- Assumes nothing.
+use Prim.Native.Nat.{ℕ, _+_, _*_, _≤_, _<_, min}
+use mathlib.Core.Bool.{cond}
+use mathlib.Core.List.{List}
+use mathlib.Core.Path.{_≡_}
+use lib.Dec.{eqb}
+use lib.ListN.{getD}
+use Rattle.results.specs.Measure.{rulesUsed, occurrences}
+
+-- the rule of node i, if the node covers something and the rule is below 128; else 128
+abbrev pub usedAt : List ℕ → ℕ → ℕ
+usedAt e i = cond (eqb (getD e (2 * i) 0) 0) 128 (min (getD e (2 * i + 1) 0) 128)
+
+-- t has, for each rule below 128, how many nodes that cover something have it
+abbrev pub Tallied : List ℕ → List ℕ → Type 0
+Tallied e t = (k : ℕ) → k < 128 → getD t k 0 ≡ occurrences k (rulesUsed e)
+
+-- no node that covers something has a rule from 128 on
+abbrev pub Low : List ℕ → Type 0
+Low e = (k : ℕ) → 128 ≤ k → occurrences k (rulesUsed e) ≡ 0

@@ -1,0 +1,4 @@
+-- What the checker says: the walk over an offered row, the count of its rules, and the calls.
+pub mod Walk
+pub mod Build
+pub mod Calls

@@ -1,0 +1,74 @@
+-- What the checker of a node and the walker of a row find in an offered row of numbers. Node i of an offered row e is the two numbers at
+-- 2 * i (how many bytes it covers) and 2 * i + 1 (its rule). The words of a set are those of crate sets.
+-- Assumes nothing.
+use Prim.Native.Nat.{ℕ, _+_, _*_, _≤_, _<_}
+use mathlib.Core.Bool.{true, false}
+use mathlib.Core.List.{List, _++_}
+use mathlib.Core.Path.{_≡_}
+use lib.ListN.{length, getD, drop}
+use lib.Seq.{slice}
+use Rattle.sets.specs.Set.{has}
+use Rattle.cfg.specs.Grammar.{Cfg, Symbol, nonterminal, terminal, Terminal, fits}
+use Rattle.cfg.specs.Tree.{Row, yield, nodes, code, Fits}
+use Rattle.cfg.specs.Derivation.{Has, Superfluous}
+use Rattle.packed.specs.Packed.{leftIn, countIn, symbolIn}
+use Rattle.checker.specs.declared.walk.Step.{Step}
+use Rattle.checker.specs.declared.walk.Step.the-variants.{No, End, Byte, Node}
+
+-- no node of the row has a nonterminal of the set over that many bytes
+abbrev pub Free : Cfg → ℕ → ℕ → Row → Type 0
+Free G cover set t = (k : ℕ) → has k set ≡ true → Has G k cover t → ⊥
+
+-- a row for the places over the bytes `from` to `to`, without superfluous recursion and free of the set over `cover` bytes, whose code
+-- stands in e from node `at` on; `next` is the node after it, and n the number of nodes that e has
+pub record Walked (G : Cfg) (w e : List ℕ) (n cover set : ℕ) (places : List Symbol) (at from to next : ℕ) : Type 0 where
+  pub row : Row
+  pub fit : Fits G places row
+  pub plain : ¬ Superfluous G row
+  pub free : Free G cover set row
+  pub covers : yield row ≡ slice from to w
+  pub coded : code row ++ drop (2 * next) e ≡ drop (2 * at) e
+  pub ends : next ≡ at + nodes row
+  pub inside : next ≤ n
+
+-- r is below the bound and has the property, or no number has it
+pub record Answers (P : ℕ → Type 0) (bound r : ℕ) : Type 0 where
+  pub found : r < bound → P r
+  pub none : bound ≤ r → (s : ℕ) → P s → ⊥
+
+-- what the walkers ask of where they stand: e has n nodes, at most 512, and the bytes `from` to `to` are at most `cover` bytes of w
+pub record Room (w e : List ℕ) (n cover at from to : ℕ) : Type 0 where
+  pub few : n ≤ 512
+  pub long : 2 * n ≤ length e
+  pub before : at ≤ n
+  pub rising : from ≤ to
+  pub known : to ≤ length w
+  pub narrow : to ≤ from + cover
+
+-- own is what matters of the set over `cover` bytes for a node over c bytes: all of it where the bytes are the same, else nothing
+pub record SameSpan (cover set c own : ℕ) : Type 0 where
+  pub same : c ≡ cover → own ≡ set
+  pub other : (c ≡ cover → ⊥) → own ≡ 0
+
+-- node `at` of e covers c bytes and has rule r, a rule of the nonterminal k, which is not in the set
+pub record Opens (p e : List ℕ) (n set k c at r : ℕ) : Type 0 where
+  pub inside : at < n
+  pub covers : getD e (2 * at) 0 ≡ c
+  pub number : getD e (2 * at + 1) 0 ≡ r
+  pub low : r < 128
+  pub used : k < 32
+  pub left : leftIn p r ≡ k
+  pub fresh : has k set ≡ false
+
+-- what comes next at place q of rule r: the end of the row, a byte that fits, a node of k over c bytes, or none of these
+pub data Looked (p w e : List ℕ) (n r q at from to : ℕ) : Step → Type 0 where
+  at-end : countIn p r ≤ q → from ≡ to → Looked p w e n r q at from to End
+  not-end : countIn p r ≤ q → (from ≡ to → ⊥) → Looked p w e n r q at from to No
+  at-byte : {t : Terminal} → q < countIn p r → symbolIn p r q ≡ terminal t → from < to → fits t (getD w from 0) ≡ true
+      → Looked p w e n r q at from to Byte
+  not-byte : {t : Terminal} → q < countIn p r → symbolIn p r q ≡ terminal t → (from < to → fits t (getD w from 0) ≡ true → ⊥)
+      → Looked p w e n r q at from to No
+  at-node : {k c : ℕ} → q < countIn p r → symbolIn p r q ≡ nonterminal k → at < n → getD e (2 * at) 0 ≡ c → from + c ≤ to
+      → Looked p w e n r q at from to (Node k c)
+  not-node : {k : ℕ} → q < countIn p r → symbolIn p r q ≡ nonterminal k → (at < n → from + getD e (2 * at) 0 ≤ to → ⊥)
+      → Looked p w e n r q at from to No

@@ -1,0 +1,52 @@
+// Whether two derivations are the same build: the rules of the nodes that cover something agree as a bag.
+use crate::walk::number;
+use crate::walk::rule_number;
+ghost use mathlib.Core.Path.{_≡_};
+ghost use Prim.Native.Nat.{_*_, _+_, _<_, _≤_};
+ghost use lib.ListN.{length};
+ghost use Rattle.results.specs.Measure.{rulesUsed, sameBag};
+ghost use Rattle.checker.specs.Build.{usedAt, Tallied, Low};
+
+// The rule of node i, if the node covers something and the rule is below 128; else 128.
+fn used(e: &[u16], i: usize) -> usize
+    requires { ⌜ (2 * i + 1 < length (now e)) × (i < 512) ⌝ }
+    ensures { λ r. ⌜ (r ≡ usedAt (now (e .entry)) i) × (r ≤ 128) ⌝ }
+{
+    if number(e, 2 * i) == 0 {
+        return 128;
+    }
+    rule_number(e, i)
+}
+
+// How many nodes that cover something have each rule.
+fn tally(e: &[u16]) -> [u16; 129]
+    requires { ⌜ length (now e) ≤ 1024 ⌝ }
+    ensures { λ t. ⌜ Tallied (now (e .entry)) t ⌝ }
+{
+    let n = e.len() / 2;
+    let mut t = [0u16; 129];
+    let mut i = 0;
+    while i < n {
+        let r = used(e, i);
+        t[r] = t[r] + 1;
+        i += 1;
+    }
+    t
+}
+
+// Whether each rule below 128 is used as often in both.
+pub fn same_rules(a: &[u16], b: &[u16]) -> bool
+    requires { ⌜ (length (now a) ≤ 1024) × (length (now b) ≤ 1024) × Low (now a) × Low (now b) ⌝ }
+    ensures { λ s. ⌜ s ≡ sameBag (rulesUsed (now (a .entry))) (rulesUsed (now (b .entry))) ⌝ }
+{
+    let x = tally(a);
+    let y = tally(b);
+    let mut r = 0;
+    while r < 128 {
+        if x[r] != y[r] {
+            return false;
+        }
+        r += 1;
+    }
+    true
+}

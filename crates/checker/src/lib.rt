@@ -1,0 +1,182 @@
+// The checker of an offered derivation (document 01: reading), its length, and the same build.
+use grammar::Grammar;
+use grammar::Refusal;
+ghost use mathlib.Core.Bool.{true, _||_};
+ghost use mathlib.Core.Path.{_≡_};
+ghost use Prim.Native.Nat.{ℕ, _≤_};
+ghost use lib.Dec.{eqb, ltb};
+ghost use lib.ListN.{length};
+ghost use Rattle.cfg.specs.Grammar.{rule as ruleOfNumber};
+ghost use Rattle.cfg.specs.Listing.{L};
+ghost use Rattle.chart.specs.Column.{filled};
+ghost use Rattle.grammar.specs.Valid.{validGrammar};
+ghost use Rattle.grammar.specs.View.{grammarOf};
+ghost use Rattle.packed.specs.Packed.{cfgIn};
+ghost use Rattle.results.specs.Check.{checkOf};
+ghost use Rattle.results.specs.Measure.{lengthOf, sameBuildOf, sum as sumOf, rounded as roundedOf};
+ghost use Rattle.checker.specs.Calls.{Judging, checkedOf, measuredOf, comparedOf, checkingOf, checkAnswer, lengthAnswer, buildAnswer};
+
+pub mod build;
+pub mod measure;
+pub mod walk;
+
+// Whether the offered row is a derivation, or why the call was refused.
+pub enum Checked {
+    Yes,
+    No,
+    Refused(Refusal),
+}
+
+// The length in tenths of a millimetre.
+pub enum Measured {
+    Tenths(i32),
+    Refused(Refusal),
+}
+
+// Whether two derivations are the same build.
+pub enum Compared {
+    Same,
+    Different,
+    Refused(Refusal),
+}
+
+// Whether checks 8, 9 and 10 are passed.
+pub enum Judged {
+    Passed,
+    Refused(Refusal),
+}
+
+// Whether an input of n bytes fails check 9.
+fn bad_length(n: usize) -> bool
+    ensures { λ b. ⌜ b ≡ (eqb n 0 || ltb 64 n) ⌝ }
+{
+    if n == 0 { true } else { n > 64 }
+}
+
+// Checks 8, 9 and 10, for an input of n bytes and a chart of m cells.
+fn judge(g: Grammar, n: usize, m: usize) -> Judged
+    ensures { λ j. ⌜ Judging g n m j ⌝ }
+{
+    if !grammar::valid(g) {
+        return Judged::Refused(Refusal::InvalidGrammar);
+    }
+    if bad_length(n) {
+        return Judged::Refused(Refusal::InputLength);
+    }
+    if m < 4225 {
+        return Judged::Refused(Refusal::ChartTooShort);
+    }
+    Judged::Passed
+}
+
+// The packed grammar, with the chart filled for the input.
+fn fill(g: Grammar, input: &[u8], chart: &mut [u32]) -> [u8; 2304]
+    requires { ⌜ (validGrammar g ≡ true) × (length (now input) ≤ 64) × (4225 ≤ length (now chart)) ⌝ }
+    ensures { λ p. ⌜ (now (chart .exit) ≡ filled (grammarOf g) (now (input .entry)) (now (chart .entry)))
+        × ((r : ℕ) → ruleOfNumber (cfgIn (g .start) p) r ≡ ruleOfNumber (grammarOf g) r) ⌝ }
+{
+    let p = packed::pack(g);
+    recognizer::fill(&p, input, chart);
+    p
+}
+
+fn wide(x: u8) -> usize
+    ensures { λ n. ⌜ n ≡ x ⌝ }
+{
+    x as usize
+}
+
+// Whether the offered row is a derivation.
+fn check_offered(p: &[u8; 2304], start: usize, input: &[u8], offered: &[u16]) -> Checked
+    ensures { λ r. ⌜ checkedOf r ≡ checkAnswer (L (cfgIn start (now (p .entry))) (now (input .entry))) (now (offered .entry)) ⌝ }
+{
+    if walk::is_derivation(p, start, input, offered) {
+        Checked::Yes
+    } else {
+        Checked::No
+    }
+}
+
+// The total length of a derivation, in tenths.
+fn tenths(g: Grammar, e: &[u16]) -> i32
+    requires { ⌜ length (now e) ≤ 1024 ⌝ }
+    ensures { λ r. ⌜ r ≡ roundedOf (sumOf g (now (e .entry))) ⌝ }
+{
+    measure::rounded(measure::total(g, e))
+}
+
+// The length of an offered derivation.
+fn measure_offered(
+    g: Grammar,
+    p: &[u8; 2304],
+    start: usize,
+    input: &[u8],
+    offered: &[u16],
+) -> Measured
+    ensures { λ r. ⌜ measuredOf r ≡ lengthAnswer g (L (cfgIn start (now (p .entry))) (now (input .entry))) (now (offered .entry)) ⌝ }
+{
+    if walk::is_derivation(p, start, input, offered) {
+        Measured::Tenths(tenths(g, offered))
+    } else {
+        Measured::Refused(Refusal::NotADerivation)
+    }
+}
+
+// Whether two offered derivations are the same build.
+fn compare_offered(p: &[u8; 2304], start: usize, input: &[u8], a: &[u16], b: &[u16]) -> Compared
+    ensures { λ r. ⌜ comparedOf r
+        ≡ buildAnswer (L (cfgIn start (now (p .entry))) (now (input .entry))) (now (a .entry)) (now (b .entry)) ⌝ }
+{
+    if !walk::is_derivation(p, start, input, a) {
+        return Compared::Refused(Refusal::NotADerivation);
+    }
+    if !walk::is_derivation(p, start, input, b) {
+        return Compared::Refused(Refusal::NotADerivation);
+    }
+    if build::same_rules(a, b) {
+        Compared::Same
+    } else {
+        Compared::Different
+    }
+}
+
+// ---- the exported calls
+
+pub fn check(g: Grammar, input: &[u8], offered: &[u16], chart: &mut [u32]) -> Checked
+    ensures { λ r. ⌜ checkingOf (checkedOf r) (now (chart .exit))
+        ≡ checkOf g (now (input .entry)) (now (offered .entry)) (now (chart .entry)) ⌝ }
+{
+    match judge(g, input.len(), chart.len()) {
+        Judged::Refused(r) => Checked::Refused(r),
+        Judged::Passed => {
+            let p = fill(g, input, chart);
+            check_offered(&p, wide(g.start), input, offered)
+        }
+    }
+}
+
+pub fn length(g: Grammar, input: &[u8], offered: &[u16], chart: &mut [u32]) -> Measured
+    ensures { λ r. ⌜ checkingOf (measuredOf r) (now (chart .exit))
+        ≡ lengthOf g (now (input .entry)) (now (offered .entry)) (now (chart .entry)) ⌝ }
+{
+    match judge(g, input.len(), chart.len()) {
+        Judged::Refused(r) => Measured::Refused(r),
+        Judged::Passed => {
+            let p = fill(g, input, chart);
+            measure_offered(g, &p, wide(g.start), input, offered)
+        }
+    }
+}
+
+pub fn same_build(g: Grammar, input: &[u8], a: &[u16], b: &[u16], chart: &mut [u32]) -> Compared
+    ensures { λ r. ⌜ checkingOf (comparedOf r) (now (chart .exit))
+        ≡ sameBuildOf g (now (input .entry)) (now (a .entry)) (now (b .entry)) (now (chart .entry)) ⌝ }
+{
+    match judge(g, input.len(), chart.len()) {
+        Judged::Refused(r) => Compared::Refused(r),
+        Judged::Passed => {
+            let p = fill(g, input, chart);
+            compare_offered(&p, wide(g.start), input, a, b)
+        }
+    }
+}

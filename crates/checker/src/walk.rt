@@ -1,0 +1,180 @@
+// The checker proper: the checker of a node calls the walker of a row of places, which calls the checker of a node.
+// Node i of an offered row e is the two numbers at 2 i (how many bytes it covers) and 2 i + 1 (its rule).
+ghost use mathlib.Core.Path.{_≡_};
+ghost use mathlib.Core.List.{[], _∷_};
+ghost use Prim.Native.Nat.{_*_, _+_, _-_, _<_, _≤_, min};
+ghost use lib.ListN.{length, getD};
+ghost use Rattle.cfg.specs.Grammar.{nonterminal};
+ghost use Rattle.cfg.specs.Listing.{L};
+ghost use Rattle.packed.specs.Packed.{placesFrom, countIn, cfgIn};
+ghost use Rattle.results.specs.Check.{listed};
+ghost use Rattle.checker.specs.Walk.{Walked, Answers, Room, SameSpan, Opens, Looked};
+
+// What comes next in a row: nothing that fits, its end, a byte, or a node of a nonterminal over so many bytes.
+pub enum Step {
+    No,
+    End,
+    Byte,
+    Node(usize, usize),
+}
+
+// A number of an offered row.
+pub fn number(e: &[u16], i: usize) -> usize
+    requires { ⌜ i < length (now e) ⌝ }
+    ensures { λ r. ⌜ (r ≡ getD (now (e .entry)) i 0) × (r < 65536) ⌝ }
+{
+    e[i] as usize
+}
+
+// The rule of node i, or 128 if it is more.
+pub fn rule_number(e: &[u16], i: usize) -> usize
+    requires { ⌜ (2 * i + 1 < length (now e)) × (i < 512) ⌝ }
+    ensures { λ r. ⌜ r ≡ min (getD (now (e .entry)) (2 * i + 1) 0) 128 ⌝ }
+{
+    let r = number(e, 2 * i + 1);
+    if r < 128 { r } else { 128 }
+}
+
+// Of the set `above` over `cover` bytes, what matters for a node over c bytes: all of it, or nothing.
+fn same_span(cover: usize, above: u32, c: usize) -> u32
+    ensures { λ set. ⌜ SameSpan cover above c set ⌝ }
+{
+    if c == cover { above } else { 0 }
+}
+
+// The rule of node `at`, if the node covers c bytes and is of the nonterminal k, which is not in the set; else 128.
+fn rule_at(p: &[u8; 2304], e: &[u16], n: usize, set: u32, k: usize, c: usize, at: usize) -> usize
+    requires { ⌜ (2 * n ≤ length (now e)) × (n ≤ 512) ⌝ }
+    ensures { λ r. ⌜ Answers (Opens (now (p .entry)) (now (e .entry)) n set k c at) 128 r ⌝ }
+{
+    if k > 31 {
+        return 128;
+    }
+    if at >= n {
+        return 128;
+    }
+    if number(e, 2 * at) != c {
+        return 128;
+    }
+    let r = number(e, 2 * at + 1);
+    if r > 127 {
+        return 128;
+    }
+    if packed::left(p, r) != k {
+        return 128;
+    }
+    if sets::has(set, k) { 128 } else { r }
+}
+
+// What comes next at place q of rule r, over the bytes `from` to `to`.
+fn look(
+    p: &[u8; 2304],
+    w: &[u8],
+    e: &[u16],
+    n: usize,
+    r: usize,
+    q: usize,
+    at: usize,
+    from: usize,
+    to: usize,
+) -> Step
+    requires { ⌜ (r < 128) × (2 * n ≤ length (now e)) × (n ≤ 512) × (from ≤ to) × (to ≤ length (now w)) ⌝ }
+    ensures { λ s. ⌜ Looked (now (p .entry)) (now (w .entry)) (now (e .entry)) n r q at from to s ⌝ }
+{
+    if packed::count(p, r) <= q {
+        if from == to {
+            return Step::End;
+        }
+        return Step::No;
+    }
+    if packed::is_nonterminal(p, r, q) {
+        if at < n {
+            let c = number(e, 2 * at);
+            if c <= to - from {
+                return Step::Node(packed::value(p, r, q), c);
+            }
+        }
+        return Step::No;
+    }
+    if from < to {
+        if packed::fits_at(p, r, q, w, from) {
+            return Step::Byte;
+        }
+    }
+    Step::No
+}
+
+// The node after a node of the nonterminal k over the bytes `from` to `to` that stands at node `at`; 513 if there is none there.
+pub fn node(
+    p: &[u8; 2304],
+    w: &[u8],
+    e: &[u16],
+    n: usize,
+    cover: usize,
+    above: u32,
+    k: usize,
+    at: usize,
+    from: usize,
+    to: usize,
+) -> usize
+    requires { ⌜ Room (now w) (now e) n cover at from to ⌝ }
+    ensures { λ next. ⌜ Answers (Walked (cfgIn 0 (now (p .entry))) (now (w .entry)) (now (e .entry)) n cover above
+        (nonterminal k ∷ []) at from to) 513 next ⌝ }
+{
+    let c = to - from;
+    let set = same_span(cover, above, c);
+    let r = rule_at(p, e, n, set, k, c, at);
+    if r > 127 {
+        return 513;
+    }
+    row(p, w, e, n, c, sets::with(set, k), r, 0, at + 1, from, to)
+}
+
+// The node after a row for the places of rule r from place q on; 513 if there is none.
+pub fn row(
+    p: &[u8; 2304],
+    w: &[u8],
+    e: &[u16],
+    n: usize,
+    cover: usize,
+    above: u32,
+    r: usize,
+    q: usize,
+    at: usize,
+    from: usize,
+    to: usize,
+) -> usize
+    requires { ⌜ (r < 128) × Room (now w) (now e) n cover at from to ⌝ }
+    ensures { λ next. ⌜ Answers (Walked (cfgIn 0 (now (p .entry))) (now (w .entry)) (now (e .entry)) n cover above
+        (placesFrom (now (p .entry)) r q (countIn (now (p .entry)) r - q)) at from to) 513 next ⌝ }
+{
+    let step = look(p, w, e, n, r, q, at, from, to);
+    match step {
+        Step::No => 513,
+        Step::End => at,
+        Step::Byte => row(p, w, e, n, cover, above, r, q + 1, at, from + 1, to),
+        Step::Node(k, c) => {
+            let next = node(p, w, e, n, cover, above, k, at, from, from + c);
+            if next > 512 {
+                return 513;
+            }
+            row(p, w, e, n, cover, above, r, q + 1, next, from + c, to)
+        }
+    }
+}
+
+// Whether the offered row is a derivation of w.
+pub fn is_derivation(p: &[u8; 2304], start: usize, w: &[u8], e: &[u16]) -> bool
+    ensures { λ b. ⌜ b ≡ listed (now (e .entry)) (L (cfgIn start (now (p .entry))) (now (w .entry))) ⌝ }
+{
+    let m = e.len();
+    if m > 1024 {
+        return false;
+    }
+    if m % 2 == 1 {
+        return false;
+    }
+    let n = m / 2;
+    let cover = w.len();
+    node(p, w, e, n, cover, 0, start, 0, 0, cover) == n
+}
