@@ -1,0 +1,4 @@
+-- Laws that the proofs share.
+pub mod Fits
+pub mod Given
+pub mod Codes

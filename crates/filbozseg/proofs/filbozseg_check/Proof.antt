@@ -1,0 +1,30 @@
+-- `filbozseg::filbozseg_check` meets its contract.
+-- Assumes nothing.
+use borrow.Author.Needs.{needs}
+use Rattle.grammar.specs.declared.Grammar.{Grammar}
+use Rattle.results.specs.Check.{checkOf}
+use Rattle.filbozseg.proofs.Given.{checks-of}
+use Rattle.filbozseg.proofs.filbozseg_check.Statement.{statement}
+use Rattle.filbozseg.proofs.filbozseg_check.Tie as tie
+
+read-requires : tie.Need-read-requires
+read-requires c κs = search needs
+
+check-requires : tie.Need-check-requires
+check-requires c κs = search needs
+
+checked-code-requires : tie.Need-checked-code-requires
+checked-code-requires c κs = search needs
+
+same-length : tie.Need-same-length
+same-length c = search needs
+
+returns : tie.Need-returns
+returns c =
+    let a = c .before .before .before .before .before .before .before .before .before .args in
+    checks-of (c .before .before .before .before .before .read .ensures) (λ (g : Grammar). checkOf g (a .input .now) (a .offered .now) (a .chart .now)) _ _
+    (c .before .before .before .check .ensures) (c .checked-code .ensures)
+
+pub filbozseg-check-spec : {M : Type 1} → statement M
+filbozseg-check-spec =
+    tie.close (tie.spec read-requires check-requires checked-code-requires same-length returns)

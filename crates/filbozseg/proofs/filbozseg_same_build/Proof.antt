@@ -1,0 +1,31 @@
+-- `filbozseg::filbozseg_same_build` meets its contract.
+-- Assumes nothing.
+use borrow.Author.Needs.{needs}
+use Rattle.grammar.specs.declared.Grammar.{Grammar}
+use Rattle.results.specs.Measure.{sameBuildOf}
+use Rattle.filbozseg.proofs.Given.{checks-of}
+use Rattle.filbozseg.proofs.filbozseg_same_build.Statement.{statement}
+use Rattle.filbozseg.proofs.filbozseg_same_build.Tie as tie
+
+read-requires : tie.Need-read-requires
+read-requires c κs = search needs
+
+same-build-requires : tie.Need-same-build-requires
+same-build-requires c κs = search needs
+
+compared-code-requires : tie.Need-compared-code-requires
+compared-code-requires c κs = search needs
+
+same-length : tie.Need-same-length
+same-length c = search needs
+
+returns : tie.Need-returns
+returns c =
+    let a = c .before .before .before .before .before .before .before .before .before .before .args in
+    checks-of (c .before .before .before .before .before .read .ensures) (λ (g : Grammar). sameBuildOf g (a .input .now) (a .a .now) (a .b .now) (a .chart .now)) _ _
+    (c .before .before .before .same-build .ensures) (c .compared-code .ensures)
+
+pub filbozseg-same-build-spec : {M : Type 1} → statement M
+filbozseg-same-build-spec =
+    tie.close
+    (tie.spec read-requires same-build-requires compared-code-requires same-length returns)

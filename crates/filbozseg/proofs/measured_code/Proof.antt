@@ -1,0 +1,25 @@
+-- `filbozseg::measured_code` meets its contract.
+-- Assumes nothing.
+use borrow.Author.Needs.{needs}
+use Rattle.filbozseg.proofs.Codes.{length-refused}
+use Rattle.filbozseg.proofs.measured_code.Statement.{statement}
+use Rattle.filbozseg.proofs.measured_code.Tie as tie
+
+enum-told : tie.Need-enum-told
+enum-told c = search needs
+
+enum-known-a : tie.Need-enum-known-a
+enum-known-a c = search needs
+
+refusal-code-requires : tie.Need-refusal-code-requires
+refusal-code-requires c κs = search needs
+
+returns : tie.Need-returns
+returns c = search needs
+
+returns-2 : tie.Need-returns-2
+returns-2 c = search length-refused
+
+pub measured-code-spec : {M : Type 1} → statement M
+measured-code-spec =
+    tie.close (tie.spec enum-told enum-known-a refusal-code-requires returns returns-2)

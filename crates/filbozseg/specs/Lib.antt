@@ -1,0 +1,3 @@
+-- What the exported functions return and leave.
+pub mod Code
+pub mod Calls

@@ -1,0 +1,15 @@
+//! Book T of document 01: 0 -> 1 1 (4,600), 1 -> nothing (0), 1 -> A (25).
+use filbozseg::{check, length, load, open, CELLS};
+
+fn main() {
+    let book = b"\x10\x00\x20\x00\xf8\x11\x30\x01\x30\x01\x20\x01\x00\x00\x20\x01\x19\x00\x40A\x50";
+    let grammar = load(book).expect("the book is loaded");
+    let mut chart = vec![0; CELLS];
+    let (mut plate, complete) = open(&grammar, &mut chart);
+    println!("nothing complete: {}", complete.unwrap());
+    println!("A complete: {}", plate.take(&grammar, b'A', &mut chart).unwrap());
+    let reading = [1, 0, 0, 1, 1, 2];
+    println!("reading: {}", check(&grammar, b"A", &reading, &mut chart).unwrap());
+    println!("tenths: {}", length(&grammar, b"A", &reading, &mut chart).unwrap());
+    println!("{}", load(b"\x10\x20").unwrap_err());
+}

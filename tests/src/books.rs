@@ -1,0 +1,489 @@
+//! Random books (grammars as bytes) with inputs (plates), each from a fixed seed,
+//! in the styles that wrong programs fall over.
+
+/// A plain xorshift generator; the seed is spread first.
+pub struct Rng(u64);
+
+impl Rng {
+    pub fn new(seed: u64) -> Rng {
+        let mut rng = Rng(seed.wrapping_mul(0x9E37_79B9_7F4A_7C15) ^ 0x2545_F491_4F6C_DD1D | 1);
+        for _ in 0..8 {
+            rng.next();
+        }
+        rng
+    }
+    pub fn next(&mut self) -> u64 {
+        self.0 ^= self.0 << 13;
+        self.0 ^= self.0 >> 7;
+        self.0 ^= self.0 << 17;
+        self.0
+    }
+    /// A number below n.
+    pub fn below(&mut self, n: usize) -> usize {
+        (self.next() >> 11) as usize % n
+    }
+    /// A number from low to high, both included.
+    pub fn within(&mut self, low: usize, high: usize) -> usize {
+        low + self.below(high - low + 1)
+    }
+    /// True once in n times.
+    pub fn one_in(&mut self, n: usize) -> bool {
+        self.below(n) == 0
+    }
+    pub fn pick<T: Copy>(&mut self, from: &[T]) -> T {
+        from[self.below(from.len())]
+    }
+}
+
+/// A symbol of a draft: N nonterminal (kind), T terminal (mark).
+#[derive(Clone, Copy, PartialEq, Eq, Debug)]
+pub enum Sym {
+    N(u8),
+    T(u8),
+}
+use Sym::{N, T};
+
+/// A grammar in the making: start, and rules with left side, length and places.
+#[derive(Clone, Default)]
+pub struct Draft {
+    pub start: u8,
+    pub rules: Vec<(u8, i16, Vec<Sym>)>,
+}
+
+impl Draft {
+    pub fn new(start: u8) -> Draft {
+        Draft { start, rules: Vec::new() }
+    }
+
+    /// Adds a rule of length 0.
+    pub fn rule(&mut self, left: u8, places: &[Sym]) {
+        self.rules.push((left, 0, places.to_vec()));
+    }
+
+    /// The book in document 01's commands.
+    pub fn bytes(&self) -> Vec<u8> {
+        let mut book = vec![0x10, self.start];
+        for (left, length, places) in &self.rules {
+            book.extend([0x20, *left]);
+            book.extend(length.to_le_bytes());
+            for place in places {
+                match *place {
+                    N(k) => book.extend([0x30, k]),
+                    T(t) => book.extend([0x40, t]),
+                }
+            }
+        }
+        book.push(0x50);
+        book
+    }
+
+    /// A terminal row that the nonterminal derives, by random rules; None if it grows too long or deep.
+    fn sample(&self, rng: &mut Rng, k: u8, depth: usize, most: usize, row: &mut Vec<u8>) -> Option<()> {
+        let own: Vec<_> = self.rules.iter().filter(|rule| rule.0 == k).collect();
+        if own.is_empty() || depth == 0 {
+            return None;
+        }
+        // Deep down prefer rules with few nonterminals, so that the row ends.
+        let mut rule = own[rng.below(own.len())];
+        for _ in 0..(8 / depth.min(8)) {
+            let other = own[rng.below(own.len())];
+            let weight = |r: &(u8, i16, Vec<Sym>)| r.2.iter().filter(|p| matches!(p, N(_))).count();
+            if weight(other) < weight(rule) {
+                rule = other;
+            }
+        }
+        for place in &rule.2 {
+            match *place {
+                T(t) => row.push(t),
+                N(k) => self.sample(rng, k, depth - 1, most, row)?,
+            }
+            if row.len() > most {
+                return None;
+            }
+        }
+        Some(())
+    }
+}
+
+/// A random book with inputs to try it on.
+pub struct Book {
+    pub style: &'static str,
+    pub bytes: Vec<u8>,
+    pub inputs: Vec<Vec<u8>>,
+}
+
+const A: u8 = b'A';
+const B: u8 = b'B';
+
+/// Random rules: so many over kinds below `kinds`, with an empty rule once in
+/// `empty` and a unit rule once in `unit`.
+fn plain(rng: &mut Rng, draft: &mut Draft, kinds: usize, rules: usize, places: usize, empty: usize, unit: usize) {
+    for _ in 0..rules {
+        let left = rng.below(kinds) as u8;
+        let count = match () {
+            _ if rng.one_in(empty) => 0,
+            _ if rng.one_in(unit) => 1,
+            _ => rng.within(1, places),
+        };
+        let row: Vec<Sym> = (0..count)
+            .map(|_| match rng.one_in(2) {
+                true => T(rng.pick(&[A, A, B])),
+                false => N(rng.below(kinds) as u8),
+            })
+            .collect();
+        draft.rule(left, &row);
+    }
+}
+
+/// Nonterminals in a ring over the same span, with a cheap way out at one of them
+/// and a dear one (a chain, or a bunch of empty nodes) at another: the least tree
+/// of a nonterminal then runs through one that may already stand above it.
+fn forbidden_ancestor(rng: &mut Rng, draft: &mut Draft, base: u8) {
+    let ring = rng.within(2, 4) as u8;
+    let (chain, blank) = (base + 4, base + 9);
+    for k in 0..ring {
+        let next = N(base + (k + 1) % ring);
+        match rng.below(4) {
+            0 => draft.rule(base + k, &[next, N(blank)]),
+            1 => draft.rule(base + k, &[N(blank), next]),
+            _ => draft.rule(base + k, &[next]),
+        }
+    }
+    let cheap = base + rng.below(ring as usize) as u8;
+    let dear = base + rng.below(ring as usize) as u8;
+    let empty_way = rng.one_in(2);
+    draft.rule(cheap, if empty_way { &[] } else { &[T(A)] });
+    let length = rng.within(1, 4) as u8;
+    draft.rule(dear, &[N(chain)]);
+    for step in 0..length {
+        draft.rule(chain + step, &[N(chain + step + 1)]);
+    }
+    match rng.below(3) {
+        0 => draft.rule(chain + length, &[T(A)]),
+        1 => draft.rule(chain + length, &[T(A), N(base)]),
+        _ => draft.rule(chain + length, &vec![N(blank); rng.within(2, 8)]),
+    }
+    draft.rule(blank, &[]);
+    if rng.one_in(3) {
+        draft.rule(blank, &[N(cheap)]);
+    }
+    if rng.one_in(3) {
+        draft.rule(base, &[T(B), N(base)]);
+    }
+}
+
+/// A bush of empty nodes of exactly `size` nodes (400 to 511) below one
+/// nonterminal, which is handed back; it uses the kinds 24 to 29.
+fn bush(draft: &mut Draft, size: usize) -> Sym {
+    draft.rule(29, &[]); // 1 node
+    draft.rule(28, &[N(29); 8]); // 9 nodes
+    draft.rule(27, &[N(28); 8]); // 73 nodes
+    let large = ((size - 2) / 73).min(6);
+    let rest = size - 1 - 73 * large; // below one more kind: 1 + 9 x middle + small
+    let mut places = vec![N(27); large];
+    let (middle, small) = ((rest - 1) / 9, (rest - 1) % 9);
+    assert!(middle <= 7 && large <= 7);
+    let mut row = vec![N(28); middle];
+    if small > 0 {
+        draft.rule(25, &vec![N(29); small - 1]);
+        row.push(N(25));
+    }
+    draft.rule(26, &row);
+    places.push(N(26));
+    draft.rule(24, &places);
+    N(24)
+}
+
+/// A start over a core and a bush that leaves it 1 to 30 nodes of the 512.
+fn beside_a_bush(rng: &mut Rng, draft: &mut Draft) {
+    let left = rng.within(1, 30);
+    draft.start = 23;
+    let bush = bush(draft, 511 - left);
+    let core = N(0);
+    match rng.below(4) {
+        0 => draft.rule(23, &[core, bush]),
+        1 => draft.rule(23, &[bush, core]),
+        2 => draft.rule(23, &[T(A), bush, core]),
+        _ => draft.rule(23, &[bush, core, T(B)]),
+    }
+}
+
+/// A small core whose derivations of one input differ in their numbers of nodes.
+fn core(rng: &mut Rng, draft: &mut Draft) {
+    match rng.below(4) {
+        0 => forbidden_ancestor(rng, draft, 0),
+        1 => {
+            // a list whose items are one terminal behind 0 to 3 unit steps
+            draft.rule(0, &[N(1), N(0)]);
+            draft.rule(0, &[N(1)]);
+            for k in 1..=rng.within(2, 4) as u8 {
+                draft.rule(k, &[T(A)]);
+                draft.rule(k, &[N(k + 1)]);
+                if rng.one_in(3) {
+                    draft.rule(k, &[T(B)]);
+                }
+            }
+        }
+        2 => {
+            // optional empty nodes around a terminal
+            draft.rule(0, &[N(2), N(1), N(2)]);
+            draft.rule(1, &[T(A), N(2), N(1)]);
+            draft.rule(1, &[T(A)]);
+            draft.rule(2, &[]);
+            let wide = rng.within(1, 4);
+            draft.rule(2, &vec![N(3); wide]);
+            draft.rule(3, &[]);
+        }
+        _ => {
+            let (kinds, rules) = (rng.within(2, 4), rng.within(3, 7));
+            plain(rng, draft, kinds, rules, 3, 5, 3);
+            draft.rule(0, &[T(A)]);
+        }
+    }
+}
+
+/// The rules of one style.
+fn draft(rng: &mut Rng, style: usize) -> (&'static str, Draft) {
+    let mut d = Draft::new(0);
+    let name = match style {
+        0 => {
+            let (kinds, rules) = (rng.within(1, 4), rng.within(2, 9));
+            plain(rng, &mut d, kinds, rules, 3, 8, 4);
+            "plain"
+        }
+        1 => {
+            let (kinds, rules) = (rng.within(2, 5), rng.within(4, 9));
+            plain(rng, &mut d, kinds, rules, 3, 3, 3);
+            let (left, k) = (rng.below(3) as u8, rng.below(3) as u8);
+            d.rule(left, &[N(k), N(rng.below(3) as u8)]);
+            d.rule(k, &[]);
+            "nullable"
+        }
+        2 => {
+            let ring = rng.within(1, 4) as u8;
+            for k in 0..ring {
+                d.rule(k, &[N((k + 1) % ring)]);
+            }
+            for _ in 0..rng.within(0, 5) {
+                d.rule(rng.below(5) as u8, &[N(rng.below(5) as u8)]);
+            }
+            let (kinds, rules) = (5, rng.within(2, 6));
+            plain(rng, &mut d, kinds, rules, 2, 9, 9);
+            d.rule(rng.below(ring as usize) as u8, &[T(A)]);
+            "unit cycles"
+        }
+        3 => {
+            // left recursion, hidden behind a nullable nonterminal or not
+            d.rule(0, &[N(0), T(A)]);
+            if rng.one_in(2) {
+                d.rule(0, &[N(1), N(0), T(rng.pick(&[A, B]))]);
+            }
+            if rng.one_in(2) {
+                d.rule(2, &[N(1), N(1), N(2)]);
+                d.rule(0, &[N(2), T(A)]);
+                d.rule(2, &[T(B)]);
+            }
+            d.rule(1, &[]);
+            d.rule(1, &[rng.pick(&[T(B), T(A), N(3)])]);
+            d.rule(0, &[rng.pick(&[T(A), T(B), N(1)])]);
+            let rules = rng.within(0, 2);
+            plain(rng, &mut d, 4, rules, 2, 5, 5);
+            "left recursion"
+        }
+        4 => {
+            let (kinds, rules) = (rng.within(1, 3), rng.within(3, 5));
+            plain(rng, &mut d, kinds, rules, 2, 6, 5);
+            for _ in 0..rng.within(1, 3) {
+                let twin = d.rules[rng.below(d.rules.len())].clone();
+                d.rules.push(twin);
+            }
+            d.rule(0, &[T(A)]);
+            "twin rules"
+        }
+        5 => {
+            let (kinds, rules) = (rng.within(4, 12), rng.within(2, 7));
+            plain(rng, &mut d, kinds, rules, 3, 5, 4);
+            d.start = rng.below(4) as u8;
+            "kinds without rules"
+        }
+        6 => {
+            d.rule(0, rng.pick(&[&[N(1)][..], &[N(1), T(A)], &[N(1), N(1)], &[N(2), N(1)]]));
+            forbidden_ancestor(rng, &mut d, 1);
+            "forbidden ancestor"
+        }
+        7 | 8 => {
+            beside_a_bush(rng, &mut d);
+            core(rng, &mut d);
+            "beside a bush"
+        }
+        9 => {
+            beside_a_bush(rng, &mut d);
+            forbidden_ancestor(rng, &mut d, 0);
+            "forbidden ancestor beside a bush"
+        }
+        10 => {
+            // near the limits of 128 rules and 8 places
+            let rules = if rng.one_in(2) { rng.within(126, 131) } else { rng.within(2, 12) };
+            let most = if rules > 100 { 1 } else { 9 };
+            for _ in 0..rules {
+                let row: Vec<Sym> = (0..rng.within(most / 2, most))
+                    .map(|_| if rng.one_in(3) { N(rng.below(6) as u8) } else { T(rng.pick(&[A, B])) })
+                    .collect();
+                d.rule(rng.below(6) as u8, &row);
+            }
+            "near the limits"
+        }
+        11 => {
+            // many kinds, many places: the charts are full, the lists too large
+            let (kinds, rules) = (rng.within(8, 32), rng.within(20, 128));
+            plain(rng, &mut d, kinds, rules, 8, 9, 5);
+            "dense"
+        }
+        _ => {
+            // an expression-like book that reads long inputs
+            d.rule(0, &[N(0), T(B), N(1)]);
+            d.rule(0, &[N(1)]);
+            d.rule(1, &[N(2), N(1)]);
+            d.rule(1, &[T(A)]);
+            d.rule(2, &[T(A)]);
+            d.rule(2, &[]);
+            "expressions"
+        }
+    };
+    (name, d)
+}
+
+/// Other numbers for the kinds, other bytes for the marks, another order of the
+/// rules, and lengths: negative ones, halves to round, and the extremes.
+fn dress(rng: &mut Rng, draft: &mut Draft, inputs: &mut [Vec<u8>]) {
+    let mut kinds: Vec<u8> = (0..32).collect();
+    if rng.one_in(2) {
+        for i in (1..32).rev() {
+            kinds.swap(i, rng.below(i + 1));
+        }
+    }
+    let marks = rng.pick(&[[A, B], [A, B], [0, 255], [0x30, 0x50], [31, 32]]);
+    let mark = |t: u8| {
+        if t == A {
+            marks[0]
+        } else if t == B {
+            marks[1]
+        } else {
+            t
+        }
+    };
+    draft.start = kinds[draft.start as usize];
+    if rng.one_in(2) {
+        for i in (1..draft.rules.len()).rev() {
+            draft.rules.swap(i, rng.below(i + 1));
+        }
+    }
+    for rule in &mut draft.rules {
+        rule.0 = kinds[rule.0 as usize];
+        rule.1 = match rng.below(6) {
+            0 => rng.pick(&[i16::MIN, i16::MAX, -1, 1, 0, 256, -256]),
+            1 => rng.next() as i16,
+            2 => rng.within(0, 200) as i16 - 100,
+            _ => 5 * (rng.within(0, 40) as i16 - 20),
+        };
+        for place in &mut rule.2 {
+            *place = match *place {
+                N(k) => N(kinds[k as usize]),
+                T(t) => T(mark(t)),
+            };
+        }
+    }
+    for input in inputs {
+        input.iter_mut().for_each(|t| *t = mark(*t));
+    }
+}
+
+/// Bytes cut, changed, inserted, appended.
+pub fn damage(rng: &mut Rng, book: &mut Vec<u8>) {
+    for _ in 0..rng.within(1, 2) {
+        let byte = match rng.below(3) {
+            0 => rng.pick(&[0x10, 0x20, 0x30, 0x40, 0x50]),
+            1 => rng.pick(&[0, 31, 32, 33, 255]),
+            _ => rng.next() as u8,
+        };
+        let at = rng.below(book.len() + 1);
+        match rng.below(6) {
+            0 => book.truncate(at),
+            1 | 2 if at < book.len() => book[at] = byte,
+            3 => book.insert(at, byte),
+            4 if at < book.len() => drop(book.remove(at)),
+            _ => book.push(byte),
+        }
+    }
+}
+
+/// Commands at random, mostly in turn.
+pub fn soup(rng: &mut Rng) -> Vec<u8> {
+    let mut book = if rng.one_in(6) { Vec::new() } else { vec![0x10, rng.below(33) as u8] };
+    for _ in 0..rng.below(9) {
+        match rng.below(12) {
+            0 => book.push(rng.next() as u8),
+            1 => book.extend([0x10, 0]),
+            2..=4 => book.extend([0x20, rng.below(33) as u8, 0, 0xFF]),
+            5 | 6 => book.extend([0x30, rng.below(33) as u8]),
+            7 | 8 => book.extend([0x40, A]),
+            9 => book.push(0x50),
+            _ => book.extend([0x20, 0, 1, 0, 0x40, A]),
+        }
+    }
+    if !rng.one_in(3) {
+        book.push(0x50);
+    }
+    book
+}
+
+/// Inputs for a draft: of 0 to 8 terminals, some of 9 to 64; derived, derived with
+/// a terminal changed, or at random.
+fn inputs(rng: &mut Rng, draft: &Draft, style: &str) -> Vec<Vec<u8>> {
+    let mut all = Vec::new();
+    for number in 0..5 {
+        let long = number == 4 && rng.one_in(3);
+        let most = if long { 64 } else { 8 };
+        let mut row = Vec::new();
+        for _ in 0..12 {
+            let mut tried = Vec::new();
+            let depth = rng.within(3, 12);
+            if draft.sample(rng, draft.start, depth, most, &mut tried).is_some() && (row.len() < 9 || !long) {
+                row = tried;
+                if !row.is_empty() && (!long || row.len() > 8) {
+                    break;
+                }
+            }
+        }
+        if row.is_empty() || rng.one_in(5) {
+            let length = if long { rng.within(9, 64) } else { rng.below(9) };
+            row = (0..length).map(|_| rng.pick(&[A, A, A, B])).collect();
+        } else if rng.one_in(5) {
+            let at = rng.below(row.len());
+            row[at] = rng.pick(&[A, B, b'C']);
+        }
+        all.push(row);
+    }
+    if style == "expressions" {
+        let length = rng.within(9, 64);
+        all.push((0..length).map(|i| if i % 2 == 0 { A } else { B }).collect());
+    }
+    all
+}
+
+/// The book of a seed. About one in seven is damaged, and some are no books from the start.
+pub fn book(seed: u64) -> Book {
+    let rng = &mut Rng::new(seed);
+    if seed % 28 == 5 {
+        return Book { style: "soup", bytes: soup(rng), inputs: vec![vec![A], vec![A, A]] };
+    }
+    let (mut style, mut rules) = draft(rng, seed as usize % 13);
+    let mut inputs = inputs(rng, &rules, style);
+    dress(rng, &mut rules, &mut inputs);
+    let mut bytes = rules.bytes();
+    if rng.one_in(7) {
+        damage(rng, &mut bytes);
+        style = "damaged";
+    }
+    Book { style, bytes, inputs }
+}

@@ -1,0 +1,213 @@
+//! Rows offered to check, length and same build, and the walk of first and next.
+
+use super::lent::{same, Lent};
+use super::{Comparison, WIDER};
+use crate::lister::grammar::Grammar;
+use crate::lister::listing::derivations;
+use crate::lister::trees::{self, Row, LIMIT};
+use crate::lister::walk::{Call, Given, Walk};
+use crate::lister::{has_tree, STEPS};
+use crate::reader::{Answer, FlatGrammar, CELLS, OUTPUT};
+
+/// At most so many derivations of one input are offered to each call.
+const MOST_OFFERED: usize = 400;
+
+impl Comparison<'_> {
+    /// The derivations of an input, and rows that are none, offered to check, length
+    /// and same build; the readers that list are walked.
+    pub(super) fn rows(
+        &mut self,
+        flat: &FlatGrammar,
+        grammar: &Grammar,
+        input: &[u8],
+        filled: &[u32],
+    ) -> Result<(), String> {
+        let list = derivations(grammar, input, LIMIT, STEPS).ok();
+        let wider = derivations(grammar, input, WIDER, STEPS).ok();
+        let tree = has_tree(grammar, input);
+        match &list {
+            _ if !tree => self.counts.add("no tree"),
+            None => self.counts.add("skipped: too large to list"),
+            Some(list) => {
+                self.counts.add(["only trees over the limit", "one derivation", "two or more"][list.len().min(2)]);
+                if !list.is_empty() && wider.as_ref().is_some_and(|wider| wider.len() > list.len()) {
+                    self.counts.add("the limit cuts some");
+                }
+            }
+        }
+        let mut readings = list.clone().unwrap_or_default();
+        if readings.len() > MOST_OFFERED {
+            self.counts.add("not every derivation offered");
+            self.thin(&mut readings, MOST_OFFERED);
+        }
+        let mut offered = readings.clone();
+        offered.extend(self.strangers(grammar, input, &readings, wider.unwrap_or_default()));
+        let mut pairs = 12;
+        if input.len().pow(2) * grammar.rules.len() > 10_000 {
+            // each call fills the chart, and here that takes long
+            self.thin(&mut offered, 6);
+            pairs = 2;
+        }
+        for row in &offered {
+            let yes = trees::is_derivation(grammar, input, row);
+            if let Some(list) = &list {
+                same("the lister's check against its list", yes, list.binary_search(row).is_ok())?;
+            }
+            self.classify(grammar, input, row, yes);
+            self.on_input(flat, input, filled, row, row, "check", if yes { Answer::Yes } else { Answer::No })?;
+            if yes || self.rng.one_in(4) {
+                let tenths = if yes { Answer::Tenths(trees::tenths(grammar, row)) } else { Answer::Refused(12) };
+                self.on_input(flat, input, filled, row, row, "length", tenths)?;
+            }
+        }
+        for _ in 0..offered.len().min(pairs) {
+            let from = if self.rng.one_in(4) || readings.is_empty() { &offered } else { &readings };
+            let (one, other) = (&from[self.rng.below(from.len())], &from[self.rng.below(from.len())]);
+            let due = match [one, other].iter().all(|row| trees::is_derivation(grammar, input, row)) {
+                false => Answer::Refused(12),
+                true if trees::same_build(one, other) => Answer::Yes,
+                true => Answer::No,
+            };
+            self.counts.add(match due {
+                Answer::Yes if one == other => "same build: a derivation and itself",
+                Answer::Yes => "same build: two derivations, yes",
+                Answer::No => "same build: two derivations, no",
+                _ => "same build: refused 12",
+            });
+            self.on_input(flat, input, filled, one, other, "same build", due)?;
+        }
+        if self.reader.lists() && derivations(grammar, input, LIMIT, STEPS / 10).is_ok() {
+            self.walk(
+                flat,
+                input,
+                filled,
+                Walk { list: list.expect("fewer steps sufficed"), tree, place: 0 },
+                &offered,
+            )?;
+        }
+        Ok(())
+    }
+
+    /// At most so many of the rows, the first and the last among them.
+    pub(super) fn thin(&mut self, rows: &mut Vec<Row>, most: usize) {
+        if rows.len() > most {
+            let last = rows.pop().expect("more than none");
+            for at in 1..most - 1 {
+                let other = self.rng.within(at, rows.len() - 1);
+                rows.swap(at, other);
+            }
+            rows.truncate(most - 1);
+            rows.push(last);
+        }
+    }
+
+    /// Calls check, length or same build on the reader; the chart has to be the filled one.
+    #[allow(clippy::too_many_arguments)]
+    fn on_input(
+        &mut self,
+        flat: &FlatGrammar,
+        input: &[u8],
+        filled: &[u32],
+        one: &[u16],
+        other: &[u16],
+        name: &str,
+        due: Answer,
+    ) -> Result<(), String> {
+        let (mine, mut chart) = (self.either(flat), self.chart());
+        let mut expected = chart.clone();
+        expected.part_mut()[..CELLS].copy_from_slice(filled);
+        let (input, one, other) = (Lent::of(input, 0x41), Lent::of(one, 0), Lent::of(other, 0));
+        let before = (input.clone(), one.clone(), other.clone());
+        let got = match name {
+            "check" => self.reader.check(&mine, input.part(), one.part(), chart.part_mut()),
+            "length" => self.reader.length(&mine, input.part(), one.part(), chart.part_mut()),
+            _ => self.reader.same_build(&mine, input.part(), one.part(), other.part(), chart.part_mut()),
+        };
+        let all_same = || {
+            same("answer", got, due)?;
+            chart.against(&expected, "chart")?;
+            input.against(&before.0, "the input lent")?;
+            one.against(&before.1, "the row lent")?;
+            other.against(&before.2, "the other row lent")
+        };
+        all_same().map_err(|what| format!("{name} of {:?} and {:?}: {what}", one.part(), other.part()))?;
+        self.counts.add(&match due {
+            Answer::Tenths(_) => format!("{name}: answered"),
+            Answer::Refused(number) => format!("{name}: refused {number}"),
+            answer => format!("{name}: {answer:?}"),
+        });
+        Ok(())
+    }
+
+    /// Why a row is no derivation, as far as it is the row of a tree of the input.
+    fn classify(&mut self, grammar: &Grammar, input: &[u8], row: &[u16], yes: bool) {
+        if let (false, Some((tree, _))) = (yes, trees::tree_of(grammar, grammar.start, row)) {
+            if tree.terminals() == input && tree.row() == row {
+                if tree.nodes > LIMIT {
+                    self.counts.add("offered: a tree over the limit");
+                }
+                if tree.has_superfluous_recursion() {
+                    self.counts.add("offered: superfluous recursion");
+                }
+            }
+        }
+    }
+
+    /// The walk of demand 3: a random list of calls, chart and output anew each time.
+    fn walk(
+        &mut self,
+        flat: &FlatGrammar,
+        input: &[u8],
+        filled: &[u32],
+        mut walk: Walk,
+        offered: &[Row],
+    ) -> Result<(), String> {
+        let mut copy = Row::new();
+        let calls = walk.list.len().min(8) + 4;
+        for number in 0..calls {
+            let call = match (number, self.rng.below(8)) {
+                (1, _) => Call::First,
+                (_, 0) => Call::First,
+                (_, 1) => Call::Count,
+                (_, 2) => Call::NextWithNoDerivation,
+                _ => Call::NextWithCopy,
+            };
+            let stranger = &offered[self.rng.below(offered.len())];
+            if call == Call::NextWithNoDerivation && walk.list.binary_search(stranger).is_ok() {
+                continue;
+            }
+            let (mine, mut chart) = (self.either(flat), self.chart());
+            let length = OUTPUT + self.rng.below(3);
+            let mut out = Lent::filled(length, || self.rng.next() as u16);
+            let (mut due_chart, mut due_out) = (chart.clone(), out.clone());
+            due_chart.part_mut()[..CELLS].copy_from_slice(filled);
+            let given = walk.call(call);
+            let due = match &given {
+                Given::Row(row) => {
+                    due_out.part_mut()[..row.len()].copy_from_slice(row);
+                    Answer::Nodes(row.len() / 2)
+                }
+                Given::NoDerivation => Answer::NoDerivation,
+                Given::NoneLeft => Answer::NoneLeft,
+                Given::Count(n) => Answer::Count(*n),
+                Given::More => Answer::More,
+                Given::Refused(refusal) => Answer::Refused(*refusal),
+            };
+            let (lent_chart, lent_out) = (chart.part_mut(), out.part_mut());
+            let got = match call {
+                Call::First => self.reader.first(&mine, input, lent_chart, lent_out),
+                Call::NextWithCopy => self.reader.next(&mine, input, &copy, lent_chart, lent_out),
+                Call::NextWithNoDerivation => self.reader.next(&mine, input, stranger, lent_chart, lent_out),
+                Call::Count => self.reader.count(&mine, input, lent_chart),
+            };
+            same(&format!("walk, {call:?}"), got, due)?;
+            chart.against(&due_chart, &format!("walk, {call:?}: chart"))?;
+            out.against(&due_out, &format!("walk, {call:?}: output"))?;
+            if let Given::Row(row) = given {
+                copy = row;
+            }
+            self.counts.add(&format!("walk: {call:?}"));
+        }
+        Ok(())
+    }
+}

@@ -1,0 +1,27 @@
+//! Outside evidence: the code under test beside a simple lister that was
+//! written from document 01 alone and shares nothing with it.
+//!
+//! `cargo test --release --offline` runs everything; with `-- --nocapture` it also
+//! prints what came up in the random books and which book caught which fault.
+//! The reader under test is the lister itself, or the proved library with
+//! `--features library`. `diff -r src/lister tests/faulty` shows the deliberate faults.
+
+pub mod books;
+pub mod compare;
+#[cfg(feature = "library")]
+pub mod library;
+pub mod lister;
+pub mod reader;
+
+/// The code under test: the lister itself, or the proved library with the
+/// feature `library`.
+#[cfg(not(feature = "library"))]
+pub fn reader_under_test() -> lister::Lister {
+    lister::Lister
+}
+
+/// The code under test: the proved library.
+#[cfg(feature = "library")]
+pub fn reader_under_test() -> library::Library {
+    library::Library
+}

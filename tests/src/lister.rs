@@ -1,0 +1,186 @@
+//! The simple reference, written from document 01 alone: explicit trees, the
+//! definitions word by word, no cleverness. As a `Reader` it can stand in for the
+//! code under test.
+
+pub mod chart;
+pub mod grammar;
+pub mod listing;
+pub mod trees;
+pub mod walk;
+
+use crate::reader::{Answer, FlatGrammar, Hand, Reader, Unloaded, CELLS, FLAT, INPUT, OUTPUT};
+use grammar::Grammar;
+use walk::Given;
+
+/// Steps after which a listing is called too large.
+pub const STEPS: u64 = 40_000;
+/// Steps for the calls that have to give an answer.
+const MANY_STEPS: u64 = 20_000_000;
+
+pub struct Lister;
+
+fn yes_or_no(yes: bool) -> Answer {
+    if yes {
+        Answer::Yes
+    } else {
+        Answer::No
+    }
+}
+
+/// "Complete": whether the start nonterminal's bit stands in cell (0, n).
+fn complete(grammar: &Grammar, chart: &[u32], n: usize) -> Answer {
+    yes_or_no(chart[chart::cell(0, n)] >> grammar.start & 1 == 1)
+}
+
+/// Checks 8, 9 and 10 of a call on an input; then the chart is filled.
+fn filled(flat: &FlatGrammar, input: &[u8], chart: &mut [u32]) -> Result<Grammar, Answer> {
+    judged(flat, input, chart.len(), OUTPUT).map(|grammar| {
+        chart::fill(&grammar, input, chart);
+        grammar
+    })
+}
+
+/// Checks 8 to 11 in their order.
+pub fn judged(flat: &FlatGrammar, input: &[u8], cells: usize, output: usize) -> Result<Grammar, Answer> {
+    let grammar = grammar::from_flat(flat).ok_or(Answer::Refused(8))?;
+    if input.is_empty() || input.len() > INPUT {
+        return Err(Answer::Refused(9));
+    }
+    if cells < CELLS {
+        return Err(Answer::Refused(10));
+    }
+    if output < OUTPUT {
+        return Err(Answer::Refused(11));
+    }
+    Ok(grammar)
+}
+
+/// All derivations of an input, and whether it has a tree of any size.
+pub fn listed(grammar: &Grammar, input: &[u8]) -> (Vec<trees::Row>, bool) {
+    let list = listing::derivations(grammar, input, trees::LIMIT, MANY_STEPS).expect("small enough to list");
+    (list, has_tree(grammar, input))
+}
+
+/// Whether the input has a parse tree of the start nonterminal, of any size.
+pub fn has_tree(grammar: &Grammar, input: &[u8]) -> bool {
+    chart::derives(grammar, input)[0][usize::from(grammar.start)] >> input.len() & 1 == 1
+}
+
+/// The answer for what first, next or count gives; a row goes to the front of the output.
+fn answered(given: Given, out: &mut [u16]) -> Answer {
+    match given {
+        Given::Row(row) => {
+            out[..row.len()].copy_from_slice(&row);
+            Answer::Nodes(row.len() / 2)
+        }
+        Given::NoDerivation => Answer::NoDerivation,
+        Given::NoneLeft => Answer::NoneLeft,
+        Given::Count(n) => Answer::Count(n),
+        Given::More => Answer::More,
+        Given::Refused(number) => Answer::Refused(number),
+    }
+}
+
+impl Reader for Lister {
+    fn load(&self, book: &[u8]) -> Result<FlatGrammar, Unloaded> {
+        match grammar::load(book) {
+            Err((number, offset)) => Err(Unloaded { number, offset, grammar: [0; FLAT] }),
+            Ok(grammar) => {
+                let depth = grammar::empty_heights(&grammar).iter().flatten().copied().max().unwrap_or(0);
+                Ok(grammar::to_flat(&grammar, depth))
+            }
+        }
+    }
+
+    fn open(&self, flat: &FlatGrammar, chart: &mut [u32]) -> (Answer, Hand) {
+        let empty = Hand { bytes: [0; INPUT], count: 0 };
+        let Some(grammar) = grammar::from_flat(flat) else { return (Answer::Refused(8), empty) };
+        if chart.len() < CELLS {
+            return (Answer::Refused(10), empty);
+        }
+        chart::open(&grammar, chart);
+        (complete(&grammar, chart, 0), empty)
+    }
+
+    fn take(&self, flat: &FlatGrammar, hand: Hand, terminal: u8, chart: &mut [u32]) -> (Answer, Hand) {
+        let Some(grammar) = grammar::from_flat(flat) else { return (Answer::Refused(8), hand) };
+        if hand.count > INPUT {
+            return (Answer::Refused(14), hand);
+        }
+        if chart.len() < CELLS {
+            return (Answer::Refused(10), hand);
+        }
+        if hand.count == INPUT {
+            return (Answer::Refused(15), hand);
+        }
+        let n = hand.count + 1;
+        let mut next = Hand { bytes: [0; INPUT], count: n };
+        next.bytes[..n - 1].copy_from_slice(&hand.bytes[..n - 1]);
+        next.bytes[n - 1] = terminal;
+        chart::fill_column(&grammar, &next.bytes[..n], chart);
+        (complete(&grammar, chart, n), next)
+    }
+
+    fn check(&self, flat: &FlatGrammar, input: &[u8], offered: &[u16], chart: &mut [u32]) -> Answer {
+        match filled(flat, input, chart) {
+            Err(refused) => refused,
+            Ok(grammar) => yes_or_no(trees::is_derivation(&grammar, input, offered)),
+        }
+    }
+
+    fn length(&self, flat: &FlatGrammar, input: &[u8], offered: &[u16], chart: &mut [u32]) -> Answer {
+        match filled(flat, input, chart) {
+            Err(refused) => refused,
+            Ok(grammar) if !trees::is_derivation(&grammar, input, offered) => Answer::Refused(12),
+            Ok(grammar) => Answer::Tenths(trees::tenths(&grammar, offered)),
+        }
+    }
+
+    fn same_build(&self, flat: &FlatGrammar, input: &[u8], one: &[u16], other: &[u16], chart: &mut [u32]) -> Answer {
+        match filled(flat, input, chart) {
+            Err(refused) => refused,
+            Ok(grammar) => {
+                if [one, other].iter().all(|row| trees::is_derivation(&grammar, input, row)) {
+                    yes_or_no(trees::same_build(one, other))
+                } else {
+                    Answer::Refused(12)
+                }
+            }
+        }
+    }
+
+    fn lists(&self) -> bool {
+        true
+    }
+
+    fn first(&self, flat: &FlatGrammar, input: &[u8], chart: &mut [u32], out: &mut [u16]) -> Answer {
+        match judged(flat, input, chart.len(), out.len()) {
+            Err(refused) => refused,
+            Ok(grammar) => {
+                chart::fill(&grammar, input, chart);
+                let (list, tree) = listed(&grammar, input);
+                answered(walk::first(&list, tree), out)
+            }
+        }
+    }
+
+    fn next(&self, flat: &FlatGrammar, input: &[u8], offered: &[u16], chart: &mut [u32], out: &mut [u16]) -> Answer {
+        match judged(flat, input, chart.len(), out.len()) {
+            Err(refused) => refused,
+            Ok(grammar) => {
+                chart::fill(&grammar, input, chart);
+                answered(walk::next(&listed(&grammar, input).0, offered), out)
+            }
+        }
+    }
+
+    fn count(&self, flat: &FlatGrammar, input: &[u8], chart: &mut [u32]) -> Answer {
+        match filled(flat, input, chart) {
+            Err(refused) => refused,
+            Ok(grammar) => {
+                let (list, tree) = listed(&grammar, input);
+                answered(walk::count(&list, tree), &mut [])
+            }
+        }
+    }
+}

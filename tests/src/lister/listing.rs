@@ -1,0 +1,189 @@
+//! All derivations (readings) of an input, by building explicit trees from short
+//! spans to long ones.
+
+use super::chart::{derives, ends_of_row, members, Ends};
+use super::grammar::{Grammar, Symbol};
+use super::trees::{Child, Node, Row};
+use std::rc::Rc;
+
+/// Said instead of a list where building it would take too many steps.
+#[derive(Clone, Copy, PartialEq, Eq, Debug)]
+pub struct TooLarge;
+
+/// The places of a rule filled from the left up to position `at`, or a whole tree
+/// once they all are. The level counts how many nodes that cover the tree's whole
+/// span lie above one another at its top: 1 if all its children are shorter.
+#[derive(Clone)]
+struct Partial {
+    children: Vec<Child>,
+    at: usize,
+    nodes: usize,
+    level: usize,
+}
+
+/// A finished tree with its level.
+struct Built {
+    node: Rc<Node>,
+    level: usize,
+}
+
+struct Builder<'a> {
+    grammar: &'a Grammar,
+    input: &'a [u8],
+    limit: usize,
+    derives: Ends,
+    /// All trees found so far, by span and nonterminal: trees[i][j][k].
+    trees: Vec<Vec<Vec<Vec<Built>>>>,
+    steps_left: u64,
+}
+
+/// All rows of trees of the start nonterminal over the whole input that have no
+/// superfluous recursion and at most `limit` nodes, each once, in rising order.
+/// Trees are left out early only for these reasons, each from the definition:
+/// - a subtree's superfluous recursion is the whole tree's, and its nodes are the
+///   whole's: so trees with superfluous recursion, or with too many nodes, are
+///   never built upon;
+/// - the root of a reading's tree is of the start nonterminal over the whole
+///   input: so no other node is, and trees with such a node below are not built;
+/// - a nonterminal that stands at a span in no parse tree of the input is not needed.
+pub fn derivations(grammar: &Grammar, input: &[u8], limit: usize, steps: u64) -> Result<Vec<Row>, TooLarge> {
+    let n = input.len();
+    let start = usize::from(grammar.start);
+    let derives = derives(grammar, input);
+    if derives[0][start] >> n & 1 == 0 {
+        return Ok(Vec::new());
+    }
+    let trees = (0..=n).map(|_| (0..=n).map(|_| (0..32).map(|_| Vec::new()).collect()).collect()).collect();
+    let mut builder = Builder { grammar, input, limit, derives, trees, steps_left: steps };
+    let useful = builder.useful()?;
+    for cover in 0..=n {
+        for i in 0..=n - cover {
+            builder.build(i, i + cover, &useful)?;
+        }
+    }
+    let mut rows: Vec<Row> = builder.trees[0][n][start].iter().map(|built| built.node.row()).collect();
+    rows.sort();
+    // Each once, and no row begins another: "the first number that differs" orders them.
+    assert!(rows.windows(2).all(|two| !two[1].starts_with(&two[0])));
+    Ok(rows)
+}
+
+impl Builder<'_> {
+    /// useful[i][k]: the ends j such that k over i..j is in some parse tree of the input.
+    fn useful(&mut self) -> Result<Ends, TooLarge> {
+        let n = self.input.len();
+        let mut useful: Ends = vec![[0; 32]; n + 1];
+        let mut waiting = vec![(self.grammar.start, 0, n)];
+        while let Some((k, i, j)) = waiting.pop() {
+            if useful[i][usize::from(k)] >> j & 1 == 1 {
+                continue;
+            }
+            useful[i][usize::from(k)] |= 1 << j;
+            for rule in self.grammar.rules.iter().filter(|rule| rule.left == k) {
+                self.step()?;
+                for (p, place) in rule.places.iter().enumerate() {
+                    let Symbol::Nonterminal(child) = *place else { continue };
+                    let begins = ends_of_row(&rule.places[..p], i, self.input, &self.derives);
+                    for a in members(begins).filter(|a| *a <= j) {
+                        for b in members(self.derives[a][usize::from(child)]).filter(|b| *b <= j) {
+                            self.step()?;
+                            if self.reaches(&rule.places[p + 1..], b, j) {
+                                waiting.push((child, a, b));
+                            }
+                        }
+                    }
+                }
+            }
+        }
+        Ok(useful)
+    }
+
+    /// One step of the budget is used up.
+    fn step(&mut self) -> Result<(), TooLarge> {
+        self.steps_left = self.steps_left.checked_sub(1).ok_or(TooLarge)?;
+        Ok(())
+    }
+
+    /// Whether the places have trees over the span from a to j at all.
+    fn reaches(&self, places: &[Symbol], a: usize, j: usize) -> bool {
+        ends_of_row(places, a, self.input, &self.derives) >> j & 1 == 1
+    }
+
+    /// Builds all trees over the span from i to j, once all shorter spans are done.
+    /// Round r builds those of level r, from children over the same span of levels
+    /// below r, so each tree is built once. A round without a find ends it.
+    fn build(&mut self, i: usize, j: usize, useful: &Ends) -> Result<(), TooLarge> {
+        for level in 1.. {
+            let mut found = Vec::new();
+            for (number, rule) in self.grammar.rules.iter().enumerate() {
+                if useful[i][usize::from(rule.left)] >> j & 1 == 0 {
+                    continue;
+                }
+                for row in self.rows(&rule.places, i, j)? {
+                    if row.level != level {
+                        continue; // built in an earlier round
+                    }
+                    let node = Node::new(self.grammar, number, row.children);
+                    // Children suffice: no tree with such a node deeper down was kept.
+                    let whole = i == 0 && j == self.input.len();
+                    let root_below = whole && node.below().any(|n| n.nonterminal == self.grammar.start && n.cover == j);
+                    if !node.recurs() && !root_below {
+                        found.push(Built { node: Rc::new(node), level });
+                    }
+                }
+            }
+            if found.is_empty() {
+                break;
+            }
+            for built in found {
+                self.trees[i][j][usize::from(built.node.nonterminal)].push(built);
+            }
+        }
+        Ok(())
+    }
+
+    /// All ways to fill the places over the span from i to j with trees found so far.
+    fn rows(&mut self, places: &[Symbol], i: usize, j: usize) -> Result<Vec<Partial>, TooLarge> {
+        let mut rows = vec![Partial { children: Vec::new(), at: i, nodes: 1, level: 1 }];
+        for (p, place) in places.iter().enumerate() {
+            let mut longer = Vec::new();
+            for row in rows {
+                for b in row.at..=j {
+                    self.step()?;
+                    if !self.reaches(&places[p + 1..], b, j) {
+                        continue;
+                    }
+                    match *place {
+                        Symbol::Terminal(t) => {
+                            if b == row.at + 1 && self.input[row.at] == t {
+                                let mut more = row.clone();
+                                more.children.push(Child::Leaf(t));
+                                more.at = b;
+                                longer.push(more);
+                            }
+                        }
+                        Symbol::Nonterminal(k) => {
+                            for built in &self.trees[row.at][b][usize::from(k)] {
+                                self.steps_left = self.steps_left.checked_sub(1).ok_or(TooLarge)?;
+                                if row.nodes + built.node.nodes > self.limit {
+                                    continue;
+                                }
+                                let mut more = row.clone();
+                                more.children.push(Child::Below(Rc::clone(&built.node)));
+                                more.at = b;
+                                more.nodes += built.node.nodes;
+                                if built.node.cover == j - i {
+                                    more.level = more.level.max(built.level + 1);
+                                }
+                                longer.push(more);
+                            }
+                        }
+                    }
+                }
+            }
+            rows = longer;
+        }
+        rows.retain(|row| row.at == j && row.nodes <= self.limit);
+        Ok(rows)
+    }
+}

@@ -1,0 +1,294 @@
+//! The plates from the drawer (document 01) and the named cases, with the results
+//! written out by hand, run on the reader under test.
+
+use outside_tests::books::{Draft, Rng, Sym};
+use outside_tests::compare::{rubbish, Comparison, Counts};
+use outside_tests::lister::{self, trees, walk::Given};
+use outside_tests::reader::{record, Answer, FlatGrammar, Reader, CELLS, OUTPUT};
+use outside_tests::reader_under_test;
+
+/// Book T of document 01, in full.
+const T: [u8; 21] = [
+    0x10, 0x00, 0x20, 0x00, 0xF8, 0x11, 0x30, 0x01, 0x30, 0x01, 0x20, 0x01, 0x00, 0x00, 0x20, 0x01, 0x19, 0x00, 0x40,
+    0x41, 0x50,
+];
+
+/// A book from rules like "0: 0 A": numbers are kinds, letters marks, nothing is nothing.
+fn book(start: u8, rules: &[&str]) -> Vec<u8> {
+    let mut draft = Draft::new(start);
+    for rule in rules {
+        let (left, places) = rule.split_once(':').expect("a rule has a colon");
+        let places: Vec<Sym> = places
+            .split_whitespace()
+            .map(|place| match place.parse() {
+                Ok(kind) => Sym::N(kind),
+                Err(_) => Sym::T(place.as_bytes()[0]),
+            })
+            .collect();
+        draft.rule(left.trim().parse().expect("a left side"), &places);
+    }
+    draft.bytes()
+}
+
+fn loaded(book: &[u8]) -> FlatGrammar {
+    reader_under_test().load(book).unwrap_or_else(|refused| panic!("refused {} at {}", refused.number, refused.offset))
+}
+
+/// A reading as document 01 prints it: "1.0 0.1 1.2".
+fn row(text: &str) -> Vec<u16> {
+    text.split([' ', '.']).map(|number| number.parse().expect("a number")).collect()
+}
+
+/// Opens and takes the input; whether it is complete at the end.
+fn complete(flat: &FlatGrammar, input: &[u8]) -> bool {
+    let (reader, mut chart) = (reader_under_test(), rubbish(&mut Rng::new(1), CELLS));
+    let (mut answer, mut hand) = reader.open(flat, chart.part_mut());
+    for mark in input {
+        (answer, hand) = reader.take(flat, hand, *mark, chart.part_mut());
+    }
+    assert_eq!((hand.count, &hand.bytes[..input.len()]), (input.len(), input));
+    assert!(matches!(answer, Answer::Yes | Answer::No));
+    answer == Answer::Yes
+}
+
+fn check(flat: &FlatGrammar, input: &[u8], offered: &[u16]) -> Answer {
+    reader_under_test().check(flat, input, offered, rubbish(&mut Rng::new(2), CELLS).part_mut())
+}
+
+fn length(flat: &FlatGrammar, input: &[u8], offered: &[u16]) -> Answer {
+    reader_under_test().length(flat, input, offered, rubbish(&mut Rng::new(3), CELLS).part_mut())
+}
+
+fn same_build(flat: &FlatGrammar, input: &[u8], one: &[u16], other: &[u16]) -> Answer {
+    reader_under_test().same_build(flat, input, one, other, rubbish(&mut Rng::new(4), CELLS).part_mut())
+}
+
+/// Everything that the random comparison does, on this book and input.
+fn compared(book: &[u8], input: &[u8]) {
+    let mut counts = Counts::default();
+    let mut comparison = Comparison { reader: &reader_under_test(), rng: Rng::new(7), counts: &mut counts };
+    let flat = comparison.load(book, "load").expect("no difference").expect("loads");
+    comparison.input(&flat, input).expect("no difference");
+}
+
+/// All readings of the input, from the lister, each one checked by the reader; the
+/// number of them for a reader that lists is its own count, and it hands them out.
+fn listed(book: &[u8], input: &[u8]) -> Vec<Vec<u16>> {
+    let (flat, reader) = (loaded(book), reader_under_test());
+    let grammar = lister::grammar::from_flat(&flat).expect("loaded");
+    let (list, tree) = lister::listed(&grammar, input);
+    assert_eq!(complete(&flat, input), tree);
+    for reading in &list {
+        assert_eq!(check(&flat, input, reading), Answer::Yes);
+    }
+    if reader.lists() {
+        let mut chart = rubbish(&mut Rng::new(5), CELLS);
+        let due = match lister::walk::count(&list, tree) {
+            Given::Count(count) => Answer::Count(count),
+            Given::More => Answer::More,
+            _ => Answer::Refused(13),
+        };
+        assert_eq!(reader.count(&flat, input, chart.part_mut()), due);
+        let mut out = [7; OUTPUT];
+        let mut answer = reader.first(&flat, input, chart.part_mut(), &mut out);
+        for (at, reading) in list.iter().enumerate().take(20) {
+            assert_eq!(answer, Answer::Nodes(reading.len() / 2));
+            assert_eq!(&out[..reading.len()], &reading[..]);
+            if at < 19 {
+                answer = reader.next(&flat, input, reading, chart.part_mut(), &mut out);
+            }
+        }
+        if list.len() < 20 {
+            let end = if list.is_empty() { Answer::NoDerivation } else { Answer::NoneLeft };
+            assert_eq!(answer, if list.is_empty() && tree { Answer::Refused(13) } else { end });
+        }
+    }
+    list
+}
+
+/// A plate with exactly these readings, or none; and the whole comparison on it.
+fn plate(book: &[u8], input: &str, readings: &[&str]) {
+    let due: Vec<Vec<u16>> = readings.iter().map(|text| row(text)).collect();
+    assert_eq!(listed(book, input.as_bytes()), due, "{input}");
+    assert_eq!(complete(&loaded(book), input.as_bytes()), !readings.is_empty(), "{input}");
+    compared(book, input.as_bytes());
+}
+
+#[test]
+fn book_t() {
+    plate(&T, "A", &["1.0 0.1 1.2", "1.0 1.2 0.1"]);
+    plate(&T, "AA", &["2.0 1.2 1.2"]);
+    plate(&T, "AAA", &[]);
+    plate(&T, "B", &[]);
+    let flat = loaded(&T);
+    let (one, other) = (row("1.0 0.1 1.2"), row("1.0 1.2 0.1"));
+    assert_eq!(length(&flat, b"A", &one), Answer::Tenths(463));
+    assert_eq!(length(&flat, b"A", &other), Answer::Tenths(463));
+    assert_eq!(length(&flat, b"AA", &row("2.0 1.2 1.2")), Answer::Tenths(465));
+    assert_eq!(length(&flat, b"AA", &one), Answer::Refused(12));
+    assert_eq!(length(&flat, b"AAA", &row("3.0 1.2 2.0")), Answer::Refused(12));
+    assert_eq!(same_build(&flat, b"A", &one, &other), Answer::Yes);
+    assert_eq!(same_build(&flat, b"A", &one, &row("2.0 1.2 1.2")), Answer::Refused(12));
+    assert_eq!(check(&flat, b"B", &one), Answer::No);
+    assert!(complete(&flat, b""), "0 -> 1 1 with 1 blank derives the empty row");
+    assert_eq!(flat[..3], [0, 3, flat[2]]);
+    assert_eq!(flat[record(0)..record(0) + 7], [0, 4600, 2, 0, 1, 0, 1]);
+    assert_eq!(flat[record(2)..record(2) + 5], [1, 25, 1, 1, 0x41]);
+    assert!((2..=32).contains(&flat[2]), "kind 0's lowest empty tree has height 2");
+}
+
+#[test]
+fn small_plates() {
+    plate(&book(0, &["0: 0", "0: A"]), "A", &["1.1"]);
+    plate(&book(0, &["0: 0 A", "0: A"]), "AAA", &["3.0 2.0 1.1"]);
+    plate(&book(0, &["0: 0 0", "0: A"]), "AAA", &["3.0 1.1 2.0 1.1 1.1", "3.0 2.0 1.1 1.1 1.1"]);
+    plate(&book(0, &["0: 0 0", "0: A", "0:"]), "A", &["1.1"]);
+    plate(&book(1, &["1: 0 A", "0: 0", "0:"]), "A", &["1.0 0.2"]);
+    plate(&[0x10, 0x00, 0x50], "A", &[]);
+    // U7's pair: the same bag of rules, in another order.
+    let pair = book(0, &["0: 1 1", "1: A", "1: 2", "2: A"]);
+    let (one, other) = (row("2.0 1.1 1.2 1.3"), row("2.0 1.2 1.3 1.1"));
+    assert_eq!(same_build(&loaded(&pair), b"AA", &one, &other), Answer::Yes);
+    assert_eq!(same_build(&loaded(&pair), b"AA", &one, &row("2.0 1.1 1.1")), Answer::No);
+}
+
+/// The Catalan numbers by their own recurrence: binary trees with n leaves, not listed.
+fn binary_trees(n: usize) -> usize {
+    match n {
+        1 => 1,
+        _ => (1..n).map(|left| binary_trees(left) * binary_trees(n - left)).sum(),
+    }
+}
+
+#[test]
+fn nine_marks_and_ten() {
+    let binary = book(0, &["0: 0 0", "0: A"]);
+    assert_eq!(listed(&binary, &[b'A'; 9]).len(), 1430);
+    assert_eq!(binary_trees(9), 1430);
+    let ten = listed(&binary, &[b'A'; 10]).len();
+    assert!(ten > 4096 && ten == binary_trees(10));
+    assert!(complete(&loaded(&binary), &[b'A'; 64]));
+}
+
+#[test]
+fn the_limit_of_512() {
+    let rules = ["0: A 1 1 1 1 1 1 1", "1: 2 2 2 2 2 2 2 2", "2: 3 3 3 3 3 3 3 3", "3:"];
+    let fits = book(0, &rules);
+    let readings = listed(&fits, b"A");
+    assert_eq!((readings.len(), readings[0].len()), (1, 1024));
+    compared(&fits, b"A");
+    let over = book(4, &[&rules[..], &["4: 0"]].concat());
+    assert!(listed(&over, b"A").is_empty());
+    assert!(complete(&loaded(&over), b"A"));
+    let row513 = [&[1, 4], &readings[0][..]].concat();
+    assert_eq!(check(&loaded(&over), b"A", &row513), Answer::No);
+    assert_eq!(length(&loaded(&over), b"A", &row513), Answer::Refused(12));
+    compared(&over, b"A");
+}
+
+#[test]
+fn the_deepest_reading() {
+    let mut rules: Vec<String> = (0..31).map(|k| format!("{k}: {}", k + 1)).collect();
+    rules.extend(["31: A 0".to_string(), "31: A".to_string()]);
+    let rules: Vec<&str> = rules.iter().map(String::as_str).collect();
+    let deep = book(0, &rules);
+    let readings = listed(&deep, &[b'A'; 16]);
+    assert_eq!((readings.len(), readings[0].len()), (1, 1024));
+    compared(&deep, &[b'A'; 16]);
+    assert!(listed(&deep, &[b'A'; 17]).is_empty());
+    assert!(complete(&loaded(&deep), &[b'A'; 17]));
+    // Its 544 parts, by hand: covers 17 down to 1, each 32 deep.
+    let long: Vec<u16> = (1..=17_u16)
+        .rev()
+        .flat_map(|cover| (0..32).flat_map(move |k| [cover, if (cover, k) == (1, 31) { 32 } else { k }]))
+        .collect();
+    assert_eq!(check(&loaded(&deep), &[b'A'; 17], &long), Answer::No);
+    assert_eq!(check(&loaded(&deep), &[b'A'; 16], &long[64..]), Answer::Yes);
+}
+
+#[test]
+fn the_boundary_of_count() {
+    let rules = ["0: 1 1", "1: 2 2 2 2 2 2", "2: A", "2: A"];
+    assert_eq!(listed(&book(0, &rules), &[b'A'; 12]).len(), 4096);
+    let more = book(0, &[&rules[..], &["0: 3 3", "3: A A A A A A"]].concat());
+    assert_eq!(listed(&more, &[b'A'; 12]).len(), 4097);
+}
+
+#[test]
+fn the_complete_unit_graph() {
+    let mut rules: Vec<String> = (1..=10).map(|j| format!("0: {j}")).collect();
+    for i in 1..=10 {
+        rules.extend((0..=10).filter(|j| *j != i).map(|j| format!("{i}: {j}")));
+    }
+    rules.push("0: A".to_string());
+    assert_eq!(rules.len(), 111);
+    let rules: Vec<&str> = rules.iter().map(String::as_str).collect();
+    let graph = book(0, &rules);
+    plate(&graph, "A", &["1.110"]);
+    // 0 over 1 over 0: superfluous.
+    assert_eq!(check(&loaded(&graph), b"A", &row("1.0 1.10 1.110")), Answer::No);
+}
+
+#[test]
+fn sums_are_rounded() {
+    for (sum, tenths) in
+        [(4625, 463), (-25, -3), (24, 2), (-4, 0), (-5, -1), (5, 1), (4, 0), (-32768, -3277), (32767, 3277)]
+    {
+        let mut draft = Draft::new(0);
+        draft.rules.push((0, sum, vec![Sym::T(b'A')]));
+        assert_eq!(length(&loaded(&draft.bytes()), b"A", &[1, 0]), Answer::Tenths(tenths), "{sum}");
+        assert_eq!(trees::round(i32::from(sum)), tenths);
+    }
+    // 512 parts at the extremes: 1 + 7 x (1 + 8 x 9) nodes.
+    for (each, tenths) in [(i16::MIN, -1_677_722), (i16::MAX, 1_677_670)] {
+        let mut draft = Draft::new(0);
+        draft.rules.push((0, each, [&[Sym::T(b'A')][..], &[Sym::N(1); 7]].concat()));
+        draft.rules.push((1, each, vec![Sym::N(2); 8]));
+        draft.rules.push((2, each, vec![Sym::N(3); 8]));
+        draft.rules.push((3, each, vec![]));
+        let readings = listed(&draft.bytes(), b"A");
+        assert_eq!(length(&loaded(&draft.bytes()), b"A", &readings[0]), Answer::Tenths(tenths));
+    }
+}
+
+#[test]
+fn faulty_books() {
+    let full: Vec<u8> = [&[0x10, 0x00][..], &[0x20, 0x00, 0, 0].repeat(128)].concat();
+    let nine = [&[0x10, 0x00, 0x20, 0x00, 0, 0][..], &[0x40, 0x41].repeat(8)].concat();
+    let with = |book: &[u8], more: &[u8]| [book, more].concat();
+    let cases: Vec<(Vec<u8>, u8, usize)> = vec![
+        (vec![], 1, 0),
+        (vec![0x10], 1, 1),
+        (vec![0x50], 3, 0),
+        (vec![0x20, 0x00, 0, 0, 0x50], 3, 0),
+        (vec![0x30], 3, 0),
+        (vec![0x00], 2, 0),
+        (vec![0x10, 0x20], 4, 0),
+        (vec![0x10, 0x00], 1, 2),
+        (vec![0x10, 0x00, 0x10], 3, 2),
+        (vec![0x10, 0x00, 0x30], 3, 2),
+        (vec![0x10, 0x00, 0x40, 0x41], 3, 2),
+        (vec![0x10, 0x00, 0x30, 0xFF], 3, 2),
+        (vec![0x10, 0x00, 0x41], 2, 2),
+        (vec![0x10, 0x00, 0x20, 0xFF], 1, 4),
+        (vec![0x10, 0x00, 0x20, 0xFF, 0], 1, 5),
+        (vec![0x10, 0x00, 0x20, 0xFF, 0, 0], 4, 2),
+        (vec![0x10, 0x00, 0x20, 0x00, 0, 0, 0x30, 0x20], 4, 6),
+        (vec![0x10, 0x00, 0x20, 0x00, 0, 0], 1, 6),
+        (vec![0x10, 0x00, 0x50, 0x00], 7, 3),
+        (vec![0x10, 0x00, 0x50, 0x50], 7, 3),
+        (with(&full, &[0x20, 0x00, 0, 0]), 5, 514),
+        (with(&full, &[0x20, 0x20, 0, 0]), 4, 514),
+        (with(&full, &[0x20, 0x20, 0]), 1, 517),
+        (with(&nine, &[0x40, 0x41]), 6, 22),
+        (with(&nine, &[0x30, 0x20]), 4, 22),
+        (with(&nine, &[0x40]), 1, 23),
+    ];
+    for (book, number, offset) in cases {
+        let refused = reader_under_test().load(&book).expect_err("a faulty book");
+        assert_eq!((refused.number, refused.offset), (number, offset), "{book:02X?}");
+        assert!(refused.grammar.iter().all(|number| *number == 0));
+    }
+    assert_eq!(loaded(&with(&full, &[0x50]))[1], 128);
+    assert_eq!(loaded(&with(&nine, &[0x50]))[record(0) + 2], 8);
+}

@@ -1,0 +1,130 @@
+//! The chart (sheet) by its definition: opening, a column as the least sets over
+//! the chart as found, and apart from that which nonterminals derive which spans.
+
+use super::grammar::{empty_heights, Grammar, Symbol};
+use super::{faults, set_faults, Faults};
+use outside_tests::reader::CELLS;
+
+/// For each position a and nonterminal k the set of positions b, as bits, such
+/// that k stands for the span from a up to, not including, b.
+pub type Ends = Vec<[u128; 32]>;
+
+/// The number of the cell (word) of the span from i to j.
+pub fn cell(i: usize, j: usize) -> usize {
+    65 * i + j
+}
+
+/// The positions in a set, as numbers.
+pub fn members(mut set: u128) -> impl Iterator<Item = usize> {
+    std::iter::from_fn(move || {
+        let first = set.trailing_zeros() as usize;
+        set &= set.wrapping_sub(1);
+        (first < 128).then_some(first)
+    })
+}
+
+/// All positions b such that the places cut the span from i to b into pieces,
+/// each a fitting terminal or a nonterminal that stands for its piece.
+pub fn ends_of_row(places: &[Symbol], i: usize, input: &[u8], ends: &Ends) -> u128 {
+    let mut here = 1_u128 << i;
+    for (p, place) in places.iter().enumerate() {
+        let mut next = 0;
+        for a in members(here) {
+            match *place {
+                Symbol::Terminal(t) if a < input.len() && input[a] == t => next |= 1 << (a + 1),
+                Symbol::Terminal(_) => (),
+                Symbol::Nonterminal(k)
+                    if faults().blank_first_place_only_blank && p == 0 && ends[a][usize::from(k)] >> a & 1 == 1 =>
+                {
+                    next |= 1 << a
+                }
+                Symbol::Nonterminal(k) => next |= ends[a][usize::from(k)],
+            }
+        }
+        here = next;
+    }
+    here
+}
+
+/// Fills the cells of column n = number of terminals, i = 0 to n, and no others.
+/// The pieces that end before n are those of the chart as found, an empty piece
+/// at a < n too: that is cell (a, a). The pieces that end at n come from this
+/// column, which begins empty and grows until no rule adds anything: the least sets.
+pub fn fill_column(grammar: &Grammar, input: &[u8], chart: &mut [u32]) {
+    let n = input.len();
+    let mut ends: Ends = vec![[0; 32]; n + 1];
+    let nullable = empty_heights(grammar);
+    for a in 0..n {
+        for b in a..n + usize::from(faults().column_not_cleared) {
+            for k in 0..32 {
+                let found = chart[cell(a, b)] >> k & 1 == 1;
+                if if faults().empty_piece_from_the_nullable_set && a == b { nullable[k].is_some() } else { found } {
+                    ends[a][k] |= 1 << b;
+                }
+            }
+        }
+    }
+    loop {
+        let mut changed = false;
+        for i in 0..=n {
+            for rule in &grammar.rules {
+                let left = usize::from(rule.left);
+                let stands = ends_of_row(&rule.places, i, input, &ends) >> n & 1 == 1;
+                if stands && ends[i][left] >> n & 1 == 0 {
+                    ends[i][left] |= 1 << n;
+                    changed = true;
+                }
+            }
+        }
+        if !changed || faults().one_pass_column {
+            break;
+        }
+    }
+    if faults().idles_after_the_first && n > 1 {
+        return;
+    }
+    if faults().writes_another_word && n < 64 {
+        chart[cell(n, n + 1)] = 0;
+    }
+    if faults().writes_behind_the_cells && chart.len() > CELLS {
+        chart[CELLS] = 0;
+    }
+    for i in 0..=n - usize::from(faults().forgets_the_empty_span) {
+        chart[cell(i, n)] = (0..32).filter(|k| ends[i][*k] >> n & 1 == 1).map(|k| 1 << k).sum();
+    }
+}
+
+/// Opening fills all cells: the nullable nonterminals for the span 0 to 0, else zero.
+pub fn open(grammar: &Grammar, chart: &mut [u32]) {
+    let before = faults();
+    set_faults(Faults { one_pass_nullable: before.one_pass_nullable || before.one_pass_in_opening, ..before });
+    let heights = empty_heights(grammar);
+    set_faults(before);
+    chart[..CELLS - usize::from(faults().opening_leaves_the_last_word)].fill(0);
+    chart[0] = (0..32).filter(|k| heights[*k].is_some()).map(|k| 1 << k).sum();
+}
+
+/// Opening and then taking the whole input.
+pub fn fill(grammar: &Grammar, input: &[u8], chart: &mut [u32]) {
+    open(grammar, chart);
+    for n in 1..=input.len() {
+        fill_column(grammar, &input[..n], chart);
+    }
+}
+
+/// Which nonterminals derive which spans of the input, by trees of any size: the
+/// least sets over all spans at once. Uses neither `open` nor `fill_column`.
+pub fn derives(grammar: &Grammar, input: &[u8]) -> Ends {
+    let mut ends: Ends = vec![[0; 32]; input.len() + 1];
+    loop {
+        let before = ends.clone();
+        for i in 0..=input.len() {
+            for rule in &grammar.rules {
+                ends[i][usize::from(rule.left)] |= ends_of_row(&rule.places, i, input, &ends);
+            }
+        }
+        if ends == before {
+            return ends;
+        }
+    }
+}

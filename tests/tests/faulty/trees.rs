@@ -1,0 +1,186 @@
+//! Explicit parse trees, superfluous recursion as document 01 words it, and the
+//! preorder row of a tree.
+
+use super::faults;
+use super::grammar::{Grammar, Symbol};
+use std::rc::Rc;
+
+/// A derivation (reading) as it is written: for each node in preorder how many
+/// terminals it covers, then its rule.
+pub type Row = Vec<u16>;
+
+/// The most nodes (parts) of a derivation (reading).
+pub const LIMIT: usize = 512;
+
+/// What stands in a place: a terminal (mark), which is no node, or a node.
+#[derive(Clone)]
+pub enum Child {
+    Leaf(u8),
+    Below(Rc<Node>),
+}
+
+/// A node (part) with the tree below it. The rule and the children are the tree;
+/// nonterminal, cover and number of nodes are kept beside them.
+pub struct Node {
+    pub rule: usize,
+    pub children: Vec<Child>,
+    pub nonterminal: u8,
+    pub cover: usize,
+    pub nodes: usize,
+}
+
+impl Node {
+    pub fn new(grammar: &Grammar, rule: usize, children: Vec<Child>) -> Node {
+        let (mut cover, mut nodes) = (0, 1);
+        for child in &children {
+            match child {
+                Child::Leaf(_) => cover += 1,
+                Child::Below(node) => {
+                    cover += node.cover;
+                    nodes += node.nodes;
+                }
+            }
+        }
+        Node { rule, children, nonterminal: grammar.rules[rule].left, cover, nodes }
+    }
+
+    /// The nodes that are children of this one.
+    pub fn below(&self) -> impl Iterator<Item = &Node> {
+        self.children.iter().filter_map(|child| match child {
+            Child::Leaf(_) => None,
+            Child::Below(node) => Some(&**node),
+        })
+    }
+
+    /// Whether a proper descendant node has this node's nonterminal and covers the
+    /// same terminals. A descendant lies inside its ancestor: as many terminals
+    /// are the same ones; of two empty nodes the nonterminals alone decide. And
+    /// covers never grow downward: only nodes of equal cover need be looked into.
+    pub fn recurs(&self) -> bool {
+        fn inside(node: &Node, nonterminal: u8, cover: usize) -> bool {
+            let mut equal = node.below().filter(|n| n.cover == cover || faults().fewer_terminals_superfluous);
+            equal.any(|n| n.nonterminal == nonterminal || inside(n, nonterminal, cover))
+        }
+        inside(self, self.nonterminal, self.cover)
+    }
+
+    /// Document 01: some part has a proper descendant part of the same kind that
+    /// covers the same marks.
+    pub fn has_superfluous_recursion(&self) -> bool {
+        if faults().no_forbidden_set || (faults().empty_recursion_let_through && self.cover == 0) {
+            return false;
+        }
+        self.recurs() || self.below().any(Node::has_superfluous_recursion)
+    }
+
+    /// The terminals of the tree from left to right.
+    pub fn terminals(&self) -> Vec<u8> {
+        let mut all = Vec::new();
+        for child in &self.children {
+            match child {
+                Child::Leaf(t) => all.push(*t),
+                Child::Below(node) => all.extend(node.terminals()),
+            }
+        }
+        all
+    }
+
+    /// The preorder row.
+    pub fn row(&self) -> Row {
+        let mut row = vec![self.cover as u16, self.rule as u16];
+        for node in self.below() {
+            row.extend(node.row());
+        }
+        row
+    }
+}
+
+/// The tree that an offered row may stand for: the rules are followed in
+/// preorder, the covers are left aside. None if a rule is not there, does not
+/// fit its place, or the row is too short; the rest of the row is handed back.
+pub fn tree_of<'a>(grammar: &Grammar, nonterminal: u8, row: &'a [u16]) -> Option<(Node, &'a [u16])> {
+    let number = usize::from(*row.get(1)?);
+    let rule = grammar.rules.get(number)?;
+    if rule.left != nonterminal {
+        return None;
+    }
+    let mut rest = &row[2..];
+    let mut children = Vec::new();
+    for place in &rule.places {
+        match *place {
+            Symbol::Terminal(t) => children.push(Child::Leaf(t)),
+            Symbol::Nonterminal(k) => {
+                let (node, after) = tree_of(grammar, k, rest)?;
+                children.push(Child::Below(Rc::new(node)));
+                rest = after;
+            }
+        }
+    }
+    Some((Node::new(grammar, number, children), rest))
+}
+
+/// Whether an offered row is a derivation (reading) of the input: the row of a
+/// tree of the start nonterminal over the whole input, without superfluous
+/// recursion, of at most 512 nodes, written exactly so.
+pub fn is_derivation(grammar: &Grammar, input: &[u8], row: &[u16]) -> bool {
+    if faults().check_always_no {
+        return false;
+    }
+    let limit = LIMIT + usize::from(faults().limit_513) - usize::from(faults().limit_511);
+    if row.len() > 2 * limit {
+        return false; // two numbers for each node: more than 512 nodes, or no row of a tree
+    }
+    let first = row.get(1).and_then(|rule| grammar.rules.get(usize::from(*rule))).map(|rule| rule.left);
+    let start = if faults().any_start_accepted { first.unwrap_or(0) } else { grammar.start };
+    match tree_of(grammar, start, row) {
+        None => false,
+        Some((tree, _)) => {
+            (tree.terminals() == input || (faults().front_stretch_accepted && input.starts_with(&tree.terminals())))
+                && tree.nodes <= limit
+                && !tree.has_superfluous_recursion()
+                && (tree.row() == row
+                    || (faults().tail_accepted && row.starts_with(&tree.row()))
+                    || (faults().covers_not_compared && row.len() == 2 * tree.nodes))
+        }
+    }
+}
+
+/// Stack length in tenths: the rule lengths of all nodes of a row, empty ones
+/// too, added up and rounded, halves away from zero.
+pub fn tenths(grammar: &Grammar, row: &[u16]) -> i32 {
+    round(
+        row.chunks(2)
+            .filter(|node| node[0] > 0 || !faults().empty_lengths_left_out)
+            .map(|node| grammar.rules[usize::from(node[1])].length)
+            .sum(),
+    )
+}
+
+/// Hundredths rounded to tenths, halves away from zero.
+pub fn round(sum: i32) -> i32 {
+    let tenths = (sum.abs() + if faults().half_toward_zero { 4 } else { 5 }) / 10;
+    if faults().half_upward {
+        return (sum + 5).div_euclid(10);
+    }
+    if sum < 0 {
+        -tenths
+    } else {
+        tenths
+    }
+}
+
+/// Same build: the rules of the non-empty nodes agree as a bag.
+pub fn same_build(one: &[u16], other: &[u16]) -> bool {
+    let bag = |row: &[u16]| {
+        let mut rules: Vec<u16> =
+            row.chunks(2).filter(|node| node[0] > 0 || faults().empty_nodes_in_the_build).map(|node| node[1]).collect();
+        if !faults().build_in_order {
+            rules.sort();
+        }
+        if faults().build_as_a_set {
+            rules.dedup();
+        }
+        rules
+    };
+    bag(one) == bag(other)
+}

@@ -1,0 +1,130 @@
+//! Random books from fixed seeds: the reader under test beside the lister. What
+//! came up is printed, and each outcome has to come up often enough.
+
+use outside_tests::books::book;
+use outside_tests::compare::{compare_book, Counts};
+use outside_tests::reader::Reader;
+use outside_tests::reader_under_test;
+use std::time::Instant;
+
+/// Books compared in a run.
+const BOOKS: u64 = 1300;
+
+/// How often each outcome has to come up at least.
+const DUE: &[(&str, u64)] = &[
+    ("book", 1000),
+    // Loading: the books themselves, and each of them damaged in thirty ways.
+    ("load: refused 1", 20),
+    ("load: refused 2", 30),
+    ("load: refused 3", 20),
+    ("load: refused 4", 20),
+    ("load: refused 5", 10),
+    ("load: refused 6", 15),
+    ("load: refused 7", 20),
+    ("load: depth 0", 100),
+    ("load: depth above 0", 500),
+    ("other load: refused 1", 5000),
+    ("other load: refused 2", 5000),
+    ("other load: refused 3", 2000),
+    ("other load: refused 4", 3000),
+    ("other load: refused 5", 40),
+    ("other load: refused 6", 150),
+    ("other load: refused 7", 2000),
+    // Inputs and what they have.
+    ("input: empty", 100),
+    ("input: 1 to 8 terminals", 3000),
+    ("input: 9 to 64 terminals", 150),
+    ("no tree", 1000),
+    ("only trees over the limit", 50),
+    ("one derivation", 1000),
+    ("two or more", 1000),
+    ("the limit cuts some", 60),
+    // Opening and taking.
+    ("complete: yes", 5000),
+    ("complete: no", 5000),
+    ("take over a spoilt chart", 10_000),
+    ("take over a spoilt chart: an empty piece as found decides", 1500),
+    ("open: refused 8", 3000),
+    ("open: refused 10", 1500),
+    ("take: refused 8", 3000),
+    ("take: refused 10", 1000),
+    ("take: refused 14", 1000),
+    ("take: refused 15", 500),
+    // Rows offered.
+    ("check: Yes", 20_000),
+    ("check: No", 20_000),
+    ("offered: a tree over the limit", 800),
+    ("offered: superfluous recursion", 4000),
+    ("check: refused 8", 3000),
+    ("check: refused 9", 2000),
+    ("check: refused 10", 500),
+    ("length: answered", 20_000),
+    ("length: refused 8", 3000),
+    ("length: refused 9", 2000),
+    ("length: refused 10", 500),
+    ("length: refused 12", 5000),
+    ("same build: two derivations, yes", 1000),
+    ("same build: two derivations, no", 3000),
+    ("same build: a derivation and itself", 3000),
+    ("same build: refused 8", 3000),
+    ("same build: refused 9", 2000),
+    ("same build: refused 10", 500),
+    ("same build: refused 12", 5000),
+    // Styles.
+    ("style: plain", 40),
+    ("style: nullable", 40),
+    ("style: unit cycles", 40),
+    ("style: left recursion", 40),
+    ("style: twin rules", 40),
+    ("style: kinds without rules", 40),
+    ("style: forbidden ancestor", 40),
+    ("style: beside a bush", 80),
+    ("style: forbidden ancestor beside a bush", 40),
+    ("style: near the limits", 40),
+    ("style: dense", 40),
+    ("style: expressions", 40),
+    ("style: soup", 30),
+    ("style: damaged", 100),
+];
+
+/// The same for a reader that lists.
+const DUE_LISTING: &[(&str, u64)] = &[
+    ("walk: First", 3000),
+    ("walk: NextWithCopy", 5000),
+    ("walk: NextWithNoDerivation", 800),
+    ("walk: Count", 1000),
+    ("first: refused 11", 300),
+    ("next: refused 11", 300),
+    ("count: refused 10", 500),
+];
+
+#[test]
+fn random_books() {
+    let began = Instant::now();
+    let half = |parity: u64| {
+        let reader = reader_under_test();
+        let mut counts = Counts::default();
+        for seed in (0..BOOKS).filter(|seed| seed % 2 == parity) {
+            if let Err(difference) = compare_book(&reader, &book(seed), seed, &mut counts) {
+                panic!("{difference}");
+            }
+        }
+        counts
+    };
+    let mut counts = Counts::default();
+    std::thread::scope(|scope| {
+        let other = scope.spawn(|| half(1));
+        counts.merge(&half(0));
+        counts.merge(&other.join().expect("no difference in the other half"));
+    });
+    println!("{BOOKS} books in {:.1} s", began.elapsed().as_secs_f32());
+    for (name, count) in &counts.0 {
+        println!("{count:8}  {name}");
+    }
+    let listing = if reader_under_test().lists() { DUE_LISTING } else { &[] };
+    for (name, due) in DUE.iter().chain(listing) {
+        assert!(counts.get(name) >= *due, "{name}: came up {} times, due {due}", counts.get(name));
+    }
+    let skipped = counts.get("skipped: too large to list");
+    assert!(skipped * 10 < counts.get("one derivation") + counts.get("two or more"), "{skipped} inputs skipped");
+}
