@@ -186,24 +186,47 @@ fn the_limit_of_512() {
     compared(&over, b"A");
 }
 
-#[test]
-fn the_deepest_reading() {
+/// k -> k + 1 for k of 0 to 30, 31 -> A 0, 31 -> A.
+fn deepest() -> Vec<u8> {
     let mut rules: Vec<String> = (0..31).map(|k| format!("{k}: {}", k + 1)).collect();
     rules.extend(["31: A 0".to_string(), "31: A".to_string()]);
     let rules: Vec<&str> = rules.iter().map(String::as_str).collect();
-    let deep = book(0, &rules);
+    book(0, &rules)
+}
+
+/// The row of its one tree over n marks, by hand: covers n down to 1, each 32 deep.
+fn deepest_row(n: u16) -> Vec<u16> {
+    (1..=n)
+        .rev()
+        .flat_map(|cover| (0..32).flat_map(move |k| [cover, if (cover, k) == (1, 31) { 32 } else { k }]))
+        .collect()
+}
+
+#[test]
+fn the_deepest_reading() {
+    let deep = deepest();
     let readings = listed(&deep, &[b'A'; 16]);
     assert_eq!((readings.len(), readings[0].len()), (1, 1024));
+    assert_eq!(readings[0], deepest_row(16));
     compared(&deep, &[b'A'; 16]);
     assert!(listed(&deep, &[b'A'; 17]).is_empty());
     assert!(complete(&loaded(&deep), &[b'A'; 17]));
-    // Its 544 parts, by hand: covers 17 down to 1, each 32 deep.
-    let long: Vec<u16> = (1..=17_u16)
-        .rev()
-        .flat_map(|cover| (0..32).flat_map(move |k| [cover, if (cover, k) == (1, 31) { 32 } else { k }]))
-        .collect();
-    assert_eq!(check(&loaded(&deep), &[b'A'; 17], &long), Answer::No);
-    assert_eq!(check(&loaded(&deep), &[b'A'; 16], &long[64..]), Answer::Yes);
+    assert_eq!(check(&loaded(&deep), &[b'A'; 17], &deepest_row(17)), Answer::No);
+    assert_eq!(check(&loaded(&deep), &[b'A'; 16], &deepest_row(16)), Answer::Yes);
+}
+
+/// The deepest reading, 512 parts nested 512 deep, checked and measured by the
+/// proved library on a stack of 256 KiB: a quarter of what is asked for.
+#[cfg(feature = "library")]
+#[test]
+fn the_deepest_reading_on_a_small_stack() {
+    let call = || {
+        let (flat, input, offered) = (loaded(&deepest()), [b'A'; 16], deepest_row(16));
+        assert_eq!(check(&flat, &input, &offered), Answer::Yes);
+        assert_eq!(length(&flat, &input, &offered), Answer::Tenths(0));
+        assert_eq!(same_build(&flat, &input, &offered, &offered), Answer::Yes);
+    };
+    std::thread::Builder::new().stack_size(256 * 1024).spawn(call).unwrap().join().unwrap();
 }
 
 #[test]

@@ -1,0 +1,26 @@
+/* Book T of document 01: 0 -> 1 1 (4,600), 1 -> nothing (0), 1 -> A (25). */
+#include <stdio.h>
+#include "filbozseg.h"
+
+static const uint8_t book[] = {0x10, 0x00, 0x20, 0x00, 0xF8, 0x11, 0x30, 0x01, 0x30, 0x01, 0x20,
+                               0x01, 0x00, 0x00, 0x20, 0x01, 0x19, 0x00, 0x40, 0x41, 0x50};
+static const uint8_t plate[] = {'A'};
+static const uint16_t reading[] = {1, 0, 0, 1, 1, 2};
+static uint16_t grammar[FILBOZSEG_ROW];
+static uint32_t chart[FILBOZSEG_CELLS];
+
+int main(void)
+{
+    uint8_t bytes[FILBOZSEG_BYTES];
+    size_t count, offset;
+    int32_t tenths;
+    printf("loaded: %u\n", filbozseg_load(book, sizeof book, grammar, &offset));
+    printf("nothing complete: %u\n", filbozseg_open(grammar, bytes, &count, chart, FILBOZSEG_CELLS));
+    printf("A complete: %u\n", filbozseg_take(grammar, bytes, &count, 'A', chart, FILBOZSEG_CELLS));
+    printf("reading: %u\n", filbozseg_check(grammar, plate, 1, reading, 6, chart, FILBOZSEG_CELLS));
+    printf("measured: %u\n", filbozseg_length(grammar, plate, 1, reading, 6, chart, FILBOZSEG_CELLS, &tenths));
+    printf("tenths: %d\n", (int)tenths);
+    printf("another book: %u", filbozseg_load(book, 9, grammar, &offset));
+    printf(" at offset %zu\n", offset);
+    return 0;
+}
