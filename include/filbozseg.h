@@ -43,16 +43,16 @@ extern "C" {
  */
 
 /*
- * Loads a book of any length. Returns 1 and leaves the row of its grammar, and 0 at offset; or 256 + n, n from 1 to 7, and leaves the row of
- * the grammar of no rules, and at offset where the fault is.
+ * Loads a book of any length. Returns 1 and leaves the row of its grammar, and 0 at offset; or 256 + n, n from 1 to 7, and leaves the row
+ * of the grammar of no rules, and at offset where the fault is.
  * Stack: 13 KiB.
  */
 uint32_t filbozseg_load(const uint8_t *book, size_t book_length, uint16_t grammar[FILBOZSEG_ROW], size_t *offset);
 
 /*
  * Opens the recognizer: leaves the state of no bytes (64 zeros, count 0), clears the first 4225 cells of the chart and writes its first
- * column. Returns whether the empty input is complete. Refusals, in this order: 8 the grammar; 10 a chart of fewer than 4225 cells. Refused,
- * it leaves the state of no bytes and the chart as found.
+ * column. Returns whether the empty input is complete. Refusals, in this order: 8 the grammar; 10 a chart of fewer than 4225 cells.
+ * Refused, it leaves the state of no bytes and the chart as found.
  * Stack: 44 KiB.
  */
 uint32_t filbozseg_open(const uint16_t grammar[FILBOZSEG_ROW], uint8_t bytes[FILBOZSEG_BYTES], size_t *count,
@@ -86,8 +86,8 @@ uint32_t filbozseg_length(const uint16_t grammar[FILBOZSEG_ROW], const uint8_t *
                           const uint16_t *offered, size_t offered_length, uint32_t *chart, size_t chart_length, int32_t *tenths);
 
 /*
- * Returns whether two offered derivations of the input are the same build: whether the rules of their nodes that cover something agree, each
- * as often. Refusals and chart as at filbozseg_length; 12 where either row is no derivation.
+ * Returns whether two offered derivations of the input are the same build: whether the rules of their nodes that cover something agree,
+ * each as often. Refusals and chart as at filbozseg_length; 12 where either row is no derivation.
  * Stack: 137 KiB.
  */
 uint32_t filbozseg_same_build(const uint16_t grammar[FILBOZSEG_ROW], const uint8_t *input, size_t input_length,

@@ -111,7 +111,8 @@ module _ (g : Grammar) (w chart : List ℕ) (answer : Unit {0} → Answer) (j : 
       go (bad-input v b) =
           decide-first refuse on (grammarCheck g ∷ []) (inputCheck w) (chartCheck chart ∷ []) (ap not v, tt) b
       go (no-room v b l) =
-          decide-first refuse on (grammarCheck g ∷ inputCheck w ∷ []) (chartCheck chart) [] (ap not v, (b, tt)) (lt-ltb (length chart) 4225 l)
+          decide-first refuse on (grammarCheck g ∷ inputCheck w ∷ []) (chartCheck chart) [] (ap not v, (b, tt))
+          (lt-ltb (length chart) 4225 l)
 
   ready : j ≡ J.Passed → Ready g w chart
   ready h = go (subst (Judging g (length w) (length chart)) h judging)

@@ -16,7 +16,7 @@ ghost use Rattle.results.specs.Check.{checkOf};
 ghost use Rattle.results.specs.Measure.{lengthOf, sameBuildOf, sum as sumOf, rounded as roundedOf};
 ghost use Rattle.checker.specs.Calls.{Judging, checkedOf, measuredOf, comparedOf, checkingOf, checkAnswer, lengthAnswer, buildAnswer};
 
-pub mod build;
+mod build;
 pub mod measure;
 pub mod walk;
 
@@ -80,6 +80,7 @@ fn fill(g: Grammar, input: &[u8], chart: &mut [u32]) -> [u8; 2304]
     p
 }
 
+// A byte as a number.
 fn wide(x: u8) -> usize
     ensures { λ n. ⌜ n ≡ x ⌝ }
 {
@@ -142,6 +143,7 @@ fn compare_offered(p: &[u8; 2304], start: usize, input: &[u8], a: &[u16], b: &[u
 
 // ---- the exported calls
 
+// Whether the offered row is a derivation of the input. Refusals 8, 9 and 10.
 pub fn check(g: Grammar, input: &[u8], offered: &[u16], chart: &mut [u32]) -> Checked
     ensures { λ r. ⌜ checkingOf (checkedOf r) (now (chart .exit))
         ≡ checkOf g (now (input .entry)) (now (offered .entry)) (now (chart .entry)) ⌝ }
@@ -155,6 +157,7 @@ pub fn check(g: Grammar, input: &[u8], offered: &[u16], chart: &mut [u32]) -> Ch
     }
 }
 
+// The length of an offered derivation. Refusals 8, 9, 10 and 12.
 pub fn length(g: Grammar, input: &[u8], offered: &[u16], chart: &mut [u32]) -> Measured
     ensures { λ r. ⌜ checkingOf (measuredOf r) (now (chart .exit))
         ≡ lengthOf g (now (input .entry)) (now (offered .entry)) (now (chart .entry)) ⌝ }
@@ -168,6 +171,7 @@ pub fn length(g: Grammar, input: &[u8], offered: &[u16], chart: &mut [u32]) -> M
     }
 }
 
+// Whether two offered derivations are the same build. Refusals 8, 9, 10 and 12.
 pub fn same_build(g: Grammar, input: &[u8], a: &[u16], b: &[u16], chart: &mut [u32]) -> Compared
     ensures { λ r. ⌜ checkingOf (comparedOf r) (now (chart .exit))
         ≡ sameBuildOf g (now (input .entry)) (now (a .entry)) (now (b .entry)) (now (chart .entry)) ⌝ }

@@ -26,7 +26,7 @@ pub fn number(e: &[u16], i: usize) -> usize
     e[i] as usize
 }
 
-// The rule of node i, or 128 if it is more.
+// The rule of node i, or 128 if that is less.
 pub fn rule_number(e: &[u16], i: usize) -> usize
     requires { ⌜ (2 * i + 1 < length (now e)) × (i < 512) ⌝ }
     ensures { λ r. ⌜ r ≡ min (getD (now (e .entry)) (2 * i + 1) 0) 128 ⌝ }

@@ -1,5 +1,5 @@
--- What each exported function returns and leaves, in the terms of the results of document 01. A grammar is a flat row (crate flat), a state of
--- the recognizer 64 bytes and a count.
+-- What each exported function returns and leaves, in terms of the results of document 01. A grammar is a flat row (crate flat), a state
+-- of the recognizer 64 bytes and a count.
 -- Assumes nothing.
 use Prim.Native.Nat.{ℕ}
 use mathlib.Core.List.{List}

@@ -5,8 +5,8 @@ use lib.IntN.{ℤ, pos}
 use Rattle.results.specs.Answer.{Answer}
 use Rattle.results.specs.Answer.Answer.{refused, refusedAt, loaded, affirmed, denied, handed, noDerivation, noneLeft, counted, more, tenths}
 
--- 0 for no; 1 for yes, loaded and measured; 256 and the number of a refusal. The answers of first, next and count, which no call here gives,
--- are 512
+-- 0 for no; 1 for yes, loaded and measured; 256 and the number of a refusal. The answers of first, next and count, which no call here
+-- gives, are 512
 abbrev pub codeOf : Answer → ℕ
 codeOf (refused n) = 256 + n
 codeOf (refusedAt n at) = 256 + n

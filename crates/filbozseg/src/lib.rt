@@ -117,7 +117,8 @@ pub extern "C" fn filbozseg_open(
     count: &mut usize,
     chart: &mut [u32],
 ) -> u32
-    ensures { λ c. ⌜ Recognizes (openOf (grammarIn (now (grammar .entry))) (now (chart .entry)))
+    ensures { λ c. ⌜ Recognizes
+        (openOf (grammarIn (now (grammar .entry))) (now (chart .entry)))
         c (now (bytes .exit)) (now (count .exit)) (now (chart .exit)) ⌝ }
 {
     let a = recognizer::open(flat::read(grammar), chart);
@@ -138,7 +139,8 @@ pub extern "C" fn filbozseg_take(
     byte: u8,
     chart: &mut [u32],
 ) -> u32
-    ensures { λ c. ⌜ Recognizes (takeOf (grammarIn (now (grammar .entry))) (stateIn (now (bytes .entry)) (now (count .entry))) byte (now (chart .entry)))
+    ensures { λ c. ⌜ Recognizes
+        (takeOf (grammarIn (now (grammar .entry))) (stateIn (now (bytes .entry)) (now (count .entry))) byte (now (chart .entry)))
         c (now (bytes .exit)) (now (count .exit)) (now (chart .exit)) ⌝ }
 {
     let found = *bytes;
@@ -163,7 +165,8 @@ pub extern "C" fn filbozseg_check(
     offered: &[u16],
     chart: &mut [u32],
 ) -> u32
-    ensures { λ c. ⌜ Checks (checkOf (grammarIn (now (grammar .entry))) (now (input .entry)) (now (offered .entry)) (now (chart .entry)))
+    ensures { λ c. ⌜ Checks
+        (checkOf (grammarIn (now (grammar .entry))) (now (input .entry)) (now (offered .entry)) (now (chart .entry)))
         c (now (chart .exit)) ⌝ }
 {
     checked_code(checker::check(flat::read(grammar), input, offered, chart))
@@ -178,7 +181,8 @@ pub extern "C" fn filbozseg_length(
     chart: &mut [u32],
     tenths: &mut i32,
 ) -> u32
-    ensures { λ c. ⌜ Measures (lengthOf (grammarIn (now (grammar .entry))) (now (input .entry)) (now (offered .entry)) (now (chart .entry)))
+    ensures { λ c. ⌜ Measures
+        (lengthOf (grammarIn (now (grammar .entry))) (now (input .entry)) (now (offered .entry)) (now (chart .entry)))
         c (now (chart .exit)) (now (tenths .exit)) ⌝ }
 {
     let m = checker::length(flat::read(grammar), input, offered, chart);
@@ -195,7 +199,8 @@ pub extern "C" fn filbozseg_same_build(
     b: &[u16],
     chart: &mut [u32],
 ) -> u32
-    ensures { λ c. ⌜ Checks (sameBuildOf (grammarIn (now (grammar .entry))) (now (input .entry)) (now (a .entry)) (now (b .entry)) (now (chart .entry)))
+    ensures { λ c. ⌜ Checks
+        (sameBuildOf (grammarIn (now (grammar .entry))) (now (input .entry)) (now (a .entry)) (now (b .entry)) (now (chart .entry)))
         c (now (chart .exit)) ⌝ }
 {
     compared_code(checker::same_build(flat::read(grammar), input, a, b, chart))

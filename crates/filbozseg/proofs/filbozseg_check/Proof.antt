@@ -21,9 +21,11 @@ same-length c = search needs
 
 returns : tie.Need-returns
 returns c =
-    let a = c .before .before .before .before .before .before .before .before .before .args in
-    checks-of (c .before .before .before .before .before .read .ensures) (λ (g : Grammar). checkOf g (a .input .now) (a .offered .now) (a .chart .now)) _ _
-    (c .before .before .before .check .ensures) (c .checked-code .ensures)
+    let after-check = c .before .before .before in
+    let a = after-check .before .before .before .before .before .before .args in
+    checks-of (after-check .before .before .read .ensures)
+    (λ (g : Grammar). checkOf g (a .input .now) (a .offered .now) (a .chart .now)) _ _
+    (after-check .check .ensures) (c .checked-code .ensures)
 
 pub filbozseg-check-spec : {M : Type 1} → statement M
 filbozseg-check-spec =

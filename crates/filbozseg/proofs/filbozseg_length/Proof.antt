@@ -26,9 +26,11 @@ same-length c = search needs
 
 returns : tie.Need-returns
 returns c =
-    let a = c .before .before .before .before .before .before .before .before .before .before .args in
-    measures-of (c .before .before .before .before .before .before .read .ensures) (λ (g : Grammar). lengthOf g (a .input .now) (a .offered .now) (a .chart .now)) _ _ _
-    (c .before .before .before .before .length .ensures) (c .measured-code .ensures) (toZ-ofZ (search needs) ∙ c .before .measured-tenths .ensures)
+    let after-length = c .before .before .before .before in
+    let a = after-length .before .before .before .before .before .before .args in
+    measures-of (after-length .before .before .read .ensures)
+    (λ (g : Grammar). lengthOf g (a .input .now) (a .offered .now) (a .chart .now)) _ _ _
+    (after-length .length .ensures) (c .measured-code .ensures) (toZ-ofZ (search needs) ∙ c .before .measured-tenths .ensures)
 
 pub filbozseg-length-spec : {M : Type 1} → statement M
 filbozseg-length-spec =

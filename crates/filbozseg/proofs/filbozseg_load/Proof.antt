@@ -20,7 +20,9 @@ load-code-requires c κs = search needs
 
 returns : tie.Need-returns
 returns c =
-    loads-of _ (λ i. omega (arith, c .before .before .before .before .before .before .shared-slice-known .given i)) (c .before .before .before .before .before .load .result) (c .before .before .before .before .before .load .ensures .0) (c .before .before .before .before .before .load .ensures .1) _ _ _
+    let after-load = c .before .before .before .before .before in
+    loads-of _ (λ i. omega (arith, after-load .before .shared-slice-known .given i)) (after-load .load .result)
+    (after-load .load .ensures .0) (after-load .load .ensures .1) _ _ _
     (c .before .before .write .ensures) (c .load-code .ensures) (c .before .load-offset .ensures)
 
 pub filbozseg-load-spec : {M : Type 1} → statement M

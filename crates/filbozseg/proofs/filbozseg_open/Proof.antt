@@ -21,8 +21,10 @@ same-length c = search needs
 
 returns : tie.Need-returns
 returns c =
-    let a = c .before .before .before .before .before .before .before .before .before .args in
-    recognizes-of (c .before .before .before .before .before .before .before .read .ensures) (λ (g : Grammar). openOf g (a .chart .now)) _ _ (c .before .before .before .before .before .«open» .ensures) (c .accepted-code .ensures)
+    let after-open = c .before .before .before .before .before in
+    let a = after-open .before .before .before .before .args in
+    recognizes-of (after-open .before .before .read .ensures) (λ (g : Grammar). openOf g (a .chart .now)) _ _
+    (after-open .«open» .ensures) (c .accepted-code .ensures)
 
 pub filbozseg-open-spec : {M : Type 1} → statement M
 filbozseg-open-spec =

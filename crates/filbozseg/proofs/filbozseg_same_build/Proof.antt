@@ -21,9 +21,11 @@ same-length c = search needs
 
 returns : tie.Need-returns
 returns c =
-    let a = c .before .before .before .before .before .before .before .before .before .before .args in
-    checks-of (c .before .before .before .before .before .read .ensures) (λ (g : Grammar). sameBuildOf g (a .input .now) (a .a .now) (a .b .now) (a .chart .now)) _ _
-    (c .before .before .before .same-build .ensures) (c .compared-code .ensures)
+    let after-build = c .before .before .before in
+    let a = after-build .before .before .before .before .before .before .before .args in
+    checks-of (after-build .before .before .read .ensures)
+    (λ (g : Grammar). sameBuildOf g (a .input .now) (a .a .now) (a .b .now) (a .chart .now)) _ _
+    (after-build .same-build .ensures) (c .compared-code .ensures)
 
 pub filbozseg-same-build-spec : {M : Type 1} → statement M
 filbozseg-same-build-spec =

@@ -22,10 +22,11 @@ same-length c = search needs
 
 returns : tie.Need-returns
 returns c =
-    let a = c .before .before .before .before .before .before .before .before .before .before .before .args in
-    recognizes-of (c .before .before .before .before .before .before .before .read .ensures)
-    (λ (g : Grammar). takeOf g (stateIn (a .bytes .now) (a .count .now)) (a .byte) (a .chart .now)) _ _ (c .before .before .before .before .before .take .ensures)
-    (c .accepted-code .ensures)
+    let after-take = c .before .before .before .before .before in
+    let a = after-take .before .before .before .before .before .before .args in
+    recognizes-of (after-take .before .before .read .ensures)
+    (λ (g : Grammar). takeOf g (stateIn (a .bytes .now) (a .count .now)) (a .byte) (a .chart .now)) _ _
+    (after-take .take .ensures) (c .accepted-code .ensures)
 
 pub filbozseg-take-spec : {M : Type 1} → statement M
 filbozseg-take-spec =

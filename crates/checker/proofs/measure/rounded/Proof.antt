@@ -18,10 +18,10 @@ div-result-2 : tie.Need-div-result-2
 div-result-2 c = search (tenth-fits, needs)
 
 returns : tie.Need-returns
-returns c = search round-down
+returns c = round-down _ (c .before .pre) (c .if1 .taken)
 
 returns-2 : tie.Need-returns-2
-returns-2 c = search round-up
+returns-2 c = round-up _ (c .before .pre) (c .if1 .left)
 
 pub rounded-spec : {M : Type 1} → statement M
 rounded-spec = tie.close (tie.spec sub-result div-result add-result div-result-2 returns returns-2)

@@ -1,12 +1,16 @@
 -- `checker::walk::is_derivation` meets its contract: too long and odd rows are no derivations, and the walk decides the others.
 -- Assumes nothing.
+use native.Mathlib.Omega.{arith}
 use borrow.Author.Needs.{needs}
 use Rattle.checker.proofs.Whole.{long-unlisted, odd-unlisted, whole-listed}
 use Rattle.checker.proofs.walk.is_derivation.Statement.{statement}
 use Rattle.checker.proofs.walk.is_derivation.Tie as tie
 
+-- `checker::walk::is_derivation` meets its contract: too long and odd rows are no derivations, and the walk decides the others.
+-- Assumes nothing.
+
 returns : tie.Need-returns
-returns c = search long-unlisted
+returns c = long-unlisted _ _ _ (omega arith)
 
 returns-2 : tie.Need-returns-2
 returns-2 c = search odd-unlisted

@@ -19,7 +19,7 @@ number-requires : tie.Need-number-requires
 number-requires c κs = search needs
 
 returns-3 : tie.Need-returns-3
-returns-3 c = search rule-cover
+returns-3 c = rule-cover _ _ _ _ _ _ _ (c .before .number .result) (c .before .number .ensures .0) (omega arith)
 
 mul-number-2 : tie.Need-mul-number-2
 mul-number-2 c = search needs
