@@ -6,6 +6,7 @@ use mathlib.Core.Path.{_≡_, refl}
 use lib.IntN.{pos, negℤ}
 use lib.ListN.{replicate}
 use Rattle.grammar.specs.declared.Symbol.the-variants.{Nonterminal, Terminal}
+use Rattle.grammar.specs.declared.Place.{Place}
 use Rattle.grammar.specs.Zero.{zeroPlace, zeroRule}
 use Rattle.results.specs.Answer.{Answer, affirmed, denied, tenths}
 use Rattle.results.specs.Load.{loadOf}
@@ -48,12 +49,16 @@ pub last-nonterminal : outcome (start 31 (rule 31 (N 31 (rule 31 (A close))))) (
 unfolding outcome
 last-nonterminal = refl
 
+-- the places of its first rule
+abbrev pub gapPlaces : List Place
+gapPlaces = record { symbol = Nonterminal 1 } ∷ record { symbol = Terminal 65 } ∷ replicate 6 zeroPlace
+
 -- the whole of a loaded grammar
 pub loaded-gap : loadOf gap 1 .grammar ≡ record {
   start = 0;
   count = 2;
   depth = 1;
-  rules = record { left = 0; length = pos 100; count = 2; places = record { symbol = Nonterminal 1 } ∷ record { symbol = Terminal 65 } ∷ replicate 6 zeroPlace }
+  rules = record { left = 0; length = pos 100; count = 2; places = gapPlaces }
       ∷ record { left = 1; length = negℤ (pos 30); count = 0; places = replicate 8 zeroPlace } ∷ replicate 126 zeroRule;
 }
 unfolding outcome

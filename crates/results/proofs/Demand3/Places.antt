@@ -16,7 +16,8 @@ use Rattle.cfg.specs.Listing.{L}
 use Rattle.results.specs.Walk.{Call, first, nextCopy, nextOther, count, hands}
 use Rattle.results.specs.Walk.{move, N, row, walk, walked, placeAfter, handedOut, nexts, NoFirst}
 use Rattle.results.proofs.Demand3.Machine.{first-some, next-some}
-use Rattle.results.proofs.Demand3.Idle.{placeAfter-append, placeAfter-small, walked-since, Idle, idle-other, idle-count, idle-next-zero}
+use Rattle.results.proofs.Demand3.Idle.{placeAfter-append, placeAfter-small, walked-since}
+use Rattle.results.proofs.Demand3.Idle.{Idle, idle-other, idle-count, idle-next-zero}
 use Rattle.results.proofs.Demand3.Idle.{idle-next-last, idle-first, idle-place, idle-handed, moves-place, moves-handed}
 
 module _ (G : Cfg) (w : List ℕ) (tree : Dec (HasTree G w)) where

@@ -26,7 +26,8 @@ use Rattle.results.proofs.Demand3.Rows.{at-member, head-some, head-none
 use Rattle.results.proofs.Demand3.Listed.{L-rising, row-not-empty, row-back}
 use Rattle.results.proofs.Demand3.Machine.{first-some, first-none, next-zero, next-some, next-last, next-other}
 use Rattle.results.proofs.Demand3.Machine.{count-none, count-some, count-more}
-use Rattle.results.proofs.Demand3.Decided.{treeIn-choice, countOf-none, countOf-some, countOf-more, firstOf-goes, nextOf-listed, nextOf-other}
+use Rattle.results.proofs.Demand3.Decided.{treeIn-choice, countOf-none, countOf-some}
+use Rattle.results.proofs.Demand3.Decided.{countOf-more, firstOf-goes, nextOf-listed, nextOf-other}
 
 -- what the caller sees of first and next
 abbrev pub seen : Enumeration → Said
