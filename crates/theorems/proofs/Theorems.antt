@@ -107,7 +107,8 @@ pub load-order : (bytes : List ℕ) (at : ℕ) (g : Grammar)
 load-order = LoadOrder.step-order
 
 -- DEMAND 2: opened over any chart and fed any row of bytes, the recognizer says "complete" exactly if the bytes so far have a parse tree,
--- and each cell holds exactly the nonterminals that derive its span
+-- and each cell holds exactly the nonterminals that derive its span. The contracts of `recognizer/src/lib.rt` say that the code of open and
+-- take gives and leaves what openOf and takeOf say, and that of `checker/src/lib.rt` the same of check and checkOf
 pub demand-2 : (g : Grammar) (found : List ℕ) → validGrammar g ≡ true → 4225 ≤ length found → (ms : List ℕ)
     → Recognized (grammarOf g) found ms (fed g (openOf g found) ms)
 demand-2 = Fed.recognized
