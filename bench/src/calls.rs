@@ -1,0 +1,198 @@
+//! The calls that are timed, once over the proved library and once over the plain code, with the same arguments: a
+//! grammar is a flat row, which each call reads anew, and an answer is a number: 0 no; 1 yes, loaded or measured; 256
+//! + n refusal n.
+
+use crate::plain::flat::{self, FLAT};
+use crate::plain::recognizer::{self, Recognizer};
+use crate::plain::{checker, loader, Grammar, Refusal, CHART, INPUT};
+
+pub type Flat = [u16; FLAT];
+
+/// The bytes of the input so far and their count.
+#[derive(Clone, Debug, PartialEq)]
+pub struct Hand {
+    pub bytes: [u8; INPUT],
+    pub count: usize,
+}
+
+impl Hand {
+    pub fn new() -> Hand {
+        Hand { bytes: [0; INPUT], count: 0 }
+    }
+}
+
+pub trait Reader {
+    fn load(book: &[u8], flat: &mut Flat, offset: &mut usize) -> u32;
+    fn open(flat: &Flat, hand: &mut Hand, chart: &mut [u32]) -> u32;
+    fn take(flat: &Flat, hand: &mut Hand, byte: u8, chart: &mut [u32]) -> u32;
+    fn check(flat: &Flat, input: &[u8], offered: &[u16], chart: &mut [u32]) -> u32;
+    fn length(flat: &Flat, input: &[u8], offered: &[u16], chart: &mut [u32], tenths: &mut i32) -> u32;
+    fn same_build(flat: &Flat, input: &[u8], a: &[u16], b: &[u16], chart: &mut [u32]) -> u32;
+
+    /// Opening, and then taking each byte of the input: the answers.
+    fn feed(flat: &Flat, input: &[u8], hand: &mut Hand, chart: &mut [u32]) -> [u32; INPUT + 1] {
+        let mut answers = [0; INPUT + 1];
+        answers[0] = Self::open(flat, hand, chart);
+        for (answer, &byte) in answers[1..].iter_mut().zip(input) {
+            *answer = Self::take(flat, hand, byte, chart);
+        }
+        answers
+    }
+}
+
+mod c {
+    extern "C" {
+        pub fn filbozseg_load(book: *const u8, length: usize, grammar: *mut u16, offset: *mut usize) -> u32;
+        pub fn filbozseg_open(
+            grammar: *const u16,
+            bytes: *mut u8,
+            count: *mut usize,
+            chart: *mut u32,
+            length: usize,
+        ) -> u32;
+        pub fn filbozseg_take(
+            grammar: *const u16,
+            bytes: *mut u8,
+            count: *mut usize,
+            byte: u8,
+            chart: *mut u32,
+            length: usize,
+        ) -> u32;
+        pub fn filbozseg_check(
+            grammar: *const u16,
+            input: *const u8,
+            input_length: usize,
+            offered: *const u16,
+            offered_length: usize,
+            chart: *mut u32,
+            length: usize,
+        ) -> u32;
+        pub fn filbozseg_length(
+            grammar: *const u16,
+            input: *const u8,
+            input_length: usize,
+            offered: *const u16,
+            offered_length: usize,
+            chart: *mut u32,
+            length: usize,
+            tenths: *mut i32,
+        ) -> u32;
+        pub fn filbozseg_same_build(
+            grammar: *const u16,
+            input: *const u8,
+            input_length: usize,
+            a: *const u16,
+            a_length: usize,
+            b: *const u16,
+            b_length: usize,
+            chart: *mut u32,
+            length: usize,
+        ) -> u32;
+    }
+}
+
+pub struct Proved;
+
+// SAFETY, of each call: the arrays and slices come from Rust references, so they are as long as the library is told,
+// and those that it writes overlap nothing.
+impl Reader for Proved {
+    fn load(book: &[u8], flat: &mut Flat, offset: &mut usize) -> u32 {
+        unsafe { c::filbozseg_load(book.as_ptr(), book.len(), flat.as_mut_ptr(), offset) }
+    }
+
+    fn open(flat: &Flat, hand: &mut Hand, chart: &mut [u32]) -> u32 {
+        let (bytes, count) = (hand.bytes.as_mut_ptr(), &mut hand.count);
+        unsafe { c::filbozseg_open(flat.as_ptr(), bytes, count, chart.as_mut_ptr(), chart.len()) }
+    }
+
+    fn take(flat: &Flat, hand: &mut Hand, byte: u8, chart: &mut [u32]) -> u32 {
+        let (bytes, count) = (hand.bytes.as_mut_ptr(), &mut hand.count);
+        unsafe { c::filbozseg_take(flat.as_ptr(), bytes, count, byte, chart.as_mut_ptr(), chart.len()) }
+    }
+
+    fn check(flat: &Flat, input: &[u8], offered: &[u16], chart: &mut [u32]) -> u32 {
+        let (w, e) = (input.as_ptr(), offered.as_ptr());
+        unsafe { c::filbozseg_check(flat.as_ptr(), w, input.len(), e, offered.len(), chart.as_mut_ptr(), chart.len()) }
+    }
+
+    fn length(flat: &Flat, input: &[u8], offered: &[u16], chart: &mut [u32], tenths: &mut i32) -> u32 {
+        let (w, e) = (input.as_ptr(), offered.as_ptr());
+        unsafe {
+            c::filbozseg_length(
+                flat.as_ptr(),
+                w,
+                input.len(),
+                e,
+                offered.len(),
+                chart.as_mut_ptr(),
+                chart.len(),
+                tenths,
+            )
+        }
+    }
+
+    fn same_build(flat: &Flat, input: &[u8], a: &[u16], b: &[u16], chart: &mut [u32]) -> u32 {
+        let (w, x, y) = (input.as_ptr(), a.as_ptr(), b.as_ptr());
+        unsafe {
+            let (g, sheet) = (flat.as_ptr(), chart.as_mut_ptr());
+            c::filbozseg_same_build(g, w, input.len(), x, a.len(), y, b.len(), sheet, chart.len())
+        }
+    }
+}
+
+pub struct Plain;
+
+fn refusal(r: Refusal) -> u32 {
+    256 + r as u32
+}
+
+fn code(answer: Result<bool, Refusal>) -> u32 {
+    answer.map_or_else(refusal, u32::from)
+}
+
+impl Reader for Plain {
+    fn load(book: &[u8], flat: &mut Flat, offset: &mut usize) -> u32 {
+        match loader::load(book) {
+            Ok(g) => {
+                flat::write(&g, flat);
+                *offset = 0;
+                1
+            }
+            Err((r, at)) => {
+                flat::write(&Grammar::ZERO, flat);
+                *offset = at;
+                refusal(r)
+            }
+        }
+    }
+
+    fn open(flat: &Flat, hand: &mut Hand, chart: &mut [u32]) -> u32 {
+        *hand = Hand::new();
+        code(recognizer::open(&flat::read(flat), chart))
+    }
+
+    fn take(flat: &Flat, hand: &mut Hand, byte: u8, chart: &mut [u32]) -> u32 {
+        let mut state = Recognizer { bytes: hand.bytes, count: hand.count };
+        let answer = state.take(&flat::read(flat), byte, chart);
+        (hand.bytes, hand.count) = (state.bytes, state.count);
+        code(answer)
+    }
+
+    fn check(flat: &Flat, input: &[u8], offered: &[u16], chart: &mut [u32]) -> u32 {
+        code(checker::check(&flat::read(flat), input, offered, chart))
+    }
+
+    fn length(flat: &Flat, input: &[u8], offered: &[u16], chart: &mut [u32], tenths: &mut i32) -> u32 {
+        let measured = checker::length(&flat::read(flat), input, offered, chart);
+        *tenths = measured.unwrap_or(0);
+        measured.map_or_else(refusal, |_| 1)
+    }
+
+    fn same_build(flat: &Flat, input: &[u8], a: &[u16], b: &[u16], chart: &mut [u32]) -> u32 {
+        code(checker::same_build(&flat::read(flat), input, a, b, chart))
+    }
+}
+
+pub fn chart() -> Vec<u32> {
+    vec![0xdead_beef; CHART]
+}

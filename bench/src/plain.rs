@@ -1,0 +1,76 @@
+//! The algorithms of the proved library in plain Rust: references where the proved code passes structs by value,
+//! iterators and slices with their ordinary bounds checks, and nothing unsafe. What they compute, and in which order,
+//! is the same.
+
+pub mod checker;
+pub mod flat;
+pub mod loader;
+pub mod packed;
+pub mod recognizer;
+
+pub const RULES: usize = 128;
+pub const PLACES: usize = 8;
+pub const INPUT: usize = 64;
+pub const CHART: usize = 4225;
+
+#[derive(Clone, Copy, Debug, PartialEq)]
+pub enum Symbol {
+    Nonterminal(u8),
+    Terminal(u8),
+}
+
+#[derive(Clone, Copy, Debug, PartialEq)]
+pub struct Rule {
+    pub left: u8,
+    pub length: i16,
+    pub count: usize,
+    pub places: [Symbol; PLACES],
+}
+
+#[derive(Clone, Debug, PartialEq)]
+pub struct Grammar {
+    pub start: u8,
+    pub count: usize,
+    pub depth: u8,
+    pub rules: [Rule; RULES],
+}
+
+/// The refusals, with the numbers of document 01.
+#[derive(Clone, Copy, Debug, PartialEq)]
+pub enum Refusal {
+    UnexpectedEnd = 1,
+    UnknownCommand = 2,
+    OutOfTurn = 3,
+    NonterminalTooLarge = 4,
+    TooManyRules = 5,
+    TooManyPlaces = 6,
+    FurtherByte = 7,
+    InvalidGrammar = 8,
+    InputLength = 9,
+    ChartTooShort = 10,
+    NotADerivation = 12,
+    InvalidRecognizer = 14,
+    RecognizerFull = 15,
+}
+
+impl Rule {
+    pub const ZERO: Rule = Rule { left: 0, length: 0, count: 0, places: [Symbol::Nonterminal(0); PLACES] };
+
+    fn valid(&self) -> bool {
+        self.left < 32
+            && self.count <= PLACES
+            && self.places[..self.count].iter().all(|s| !matches!(s, Symbol::Nonterminal(k) if *k > 31))
+    }
+}
+
+impl Grammar {
+    pub const ZERO: Grammar = Grammar { start: 0, count: 0, depth: 0, rules: [Rule::ZERO; RULES] };
+
+    /// Check 8.
+    pub fn valid(&self) -> bool {
+        self.start < 32 && self.count <= RULES && self.rules[..self.count].iter().all(Rule::valid)
+    }
+}
+
+#[cfg(test)]
+mod tests;

@@ -1,0 +1,118 @@
+//! Loading a book: one command a turn, a match over its first byte, then the nullable kinds by passes until one adds
+//! nothing.
+
+use super::{Grammar, Refusal, Rule, Symbol, PLACES, RULES};
+
+enum Command {
+    Start(u8),
+    Rule(u8, i16),
+    Place(Symbol),
+    End,
+}
+
+fn command(bytes: &[u8], at: usize, rules: usize, places: usize) -> Result<Command, (Refusal, usize)> {
+    let Some(&byte) = bytes.get(at) else {
+        return Err((Refusal::UnexpectedEnd, bytes.len()));
+    };
+    match byte {
+        0x10 => {
+            if at > 0 {
+                return Err((Refusal::OutOfTurn, at));
+            }
+            match bytes[at + 1..] {
+                [] => Err((Refusal::UnexpectedEnd, bytes.len())),
+                [k, ..] if k > 31 => Err((Refusal::NonterminalTooLarge, at)),
+                [k, ..] => Ok(Command::Start(k)),
+            }
+        }
+        0x20 => {
+            if at == 0 {
+                return Err((Refusal::OutOfTurn, at));
+            }
+            match bytes[at + 1..] {
+                [k, low, high, ..] => {
+                    if k > 31 {
+                        return Err((Refusal::NonterminalTooLarge, at));
+                    }
+                    if rules >= RULES {
+                        return Err((Refusal::TooManyRules, at));
+                    }
+                    Ok(Command::Rule(k, i16::from_le_bytes([low, high])))
+                }
+                _ => Err((Refusal::UnexpectedEnd, bytes.len())),
+            }
+        }
+        0x30 | 0x40 => {
+            if at == 0 || rules == 0 {
+                return Err((Refusal::OutOfTurn, at));
+            }
+            let Some(&value) = bytes.get(at + 1) else {
+                return Err((Refusal::UnexpectedEnd, bytes.len()));
+            };
+            if byte == 0x30 && value > 31 {
+                return Err((Refusal::NonterminalTooLarge, at));
+            }
+            if places >= PLACES {
+                return Err((Refusal::TooManyPlaces, at));
+            }
+            Ok(Command::Place(if byte == 0x30 { Symbol::Nonterminal(value) } else { Symbol::Terminal(value) }))
+        }
+        0x50 => {
+            if at == 0 {
+                return Err((Refusal::OutOfTurn, at));
+            }
+            if at + 1 < bytes.len() {
+                return Err((Refusal::FurtherByte, at + 1));
+            }
+            Ok(Command::End)
+        }
+        _ => Err((Refusal::UnknownCommand, at)),
+    }
+}
+
+fn nullable_set(g: &Grammar) -> u32 {
+    let mut set = 0u32;
+    loop {
+        let before = set;
+        for rule in &g.rules[..g.count] {
+            let all =
+                rule.places[..rule.count].iter().all(|s| matches!(s, Symbol::Nonterminal(k) if set >> k & 1 == 1));
+            if all {
+                set |= 1 << rule.left;
+            }
+        }
+        if set == before {
+            return set;
+        }
+    }
+}
+
+pub fn load(bytes: &[u8]) -> Result<Grammar, (Refusal, usize)> {
+    let mut g = Grammar::ZERO;
+    let mut at = 0;
+    loop {
+        let n = g.count;
+        let places = if n == 0 { 0 } else { g.rules[n - 1].count };
+        match command(bytes, at, n, places)? {
+            Command::Start(k) => {
+                g.start = k;
+                at += 2;
+            }
+            Command::Rule(left, length) => {
+                g.rules[n] = Rule { left, length, ..Rule::ZERO };
+                g.count += 1;
+                at += 4;
+            }
+            Command::Place(symbol) => {
+                let rule = &mut g.rules[n - 1];
+                rule.places[rule.count] = symbol;
+                rule.count += 1;
+                at += 2;
+            }
+            Command::End => {
+                g.depth = nullable_set(&g).count_ones() as u8;
+                return Ok(g);
+            }
+        }
+    }
+}

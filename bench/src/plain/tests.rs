@@ -1,0 +1,199 @@
+//! The plain side against a naive reading of the definitions, on small random grammars: each column as a fixpoint over
+//! every way to cut a span, over charts filled and charts spoilt; each offered row against explicit trees.
+
+use super::packed::Packed;
+use super::recognizer::{fill, write_column};
+use super::{checker, flat, loader, Grammar, Rule, Symbol, CHART};
+use crate::random::Random;
+
+fn small_grammar(random: &mut Random) -> Grammar {
+    let kinds = 1 + random.below(5) as u8;
+    let mut g = Grammar::ZERO;
+    g.count = 1 + random.below(12);
+    let cap = 1 + random.below(4);
+    for rule in &mut g.rules[..g.count] {
+        *rule = Rule { left: random.below(kinds as usize) as u8, count: random.below(cap + 1), ..Rule::ZERO };
+        for place in &mut rule.places[..rule.count] {
+            *place = if random.below(3) == 0 {
+                Symbol::Terminal(b'A' + random.below(2) as u8)
+            } else {
+                Symbol::Nonterminal(random.below(kinds as usize) as u8)
+            };
+        }
+    }
+    g
+}
+
+/// Whether the places cut a..b, each piece a fitting mark or a kind in its cell.
+fn cuts(places: &[Symbol], a: usize, b: usize, w: &[u8], chart: &[u32]) -> bool {
+    match places {
+        [] => a == b,
+        [Symbol::Terminal(m), rest @ ..] => a < b && w[a] == *m && cuts(rest, a + 1, b, w, chart),
+        [Symbol::Nonterminal(k), rest @ ..] => {
+            (a..=b).any(|c| chart[65 * a + c] >> k & 1 == 1 && cuts(rest, c, b, w, chart))
+        }
+    }
+}
+
+fn naive_column(g: &Grammar, w: &[u8], n: usize, chart: &mut [u32]) {
+    for i in 0..=n {
+        chart[65 * i + n] = 0;
+    }
+    loop {
+        let mut changed = false;
+        for i in 0..=n {
+            for rule in &g.rules[..g.count] {
+                let bit = 1 << rule.left;
+                if chart[65 * i + n] & bit == 0 && cuts(&rule.places[..rule.count], i, n, w, chart) {
+                    chart[65 * i + n] |= bit;
+                    changed = true;
+                }
+            }
+        }
+        if !changed {
+            return;
+        }
+    }
+}
+
+#[test]
+fn fill_is_the_naive_fixpoint() {
+    let mut random = Random::new(1);
+    let mut bits = 0u64;
+    for _ in 0..4000 {
+        let g = small_grammar(&mut random);
+        let w: Vec<u8> = (0..random.below(8)).map(|_| b'A' + random.below(2) as u8).collect();
+        let mut naive = [0u32; CHART];
+        (0..=w.len()).for_each(|n| naive_column(&g, &w[..n], n, &mut naive));
+        let p = Packed::new(&g);
+        let mut chart = [7u32; CHART + 3];
+        fill(&p, &w, &mut chart);
+        assert!(chart[..CHART] == naive && chart[CHART..] == [7; 3], "{g:?} {w:?}");
+        bits += naive.iter().map(|x| x.count_ones() as u64).sum::<u64>();
+    }
+    assert!(bits > 20_000, "{bits}");
+}
+
+#[test]
+fn a_column_over_a_spoilt_chart_is_the_naive_one() {
+    let mut random = Random::new(2);
+    for _ in 0..1500 {
+        let g = small_grammar(&mut random);
+        let n = random.below(7);
+        let w: Vec<u8> = (0..n).map(|_| b'A' + random.below(2) as u8).collect();
+        let mut chart: Vec<u32> = (0..CHART).map(|_| (random.next() & random.next() & 31) as u32).collect();
+        let mut naive = chart.clone();
+        naive_column(&g, &w, n, &mut naive);
+        write_column(&Packed::new(&g), &w, n, &mut chart);
+        assert!(chart == naive, "{g:?} {w:?}");
+    }
+}
+
+/// Lists readings by explicit trees, until it has taken too many steps.
+struct Lister<'a> {
+    g: &'a Grammar,
+    w: &'a [u8],
+    steps: usize,
+}
+
+impl Lister<'_> {
+    /// The codes of the trees of kind k over from..to below the ancestors `above` (kind and span of each).
+    fn trees(&mut self, k: u8, from: usize, to: usize, above: &[(u8, usize, usize)]) -> Vec<Vec<u16>> {
+        if above.contains(&(k, from, to)) {
+            return vec![];
+        }
+        let above = [above, &[(k, from, to)]].concat();
+        let g = self.g;
+        let mut out = vec![];
+        for (r, rule) in g.rules[..g.count].iter().enumerate().filter(|(_, rule)| rule.left == k) {
+            for row in self.rows(&rule.places[..rule.count], from, to, &above) {
+                out.push([vec![(to - from) as u16, r as u16], row].concat());
+            }
+        }
+        out
+    }
+
+    fn rows(&mut self, places: &[Symbol], from: usize, to: usize, above: &[(u8, usize, usize)]) -> Vec<Vec<u16>> {
+        self.steps += 1;
+        if self.steps > 20_000 {
+            return vec![];
+        }
+        match places {
+            [] if from == to => vec![vec![]],
+            [] => vec![],
+            [Symbol::Terminal(m), rest @ ..] if from < to && self.w[from] == *m => self.rows(rest, from + 1, to, above),
+            [Symbol::Terminal(_), ..] => vec![],
+            [Symbol::Nonterminal(k), rest @ ..] => {
+                let mut out = vec![];
+                for mid in from..=to {
+                    let heads = self.trees(*k, from, mid, above);
+                    let tails = if heads.is_empty() { vec![] } else { self.rows(rest, mid, to, above) };
+                    self.steps += heads.len() * tails.len();
+                    for head in heads.iter().take(500) {
+                        out.extend(tails.iter().take(500).map(|tail| [head.clone(), tail.clone()].concat()));
+                    }
+                }
+                out
+            }
+        }
+    }
+}
+
+#[test]
+fn readings_are_checked_yes_and_damaged_rows_as_trees_say() {
+    let mut random = Random::new(3);
+    let (mut yes, mut no, mut skipped) = (0, 0, 0);
+    for _ in 0..2000 {
+        let g = small_grammar(&mut random);
+        let w: Vec<u8> = (0..1 + random.below(3)).map(|_| b'A' + random.below(2) as u8).collect();
+        let mut lister = Lister { g: &g, w: &w, steps: 0 };
+        let list = lister.trees(0, 0, w.len(), &[]);
+        if lister.steps > 20_000 {
+            skipped += 1;
+            continue;
+        }
+        let mut chart = [0u32; CHART];
+        for e in list.iter().filter(|e| e.len() <= 1024).take(20) {
+            assert_eq!(checker::check(&g, &w, e, &mut chart), Ok(true), "{g:?} {w:?} {e:?}");
+            yes += 1;
+            let mut f = e.clone();
+            let at = random.below(f.len());
+            f[at] = random.below(6) as u16;
+            let listed = list.contains(&f);
+            assert_eq!(checker::check(&g, &w, &f, &mut chart), Ok(listed), "{g:?} {w:?} {f:?}");
+            no += !listed as u32;
+        }
+    }
+    assert!(yes > 2000 && no > 1000 && skipped < 1000, "{yes} yes, {no} no, {skipped} skipped");
+}
+
+#[test]
+fn lengths_round_halves_away_from_zero() {
+    assert_eq!([4625, -25, 24, -4, 4620].map(checker::rounded), [463, -3, 2, 0, 462]);
+}
+
+#[test]
+fn faulty_books_have_the_numbers_and_offsets_of_the_design() {
+    let fault = |b: &[u8]| loader::load(b).map(|_| ()).map_err(|(r, at)| (r as u32, at));
+    assert_eq!(fault(&[]), Err((1, 0)));
+    assert_eq!(fault(&[0x10]), Err((1, 1)));
+    assert_eq!(fault(&[0x50]), Err((3, 0)));
+    assert_eq!(fault(&[0x10, 0x20]), Err((4, 0)));
+    assert_eq!(fault(&[0x10, 0, 0x10]), Err((3, 2)));
+    assert_eq!(fault(&[0x10, 0, 0x20, 0xff]), Err((1, 4)));
+    assert_eq!(fault(&[0x10, 0, 0x50, 0]), Err((7, 3)));
+    assert_eq!(fault(&[0x10, 0, 0x60]), Err((2, 2)));
+    assert_eq!(fault(&[0x10, 0, 0x50]), Ok(()));
+}
+
+#[test]
+fn the_flat_row_is_read_as_it_was_written() {
+    let mut random = Random::new(4);
+    for _ in 0..200 {
+        let mut g = small_grammar(&mut random);
+        g.rules[0].length = random.next() as i16;
+        let mut row = [9u16; flat::FLAT];
+        flat::write(&g, &mut row);
+        assert_eq!(flat::read(&row), g);
+    }
+}

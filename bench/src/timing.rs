@@ -1,0 +1,70 @@
+//! Two closures timed side by side: batches in turn, of about half a millisecond each or of one call, and per side the
+//! median and the minimum over all batches of the time of one call.
+
+use std::time::Instant;
+
+#[derive(Clone, Copy)]
+pub struct Time {
+    pub median: f64,
+    pub least: f64,
+}
+
+fn batch(f: &mut impl FnMut(), calls: usize) -> f64 {
+    let t = Instant::now();
+    for _ in 0..calls {
+        f();
+    }
+    t.elapsed().as_secs_f64() / calls as f64
+}
+
+fn calls_for(f: &mut impl FnMut()) -> usize {
+    f();
+    let once = batch(f, 1).max(1e-9);
+    ((0.0005 / once) as usize).clamp(1, 1_000_000)
+}
+
+fn time_of(mut batches: Vec<f64>) -> Time {
+    batches.sort_by(f64::total_cmp);
+    Time { median: batches[batches.len() / 2], least: batches[0] }
+}
+
+/// In seconds a call.
+pub fn pair(mut a: impl FnMut(), mut b: impl FnMut()) -> (Time, Time) {
+    let (m, n) = (calls_for(&mut a), calls_for(&mut b));
+    let count = match batch(&mut a, 1) {
+        t if t > 0.02 => 11,
+        t if t > 0.002 => 41,
+        _ => 201,
+    };
+    let (mut x, mut y) = (Vec::new(), Vec::new());
+    for i in 0..count {
+        if i % 2 == 0 {
+            x.push(batch(&mut a, m));
+            y.push(batch(&mut b, n));
+        } else {
+            y.push(batch(&mut b, n));
+            x.push(batch(&mut a, m));
+        }
+    }
+    (time_of(x), time_of(y))
+}
+
+/// How much longer a call of a takes than one of b, in seconds: the median over rounds of one call of each, and the
+/// standard error of that median, told from the quartiles.
+pub fn difference(mut a: impl FnMut(), mut b: impl FnMut(), rounds: usize) -> (f64, f64) {
+    let mut d: Vec<f64> = (0..rounds).map(|_| batch(&mut a, 1) - batch(&mut b, 1)).collect();
+    d.sort_by(f64::total_cmp);
+    let spread = (d[3 * rounds / 4] - d[rounds / 4]) / 1.35;
+    (d[rounds / 2], 1.25 * spread / (rounds as f64).sqrt())
+}
+
+/// A time in the unit that suits it.
+pub fn shown(seconds: f64) -> String {
+    if seconds.abs() < 1e-6 {
+        format!("{:.0} ns", seconds * 1e9)
+    } else if seconds.abs() < 1e-3 {
+        format!("{:.2} µs", seconds * 1e6)
+    } else {
+        format!("{:.2} ms", seconds * 1e3)
+    }
+}
