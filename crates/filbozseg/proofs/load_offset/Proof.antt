@@ -1,5 +1,5 @@
--- `filbozseg::load_offset` meets its contract: the offset of a refused book, else 0. The search would do; the file is there so that a wrong offset
--- is refused at this need.
+-- `filbozseg::load_offset` meets its contract: the offset of a refused book, else 0. The search would do; the file is
+-- there so that a wrong offset is refused at this need.
 -- Assumes nothing.
 use borrow.Author.Needs.{needs}
 use Rattle.filbozseg.proofs.load_offset.Statement.{statement}

@@ -1,5 +1,5 @@
--- `filbozseg::refusal_code` meets its contract: 256 and the number of the refusal. The search would do; the file is there so that a wrong code is
--- refused at this need.
+-- `filbozseg::refusal_code` meets its contract: 256 and the number of the refusal. The search would do; the file is
+-- there so that a wrong code is refused at this need.
 -- Assumes nothing.
 use borrow.Author.Needs.{needs}
 use Rattle.filbozseg.proofs.refusal_code.Statement.{statement}
