@@ -2,32 +2,23 @@
 -- (`column-length`), each a word of 32 bits (`column-lt`).
 -- Assumes nothing.
 use Prim.Native.Nat.{ℕ, suc, _≤_, _<_}
-use mathlib.Core.Bool.{Bool, true, false}
+use mathlib.Core.Bool.{Bool, true}
 use mathlib.Core.List.{List}
 use mathlib.Core.Logic.{_↔_}
 use mathlib.Core.Path.{_≡_, sym, ap, _∙_}
 use native.Mathlib.Decide.{decLt}
 use native.Mathlib.Omega.{arith}
-use lib.Dec.{ltb}
 use lib.ListN.{getD}
 use borrow.Author.Tests.{lt-ltb, le-ltb}
 use Rattle.sets.specs.Set.{has}
 use Rattle.cfg.specs.Grammar.{Cfg, Terminal, Of}
-use Rattle.chart.specs.Cell.{cell, cuts}
+use Rattle.chart.specs.Cell.{cell}
 use Rattle.chart.specs.Column.{column}
+use Rattle.chart.specs.Closed.{joint, Closed}
 use Rattle.chart.proofs.Cut.{InSets, cut-mono, cuts→cut, cut→cuts}
 use Rattle.chart.proofs.Derived.{Bounded}
 pub use Rattle.chart.proofs.Cells.{column-length, column-lt}
 use Rattle.chart.proofs.Inside.{Piece, ClosedBy, column-closed-by, column-inside}
-
--- earlier columns as found, column n given by f
-unfoldable pub joint : List ℕ → ℕ → (ℕ → ℕ) → ℕ → ℕ → ℕ
-joint chart n f a b = elim (ltb b n) [ true ↦ cell chart a b | false ↦ f a ]
-
--- the cells that f gives are closed under the rules
-abbrev pub Closed : Cfg → (ℕ → Terminal → Bool) → List ℕ → ℕ → (ℕ → ℕ) → Type 0
-Closed G fit chart n f =
-    (i r k : ℕ) → i ≤ n → (o : Of G r k) → cuts fit (joint chart n f) (o .the .places) i n ≡ true → has k (f i) ≡ true
 
 module _ (chart : List ℕ) (n : ℕ) (f : ℕ → ℕ) where
   joint-earlier : (a b : ℕ) → b < n → joint chart n f a b ≡ cell chart a b
@@ -70,3 +61,14 @@ module _ (G : Cfg) (fit : ℕ → Terminal → Bool) (chart : List ℕ) (n : ℕ
       → (i k : ℕ) → i ≤ n → has k (getD (column G fit chart n (suc n)) i 0) ≡ true → has k (f' i) ≡ true
   column-least f' c i k h e =
       column-inside G fit chart n (λ (j a : ℕ). has j (f' a) ≡ true) (closed-iff chart n f' G fit .0 c) i k h e
+
+  -- the cells up to n count, and no others
+  pub closed-same : (f f' : ℕ → ℕ) → ((i : ℕ) → i ≤ n → f i ≡ f' i) → Closed G fit chart n f → Closed G fit chart n f'
+  closed-same f f' same c i r k h o e =
+      ap (has k) (sym (same i h))
+      ∙ c i r k h o (cut→cuts fit (joint chart n f) n h
+      (cut-mono i n (λ a t _ q. q) (λ j a b l m u q. back j a b (omega arith) (joint-piece chart n f' j a b .0 q)) (omega arith)
+      (cuts→cut fit (joint chart n f') n (o .the .places) i h e)))
+    where
+      back : (j a b : ℕ) → a ≤ n → Piece chart n (Given chart n f') j a b → InSets (joint chart n f) j a b
+      back j a b m p = joint-piece chart n f j a b .1 (p .0, λ l. ap (has j) (same a m) ∙ p .1 l)

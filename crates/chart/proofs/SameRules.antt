@@ -15,7 +15,8 @@ use Rattle.chart.specs.Cell.{cells, fitsAt}
 use Rattle.chart.specs.Column.{column, putColumn, written, opened, extended, extendedBy, filled}
 use Rattle.chart.proofs.Cut.{bool-ext}
 use Rattle.chart.proofs.Derived.{Bounded}
-use Rattle.chart.proofs.Least.{Closed, column-length, column-lt, column-closed, column-least}
+use Rattle.chart.specs.Closed.{Closed}
+use Rattle.chart.proofs.Least.{column-length, column-lt, column-closed, column-least}
 
 -- each number has the same rule in both, or none
 abbrev pub SameRules : Cfg → Cfg → Type 0

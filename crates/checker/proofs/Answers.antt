@@ -20,8 +20,7 @@ use Rattle.grammar.specs.declared.Refusal.{Refusal}
 use Rattle.grammar.specs.Number.{numberOf}
 use Rattle.grammar.specs.View.{grammarOf}
 use Rattle.packed.specs.Packed.{cfgIn}
-use Rattle.results.specs.Answer.{Answer, refused, affirmed, denied, tenths, decide}
-use Rattle.results.specs.Recognize.{saying}
+use Rattle.results.specs.Answer.{Answer, refused, answered, decide}
 use Rattle.results.specs.Check.{listed, checkOf}
 use Rattle.results.specs.Measure.{sum, rounded, unlisted, lengthOf, rulesUsed, sameBag, sameBuildOf}
 use Rattle.checker.specs.declared.Judged.{Judged}
@@ -34,12 +33,12 @@ use Rattle.checker.proofs.Calls.{list-packed, call-refused, call-passed
 
 -- ---- a row that `is_derivation` affirms
 
-module _ (p w e : List ℕ) (s : ℕ) (b : Bool) (answered : b ≡ listed e (L (cfgIn s p) w)) where
+module _ (p w e : List ℕ) (s : ℕ) (b : Bool) (told : b ≡ listed e (L (cfgIn s p) w)) where
   pub offered-short : b ≡ true → length e ≤ 1024
-  offered-short h = derivation-length (cfgIn s p) limit w e (listed-derivation (cfgIn s p) w e (sym answered ∙ h))
+  offered-short h = derivation-length (cfgIn s p) limit w e (listed-derivation (cfgIn s p) w e (sym told ∙ h))
 
   offered-low : b ≡ true → Low e
-  offered-low h = derivation-low s p w e (listed-derivation (cfgIn s p) w e (sym answered ∙ h))
+  offered-low h = derivation-low s p w e (listed-derivation (cfgIn s p) w e (sym told ∙ h))
 
 pub both-ready : (p w d e : List ℕ) (s : ℕ) (a b : Bool) → a ≡ listed d (L (cfgIn s p) w) → b ≡ listed e (L (cfgIn s p) w) → not a ≡ false
     → not b ≡ false → (length d ≤ 1024) × (length e ≤ 1024) × Low d × Low e
@@ -52,21 +51,21 @@ both-ready p w d e s a b first second h k = (
 
 -- ---- the answers over a list of derivations
 
-module _ (l : List (List ℕ)) (e : List ℕ) (b : Bool) (answered : b ≡ listed e l) where
-  pub check-yes : b ≡ true → affirmed ≡ checkAnswer l e
-  check-yes h = ap saying (sym h ∙ answered)
+module _ (l : List (List ℕ)) (e : List ℕ) (b : Bool) (told : b ≡ listed e l) where
+  pub check-yes : b ≡ true → answered true ≡ checkAnswer l e
+  check-yes h = ap answered (sym h ∙ told)
 
-  pub check-no : b ≡ false → denied ≡ checkAnswer l e
-  check-no h = ap saying (sym h ∙ answered)
+  pub check-no : b ≡ false → answered false ≡ checkAnswer l e
+  check-no h = ap answered (sym h ∙ told)
 
   pub length-yes : (g : Grammar) (z : ℤ) → b ≡ true → SFits w32 z → z ≡ rounded (sum g e)
-      → tenths (toZ w32 (ofZ w32 z)) ≡ lengthAnswer g l e
+      → answered (toZ w32 (ofZ w32 z)) ≡ lengthAnswer g l e
   unfolding decide
-  length-yes g z h f d = rw (← answered, h) (ap tenths (toZ-ofZ f ∙ d))
+  length-yes g z h f d = rw (← told, h) (ap answered (toZ-ofZ f ∙ d))
 
   pub length-no : (g : Grammar) → b ≡ false → refused 12 ≡ lengthAnswer g l e
   unfolding decide
-  length-no g h = rw (← answered, h)
+  length-no g h = rw (← told, h)
 
 module _ (l : List (List ℕ)) (d e : List ℕ) (a : Bool) (first : a ≡ listed d l) where
   pub build-first : not a ≡ true → refused 12 ≡ buildAnswer l d e
@@ -79,11 +78,11 @@ module _ (l : List (List ℕ)) (d e : List ℕ) (a : Bool) (first : a ≡ listed
     build-second k = rw (← first, ← second, not-false a h, not-true b k)
 
     module _ (k : not b ≡ false) (c : Bool) (compared : c ≡ sameBag (rulesUsed d) (rulesUsed e)) where
-      pub build-same : c ≡ true → affirmed ≡ buildAnswer l d e
+      pub build-same : c ≡ true → answered true ≡ buildAnswer l d e
       unfolding decide
       build-same m = rw (← first, ← second, ← compared, not-false a h, not-false b k, m)
 
-      pub build-different : c ≡ false → denied ≡ buildAnswer l d e
+      pub build-different : c ≡ false → answered false ≡ buildAnswer l d e
       unfolding decide
       build-different m = rw (← first, ← second, ← compared, not-false a h, not-false b k, m)
 
@@ -103,22 +102,22 @@ module _ (g : Grammar) (w chart : List ℕ) (j : Judged) (judging : Judging g (l
     unfolding sameBuildOf
     build-refused a b = call-refused g w chart _ j judging r is
 
-  module _ (is : j ≡ J.Passed) (p chart' : List ℕ) (s : ℕ) (start : s ≡ g .start) (a : Answer)
+  module _ (is : j ≡ J.Passed) (p chart' : List ℕ) (s : ℕ) (start : s ≡ g .start)
       (filling : (chart' ≡ filled (grammarOf g) w chart) × ((r : ℕ) → rule (cfgIn (g .start) p) r ≡ rule (grammarOf g) r)) where
     same : L (cfgIn s p) w ≡ L (grammarOf g) w
     same = list-packed g p w (filling .1) s start
 
-    pub check-answered : (e : List ℕ) → a ≡ checkAnswer (L (cfgIn s p) w) e → checkingOf a chart' ≡ checkOf g w e chart
+    pub check-answered : (a : Answer Bool) (e : List ℕ) → a ≡ checkAnswer (L (cfgIn s p) w) e → checkingOf a chart' ≡ checkOf g w e chart
     unfolding checkOf
-    check-answered e d =
+    check-answered a e d =
         call-passed g w chart _ j judging chart' a is (filling .0) (d ∙ ap (λ (l : List (List ℕ)). checkAnswer l e) same)
 
-    pub length-answered : (e : List ℕ) → a ≡ lengthAnswer g (L (cfgIn s p) w) e → checkingOf a chart' ≡ lengthOf g w e chart
+    pub length-answered : (a : Answer ℤ) (e : List ℕ) → a ≡ lengthAnswer g (L (cfgIn s p) w) e → checkingOf a chart' ≡ lengthOf g w e chart
     unfolding lengthOf unlisted
-    length-answered e d =
+    length-answered a e d =
         call-passed g w chart _ j judging chart' a is (filling .0) (d ∙ ap (λ (l : List (List ℕ)). lengthAnswer g l e) same)
 
-    pub build-answered : (b c : List ℕ) → a ≡ buildAnswer (L (cfgIn s p) w) b c → checkingOf a chart' ≡ sameBuildOf g w b c chart
+    pub build-answered : (a : Answer Bool) (b c : List ℕ) → a ≡ buildAnswer (L (cfgIn s p) w) b c → checkingOf a chart' ≡ sameBuildOf g w b c chart
     unfolding sameBuildOf unlisted
-    build-answered b c d =
+    build-answered a b c d =
         call-passed g w chart _ j judging chart' a is (filling .0) (d ∙ ap (λ (l : List (List ℕ)). buildAnswer l b c) same)

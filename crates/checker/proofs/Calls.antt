@@ -1,13 +1,13 @@
 -- The exported calls by their steps, with premises as their code gives them: the checks 8, 9 and 10, the filled chart, and the answers.
 -- Assumes nothing.
 use Prim.Native.Nat.{ℕ, _≤_, _<_}
-use mathlib.Core.Bool.{Bool, true, false, not, _||_, true≢false}
+use mathlib.Core.Bool.{Bool, true, false, not}
 use mathlib.Core.List.{List, [], _∷_}
+use mathlib.Core.Logic.{inl, inr}
 use mathlib.Core.Path.{_≡_, refl, sym, ap, ap₂, subst, _∙_}
 use native.Mathlib.Omega.{arith}
-use lib.Dec.{eqb, ltb}
 use lib.ListN.{length}
-use borrow.Author.Tests.{eq-eqb, ne-eqb, eqb-false, lt-ltb, ltb-false, not-true, not-false}
+use borrow.Author.Tests.{lt-ltb, not-true, not-false}
 use Rattle.cfg.specs.Grammar.{rule}
 use Rattle.cfg.specs.Derivation.{limit}
 use Rattle.cfg.specs.Listing.{L}
@@ -26,47 +26,34 @@ use Rattle.results.specs.Recognize.{grammarCheck, chartCheck}
 use Rattle.results.specs.Check.{inputCheck, Checking, onInput}
 use Rattle.demands.specs.Ready.{Ready}
 use Rattle.results.proofs.Decide.{decide-first}
+use Rattle.demands.proofs.Passed.{input-fails, input-passes}
 use Rattle.demands.proofs.Later.{onInput-passed}
 use Rattle.checker.specs.declared.Judged.{Judged}
 use Rattle.checker.specs.declared.Judged.the-variants as J
-use Rattle.checker.specs.Calls.{checkingOf, Judging, passed, invalid, bad-input, no-room}
+use Rattle.checker.specs.Calls.{checkingOf, Judging, passed, invalid, no-input, long-input, no-room}
 use Rattle.checker.proofs.SameRules.{derivations-same-rules}
 
 -- ---- checks 8, 9 and 10
-
-module _ (n : ℕ) where
-  pub bad-empty : n ≡ 0 → true ≡ (eqb n 0 || ltb 64 n)
-  bad-empty h = sym (ap (λ (b : Bool). b || ltb 64 n) (eq-eqb n 0 h))
-
-  pub bad-long : (n ≡ 0 → ⊥) → ltb 64 n ≡ (eqb n 0 || ltb 64 n)
-  bad-long h = sym (ap (λ (b : Bool). b || ltb 64 n) (ne-eqb n 0 h))
-
-  good-length : (eqb n 0 || ltb 64 n) ≡ false → (0 < n) × (n ≤ 64)
-  good-length h = go (eqb n 0) (ltb 64 n) refl refl h
-    where
-      go : (a b : Bool) → eqb n 0 ≡ a → ltb 64 n ≡ b → (a || b) ≡ false → (0 < n) × (n ≤ 64)
-      go true b p q e = absurd (true≢false e)
-      go false true p q e = absurd (true≢false e)
-      go false false p q e =
-          let d = eqb-false n 0 p in
-          (omega arith, ltb-false 64 n q)
 
 module _ (g : Grammar) (n m : ℕ) (v : Bool) (valid : v ≡ validGrammar g) where
   pub judge-invalid : not v ≡ true → Judging g n m (J.Refused InvalidGrammar)
   judge-invalid h = invalid (sym valid ∙ not-true v h)
 
-  module _ (h : not v ≡ false) (b : Bool) (bad : b ≡ (eqb n 0 || ltb 64 n)) where
+  module _ (h : not v ≡ false) where
     fine : validGrammar g ≡ true
     fine = sym valid ∙ not-false v h
 
-    pub judge-input : b ≡ true → Judging g n m (J.Refused InputLength)
-    judge-input e = bad-input fine (sym bad ∙ e)
+    pub judge-empty : n ≡ 0 → Judging g n m (J.Refused InputLength)
+    judge-empty e = no-input fine e
 
-    pub judge-room : b ≡ false → m < 4225 → Judging g n m (J.Refused ChartTooShort)
-    judge-room e l = no-room fine (sym bad ∙ e) l
+    pub judge-long : 64 < n → Judging g n m (J.Refused InputLength)
+    judge-long l = long-input fine l
 
-    pub judge-passed : b ≡ false → 4225 ≤ m → Judging g n m J.Passed
-    judge-passed e l = passed fine (sym bad ∙ e) l
+    pub judge-room : (n ≡ 0 → ⊥) → n ≤ 64 → m < 4225 → Judging g n m (J.Refused ChartTooShort)
+    judge-room e l r = no-room fine (omega arith) l r
+
+    pub judge-passed : (n ≡ 0 → ⊥) → n ≤ 64 → 4225 ≤ m → Judging g n m J.Passed
+    judge-passed e l r = passed fine (omega arith) l r
 
 -- ---- the chart
 
@@ -92,34 +79,37 @@ pub judged-ready : (g : Grammar) (n m : ℕ) (j : Judged) → Judging g n m j �
 judged-ready g n m j judging h = go (subst (Judging g n m) h judging)
   where
     go : Judging g n m J.Passed → (validGrammar g ≡ true) × (n ≤ 64) × (4225 ≤ m)
-    go (passed v a l) = (v, good-length n a .1, l)
+    go (passed v a b l) = (v, b, l)
 
-module _ (g : Grammar) (w chart : List ℕ) (answer : Unit {0} → Answer) (j : Judged) (judging : Judging g (length w) (length chart) j) where
+module _ (g : Grammar) (w chart : List ℕ) {A : Type 0} (answer : Unit {0} → Answer A) (j : Judged)
+    (judging : Judging g (length w) (length chart) j) where
   pub call-refused : (r : Refusal) → j ≡ J.Refused r → checkingOf (refused (numberOf r)) chart ≡ onInput g w chart answer
   unfolding onInput
   call-refused r h = sym (go (subst (Judging g (length w) (length chart)) h judging))
     where
-      refuse : ℕ → Checking
+      refuse : ℕ → Checking A
       refuse n = record { answer = refused n; chart = chart }
 
-      on : Unit {0} → Checking
+      on : Unit {0} → Checking A
       on _ = record { answer = answer tt; chart = filled (grammarOf g) w chart }
 
       go : {r : Refusal} → Judging g (length w) (length chart) (J.Refused r)
           → decide (grammarCheck g ∷ inputCheck w ∷ chartCheck chart ∷ []) refuse on ≡ refuse (numberOf r)
       go (invalid v) = decide-first refuse on [] (grammarCheck g) (inputCheck w ∷ chartCheck chart ∷ []) tt (ap not v)
-      go (bad-input v b) =
-          decide-first refuse on (grammarCheck g ∷ []) (inputCheck w) (chartCheck chart ∷ []) (ap not v, tt) b
-      go (no-room v b l) =
-          decide-first refuse on (grammarCheck g ∷ inputCheck w ∷ []) (chartCheck chart) [] (ap not v, (b, tt))
+      go (no-input v e) =
+          decide-first refuse on (grammarCheck g ∷ []) (inputCheck w) (chartCheck chart ∷ []) (ap not v, tt) (input-fails w (inl e))
+      go (long-input v l) =
+          decide-first refuse on (grammarCheck g ∷ []) (inputCheck w) (chartCheck chart ∷ []) (ap not v, tt) (input-fails w (inr l))
+      go (no-room v a b l) =
+          decide-first refuse on (grammarCheck g ∷ inputCheck w ∷ []) (chartCheck chart) [] (ap not v, (input-passes w a b, tt))
           (lt-ltb (length chart) 4225 l)
 
   ready : j ≡ J.Passed → Ready g w chart
   ready h = go (subst (Judging g (length w) (length chart)) h judging)
     where
       go : Judging g (length w) (length chart) J.Passed → Ready g w chart
-      go (passed v a l) = record { valid = v; nonempty = good-length (length w) a .0; short = good-length (length w) a .1; room = l }
+      go (passed v a b l) = record { valid = v; nonempty = a; short = b; room = l }
 
-  pub call-passed : (chart' : List ℕ) (a : Answer) → j ≡ J.Passed → chart' ≡ filled (grammarOf g) w chart → a ≡ answer tt
+  pub call-passed : (chart' : List ℕ) (a : Answer A) → j ≡ J.Passed → chart' ≡ filled (grammarOf g) w chart → a ≡ answer tt
       → checkingOf a chart' ≡ onInput g w chart answer
-  call-passed chart' a h c d = ap₂ (λ (x : Answer) (y : List ℕ). checkingOf x y) d c ∙ sym (onInput-passed g w chart answer (ready h))
+  call-passed chart' a h c d = ap₂ (λ (x : Answer A) (y : List ℕ). checkingOf x y) d c ∙ sym (onInput-passed g w chart answer (ready h))

@@ -1,10 +1,9 @@
 // The checker of an offered derivation (document 01: reading), its length, and the same build.
 use grammar::Grammar;
 use grammar::Refusal;
-ghost use mathlib.Core.Bool.{true, _||_};
+ghost use mathlib.Core.Bool.{true};
 ghost use mathlib.Core.Path.{_≡_};
 ghost use Prim.Native.Nat.{ℕ, _≤_};
-ghost use lib.Dec.{eqb, ltb};
 ghost use lib.ListN.{length};
 ghost use Rattle.cfg.specs.Grammar.{rule as ruleOfNumber};
 ghost use Rattle.cfg.specs.Listing.{L};
@@ -46,13 +45,6 @@ pub enum Judged {
     Refused(Refusal),
 }
 
-// Whether an input of n bytes fails check 9.
-fn bad_length(n: usize) -> bool
-    ensures { λ b. ⌜ b ≡ (eqb n 0 || ltb 64 n) ⌝ }
-{
-    if n == 0 { true } else { n > 64 }
-}
-
 // Checks 8, 9 and 10, for an input of n bytes and a chart of m cells.
 fn judge(g: Grammar, n: usize, m: usize) -> Judged
     ensures { λ j. ⌜ Judging g n m j ⌝ }
@@ -60,7 +52,10 @@ fn judge(g: Grammar, n: usize, m: usize) -> Judged
     if !grammar::valid(g) {
         return Judged::Refused(Refusal::InvalidGrammar);
     }
-    if bad_length(n) {
+    if n == 0 {
+        return Judged::Refused(Refusal::InputLength);
+    }
+    if n > 64 {
         return Judged::Refused(Refusal::InputLength);
     }
     if m < 4225 {

@@ -11,18 +11,17 @@ use Rattle.grammar.specs.declared.Grammar.{Grammar}
 use Rattle.grammar.specs.View.{grammarOf}
 use Rattle.grammar.proofs.All.{true-false}
 use Rattle.listing.proofs.Exact.{listed→derivation, derivation→listed}
-use Rattle.results.specs.Answer.{affirmed, denied}
-use Rattle.results.specs.Recognize.{saying}
+use Rattle.results.specs.Answer.{answered}
 use Rattle.results.specs.Check.{Checking, listed, checkOf}
 use Rattle.demands.specs.Ready.{Ready}
-use Rattle.demands.proofs.Answers.{saying-affirmed, saying-denied}
+use Rattle.results.proofs.Answers.{answered-inj}
 use Rattle.demands.proofs.Later.{onInput-passed}
 use Rattle.results.proofs.Demand3.Rows.{listed-member, member-listed}
 
 module _ (g : Grammar) (w chart : List ℕ) (ready : Ready g w chart) (offered : List ℕ) where
-  said : checkOf g w offered chart .answer ≡ saying (listed offered (L (grammarOf g) w))
+  said : checkOf g w offered chart .answer ≡ answered (listed offered (L (grammarOf g) w))
   unfolding checkOf
-  said = ap (λ (x : Checking). x .answer) (onInput-passed g w chart _ ready)
+  said = ap (λ (x : Checking Bool). x .answer) (onInput-passed g w chart _ ready)
 
   derivation-listed : (listed offered (L (grammarOf g) w) ≡ true) ↔ Derivation (grammarOf g) limit w offered
   derivation-listed = (
@@ -30,15 +29,15 @@ module _ (g : Grammar) (w chart : List ℕ) (ready : Ready g w chart) (offered :
     λ d. member-listed offered (derivation→listed (grammarOf g) limit w offered d),
   )
 
-  pub check-yes : (checkOf g w offered chart .answer ≡ affirmed) ↔ Derivation (grammarOf g) limit w offered
-  check-yes = (λ e. derivation-listed .0 (saying-affirmed _ (sym said ∙ e)), λ d. said ∙ ap saying (derivation-listed .1 d))
+  pub check-yes : (checkOf g w offered chart .answer ≡ answered true) ↔ Derivation (grammarOf g) limit w offered
+  check-yes = (λ e. derivation-listed .0 (answered-inj (sym said ∙ e)), λ d. said ∙ ap answered (derivation-listed .1 d))
 
-  pub check-no : (checkOf g w offered chart .answer ≡ denied) ↔ (Derivation (grammarOf g) limit w offered → ⊥)
+  pub check-no : (checkOf g w offered chart .answer ≡ answered false) ↔ (Derivation (grammarOf g) limit w offered → ⊥)
   check-no = (
-    λ e d. true-false (derivation-listed .1 d) (saying-denied _ (sym said ∙ e)),
-    λ f. said ∙ by (listed offered (L (grammarOf g) w)) (λ e. f (derivation-listed .0 e)),
+    λ e d. true-false (derivation-listed .1 d) (answered-inj (sym said ∙ e)),
+    λ f. said ∙ ap answered (by (listed offered (L (grammarOf g) w)) (λ e. f (derivation-listed .0 e))),
   )
     where
-      by : (b : Bool) → (b ≡ true → ⊥) → saying b ≡ denied
+      by : (b : Bool) → (b ≡ true → ⊥) → b ≡ false
       by true n = absurd (n refl)
       by false n = refl

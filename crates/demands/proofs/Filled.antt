@@ -10,7 +10,7 @@ use Rattle.chart.specs.Column.{extendedBy, filled}
 use Rattle.grammar.specs.declared.Grammar.{Grammar}
 use Rattle.grammar.specs.Valid.{validGrammar}
 use Rattle.grammar.specs.View.{grammarOf}
-use Rattle.results.specs.Answer.{Answer, handed}
+use Rattle.results.specs.Answer.{Answer, answered, handed}
 use Rattle.results.specs.Recognize.{Recognition, openOf}
 use Rattle.results.specs.Check.{Checking, onInput, checkOf}
 use Rattle.results.specs.Measure.{lengthOf, sameBuildOf}
@@ -27,8 +27,8 @@ unfolding filled extendedBy
 open-filled g chart v r = ap (λ (x : Recognition). x .chart) (open-passed g chart v r)
 
 module _ (g : Grammar) (w chart : List ℕ) (ready : Ready g w chart) where
-  onInput-filled : (answer : Unit {0} → Answer) → onInput g w chart answer .chart ≡ filled (grammarOf g) w chart
-  onInput-filled answer = ap (λ (x : Checking). x .chart) (onInput-passed g w chart answer ready)
+  onInput-filled : {A : Type 0} (answer : Unit {0} → Answer A) → onInput g w chart answer .chart ≡ filled (grammarOf g) w chart
+  onInput-filled {A} answer = ap (λ (x : Checking A). x .chart) (onInput-passed g w chart answer ready)
 
   pub check-filled : (offered : List ℕ) → checkOf g w offered chart .chart ≡ filled (grammarOf g) w chart
   unfolding checkOf
@@ -48,14 +48,14 @@ module _ (g : Grammar) (w chart : List ℕ) (ready : Ready g w chart) where
 
 module _ (g : Grammar) (w chart out : List ℕ) (ready : ReadyOut g w chart out) where
   pub first-filled : (firstOf g w chart out .chart ≡ filled (grammarOf g) w chart)
-      × (((n : ℕ) → firstOf g w chart out .answer ≡ handed n → ⊥) → firstOf g w chart out .output ≡ out)
+      × (((n : ℕ) → firstOf g w chart out .answer ≡ answered (handed n) → ⊥) → firstOf g w chart out .output ≡ out)
   first-filled = (
     ap (λ (x : Enumeration). x .chart) (first-passed g w chart out ready) ∙ handing-chart _ _ (filled (grammarOf g) w chart) out,
     first-kept g w chart out .1 .untouched,
   )
 
   pub next-filled : (offered : List ℕ) → (nextOf g w offered chart out .chart ≡ filled (grammarOf g) w chart)
-      × (((n : ℕ) → nextOf g w offered chart out .answer ≡ handed n → ⊥) → nextOf g w offered chart out .output ≡ out)
+      × (((n : ℕ) → nextOf g w offered chart out .answer ≡ answered (handed n) → ⊥) → nextOf g w offered chart out .output ≡ out)
   next-filled offered = (
     ap (λ (x : Enumeration). x .chart) (next-passed g w chart out ready offered)
         ∙ decide-either _ _ (λ (x : Enumeration). x .chart ≡ filled (grammarOf g) w chart) _ (λ n. refl)

@@ -17,7 +17,7 @@ use Rattle.chart.proofs.Filled.{extended-length, opened-length, opened-behind}
 use Rattle.chart.proofs.Truth.{filled-length, filled-behind}
 use Rattle.grammar.specs.declared.Grammar.{Grammar}
 use Rattle.grammar.specs.View.{grammarOf}
-use Rattle.results.specs.Answer.{Answer, refused, handed}
+use Rattle.results.specs.Answer.{Answer, refused, answered, Handing, handed}
 use Rattle.results.specs.Recognize.{State, Recognition, openOf, takeOf}
 use Rattle.results.specs.Check.{Checking, onInput, checkOf}
 use Rattle.results.specs.Measure.{lengthOf, sameBuildOf}
@@ -25,7 +25,7 @@ use Rattle.results.specs.Enumerate.{Enumeration, handingOut, firstOf, nextOf, c
 use Rattle.demands.specs.Kept.{ChartKept, OutputKept}
 use Rattle.demands.specs.Ready.{Ready, ReadyOut}
 use Rattle.results.proofs.Decide.{decide-either}
-use Rattle.demands.proofs.Answers.{handed-inj}
+use Rattle.results.proofs.Answers.{answered-inj, handed-inj}
 use Rattle.demands.proofs.Passed.{pass→ready, pass→readyOut}
 use Rattle.demands.proofs.Handed.{headOf-member, afterIn-member}
 use Rattle.results.proofs.Demand3.Listed.{row-even, row-short}
@@ -64,10 +64,10 @@ take-kept g h m chart =
 
 -- the calls that write no output
 module _ (g : Grammar) (w chart : List ℕ) where
-  onInput-kept : (answer : Unit {0} → Answer) → ChartKept chart (onInput g w chart answer .chart)
+  onInput-kept : {A : Type 0} (answer : Unit {0} → Answer A) → ChartKept chart (onInput g w chart answer .chart)
   unfolding onInput
-  onInput-kept answer =
-      decide-either _ _ (λ (r : Checking). ChartKept chart (r .chart)) _ (λ n. chart-same chart)
+  onInput-kept {A} answer =
+      decide-either _ _ (λ (r : Checking A). ChartKept chart (r .chart)) _ (λ n. chart-same chart)
       (λ p. filled-kept g w chart (pass→ready g w chart p))
 
   pub check-kept : (offered : List ℕ) → ChartKept chart (checkOf g w offered chart .chart)
@@ -88,26 +88,26 @@ module _ (g : Grammar) (w chart : List ℕ) where
 
 -- ---- the output
 
-output-same : (answer : Answer) (out : List ℕ) → OutputKept answer out out
+output-same : (answer : Answer Handing) (out : List ℕ) → OutputKept answer out out
 output-same answer out = record { same-length = refl; rest = λ n e. refl; untouched = λ f. refl }
 
 module _ (e out : List ℕ) (even : 2 * (length e / 2) ≡ length e) (fits : length e ≤ length out) where
-  output-handed : OutputKept (handed (length e / 2)) out (e ++ drop (length e) out)
+  output-handed : OutputKept (answered (handed (length e / 2))) out (e ++ drop (length e) out)
   output-handed = record {
     same-length = omega (arith, length-append e (drop (length e) out), length-drop (length e) out);
     rest = λ n p.
-        let q : length e ≡ 2 * n = omega (arith, handed-inj p) in
+        let q : length e ≡ 2 * n = omega (arith, handed-inj (answered-inj p)) in
         drop-at e (drop (length e) out) (2 * n) q ∙ ap (λ (i : ℕ). drop i out) q;
     untouched = λ f. absurd (f (length e / 2) refl);
   }
 
-pub handing-chart : (o : Option (List ℕ)) (answer : Answer) (chart out : List ℕ) → handingOut o answer chart out .chart ≡ chart
+pub handing-chart : (o : Option (List ℕ)) (answer : Answer Handing) (chart out : List ℕ) → handingOut o answer chart out .chart ≡ chart
 unfolding handingOut
 handing-chart none answer chart out = refl
 handing-chart (some e) answer chart out = refl
 
 -- what is handed out of the list
-module _ (g : Grammar) (w chart out : List ℕ) (answer : Answer) (space : 1024 ≤ length out) where
+module _ (g : Grammar) (w chart out : List ℕ) (answer : Answer Handing) (space : 1024 ≤ length out) where
   handing-kept : (o : Option (List ℕ)) → ((e : List ℕ) → o ≡ some e → List·Memᴰ e (L (grammarOf g) w))
       → OutputKept (handingOut o answer chart out .answer) out (handingOut o answer chart out .output)
   unfolding handingOut
@@ -121,7 +121,7 @@ Both : (chart out : List ℕ) → Enumeration → Type 0
 Both chart out r = ChartKept chart (r .chart) × OutputKept (r .answer) out (r .output)
 
 module _ (g : Grammar) (w chart out : List ℕ) where
-  handing-both : ReadyOut g w chart out → (answer : Answer) (o : Option (List ℕ))
+  handing-both : ReadyOut g w chart out → (answer : Answer Handing) (o : Option (List ℕ))
       → ((e : List ℕ) → o ≡ some e → List·Memᴰ e (L (grammarOf g) w))
       → Both chart out (handingOut o answer (filled (grammarOf g) w chart) out)
   unfolding Both

@@ -1,5 +1,4 @@
 -- Theorems over the decided results, for all inputs.
-pub mod Answers
 pub mod Passed
 pub mod Handed
 pub mod Kept
@@ -14,3 +13,4 @@ pub mod OrderTrees
 pub mod Check
 pub mod Demand1
 pub mod Recognized
+pub mod Taken

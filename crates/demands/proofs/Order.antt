@@ -48,15 +48,15 @@ take-order g h m chart = record {
 -- ---- the calls that write no output
 
 module _ (g : Grammar) (w chart : List ℕ) where
-  input-order : (answer : Unit {0} → Answer)
+  input-order : {A : Type 0} (answer : Unit {0} → Answer A)
       → (Ready g w chart → (n : ℕ) → onInput g w chart answer .answer ≡ refused n → 11 < n)
       → InputOrder g w chart (onInput g w chart answer .answer)
   unfolding onInput
-  input-order answer f = record {
-    eight = λ v. ap (λ (x : Checking). x .answer) (decide-first _ _ [] (grammarCheck g) _ tt (ap not v));
-    nine = λ v l. ap (λ (x : Checking). x .answer)
+  input-order {A} answer f = record {
+    eight = λ v. ap (λ (x : Checking A). x .answer) (decide-first _ _ [] (grammarCheck g) _ tt (ap not v));
+    nine = λ v l. ap (λ (x : Checking A). x .answer)
         (decide-first _ _ (grammarCheck g ∷ []) (inputCheck w) _ (ap not v, tt) (input-fails w l));
-    ten = λ v s l r. ap (λ (x : Checking). x .answer)
+    ten = λ v s l r. ap (λ (x : Checking A). x .answer)
         (decide-first _ _ (grammarCheck g ∷ inputCheck w ∷ []) (chartCheck chart) _ (ap not v, (input-passes w s l, tt))
         (lt-ltb (length chart) 4225 r));
     passed = f;

@@ -10,12 +10,12 @@ use Rattle.grammar.specs.declared.Grammar.{Grammar}
 use Rattle.grammar.specs.View.{grammarOf}
 use Rattle.results.specs.Answer.{Answer, refused, check, decide}
 use Rattle.results.specs.Check.{Checking, onInput}
-use Rattle.results.specs.Measure.{unlisted, rulesUsed, sameBag, lengthOf, sameBuildOf}
+use Rattle.results.specs.Measure.{unlisted, lengthOf, sameBuildOf}
 use Rattle.results.specs.Enumerate.{Enumeration, nextOf}
 use Rattle.demands.specs.Ready.{Ready, ReadyOut}
 use Rattle.demands.specs.OrderAfter.{OfferedOrder}
 use Rattle.results.proofs.Decide.{decide-first, decide-passed}
-use Rattle.demands.proofs.Answers.{saying-not-refused, noneLeft-not-refused, tenths-not-refused}
+use Rattle.results.proofs.Answers.{answered-apart}
 use Rattle.demands.proofs.Later.{onInput-passed, next-passed, handing-refused}
 use Rattle.demands.proofs.Listed.{derivation→offered, offered→derivation}
 
@@ -62,15 +62,15 @@ module _ (g : Grammar) (w : List ℕ) where
 
 module _ (g : Grammar) (w chart : List ℕ) where
   -- the answer after the checks 8 to 10
-  after : (answer : Unit {0} → Answer) → Ready g w chart → onInput g w chart answer .answer ≡ answer tt
-  after answer r = ap (λ (x : Checking). x .answer) (onInput-passed g w chart answer r)
+  after : {A : Type 0} (answer : Unit {0} → Answer A) → Ready g w chart → onInput g w chart answer .answer ≡ answer tt
+  after {A} answer r = ap (λ (x : Checking A). x .answer) (onInput-passed g w chart answer r)
 
   pub length-twelve : (offered : List ℕ)
       → OfferedOrder (Ready g w chart) (Offered g w offered) (lengthOf g w offered chart .answer)
   unfolding lengthOf
   length-twelve offered = record {
     twelve = λ r f. after _ r ∙ one-twelve g w refused _ offered f;
-    passed = λ r d n e. tenths-not-refused _ n (sym (one-passed g w refused _ offered d) ∙ sym (after _ r) ∙ e);
+    passed = λ r d n e. answered-apart (sym (one-passed g w refused _ offered d) ∙ sym (after _ r) ∙ e);
   }
 
   pub same-build-twelve : (a b : List ℕ)
@@ -78,14 +78,13 @@ module _ (g : Grammar) (w chart : List ℕ) where
   unfolding sameBuildOf
   same-build-twelve a b = record {
     twelve = λ r f. after _ r ∙ two-twelve g w refused _ a b f;
-    passed = λ r d n e. saying-not-refused (sameBag (rulesUsed a) (rulesUsed b)) n
-        (sym (two-passed g w refused _ a b d) ∙ sym (after _ r) ∙ e);
+    passed = λ r d n e. answered-apart (sym (two-passed g w refused _ a b d) ∙ sym (after _ r) ∙ e);
   }
 
 pub next-twelve : (g : Grammar) (w chart out offered : List ℕ)
     → OfferedOrder (ReadyOut g w chart out) (Offered g w offered) (nextOf g w offered chart out .answer)
 next-twelve g w chart out offered = record {
   twelve = λ r f. ap (λ (x : Enumeration). x .answer) (next-passed g w chart out r offered ∙ one-twelve g w _ _ offered f);
-  passed = λ r d n e. noneLeft-not-refused n (handing-refused _ _ _ _ n
+  passed = λ r d n e. answered-apart (handing-refused _ _ _ _ n
       (sym (ap (λ (x : Enumeration). x .answer) (next-passed g w chart out r offered ∙ one-passed g w _ _ offered d)) ∙ e));
 }

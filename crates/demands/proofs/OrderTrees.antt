@@ -5,7 +5,7 @@ use mathlib.Core.Bool.{Bool, true, false, cond, true≢false}
 use mathlib.Core.List.{List, [], _∷_, cons≢nil}
 use mathlib.Core.Logic.{_↔_, _⊎_, inl, inr}
 use mathlib.Core.Path.{_≡_, refl, sym, ap, _∙_}
-use lib.Dec.{eqb, leb, eqb·suc-zero}
+use lib.Dec.{eqb, eqb·suc-zero}
 use lib.ListN.{length}
 use Rattle.cfg.specs.Tree.{HasTree}
 use Rattle.cfg.specs.Derivation.{Derivation, limit}
@@ -14,12 +14,12 @@ use Rattle.chart.proofs.Truth.{complete-tree}
 use Rattle.grammar.specs.declared.Grammar.{Grammar}
 use Rattle.grammar.specs.View.{grammarOf}
 use Rattle.grammar.proofs.Bounds.{valid-bounded}
-use Rattle.results.specs.Answer.{Answer, refused, noDerivation, counted, more}
+use Rattle.results.specs.Answer.{Answer, refused, answered, Handing, nothing, Figure, counted}
 use Rattle.results.specs.Check.{Checking}
-use Rattle.results.specs.Enumerate.{Enumeration, handingOut, headOf, treeIn, firstOf, countOf}
+use Rattle.results.specs.Enumerate.{Enumeration, handingOut, headOf, treeIn, figure, firstOf, countOf}
 use Rattle.demands.specs.Ready.{Ready, ReadyOut}
 use Rattle.demands.specs.OrderAfter.{TreesOrder}
-use Rattle.demands.proofs.Answers.{handed-not-refused, noDerivation-not-refused, counted-not-refused, more-not-refused}
+use Rattle.results.proofs.Answers.{answered-apart}
 use Rattle.demands.proofs.Later.{onInput-passed, first-passed}
 use Rattle.demands.proofs.Listed.{none→empty, empty→none}
 
@@ -40,8 +40,8 @@ module _ (g : Grammar) (w chart : List ℕ) (r : Ready g w chart) where
 -- ---- the answers, over any list and any test
 
 -- what first gives
-abbrev firstAnswer : List (List ℕ) → Bool → List ℕ → List ℕ → Answer
-firstAnswer l b chart out = handingOut (headOf l) (cond b (refused 13) noDerivation) chart out .answer
+abbrev firstAnswer : List (List ℕ) → Bool → List ℕ → List ℕ → Answer Handing
+firstAnswer l b chart out = handingOut (headOf l) (cond b (refused 13) (answered nothing)) chart out .answer
 
 first-thirteen-at : (l : List (List ℕ)) (b : Bool) (chart out : List ℕ) → l ≡ [] → b ≡ true → firstAnswer l b chart out ≡ refused 13
 unfolding handingOut headOf
@@ -53,29 +53,24 @@ first-passed-at : (l : List (List ℕ)) (b : Bool) (chart out : List ℕ) → (b
 unfolding handingOut headOf
 first-passed-at [] true chart out (inl p) n e = true≢false p
 first-passed-at [] true chart out (inr f) n e = f refl
-first-passed-at [] false chart out p n e = noDerivation-not-refused n e
-first-passed-at (d ∷ l) b chart out p n e = handed-not-refused _ n e
+first-passed-at [] false chart out p n e = answered-apart e
+first-passed-at (d ∷ l) b chart out p n e = answered-apart e
 
 -- what count gives
-abbrev countAnswer : List (List ℕ) → Bool → Answer
+abbrev countAnswer : List (List ℕ) → Bool → Answer Figure
 countAnswer l b =
     let n = length l in
-    elim (eqb n 0) [ true ↦ cond b (refused 13) (counted 0) | false ↦ cond (leb n 4096) (counted n) more ]
+    elim (eqb n 0) [ true ↦ cond b (refused 13) (answered (counted 0)) | false ↦ answered (figure n) ]
 
 count-thirteen-at : (l : List (List ℕ)) (b : Bool) → l ≡ [] → b ≡ true → countAnswer l b ≡ refused 13
 count-thirteen-at [] b p q = rw q
 count-thirteen-at (e ∷ l) b p q = absurd (cons≢nil p)
 
-counted-passed : (b : Bool) (m n : ℕ) → cond b (counted m) more ≡ refused n → ⊥
-counted-passed true m n e = counted-not-refused m n e
-counted-passed false m n e = more-not-refused n e
-
 count-passed-at : (l : List (List ℕ)) (b : Bool) → (b ≡ false) ⊎ (l ≡ [] → ⊥) → (n : ℕ) → countAnswer l b ≡ refused n → ⊥
 count-passed-at [] true (inl p) n e = true≢false p
 count-passed-at [] true (inr f) n e = f refl
-count-passed-at [] false p n e = counted-not-refused 0 n e
-count-passed-at (d ∷ l) b p n e =
-    counted-passed (leb (length (d ∷ l)) 4096) (length (d ∷ l)) n (rw (eqb·suc-zero (length l), countAnswer) at e)
+count-passed-at [] false p n e = answered-apart e
+count-passed-at (d ∷ l) b p n e = answered-apart (rw (eqb·suc-zero (length l), countAnswer) at e)
 
 -- ---- first and count
 
@@ -98,8 +93,8 @@ first-thirteen g w chart out = record {
 pub count-thirteen : (g : Grammar) (w chart : List ℕ) → TreesOrder (Ready g w chart) (grammarOf g) w (countOf g w chart .answer)
 unfolding countOf
 count-thirteen g w chart = record {
-  thirteen = λ r t f. ap (λ (x : Checking). x .answer) (onInput-passed g w chart _ r)
+  thirteen = λ r t f. ap (λ (x : Checking Figure). x .answer) (onInput-passed g w chart _ r)
       ∙ count-thirteen-at (L (grammarOf g) w) (treeIn g w chart) (none→empty (grammarOf g) w f) (tree-test g w chart r .1 t);
   passed = λ r c n e. count-passed-at (L (grammarOf g) w) (treeIn g w chart) (tests g w chart r c) n
-      (sym (ap (λ (x : Checking). x .answer) (onInput-passed g w chart _ r)) ∙ e);
+      (sym (ap (λ (x : Checking Figure). x .answer) (onInput-passed g w chart _ r)) ∙ e);
 }

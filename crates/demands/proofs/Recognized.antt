@@ -22,11 +22,11 @@ use Rattle.grammar.specs.Valid.{validGrammar}
 use Rattle.grammar.specs.View.{grammarOf}
 use Rattle.grammar.proofs.All.{true-false}
 use Rattle.grammar.proofs.Bounds.{valid-bounded}
-use Rattle.results.specs.Answer.{refused, affirmed, denied, check}
-use Rattle.results.specs.Recognize.{stateOf, Recognition, saying, grammarCheck, stateCheck, chartCheck, openOf, takeOf, fed}
+use Rattle.results.specs.Answer.{refused, answered, check}
+use Rattle.results.specs.Recognize.{stateOf, Recognition, grammarCheck, stateCheck, chartCheck, openOf, takeOf, fed}
 use Rattle.demands.specs.Recognized.{Recognized}
 use Rattle.results.proofs.Decide.{decide-first}
-use Rattle.demands.proofs.Answers.{saying-affirmed, saying-denied}
+use Rattle.results.proofs.Answers.{answered-inj}
 use Rattle.demands.proofs.Later.{open-passed, take-passed}
 
 -- taking two rows one after the other
@@ -42,7 +42,7 @@ taken u = take-append-seam u _
 
 -- the result after taking the bytes u, n of them, with this chart
 abbrev pub result : Grammar → List ℕ → ℕ → List ℕ → Recognition
-result g u n c = record { answer = saying (complete (grammarOf g) n c); state = stateOf u; chart = c }
+result g u n c = record { answer = answered (complete (grammarOf g) n c); state = stateOf u; chart = c }
 
 module _ (g : Grammar) (found : List ℕ) where
   -- the result after the bytes u, of which there are at most 64
@@ -125,13 +125,13 @@ module _ (g : Grammar) (found : List ℕ) where
       has-tree : (complete (grammarOf g) (length ms) (filled (grammarOf g) ms found) ≡ true) ↔ HasTree (grammarOf g) ms
       has-tree = complete-tree (grammarOf g) (valid-bounded g valid) ms found l room
 
-      tree-of : (saying (complete (grammarOf g) (length ms) (filled (grammarOf g) ms found)) ≡ affirmed) ↔ HasTree (grammarOf g) ms
-      tree-of = (λ e. has-tree .0 (saying-affirmed _ e), λ t. ap saying (has-tree .1 t))
+      tree-of : (answered (complete (grammarOf g) (length ms) (filled (grammarOf g) ms found)) ≡ answered true) ↔ HasTree (grammarOf g) ms
+      tree-of = (λ e. has-tree .0 (answered-inj e), λ t. ap answered (has-tree .1 t))
 
-      no-tree-of : (saying (complete (grammarOf g) (length ms) (filled (grammarOf g) ms found)) ≡ denied) ↔ (HasTree (grammarOf g) ms → ⊥)
-      no-tree-of = (λ e t. true-false (has-tree .1 t) (saying-denied _ e), λ f. by _ (λ e. f (has-tree .0 e)))
+      no-tree-of : (answered (complete (grammarOf g) (length ms) (filled (grammarOf g) ms found)) ≡ answered false) ↔ (HasTree (grammarOf g) ms → ⊥)
+      no-tree-of = (λ e t. true-false (has-tree .1 t) (answered-inj e), λ f. ap answered (by _ (λ e. f (has-tree .0 e))))
         where
-          by : (b : Bool) → (b ≡ true → ⊥) → saying b ≡ denied
+          by : (b : Bool) → (b ≡ true → ⊥) → b ≡ false
           by true f = absurd (f refl)
           by false f = refl
 
@@ -141,7 +141,7 @@ module _ (g : Grammar) (found : List ℕ) where
     recognized-short ms l r e =
         let s : ms ≡ take 64 ms = sym (take-all 64 ms l) in
         let c : r .chart ≡ filled (grammarOf g) ms found = ap (λ (x : Recognition). x .chart) e in
-        let a : r .answer ≡ saying (complete (grammarOf g) (length ms) (filled (grammarOf g) ms found)) =
+        let a : r .answer ≡ answered (complete (grammarOf g) (length ms) (filled (grammarOf g) ms found)) =
         ap (λ (x : Recognition). x .answer) e in
         record {
           state = ap (λ (x : Recognition). x .state) e ∙ ap stateOf s;

@@ -44,10 +44,10 @@ take-untouched g h m chart n e =
 -- ---- the calls that write no output
 
 module _ (g : Grammar) (w chart : List ℕ) (n : ℕ) where
-  onInput-untouched : (answer : Unit {0} → Answer) → (Ready g w chart → ⊥) → onInput g w chart answer .chart ≡ chart
+  onInput-untouched : {A : Type 0} (answer : Unit {0} → Answer A) → (Ready g w chart → ⊥) → onInput g w chart answer .chart ≡ chart
   unfolding onInput
-  onInput-untouched answer f =
-      ⊎-elim (λ q. ap (λ (x : Checking). x .chart) (q .1)) (λ p. absurd (f (pass→ready g w chart p))) (decide-or _ _ _)
+  onInput-untouched {A} answer f =
+      ⊎-elim (λ q. ap (λ (x : Checking A). x .chart) (q .1)) (λ p. absurd (f (pass→ready g w chart p))) (decide-or _ _ _)
 
   pub check-untouched : (offered : List ℕ) → checkOf g w offered chart .answer ≡ refused n → checkOf g w offered chart .chart ≡ chart
   unfolding checkOf

@@ -34,7 +34,7 @@ pub record TakeDemand (g : Grammar) (h : State) (chart : List ℕ) (r : Recognit
   pub untouched : (n : ℕ) → r .answer ≡ refused n → (r .chart ≡ chart) × (r .state ≡ h)
 
 -- check, length, same build and count
-pub record InputDemand (g : Grammar) (w chart : List ℕ) (r : Checking) : Type 0 where
+pub record InputDemand {A : Type 0} (g : Grammar) (w chart : List ℕ) (r : Checking A) : Type 0 where
   pub kept : ChartKept chart (r .chart)
   pub order : InputOrder g w chart (r .answer)
   -- refusals 8 to 10 leave the chart as found

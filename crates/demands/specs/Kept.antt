@@ -4,7 +4,7 @@ use Prim.Native.Nat.{ℕ, _*_}
 use mathlib.Core.List.{List}
 use mathlib.Core.Path.{_≡_}
 use lib.ListN.{length, drop}
-use Rattle.results.specs.Answer.{Answer, handed}
+use Rattle.results.specs.Answer.{Answer, answered, Handing, handed}
 
 -- a chart before and after a call: only its first 4,225 cells may differ
 pub record ChartKept (before after : List ℕ) : Type 0 where
@@ -14,10 +14,10 @@ pub record ChartKept (before after : List ℕ) : Type 0 where
   pub behind : drop 4225 after ≡ drop 4225 before
 
 -- an output before and after a call with this answer: it differs only in the derivation handed out, two numbers for each node
-pub record OutputKept (answer : Answer) (before after : List ℕ) : Type 0 where
+pub record OutputKept (answer : Answer Handing) (before after : List ℕ) : Type 0 where
   -- the output is as long as found
   pub same-length : length after ≡ length before
   -- what lies behind a derivation of n nodes is as found
-  pub rest : (n : ℕ) → answer ≡ handed n → drop (2 * n) after ≡ drop (2 * n) before
+  pub rest : (n : ℕ) → answer ≡ answered (handed n) → drop (2 * n) after ≡ drop (2 * n) before
   -- without a derivation the output is as found
-  pub untouched : ((n : ℕ) → answer ≡ handed n → ⊥) → after ≡ before
+  pub untouched : ((n : ℕ) → answer ≡ answered (handed n) → ⊥) → after ≡ before

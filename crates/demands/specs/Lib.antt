@@ -6,3 +6,4 @@ pub mod LoadOrder
 pub mod OrderAfter
 pub mod Demand1
 pub mod Recognized
+pub mod Taken

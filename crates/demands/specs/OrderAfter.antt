@@ -10,14 +10,14 @@ use Rattle.cfg.specs.Derivation.{Derivation, limit}
 use Rattle.results.specs.Answer.{Answer, refused}
 
 -- next, length and same build, once the checks before are passed (`ready`); `offered` says that the offered rows are derivations
-pub record OfferedOrder (ready offered : Type 0) (answer : Answer) : Type 0 where
+pub record OfferedOrder {A : Type 0} (ready offered : Type 0) (answer : Answer A) : Type 0 where
   -- an offered row is none: 12
   pub twelve : ready → (offered → ⊥) → answer ≡ refused 12
   -- else nothing is refused
   pub passed : ready → offered → (n : ℕ) → answer ≡ refused n → ⊥
 
 -- first and count, once the checks before are passed
-pub record TreesOrder (ready : Type 0) (G : Cfg) (w : List ℕ) (answer : Answer) : Type 0 where
+pub record TreesOrder {A : Type 0} (ready : Type 0) (G : Cfg) (w : List ℕ) (answer : Answer A) : Type 0 where
   -- the input has a tree and no derivation: 13
   pub thirteen : ready → HasTree G w → ((e : List ℕ) → Derivation G limit w e → ⊥) → answer ≡ refused 13
   -- it has no tree, or a derivation: nothing is refused

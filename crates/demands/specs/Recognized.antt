@@ -1,7 +1,7 @@
 -- What opening and then taking any row of bytes gives: the first 64 bytes count, each byte beyond them is refused and changes nothing.
 -- Assumes nothing.
 use Prim.Native.Nat.{ℕ, _≤_, _<_}
-use mathlib.Core.Bool.{true}
+use mathlib.Core.Bool.{true, false}
 use mathlib.Core.List.{List}
 use mathlib.Core.Logic.{_↔_, _⊎_}
 use mathlib.Core.Path.{_≡_}
@@ -12,7 +12,7 @@ use Rattle.cfg.specs.Grammar.{Cfg}
 use Rattle.cfg.specs.Tree.{Row, Parse, HasTree}
 use Rattle.chart.specs.Cell.{cell}
 use Rattle.chart.specs.Column.{filled}
-use Rattle.results.specs.Answer.{refused, affirmed, denied}
+use Rattle.results.specs.Answer.{refused, answered}
 use Rattle.results.specs.Recognize.{stateOf, Recognition}
 
 -- the result of feeding ms after opening over the chart found, for the grammar G
@@ -22,8 +22,8 @@ pub record Recognized (G : Cfg) (found ms : List ℕ) (r : Recognition) : Type 0
   -- the chart is the one that is filled with these
   pub chart : r .chart ≡ filled G (take 64 ms) found
   -- up to 64 bytes: "complete" exactly if the bytes have a tree; without bytes this is opening's own answer
-  pub tree : length ms ≤ 64 → (r .answer ≡ affirmed) ↔ HasTree G ms
-  pub no-tree : length ms ≤ 64 → (r .answer ≡ denied) ↔ (HasTree G ms → ⊥)
+  pub tree : length ms ≤ 64 → (r .answer ≡ answered true) ↔ HasTree G ms
+  pub no-tree : length ms ≤ 64 → (r .answer ≡ answered false) ↔ (HasTree G ms → ⊥)
   -- more than 64: refused
   pub full : 64 < length ms → r .answer ≡ refused 15
   -- the cell of the span from i to j has exactly the nonterminals with a parse tree over the span

@@ -18,15 +18,15 @@ use Rattle.grammar.specs.Valid.{validGrammar}
 use Rattle.grammar.specs.View.{grammarOf}
 use Rattle.packed.specs.Packed.{cfgIn}
 use Rattle.packed.proofs.Laws.{cfg-in-bounded}
-use Rattle.results.specs.Answer.{Answer, refused, affirmed, denied, decide}
-use Rattle.results.specs.Recognize.{State, Recognition, stateOf, saying, openOf, takeOf}
+use Rattle.results.specs.Answer.{Answer, refused, answered, decide}
+use Rattle.results.specs.Recognize.{State, Recognition, stateOf, openOf, takeOf}
 use Rattle.recognizer.specs.Columns.{columnOf}
 
 -- the three parts of what a call gives
-abbrev given : Answer → State → List ℕ → Recognition
+abbrev given : Answer Bool → State → List ℕ → Recognition
 given a h chart = record { answer = a; state = h; chart = chart }
 
-given-same : (a a' : Answer) (h h' : State) (c c' : List ℕ) → a ≡ a' → h ≡ h' → c ≡ c' → given a h c ≡ given a' h' c'
+given-same : (a a' : Answer Bool) (h h' : State) (c c' : List ℕ) → a ≡ a' → h ≡ h' → c ≡ c' → given a h c ≡ given a' h' c'
 given-same a a' h h' c c' e f g = λ i. given (e i) (f i) (g i)
 
 -- the count of a state that has taken w is within its bytes
@@ -53,16 +53,16 @@ was-valid t v e f = sym e ∙ not-false t f
 
 -- the answer "complete"
 module _ (chart : List ℕ) (n k s : ℕ) (b : Bool) (start : k ≡ s) (read : b ≡ has k (cell chart 0 n)) where
-  pub says-yes : b ≡ true → affirmed ≡ saying (has s (cell chart 0 n))
-  says-yes e = sym (ap saying (ap (λ (x : ℕ). has x (cell chart 0 n)) (sym start) ∙ sym read ∙ e))
+  pub says-yes : b ≡ true → answered true ≡ answered (has s (cell chart 0 n))
+  says-yes e = sym (ap answered (ap (λ (x : ℕ). has x (cell chart 0 n)) (sym start) ∙ sym read ∙ e))
 
-  pub says-no : b ≡ false → denied ≡ saying (has s (cell chart 0 n))
-  says-no e = sym (ap saying (ap (λ (x : ℕ). has x (cell chart 0 n)) (sym start) ∙ sym read ∙ e))
+  pub says-no : b ≡ false → answered false ≡ answered (has s (cell chart 0 n))
+  says-no e = sym (ap answered (ap (λ (x : ℕ). has x (cell chart 0 n)) (sym start) ∙ sym read ∙ e))
 
 module _ (g : Grammar) (chart : List ℕ) where
   -- ---- opening
 
-  module _ (a : Answer) (h : State) (zeros : h ≡ stateOf []) where
+  module _ (a : Answer Bool) (h : State) (zeros : h ≡ stateOf []) where
     pub open-invalid : validGrammar g ≡ false → a ≡ refused 8 → given a h chart ≡ openOf g chart
     unfolding openOf decide
     open-invalid v e = rw v (given-same a (refused 8) h (stateOf []) chart chart e zeros refl)
@@ -74,19 +74,19 @@ module _ (g : Grammar) (chart : List ℕ) where
 
     pub open-right : (p chart' : List ℕ) → validGrammar g ≡ true → 4225 ≤ length chart
         → ((r : ℕ) → rule (cfgIn (g .start) p) r ≡ rule (grammarOf g) r)
-        → chart' ≡ opened (cfgIn 0 p) chart → a ≡ saying (has (g .start) (cell chart' 0 0)) → given a h chart' ≡ openOf g chart
+        → chart' ≡ opened (cfgIn 0 p) chart → a ≡ answered (has (g .start) (cell chart' 0 0)) → given a h chart' ≡ openOf g chart
     unfolding openOf decide complete
     open-right p chart' v l same e f =
         let c : chart' ≡ opened (grammarOf g) chart =
         e ∙ opened-same-rules (cfgIn 0 p) (grammarOf g) (same-rules g (g .start) p same) (cfg-in-bounded 0 p) chart in
         rw (v, le-ltb (length chart) 4225 l)
-        (given-same a (saying (complete (grammarOf g) 0 (opened (grammarOf g) chart))) h (stateOf []) chart' (opened (grammarOf g) chart)
-        (f ∙ ap (λ (x : List ℕ). saying (has (g .start) (cell x 0 0))) c) zeros c)
+        (given-same a (answered (complete (grammarOf g) 0 (opened (grammarOf g) chart))) h (stateOf []) chart' (opened (grammarOf g) chart)
+        (f ∙ ap (λ (x : List ℕ). answered (has (g .start) (cell x 0 0))) c) zeros c)
 
   -- ---- taking
 
   module _ (h : State) (m : ℕ) where
-    module _ (a : Answer) (k : State) (kept : k ≡ h) where
+    module _ (a : Answer Bool) (k : State) (kept : k ≡ h) where
       pub take-invalid : validGrammar g ≡ false → a ≡ refused 8 → given a k chart ≡ takeOf g h m chart
       unfolding takeOf decide
       take-invalid v e = rw v (given-same a (refused 8) k h chart chart e kept refl)
@@ -112,7 +112,7 @@ module _ (g : Grammar) (chart : List ℕ) where
     abbrev input : List ℕ
     input = take (h .count) (h .bytes) ++ (m ∷ [])
 
-    module _ (a : Answer) (k : State) (next : k ≡ stateOf input) (count : k .count ≡ h .count + 1) where
+    module _ (a : Answer Bool) (k : State) (next : k ≡ stateOf input) (count : k .count ≡ h .count + 1) where
       size : length input ≡ k .count
       unfolding stateOf
       size = sym (ap (λ (s : State). s .count) next)
@@ -125,7 +125,7 @@ module _ (g : Grammar) (chart : List ℕ) where
       pub take-right : (p chart' : List ℕ) → validGrammar g ≡ true → h .count < 64 → 4225 ≤ length chart
           → ((r : ℕ) → rule (cfgIn (g .start) p) r ≡ rule (grammarOf g) r)
           → chart' ≡ columnOf p (take (k .count) (k .bytes)) (k .count) chart
-          → a ≡ saying (has (g .start) (cell chart' 0 (k .count))) → given a k chart' ≡ takeOf g h m chart
+          → a ≡ answered (has (g .start) (cell chart' 0 (k .count))) → given a k chart' ≡ takeOf g h m chart
       unfolding takeOf decide complete extended
       take-right p chart' v o l same e f =
           let c : chart' ≡ extended (grammarOf g) input chart =
@@ -133,7 +133,7 @@ module _ (g : Grammar) (chart : List ℕ) where
           ∙ extended-same-rules (cfgIn 0 p) (grammarOf g) (same-rules g (g .start) p same) (cfg-in-bounded 0 p) input chart in
           let d : h .count ≤ 64 = omega arith in
           rw (v, le-ltb 64 (h .count) d, le-ltb (length chart) 4225 l, ne-eqb (h .count) 64 (omega arith))
-          (given-same a (saying (complete (grammarOf g) (h .count + 1) (extended (grammarOf g) input chart))) k (stateOf input)
+          (given-same a (answered (complete (grammarOf g) (h .count + 1) (extended (grammarOf g) input chart))) k (stateOf input)
           chart' (extended (grammarOf g) input chart)
-          (f ∙ ap (λ (x : ℕ). saying (has (g .start) (cell chart' 0 x))) count
-          ∙ ap (λ (x : List ℕ). saying (has (g .start) (cell x 0 (h .count + 1)))) c) next c)
+          (f ∙ ap (λ (x : ℕ). answered (has (g .start) (cell chart' 0 x))) count
+          ∙ ap (λ (x : List ℕ). answered (has (g .start) (cell x 0 (h .count + 1)))) c) next c)

@@ -17,8 +17,8 @@ ghost use Rattle.chart.specs.Column.{opened, filled};
 ghost use Rattle.grammar.specs.Number.{numberOf};
 ghost use Rattle.grammar.specs.Valid.{validGrammar};
 ghost use Rattle.packed.specs.Packed.{cfgIn};
-ghost use Rattle.results.specs.Answer.{Answer};
-ghost use Rattle.results.specs.Recognize.{stateOf, saying, openOf, takeOf};
+ghost use Rattle.results.specs.Answer.{answered, refused as refusedWith};
+ghost use Rattle.results.specs.Recognize.{stateOf, openOf, takeOf};
 ghost use Rattle.recognizer.specs.Passes.{Used};
 ghost use Rattle.recognizer.specs.Columns.{columnOf, CellWritten};
 ghost use Rattle.recognizer.specs.Recognizer.{stateIn, answerOf, recognitionOf};
@@ -146,7 +146,7 @@ fn wide(x: u8) -> usize
 // The answer "complete", after n bytes.
 fn says(start: u8, n: usize, chart: &[u32]) -> Accepted
     requires { ⌜ (n ≤ 64) × (4225 ≤ length (now chart)) ⌝ }
-    ensures { λ a. ⌜ answerOf a ≡ saying (inSet start (cell (now (chart .entry)) 0 n)) ⌝ }
+    ensures { λ a. ⌜ answerOf a ≡ answered (inSet start (cell (now (chart .entry)) 0 n)) ⌝ }
 {
     if complete(wide(start), n, chart) {
         Accepted::Yes
@@ -185,7 +185,7 @@ fn with_byte(h: Recognizer, byte: u8) -> Recognizer
 }
 
 fn refused(h: Recognizer, r: Refusal) -> Advanced
-    ensures { λ a. ⌜ (answerOf (a .accepted) ≡ Answer.refused (numberOf r)) × (a .recognizer ≡ h) ⌝ }
+    ensures { λ a. ⌜ (answerOf (a .accepted) ≡ refusedWith (numberOf r)) × (a .recognizer ≡ h) ⌝ }
 {
     Advanced {
         accepted: Accepted::Refused(r),

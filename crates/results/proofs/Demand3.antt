@@ -1,6 +1,7 @@
 -- The walk of demand 3: the decided results of first, next and count are those of the machine, over any list of calls.
 pub mod Rows
 pub mod Listed
+pub mod Figures
 pub mod Machine
 pub mod Decided
 pub mod Says

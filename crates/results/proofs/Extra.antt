@@ -1,6 +1,7 @@
 -- Rows beyond document 01's own plates.
 -- Assumes nothing.
 use Prim.Native.Nat.{ℕ}
+use mathlib.Core.Bool.{Bool, true, false}
 use mathlib.Core.List.{List, [], _∷_}
 use mathlib.Core.Path.{_≡_, refl}
 use lib.IntN.{pos, negℤ}
@@ -8,45 +9,45 @@ use lib.ListN.{replicate}
 use Rattle.grammar.specs.declared.Symbol.the-variants.{Nonterminal, Terminal}
 use Rattle.grammar.specs.declared.Place.{Place}
 use Rattle.grammar.specs.Zero.{zeroPlace, zeroRule}
-use Rattle.results.specs.Answer.{Answer, affirmed, denied, tenths}
+use Rattle.results.specs.Answer.{Answer, answered}
 use Rattle.results.specs.Load.{loadOf}
 use Rattle.results.specs.Recognize.{State, takeOf}
-use Rattle.results.specs.Measure.{sameBuildOf, rulesUsed, occurrences, sameBag}
+use Rattle.results.specs.Measure.{sameBuildOf}
 use Rattle.results.specs.Check.{checkOf}
-use Rattle.results.proofs.Samples.{T, start, rule, N, A, close}
-use Rattle.results.proofs.Table.{outcome, As, recognized}
+use Rattle.results.specs.Drawer.{T, start, rule, N, A, close, As}
+use Rattle.results.specs.Starred.{grammarFrom, outcome}
+use Rattle.results.proofs.Computing.{computing}
 
 -- 0 → 1 A (100), 1 → nothing (-30)
 abbrev pub gap : List ℕ
 gap = 0x10 ∷ 0x00 ∷ 0x20 ∷ 0x00 ∷ 0x64 ∷ 0x00 ∷ 0x30 ∷ 0x01 ∷ 0x40 ∷ 0x41 ∷ 0x20 ∷ 0x01 ∷ 0xE2 ∷ 0xFF ∷ 0x50 ∷ []
 
 -- the length of an empty node counts
-pub gap-length : outcome gap (As 1) .lengths ≡ tenths (pos 7) ∷ []
-unfolding outcome
+pub gap-length : outcome gap (As 1) .lengths ≡ answered (pos 7) ∷ []
+unfolding computing
 gap-length = refl
 
-unfoldable pub build : List ℕ → List ℕ → List ℕ → List ℕ → Answer
-unfolding outcome sameBuildOf rulesUsed occurrences sameBag
-build bytes w a b = sameBuildOf (loadOf bytes 0 .grammar) w a b (replicate 4225 7) .answer
+unfoldable pub build : List ℕ → List ℕ → List ℕ → List ℕ → Answer Bool
+build bytes w a b = sameBuildOf (grammarFrom bytes) w a b (replicate 4225 7) .answer
 
 -- T, `A`: both derivations are one build, whichever place is empty
-pub same-T : build T (As 1) (1 ∷ 0 ∷ 0 ∷ 1 ∷ 1 ∷ 2 ∷ []) (1 ∷ 0 ∷ 1 ∷ 2 ∷ 0 ∷ 1 ∷ []) ≡ affirmed
-unfolding build
+pub same-T : build T (As 1) (1 ∷ 0 ∷ 0 ∷ 1 ∷ 1 ∷ 2 ∷ []) (1 ∷ 0 ∷ 1 ∷ 2 ∷ 0 ∷ 1 ∷ []) ≡ answered true
+unfolding build computing
 same-T = refl
 
 -- 0 → A, 0 → A: twin rules are two builds
-pub twins-differ : build (start 0 (rule 0 (A (rule 0 (A close))))) (As 1) (1 ∷ 0 ∷ []) (1 ∷ 1 ∷ []) ≡ denied
-unfolding build
+pub twins-differ : build (start 0 (rule 0 (A (rule 0 (A close))))) (As 1) (1 ∷ 0 ∷ []) (1 ∷ 1 ∷ []) ≡ answered false
+unfolding build computing
 twins-differ = refl
 
 -- 0 → 1 A, 1 → nothing, 1 → nothing: empty nodes do not count
-pub empty-same : build (start 0 (rule 0 (N 1 (A (rule 1 (rule 1 close)))))) (As 1) (1 ∷ 0 ∷ 0 ∷ 1 ∷ []) (1 ∷ 0 ∷ 0 ∷ 2 ∷ []) ≡ affirmed
-unfolding build
+pub empty-same : build (start 0 (rule 0 (N 1 (A (rule 1 (rule 1 close)))))) (As 1) (1 ∷ 0 ∷ 0 ∷ 1 ∷ []) (1 ∷ 0 ∷ 0 ∷ 2 ∷ []) ≡ answered true
+unfolding build computing
 empty-same = refl
 
 -- 31 is a nonterminal
 pub last-nonterminal : outcome (start 31 (rule 31 (N 31 (rule 31 (A close))))) (As 1) .list ≡ (1 ∷ 1 ∷ []) ∷ []
-unfolding outcome
+unfolding computing
 last-nonterminal = refl
 
 -- the places of its first rule
@@ -61,26 +62,24 @@ pub loaded-gap : loadOf gap 1 .grammar ≡ record {
   rules = record { left = 0; length = pos 100; count = 2; places = gapPlaces }
       ∷ record { left = 1; length = negℤ (pos 30); count = 0; places = replicate 8 zeroPlace } ∷ replicate 126 zeroRule;
 }
-unfolding outcome
+unfolding computing
 loaded-gap = refl
 
 -- a dirty state is clean after a take
 unfoldable pub taken : State
-unfolding recognized
-taken = takeOf (loadOf T 0 .grammar) (record { bytes = 65 ∷ replicate 63 9; count = 1 }) 66 (replicate 4225 0) .state
+taken = takeOf (grammarFrom T) (record { bytes = 65 ∷ replicate 63 9; count = 1 }) 66 (replicate 4225 0) .state
 
 pub taken-clean : taken ≡ record { bytes = 65 ∷ 66 ∷ replicate 62 0; count = 2 }
-unfolding taken
+unfolding taken computing
 taken-clean = refl
 
-unfoldable pub checks : List ℕ → Answer
-unfolding outcome checkOf
-checks e = checkOf (loadOf T 0 .grammar) (As 1) e (replicate 4225 7) .answer
+unfoldable pub checks : List ℕ → Answer Bool
+checks e = checkOf (grammarFrom T) (As 1) e (replicate 4225 7) .answer
 
-pub check-yes : checks (1 ∷ 0 ∷ 1 ∷ 2 ∷ 0 ∷ 1 ∷ []) ≡ affirmed
-unfolding checks
+pub check-yes : checks (1 ∷ 0 ∷ 1 ∷ 2 ∷ 0 ∷ 1 ∷ []) ≡ answered true
+unfolding checks computing
 check-yes = refl
 
-pub check-tail : checks (1 ∷ 0 ∷ 1 ∷ 2 ∷ 0 ∷ 1 ∷ 0 ∷ []) ≡ denied
-unfolding checks
+pub check-tail : checks (1 ∷ 0 ∷ 1 ∷ 2 ∷ 0 ∷ 1 ∷ 0 ∷ []) ≡ answered false
+unfolding checks computing
 check-tail = refl

@@ -6,8 +6,8 @@ use mathlib.Core.Path.{_≡_, refl}
 use Rattle.grammar.specs.Zero.{zeroGrammar}
 use Rattle.results.specs.Answer.{refusedAt}
 use Rattle.results.specs.Load.{Loading, loadOf}
-use Rattle.results.proofs.Samples.{start, rule, A, close, times}
-use Rattle.results.proofs.Table.{outcome}
+use Rattle.results.specs.Drawer.{start, rule, A, close, times}
+use Rattle.results.proofs.Computing.{computing}
 
 -- a faulty book: its bytes, and the number and the offset of its refusal
 pub record Faulty : Type 0 where
@@ -64,5 +64,5 @@ unfoldable pub refusal : Faulty → Loading
 refusal f = record { answer = refusedAt (f .number) (f .offset); grammar = zeroGrammar }
 
 pub faults-refused : map (λ f. loadOf (f .bytes) 5) faults ≡ map refusal faults
-unfolding outcome faults refusal
+unfolding computing faults refusal
 faults-refused = refl

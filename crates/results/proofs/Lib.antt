@@ -1,6 +1,7 @@
 -- The tables of document 01, and demand 3.
 pub mod Decide
-pub mod Samples
+pub mod Answers
+pub mod Computing
 pub mod Table
 pub mod Faults
 pub mod NoTree

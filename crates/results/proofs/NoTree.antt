@@ -13,13 +13,9 @@ use Rattle.grammar.specs.declared.Grammar.{Grammar}
 use Rattle.grammar.specs.Valid.{validGrammar}
 use Rattle.grammar.specs.View.{grammarOf}
 use Rattle.grammar.proofs.Bounds.{valid-bounded}
-use Rattle.results.specs.Load.{loadOf}
-use Rattle.results.proofs.Samples.{T, bare}
-use Rattle.results.proofs.Table.{outcome, As}
-
--- the grammar of a book
-abbrev pub grammarIn : List ℕ → Grammar
-grammarIn bytes = loadOf bytes 0 .grammar
+use Rattle.results.specs.Drawer.{T, bare, As}
+use Rattle.results.specs.Starred.{grammarFrom}
+use Rattle.results.proofs.Computing.{computing}
 
 -- where the chart of an input is not complete, the input has no tree
 pub incomplete-no-tree : (g : Grammar) (w : List ℕ) → validGrammar g ≡ true → length w ≤ 64
@@ -30,14 +26,14 @@ incomplete-no-tree g w valid small e tree =
     complete-tree (grammarOf g) (valid-bounded g valid) w (replicate 4225 0) small room .1 tree in
     true≢false (sym said ∙ e)
 
-pub no-tree-T-AAA : HasTree (grammarOf (grammarIn T)) (As 3) → ⊥
-unfolding outcome
-no-tree-T-AAA = incomplete-no-tree (grammarIn T) (As 3) refl (omega arith) refl
+pub no-tree-T-AAA : HasTree (grammarOf (grammarFrom T)) (As 3) → ⊥
+unfolding computing
+no-tree-T-AAA = incomplete-no-tree (grammarFrom T) (As 3) refl (omega arith) refl
 
-pub no-tree-T-B : HasTree (grammarOf (grammarIn T)) (66 ∷ []) → ⊥
-unfolding outcome
-no-tree-T-B = incomplete-no-tree (grammarIn T) (66 ∷ []) refl (omega arith) refl
+pub no-tree-T-B : HasTree (grammarOf (grammarFrom T)) (0x42 ∷ []) → ⊥
+unfolding computing
+no-tree-T-B = incomplete-no-tree (grammarFrom T) (0x42 ∷ []) refl (omega arith) refl
 
-pub no-tree-bare : HasTree (grammarOf (grammarIn bare)) (As 1) → ⊥
-unfolding outcome
-no-tree-bare = incomplete-no-tree (grammarIn bare) (As 1) refl (omega arith) refl
+pub no-tree-bare : HasTree (grammarOf (grammarFrom bare)) (As 1) → ⊥
+unfolding computing
+no-tree-bare = incomplete-no-tree (grammarFrom bare) (As 1) refl (omega arith) refl

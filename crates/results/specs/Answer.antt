@@ -3,26 +3,31 @@
 use Prim.Native.Nat.{ℕ}
 use mathlib.Core.Bool.{Bool, true, false}
 use mathlib.Core.List.{List, [], _∷_}
-use lib.IntN.{ℤ}
 
--- what a call answers, in document 01's own words and numbers
-pub data Answer : Type 0 where
-  -- the number of the refusal
-  refused : ℕ → Answer
-  -- loading: the number and the offset, or loaded
-  refusedAt : ℕ → ℕ → Answer
-  loaded : Answer
-  -- opening and taking: complete or not; check; same build
-  affirmed denied : Answer
-  -- first and next: how many parts the reading written to the output has
-  handed : ℕ → Answer
-  -- first: "no reading"; next: "none"
-  noDerivation noneLeft : Answer
-  -- count: 0 to 4,096, or "more"
-  counted : ℕ → Answer
-  more : Answer
-  -- length, in tenths of a millimetre
-  tenths : ℤ → Answer
+-- what a call on a loaded grammar answers: the number of a refusal, or what it was asked. Opening, taking, check and same build answer
+-- yes or no, length tenths of a millimetre
+pub data Answer (A : Type 0) : Type 0 where
+  refused : ℕ → Answer A
+  answered : A → Answer A
+
+-- first and next: how many nodes (parts) the derivation written to the output has, or none: "no reading" from first, "none" from next
+pub data Handing : Type 0 where
+  handed : ℕ → Handing
+  nothing : Handing
+
+-- count: a figure, or "more"
+pub data Figure : Type 0 where
+  counted : ℕ → Figure
+  more : Figure
+
+-- the largest figure that count gives
+unfoldable pub most : ℕ
+most = 4096
+
+-- loading: the number of the refusal and its offset, or loaded
+pub data LoadAnswer : Type 0 where
+  refusedAt : ℕ → ℕ → LoadAnswer
+  loaded : LoadAnswer
 
 -- a check: when it fails, and what is refused then
 pub record Check (A : Type 0) : Type 0 where

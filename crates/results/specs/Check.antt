@@ -9,8 +9,8 @@ use Rattle.cfg.specs.Listing.{L}
 use Rattle.chart.specs.Column.{filled}
 use Rattle.grammar.specs.declared.Grammar.{Grammar}
 use Rattle.grammar.specs.View.{grammarOf}
-use Rattle.results.specs.Answer.{Answer, refused, Check, check, decide}
-use Rattle.results.specs.Recognize.{grammarCheck, chartCheck, saying}
+use Rattle.results.specs.Answer.{Answer, refused, answered, Check, check, decide}
+use Rattle.results.specs.Recognize.{grammarCheck, chartCheck}
 
 -- two rows of numbers are the same
 unfoldable pub same : List ℕ → List ℕ → Bool
@@ -33,17 +33,17 @@ abbrev pub inputChecks : Grammar → List ℕ → List ℕ → List (Check ℕ)
 inputChecks g w chart = grammarCheck g ∷ inputCheck w ∷ chartCheck chart ∷ []
 
 -- what a call gives that writes no output: the answer, and what the chart holds at the end
-pub record Checking : Type 0 where
-  pub answer : Answer
+pub record Checking (A : Type 0) : Type 0 where
+  pub answer : Answer A
   pub chart : List ℕ
 
 -- such a call: refused, it leaves the chart as found; else the chart is filled for the input, whatever the answer
-unfoldable pub onInput : Grammar → List ℕ → List ℕ → (Unit {0} → Answer) → Checking
+unfoldable pub onInput : {A : Type 0} → Grammar → List ℕ → List ℕ → (Unit {0} → Answer A) → Checking A
 onInput g w chart answer =
     decide (inputChecks g w chart)
     (λ n. record { answer = refused n; chart = chart })
     (λ _. record { answer = answer tt; chart = filled (grammarOf g) w chart })
 
 -- check: yes exactly if the offered row is in L
-unfoldable pub checkOf : Grammar → List ℕ → List ℕ → List ℕ → Checking
-checkOf g w offered chart = onInput g w chart (λ _. saying (listed offered (L (grammarOf g) w)))
+unfoldable pub checkOf : Grammar → List ℕ → List ℕ → List ℕ → Checking Bool
+checkOf g w offered chart = onInput g w chart (λ _. answered (listed offered (L (grammarOf g) w)))

@@ -10,13 +10,13 @@ use Rattle.cfg.specs.Listing.{L}
 use Rattle.chart.specs.Column.{filled, complete}
 use Rattle.grammar.specs.declared.Grammar.{Grammar}
 use Rattle.grammar.specs.View.{grammarOf}
-use Rattle.results.specs.Answer.{Answer, refused, handed, noDerivation, noneLeft, counted, more, Check, check, decide}
+use Rattle.results.specs.Answer.{Answer, refused, answered, Handing, handed, nothing, Figure, counted, more, most, Check, check, decide}
 use Rattle.results.specs.Check.{same, inputChecks, Checking, onInput}
 use Rattle.results.specs.Measure.{unlisted}
 
 -- what first and next give: the answer, and what chart and output hold at the end
 pub record Enumeration : Type 0 where
-  pub answer : Answer
+  pub answer : Answer Handing
   pub chart : List ℕ
   pub output : List ℕ
 
@@ -29,9 +29,9 @@ unfoldable pub treeIn : Grammar → List ℕ → List ℕ → Bool
 treeIn g w chart = complete (grammarOf g) (length w) (filled (grammarOf g) w chart)
 
 -- a derivation is written to the front of the output, and the rest stays; without one the output stays as found
-unfoldable pub handingOut : Option (List ℕ) → Answer → List ℕ → List ℕ → Enumeration
+unfoldable pub handingOut : Option (List ℕ) → Answer Handing → List ℕ → List ℕ → Enumeration
 handingOut none answer chart out = record { answer = answer; chart = chart; output = out }
-handingOut (some e) answer chart out = record { answer = handed (length e / 2); chart = chart; output = e ++ drop (length e) out }
+handingOut (some e) answer chart out = record { answer = answered (handed (length e / 2)); chart = chart; output = e ++ drop (length e) out }
 
 -- the first element, if there is one
 unfoldable pub headOf : List (List ℕ) → Option (List ℕ)
@@ -48,7 +48,7 @@ unfoldable pub firstOf : Grammar → List ℕ → List ℕ → List ℕ → Enum
 firstOf g w chart out =
     decide (inputChecks g w chart ++ (outputCheck out ∷ []))
     (λ n. record { answer = refused n; chart = chart; output = out })
-    (λ _. handingOut (headOf (L (grammarOf g) w)) (cond (treeIn g w chart) (refused 13) noDerivation) (filled (grammarOf g) w chart) out)
+    (λ _. handingOut (headOf (L (grammarOf g) w)) (cond (treeIn g w chart) (refused 13) (answered nothing)) (filled (grammarOf g) w chart) out)
 
 -- next: the one after the offered derivation in L, or "none"; refusal 12 where the offered row is none
 unfoldable pub nextOf : Grammar → List ℕ → List ℕ → List ℕ → List ℕ → Enumeration
@@ -57,10 +57,14 @@ nextOf g w offered chart out =
     (λ n. record { answer = refused n; chart = chart; output = out })
     (λ _. decide (check (unlisted g w offered) 12 ∷ [])
     (λ n. record { answer = refused n; chart = filled (grammarOf g) w chart; output = out })
-    (λ _. handingOut (afterIn offered (L (grammarOf g) w)) noneLeft (filled (grammarOf g) w chart) out))
+    (λ _. handingOut (afterIn offered (L (grammarOf g) w)) (answered nothing) (filled (grammarOf g) w chart) out))
 
--- count: N up to 4,096, "more" above; refusal 13 where N is 0 and the input has a tree
-unfoldable pub countOf : Grammar → List ℕ → List ℕ → Checking
+-- what count says of N: N up to 4,096, "more" above
+unfoldable pub figure : ℕ → Figure
+figure n = cond (leb n most) (counted n) more
+
+-- count: what it says of N; refusal 13 where N is 0 and the input has a tree
+unfoldable pub countOf : Grammar → List ℕ → List ℕ → Checking Figure
 countOf g w chart = onInput g w chart (λ _.
     let n = length (L (grammarOf g) w) in
-    elim (eqb n 0) [ true ↦ cond (treeIn g w chart) (refused 13) (counted 0) | false ↦ cond (leb n 4096) (counted n) more ])
+    elim (eqb n 0) [ true ↦ cond (treeIn g w chart) (refused 13) (answered (counted 0)) | false ↦ answered (figure n) ])

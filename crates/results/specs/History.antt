@@ -5,11 +5,11 @@ use Prim.Native.Nat.{ℕ, _*_, _≤_}
 use mathlib.Core.List.{List, [], _∷_}
 use lib.ListN.{length, take}
 use Rattle.cfg.specs.Derivation.{Derivation, limit}
-use Rattle.results.specs.Walk.{Call, Said, handsOut, noDerivation, noneLeft, refuses, counts, more}
+use Rattle.results.specs.Walk.{Call, Said, handsOut, noDerivation, noneLeft, refuses, counts}
 use Rattle.results.specs.Walk as Walk
 use Rattle.grammar.specs.declared.Grammar.{Grammar}
 use Rattle.grammar.specs.View.{grammarOf}
-use Rattle.results.specs.Answer as Answer
+use Rattle.results.specs.Answer.{Answer, refused, answered, Handing, handed, nothing, Figure, counted, more}
 use Rattle.results.specs.Enumerate.{firstOf, nextOf, countOf}
 
 -- a call with what is lent to it: chart and output, and for a next that is not offered the copy the row that is
@@ -39,27 +39,25 @@ abbrev pub AllAllowed : Grammar → List ℕ → List Made → Type 0
 AllAllowed g w [] = Unit {0}
 AllAllowed g w (m ∷ calls) = Allowed g w m × AllAllowed g w calls
 
--- an answer as the caller of the walk sees it, with the front of the output: twice as many numbers as it answers nodes. The answers of
--- other calls become a refusal that the walk never gives
-unfoldable pub saidOf : Answer.Answer → List ℕ → Said
-saidOf (Answer.refused n) out = refuses n
-saidOf (Answer.refusedAt n at) out = refuses 0
-saidOf Answer.loaded out = refuses 0
-saidOf Answer.affirmed out = refuses 0
-saidOf Answer.denied out = refuses 0
-saidOf (Answer.handed n) out = handsOut n (take (2 * n) out)
-saidOf Answer.noDerivation out = noDerivation
-saidOf Answer.noneLeft out = noneLeft
-saidOf (Answer.counted n) out = counts n
-saidOf Answer.more out = more
-saidOf (Answer.tenths z) out = refuses 0
+-- first and next, as the caller of the walk sees them: a derivation handed out is the front of the output, twice as many numbers as nodes
+-- are answered; `none` is what the call says where nothing is handed out
+unfoldable pub saidOf : Said → Answer Handing → List ℕ → Said
+saidOf none (refused n) out = refuses n
+saidOf none (answered (handed n)) out = handsOut n (take (2 * n) out)
+saidOf none (answered nothing) out = none
+
+-- count, as the caller of the walk sees it
+unfoldable pub countSaid : Answer Figure → Said
+countSaid (refused n) = refuses n
+countSaid (answered (counted n)) = counts n
+countSaid (answered more) = Walk.more
 
 -- what one call says, by the decided results, the copy being what was handed out last
 unfoldable pub says : Grammar → List ℕ → List ℕ → Made → Said
-says g w copy (first chart out) = let r = firstOf g w chart out in saidOf (r .answer) (r .output)
-says g w copy (nextCopy chart out) = let r = nextOf g w copy chart out in saidOf (r .answer) (r .output)
-says g w copy (nextOther e chart out) = let r = nextOf g w e chart out in saidOf (r .answer) (r .output)
-says g w copy (count chart) = saidOf (countOf g w chart .answer) []
+says g w copy (first chart out) = let r = firstOf g w chart out in saidOf noDerivation (r .answer) (r .output)
+says g w copy (nextCopy chart out) = let r = nextOf g w copy chart out in saidOf noneLeft (r .answer) (r .output)
+says g w copy (nextOther e chart out) = let r = nextOf g w e chart out in saidOf noneLeft (r .answer) (r .output)
+says g w copy (count chart) = countSaid (countOf g w chart .answer)
 
 -- the copy after a call: the row that was handed out, if one was
 unfoldable pub copied : Said → List ℕ → List ℕ
@@ -68,7 +66,7 @@ copied noDerivation copy = copy
 copied noneLeft copy = copy
 copied (refuses n) copy = copy
 copied (counts n) copy = copy
-copied more copy = copy
+copied Walk.more copy = copy
 
 -- what a list of calls says
 unfoldable pub history : Grammar → List ℕ → List ℕ → List Made → List Said

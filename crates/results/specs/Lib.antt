@@ -1,4 +1,4 @@
--- What each exported call answers and leaves, in the order of document 01.
+-- What each exported call answers and leaves, in the order of document 01; demand 3; the drawer and its starred table.
 pub mod Answer
 pub mod Load
 pub mod Recognize
@@ -7,3 +7,6 @@ pub mod Measure
 pub mod Enumerate
 pub mod Walk
 pub mod History
+pub mod Demand3
+pub mod Drawer
+pub mod Starred

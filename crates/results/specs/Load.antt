@@ -11,7 +11,7 @@ use Rattle.grammar.specs.declared.Symbol.the-variants.{Nonterminal, Terminal}
 use Rattle.grammar.specs.declared.Rule.{Rule}
 use Rattle.grammar.specs.declared.Grammar.{Grammar}
 use Rattle.grammar.specs.Zero.{zeroPlace, zeroGrammar, noRule}
-use Rattle.results.specs.Answer.{Answer, refusedAt, loaded, Check, check, decide}
+use Rattle.results.specs.Answer.{LoadAnswer, refusedAt, loaded, Check, check, decide}
 
 -- how many bytes after the command byte are its operands
 unfoldable pub operands : ℕ → ℕ
@@ -103,7 +103,7 @@ step bytes at g =
 
 -- what loading gives: its answer and a grammar
 pub record Loading : Type 0 where
-  pub answer : Answer
+  pub answer : LoadAnswer
   pub grammar : Grammar
 
 -- a refused book leaves its number, its offset and the grammar of no rules

@@ -11,9 +11,8 @@ use Rattle.grammar.specs.declared.Grammar.{Grammar}
 use Rattle.grammar.specs.Valid.{all}
 use Rattle.grammar.specs.View.{grammarOf}
 use Rattle.grammar.specs.Zero.{noRule}
-use Rattle.results.specs.Answer.{refused, tenths, check, decide}
+use Rattle.results.specs.Answer.{refused, answered, check, decide}
 use Rattle.results.specs.Check.{listed, Checking, onInput}
-use Rattle.results.specs.Recognize.{saying}
 
 -- the rule lengths of all nodes of a row, empty ones too, added up: hundredths of a millimetre
 unfoldable pub sum : Grammar → List ℕ → ℤ
@@ -30,10 +29,10 @@ rounded (negsuc n) = negℤ (pos ((suc n + 5) / 10))
 unfoldable pub unlisted : Grammar → List ℕ → List ℕ → Bool
 unlisted g w e = not (listed e (L (grammarOf g) w))
 
--- length
-unfoldable pub lengthOf : Grammar → List ℕ → List ℕ → List ℕ → Checking
+-- length, in tenths of a millimetre
+unfoldable pub lengthOf : Grammar → List ℕ → List ℕ → List ℕ → Checking ℤ
 lengthOf g w offered chart = onInput g w chart (λ _.
-    decide (check (unlisted g w offered) 12 ∷ []) refused (λ _. tenths (rounded (sum g offered))))
+    decide (check (unlisted g w offered) 12 ∷ []) refused (λ _. answered (rounded (sum g offered))))
 
 -- the rules of the nodes that cover something, in preorder
 unfoldable pub rulesUsed : List ℕ → List ℕ
@@ -51,6 +50,6 @@ unfoldable pub sameBag : List ℕ → List ℕ → Bool
 sameBag x y = all (λ r. eqb (occurrences r x) (occurrences r y)) (x ++ y)
 
 -- same build
-unfoldable pub sameBuildOf : Grammar → List ℕ → List ℕ → List ℕ → List ℕ → Checking
+unfoldable pub sameBuildOf : Grammar → List ℕ → List ℕ → List ℕ → List ℕ → Checking Bool
 sameBuildOf g w a b chart = onInput g w chart (λ _.
-    decide (check (unlisted g w a) 12 ∷ check (unlisted g w b) 12 ∷ []) refused (λ _. saying (sameBag (rulesUsed a) (rulesUsed b))))
+    decide (check (unlisted g w a) 12 ∷ check (unlisted g w b) 12 ∷ []) refused (λ _. answered (sameBag (rulesUsed a) (rulesUsed b))))

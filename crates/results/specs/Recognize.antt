@@ -2,7 +2,7 @@
 -- holds at the end.
 -- Assumes nothing.
 use Prim.Native.Nat.{ℕ, _+_, _-_}
-use mathlib.Core.Bool.{Bool, cond, not}
+use mathlib.Core.Bool.{Bool, not}
 use mathlib.Core.List.{List, [], _∷_, _++_}
 use lib.Dec.{eqb, ltb}
 use lib.ListN.{length, take, replicate}
@@ -11,7 +11,7 @@ use Rattle.grammar.specs.Valid.{validGrammar}
 use Rattle.grammar.specs.View.{grammarOf}
 use Rattle.chart.specs.Cell.{cells}
 use Rattle.chart.specs.Column.{opened, extended, complete}
-use Rattle.results.specs.Answer.{Answer, refused, affirmed, denied, Check, check, decide}
+use Rattle.results.specs.Answer.{Answer, refused, answered, Check, check, decide}
 
 -- the state: 64 bytes, of which the first `count` have been taken
 pub record State : Type 0 where
@@ -22,15 +22,11 @@ pub record State : Type 0 where
 unfoldable pub stateOf : List ℕ → State
 stateOf w = record { bytes = w ++ replicate (64 - length w) 0; count = length w }
 
--- what opening and taking give: the answer, the state, and what the chart holds at the end
+-- what opening and taking give: the answer, yes if complete, the state, and what the chart holds at the end
 pub record Recognition : Type 0 where
-  pub answer : Answer
+  pub answer : Answer Bool
   pub state : State
   pub chart : List ℕ
-
--- yes or no
-abbrev pub saying : Bool → Answer
-saying b = cond b affirmed denied
 
 -- 8: the grammar handed in
 abbrev pub grammarCheck : Grammar → Check ℕ
@@ -50,7 +46,7 @@ openOf g chart =
     decide (grammarCheck g ∷ chartCheck chart ∷ [])
     (λ n. record { answer = refused n; state = stateOf []; chart = chart })
     (λ _. let left = opened (grammarOf g) chart in
-    record { answer = saying (complete (grammarOf g) 0 left); state = stateOf []; chart = left })
+    record { answer = answered (complete (grammarOf g) 0 left); state = stateOf []; chart = left })
 
 -- taking a byte. Refused, it leaves the state and the chart as found
 unfoldable pub takeOf : Grammar → State → ℕ → List ℕ → Recognition
@@ -59,7 +55,7 @@ takeOf g h m chart =
     (λ n. record { answer = refused n; state = h; chart = chart })
     (λ _. let w = take (h .count) (h .bytes) ++ (m ∷ []) in
     let left = extended (grammarOf g) w chart in
-    record { answer = saying (complete (grammarOf g) (h .count + 1) left); state = stateOf w; chart = left })
+    record { answer = answered (complete (grammarOf g) (h .count + 1) left); state = stateOf w; chart = left })
 
 -- taking bytes one after the other, each with the state and the chart that the call before it left
 unfoldable pub fed : Grammar → Recognition → List ℕ → Recognition

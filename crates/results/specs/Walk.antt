@@ -1,7 +1,7 @@
 -- The walk of demand 3: a plain machine for one grammar and one input, fed only which of the four calls comes.
 -- Assumes nothing.
 use Prim.Native.Nat.{ℕ, zero, suc, _/_}
-use mathlib.Core.Bool.{true, false}
+use mathlib.Core.Bool.{true, false, cond}
 use mathlib.Core.List.{List, [], _∷_}
 use mathlib.Core.Logic.{ite}
 use lib.Dec.{ltb, leb, eqb}
@@ -9,6 +9,7 @@ use lib.ListN.{length, getD}
 use Rattle.cfg.specs.Grammar.{Cfg}
 use Rattle.cfg.specs.Tree.{HasTree}
 use Rattle.cfg.specs.Listing.{L}
+use Rattle.results.specs.Answer.{most}
 
 -- the calls: first; next, offered the caller's copy; next, offered a row that is no derivation (reading); count
 pub data Call : Type 0 where
@@ -43,6 +44,10 @@ row G w (suc i) = getD (L G w) i []
 abbrev pub hands : List ℕ → Said
 hands e = handsOut (length e / 2) e
 
+-- what count says of N: N up to 4,096, "more" above
+unfoldable pub saysCount : ℕ → Said
+saysCount n = cond (leb n most) (counts n) more
+
 module _ (G : Cfg) (w : List ℕ) (tree : Dec (HasTree G w)) where
   -- one call at the place p, which stays unless a line says otherwise
   unfoldable pub walk : Call → ℕ → Move
@@ -55,7 +60,7 @@ module _ (G : Cfg) (w : List ℕ) (tree : Dec (HasTree G w)) where
   walk count p =
       elim (eqb (N G w) 0) [
         | true ↦ move (ite tree (refuses 13) (counts 0)) p
-        | false ↦ elim (leb (N G w) 4096) [ true ↦ move (counts (N G w)) p | false ↦ move more p ]
+        | false ↦ move (saysCount (N G w)) p
       ]
 
   -- what a list of calls says, from the place p on

@@ -8,7 +8,7 @@ use mathlib.Core.Logic.{_↔_, ite}
 use mathlib.Core.Path.{_≡_, refl, sym, ap, _∙_}
 use lib.Dec.{eqb, ltb}
 use lib.ListN.{length, getD, replicate, length-replicate}
-use borrow.Author.Tests.{le-ltb, le-leb, lt-leb, eq-eqb, ne-eqb}
+use borrow.Author.Tests.{le-ltb, eq-eqb, ne-eqb}
 use Rattle.cfg.specs.Tree.{HasTree}
 use Rattle.cfg.specs.Listing.{L}
 use Rattle.chart.specs.Column.{filled}
@@ -17,10 +17,10 @@ use Rattle.grammar.specs.declared.Grammar.{Grammar}
 use Rattle.grammar.specs.Valid.{validGrammar}
 use Rattle.grammar.specs.View.{grammarOf}
 use Rattle.grammar.proofs.Bounds.{valid-bounded}
-use Rattle.results.specs.Answer.{refused, handed, noDerivation, noneLeft, counted, more, check, decide}
+use Rattle.results.specs.Answer.{refused, answered, handed, nothing, counted, check, decide}
 use Rattle.results.specs.Check.{inputChecks, onInput}
 use Rattle.results.specs.Measure.{unlisted}
-use Rattle.results.specs.Enumerate.{outputCheck, treeIn, handingOut, headOf, afterIn, firstOf, nextOf, countOf}
+use Rattle.results.specs.Enumerate.{outputCheck, treeIn, handingOut, headOf, afterIn, figure, firstOf, nextOf, countOf}
 use Rattle.results.proofs.Decide.{Pass, decide-first, decide-passed}
 use Rattle.results.proofs.Demand3.Rows.{head-some, head-none, member-listed, not-member-listed}
 
@@ -46,52 +46,40 @@ module _ (g : Grammar) (valid : validGrammar g ≡ true) (w : List ℕ) (low : 1
         go false e (yes t) = absurd (false≢true (sym e ∙ treeIn-exact .1 t))
         go false e (no n) = refl
 
-    pub countOf-none : length (L (grammarOf g) w) ≡ 0 → countOf g w chart .answer ≡ cond (treeIn g w chart) (refused 13) (counted 0)
+    pub countOf-none : length (L (grammarOf g) w) ≡ 0 → countOf g w chart .answer ≡ cond (treeIn g w chart) (refused 13) (answered (counted 0))
     unfolding countOf onInput
     countOf-none h = rw (decide-passed _ _ (inputChecks g w chart) input-passes, eq-eqb (length (L (grammarOf g) w)) 0 h)
 
     pub count-answer-none : length (L (grammarOf g) w) ≡ 0 → (tree : Dec (HasTree (grammarOf g) w))
-        → countOf g w chart .answer ≡ ite tree (refused 13) (counted 0)
-    count-answer-none h tree = countOf-none h ∙ treeIn-choice tree (refused 13) (counted 0)
+        → countOf g w chart .answer ≡ ite tree (refused 13) (answered (counted 0))
+    count-answer-none h tree = countOf-none h ∙ treeIn-choice tree (refused 13) (answered (counted 0))
 
-    pub countOf-some : 0 < length (L (grammarOf g) w) → length (L (grammarOf g) w) ≤ 4096
-        → countOf g w chart .answer ≡ counted (length (L (grammarOf g) w))
+    pub countOf-some : 0 < length (L (grammarOf g) w) → countOf g w chart .answer ≡ answered (figure (length (L (grammarOf g) w)))
     unfolding countOf onInput
-    countOf-some h k = rw (
-      decide-passed _ _ (inputChecks g w chart) input-passes,
-      ne-eqb (length (L (grammarOf g) w)) 0 (omega arith),
-      le-leb (length (L (grammarOf g) w)) 4096 k,
-    )
-
-    pub countOf-more : 4096 < length (L (grammarOf g) w) → countOf g w chart .answer ≡ more
-    unfolding countOf onInput
-    countOf-more h = rw (
-      decide-passed _ _ (inputChecks g w chart) input-passes,
-      ne-eqb (length (L (grammarOf g) w)) 0 (omega arith),
-      lt-leb (length (L (grammarOf g) w)) 4096 h,
-    )
+    countOf-some h =
+        rw (decide-passed _ _ (inputChecks g w chart) input-passes, ne-eqb (length (L (grammarOf g) w)) 0 (omega arith))
 
     module _ (out : List ℕ) (o : 1024 ≤ length out) where
       output-passes : Pass (inputChecks g w chart ++ (outputCheck out ∷ []))
       output-passes = let p = input-passes in (p .0, (p .1 .0, (p .1 .1 .0, (le-ltb (length out) 1024 o, tt))))
 
       pub firstOf-goes : firstOf g w chart out ≡ handingOut (headOf (L (grammarOf g) w))
-          (cond (treeIn g w chart) (refused 13) noDerivation) (filled (grammarOf g) w chart) out
+          (cond (treeIn g w chart) (refused 13) (answered nothing)) (filled (grammarOf g) w chart) out
       unfolding firstOf
       firstOf-goes = decide-passed _ _ (inputChecks g w chart ++ (outputCheck out ∷ [])) output-passes
 
       pub first-answer-some : 0 < length (L (grammarOf g) w)
-          → firstOf g w chart out .answer ≡ handed (length (getD (L (grammarOf g) w) 0 []) / 2)
+          → firstOf g w chart out .answer ≡ answered (handed (length (getD (L (grammarOf g) w) 0 []) / 2))
       unfolding handingOut
       first-answer-some h = rw (firstOf-goes, head-some (L (grammarOf g) w) h)
 
       pub first-answer-none : length (L (grammarOf g) w) ≡ 0 → (tree : Dec (HasTree (grammarOf g) w))
-          → firstOf g w chart out .answer ≡ ite tree (refused 13) noDerivation
+          → firstOf g w chart out .answer ≡ ite tree (refused 13) (answered nothing)
       unfolding handingOut
-      first-answer-none h tree = rw (firstOf-goes, head-none (L (grammarOf g) w) h) (treeIn-choice tree (refused 13) noDerivation)
+      first-answer-none h tree = rw (firstOf-goes, head-none (L (grammarOf g) w) h) (treeIn-choice tree (refused 13) (answered nothing))
 
       pub nextOf-listed : (e : List ℕ) → List·Memᴰ e (L (grammarOf g) w) → nextOf g w e chart out
-          ≡ handingOut (afterIn e (L (grammarOf g) w)) noneLeft (filled (grammarOf g) w chart) out
+          ≡ handingOut (afterIn e (L (grammarOf g) w)) (answered nothing) (filled (grammarOf g) w chart) out
       unfolding nextOf unlisted
       nextOf-listed e i =
           decide-passed _ _ (inputChecks g w chart ++ (outputCheck out ∷ [])) output-passes

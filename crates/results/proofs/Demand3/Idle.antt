@@ -2,7 +2,7 @@
 -- hand nothing out.
 -- Assumes nothing.
 use Prim.Native.Nat.{ℕ, suc, _≤_}
-use native.Mathlib.Decide.{decLt, decLe}
+use native.Mathlib.Decide.{decLt}
 use native.Mathlib.Omega.{arith}
 use mathlib.Core.List.{List, [], _∷_, _++_}
 use mathlib.Core.Logic.{dite, ite}
@@ -14,7 +14,8 @@ use Rattle.cfg.specs.Tree.{HasTree}
 use Rattle.results.specs.Walk.{Call, first, nextCopy, nextOther, count, Said, hands, noDerivation, refuses, counts}
 use Rattle.results.specs.Walk.{Move, move, N, walk, walked, placeAfter, handedOut}
 use Rattle.results.proofs.Demand3.Machine.{first-none, next-zero, next-last, next-other}
-use Rattle.results.proofs.Demand3.Machine.{count-none, count-some, count-more, walk-keeps}
+use Rattle.results.proofs.Demand3.Machine.{count-none, count-some, walk-keeps}
+use Rattle.results.proofs.Demand3.Figures.{saysCount-handed}
 
 -- a move that stays at the place p and hands nothing out
 abbrev pub Idle : ℕ → Move → Type 0
@@ -65,9 +66,7 @@ module _ (G : Cfg) (w : List ℕ) (tree : Dec (HasTree G w)) where
   pub idle-count : (p : ℕ) → Idle p (walk G w tree count p)
   unfolding handedOut
   idle-count p = dite (decLt 0 (N G w))
-      (λ h. dite (decLe (N G w) 4096)
-      (λ k. subst (Idle p) (sym (count-some G w tree p h k)) (refl, λ said. refl))
-      (λ k. subst (Idle p) (sym (count-more G w tree p (omega arith))) (refl, λ said. refl)))
+      (λ h. subst (Idle p) (sym (count-some G w tree p h)) (refl, saysCount-handed (N G w)))
       (λ h. subst (Idle p) (sym (count-none G w tree p (omega arith))) (idle-choice tree 13 (counts 0) p (refl, λ said. refl)))
 
   pub idle-next-zero : Idle 0 (walk G w tree nextCopy 0)

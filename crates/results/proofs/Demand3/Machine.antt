@@ -2,17 +2,18 @@
 -- row of the place.
 -- Assumes nothing.
 use Prim.Native.Nat.{ℕ, zero, suc, _≤_, _<_}
-use native.Mathlib.Decide.{decLt, decLe}
+use native.Mathlib.Decide.{decLt}
 use native.Mathlib.Omega.{arith}
 use mathlib.Core.List.{List}
 use mathlib.Core.Logic.{dite, ite}
 use mathlib.Core.Path.{_≡_, refl, sym, subst}
-use borrow.Author.Tests.{lt-ltb, le-ltb, le-leb, lt-leb, eq-eqb, ne-eqb}
+use borrow.Author.Tests.{lt-ltb, le-ltb, eq-eqb, ne-eqb}
 use Rattle.cfg.specs.Grammar.{Cfg}
 use Rattle.cfg.specs.Tree.{HasTree}
-use Rattle.results.specs.Walk.{Call, first, nextCopy, nextOther, count, hands, noDerivation, noneLeft, refuses, counts, more}
+use Rattle.results.specs.Walk.{Call, first, nextCopy, nextOther, count, hands, noDerivation, noneLeft, refuses, counts, saysCount}
 use Rattle.results.specs.Walk.{Move, move, N, row, walk}
 use Rattle.results.specs.History.{copied}
+use Rattle.results.proofs.Demand3.Figures.{saysCount-copied}
 
 module _ (G : Cfg) (w : List ℕ) (tree : Dec (HasTree G w)) where
   pub first-some : (p : ℕ) → 0 < N G w → walk G w tree first p ≡ move (hands (row G w 1)) 1
@@ -44,13 +45,9 @@ module _ (G : Cfg) (w : List ℕ) (tree : Dec (HasTree G w)) where
   unfolding walk
   count-none p h = rw (eq-eqb (N G w) 0 h, walk)
 
-  pub count-some : (p : ℕ) → 0 < N G w → N G w ≤ 4096 → walk G w tree count p ≡ move (counts (N G w)) p
+  pub count-some : (p : ℕ) → 0 < N G w → walk G w tree count p ≡ move (saysCount (N G w)) p
   unfolding walk
-  count-some p h k = rw (ne-eqb (N G w) 0 (omega arith), le-leb (N G w) 4096 k, walk)
-
-  pub count-more : (p : ℕ) → 4096 < N G w → walk G w tree count p ≡ move more p
-  unfolding walk
-  count-more p h = rw (ne-eqb (N G w) 0 (omega arith), lt-leb (N G w) 4096 h, walk)
+  count-some p h = rw (ne-eqb (N G w) 0 (omega arith), walk)
 
   -- a move from the place p keeps to L: its place is at most N, and the copy after it is the row of its place
   abbrev pub Keeps : ℕ → Move → Type 0
@@ -71,9 +68,7 @@ module _ (G : Cfg) (w : List ℕ) (tree : Dec (HasTree G w)) where
       (λ k. subst (Keeps (suc p)) (sym (next-last p (omega arith))) (h, refl))
   walk-keeps nextOther p h = subst (Keeps p) (sym (next-other p)) (h, refl)
   walk-keeps count p h = dite (decLt 0 (N G w))
-      (λ k. dite (decLe (N G w) 4096)
-      (λ l. subst (Keeps p) (sym (count-some p k l)) (h, refl))
-      (λ l. subst (Keeps p) (sym (count-more p (omega arith))) (h, refl)))
+      (λ k. subst (Keeps p) (sym (count-some p k)) (h, saysCount-copied (N G w) (row G w p)))
       (λ k. subst (Keeps p) (sym (count-none p (omega arith))) (none tree))
     where
       none : (d : Dec (HasTree G w)) → Keeps p (move (ite d (refuses 13) (counts 0)) p)

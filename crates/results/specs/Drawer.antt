@@ -1,7 +1,8 @@
--- The books of document 01's drawer, as bytes. `A` is the byte 41.
+-- The books of document 01's drawer, as bytes, and inputs of `A`, which is the byte 41.
 -- Assumes nothing.
 use Prim.Native.Nat.{ℕ, zero, suc}
 use mathlib.Core.List.{List, [], _∷_}
+use lib.ListN.{replicate}
 
 -- the commands of a book; a rule is opened with length 0
 abbrev pub start : ℕ → List ℕ → List ℕ
@@ -61,3 +62,7 @@ recess = 0x10 ∷ 0x00 ∷ 0x20 ∷ 0x00 ∷ 0xE7 ∷ 0xFF ∷ 0x40 ∷ 0x41 ∷
 -- a book of no rules
 abbrev pub bare : List ℕ
 bare = 0x10 ∷ 0x00 ∷ 0x50 ∷ []
+
+-- an input of so many `A`
+abbrev pub As : ℕ → List ℕ
+As n = replicate n 0x41

@@ -1,0 +1,59 @@
+-- Taking a byte over any chart and any state: the state, the one column that is written, and the answer.
+-- Assumes nothing.
+use Prim.Native.Nat.{ℕ, _+_, _≤_, _<_}
+use mathlib.Core.Bool.{true}
+use mathlib.Core.List.{List, [], _∷_}
+use mathlib.Core.Path.{_≡_, refl, sym, ap, subst, _∙_}
+use native.Mathlib.Omega.{arith}
+use lib.ListN.{length, take}
+use lib.Seq.{length-take-le}
+use Rattle.sets.specs.Set.{has}
+use Rattle.chart.specs.Cell.{cell, fitsAt}
+use Rattle.chart.specs.Column.{written, extended, complete}
+use Rattle.chart.proofs.Filled.{length-snoc}
+use Rattle.chart.proofs.Least.{column-closed, column-least, closed-same}
+use Rattle.chart.proofs.Written.{written-length, written-other, written-cell}
+use Rattle.grammar.specs.declared.Grammar.{Grammar}
+use Rattle.grammar.specs.Valid.{validGrammar}
+use Rattle.grammar.specs.View.{grammarOf}
+use Rattle.grammar.proofs.Bounds.{valid-bounded}
+use Rattle.results.specs.Answer.{answered}
+use Rattle.results.specs.Recognize.{State, stateOf, Recognition, takeOf}
+use Rattle.demands.specs.Taken.{input, Taken}
+use Rattle.demands.proofs.Later.{take-passed}
+
+module _ (g : Grammar) (h : State) (m : ℕ) (found : List ℕ) (valid : validGrammar g ≡ true) (bytes : length (h .bytes) ≡ 64)
+    (small : h .count < 64) (room : 4225 ≤ length found) where
+  size : length (input h m) ≡ h .count + 1
+  size = omega (arith, length-snoc (take (h .count) (h .bytes)) m, length-take-le (h .count) (h .bytes) (omega arith))
+
+  -- the result, with the column written at the new count
+  left : Recognition
+  left =
+      let c = written (grammarOf g) (fitsAt (input h m)) (h .count + 1) found in
+      record { answer = answered (has (g .start) (cell c 0 (h .count + 1))); state = stateOf (input h m); chart = c }
+
+  gives : takeOf g h m found ≡ left
+  unfolding extended complete left
+  gives = take-passed g h m found valid small room ∙ ap (λ (n : ℕ).
+      let c = written (grammarOf g) (fitsAt (input h m)) n found in
+      record { answer = answered (has (g .start) (cell c 0 (h .count + 1))); state = stateOf (input h m); chart = c }) size
+
+  of-left : Taken (grammarOf g) h m found (h .count + 1) left
+  unfolding left
+  of-left =
+      let n = h .count + 1 in
+      let fit = fitsAt (input h m) in
+      let cells = written-cell (grammarOf g) fit n found (omega arith) room in
+      record {
+        state = refl;
+        long = written-length (grammarOf g) fit n found;
+        others = written-other (grammarOf g) fit n found;
+        closed = closed-same (grammarOf g) fit found n _ _ (λ i l. sym (cells i l))
+            (column-closed (grammarOf g) fit found n (valid-bounded g valid));
+        least = λ f c i k l e. column-least (grammarOf g) fit found n f c i k l (ap (has k) (sym (cells i l)) ∙ e);
+        complete = refl;
+      }
+
+  pub take-any : Taken (grammarOf g) h m found (h .count + 1) (takeOf g h m found)
+  take-any = subst (Taken (grammarOf g) h m found (h .count + 1)) (sym gives) of-left

@@ -1,0 +1,27 @@
+-- Answers told apart: what is refused is not answered, and what is handed out or counted is not "none" or "more".
+-- Assumes nothing.
+use Prim.Native.Nat.{ℕ}
+use mathlib.Core.Path.{_≡_}
+use native.Mathlib.Omega.{arith}
+use Rattle.results.specs.Answer.{Answer, refused, answered, handed, nothing, counted, more}
+
+pub refused-inj : {A : Type 0} {m n : ℕ} → _≡_ {A = Answer A} (refused m) (refused n) → m ≡ n
+refused-inj e = cc
+
+pub answered-inj : {A : Type 0} {a b : A} → answered a ≡ answered b → a ≡ b
+answered-inj e = cc
+
+pub handed-inj : {m n : ℕ} → handed m ≡ handed n → m ≡ n
+handed-inj e = cc
+
+pub refused-apart : {A : Type 0} {n : ℕ} {a : A} → refused n ≡ answered a → ⊥
+refused-apart e = let z : _≡_ {A = ℕ} 0 1 = cc in omega arith
+
+pub answered-apart : {A : Type 0} {a : A} {n : ℕ} → answered a ≡ refused n → ⊥
+answered-apart e = let z : _≡_ {A = ℕ} 0 1 = cc in omega arith
+
+pub handed-apart : {n : ℕ} → answered (handed n) ≡ answered nothing → ⊥
+handed-apart e = let z : _≡_ {A = ℕ} 0 1 = cc in omega arith
+
+pub figures-apart : (n : ℕ) → answered (counted n) ≡ answered more → ⊥
+figures-apart n e = let z : _≡_ {A = ℕ} 0 1 = cc in omega arith

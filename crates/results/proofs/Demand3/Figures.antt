@@ -1,0 +1,61 @@
+-- What count says of N, by the decided results and by the machine: the figure up to `most`, "more" above; the rows on both sides of 4,096;
+-- and the two agree.
+-- Assumes nothing.
+use Prim.Native.Nat.{ℕ, _≤_, _<_}
+use mathlib.Core.Bool.{Bool, true, false, cond}
+use mathlib.Core.List.{List, _∷_}
+use mathlib.Core.Path.{_≡_, refl}
+use lib.Dec.{leb}
+use borrow.Author.Tests.{le-leb, lt-leb}
+use Rattle.results.specs.Answer.{answered, Figure, counted, more, most}
+use Rattle.results.specs.Enumerate.{figure}
+use Rattle.results.specs.Walk.{Said, counts, saysCount, handedOut}
+use Rattle.results.specs.Walk as Walk
+use Rattle.results.specs.History.{countSaid, copied}
+
+-- ---- on both sides of 4,096
+
+pub figure-rows : (figure 4096 ≡ counted 4096) × (figure 4097 ≡ more)
+unfolding figure most
+figure-rows = (refl, refl)
+
+pub saysCount-rows : (saysCount 4096 ≡ counts 4096) × (saysCount 4097 ≡ Walk.more)
+unfolding saysCount most
+saysCount-rows = (refl, refl)
+
+-- ---- any N
+
+module _ (n : ℕ) where
+  pub figure-counted : n ≤ most → figure n ≡ counted n
+  unfolding figure
+  figure-counted h = rw (le-leb n most h)
+
+  pub figure-more : most < n → figure n ≡ more
+  unfolding figure
+  figure-more h = rw (lt-leb n most h)
+
+  -- the caller hears of the decided figure what the machine says
+  pub figure-said : countSaid (answered (figure n)) ≡ saysCount n
+  unfolding countSaid figure saysCount
+  figure-said = by (leb n most)
+    where
+      by : (b : Bool) → countSaid (answered (cond b (counted n) more)) ≡ cond b (counts n) Walk.more
+      by true = refl
+      by false = refl
+
+  -- the machine's figure hands nothing out
+  pub saysCount-copied : (copy : List ℕ) → copied (saysCount n) copy ≡ copy
+  unfolding copied saysCount
+  saysCount-copied copy = by (leb n most)
+    where
+      by : (b : Bool) → copied (cond b (counts n) Walk.more) copy ≡ copy
+      by true = refl
+      by false = refl
+
+  pub saysCount-handed : (said : List Said) → handedOut (saysCount n ∷ said) ≡ handedOut said
+  unfolding handedOut saysCount
+  saysCount-handed said = by (leb n most)
+    where
+      by : (b : Bool) → handedOut (cond b (counts n) Walk.more ∷ said) ≡ handedOut said
+      by true = refl
+      by false = refl

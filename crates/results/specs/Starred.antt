@@ -1,0 +1,105 @@
+-- The starred plates of document 01 as one table: from the bytes of a book and an input to the answers of loading, first and count, the
+-- list L and the lengths; the inputs without a tree of any size; the empty book; the sums. `Starred` is what is proved of it.
+-- Assumes nothing.
+use Prim.Native.Nat.{ℕ}
+use mathlib.Core.List.{List, [], _∷_, map}
+use mathlib.Core.Path.{_≡_}
+use lib.IntN.{ℤ, pos, negℤ}
+use lib.ListN.{replicate}
+use Rattle.cfg.specs.Listing.{L}
+use Rattle.cfg.specs.Tree.{HasTree}
+use Rattle.grammar.specs.declared.Grammar.{Grammar}
+use Rattle.grammar.specs.View.{grammarOf}
+use Rattle.grammar.specs.Zero.{zeroGrammar}
+use Rattle.results.specs.Answer.{Answer, answered, Handing, handed, nothing, Figure, counted, LoadAnswer, refusedAt, loaded}
+use Rattle.results.specs.Load.{loadOf}
+use Rattle.results.specs.Measure.{lengthOf, rounded}
+use Rattle.results.specs.Enumerate.{firstOf, countOf}
+use Rattle.results.specs.Drawer.{T, unit, left, pairs, nullablePairs, emptyUnit, bare, recess, As}
+
+-- what is asked of a book and an input: the answers of loading, first and count, L, and the length of each row of L
+pub record Outcome : Type 0 where
+  pub loads : LoadAnswer
+  pub first : Answer Handing
+  pub count : Answer Figure
+  pub list : List (List ℕ)
+  pub lengths : List (Answer ℤ)
+
+-- the grammar of a book
+abbrev pub grammarFrom : List ℕ → Grammar
+grammarFrom bytes = loadOf bytes 0 .grammar
+
+-- what comes of a book and an input, over a chart and an output that hold other things
+unfoldable pub outcome : List ℕ → List ℕ → Outcome
+outcome bytes w =
+    let g = grammarFrom bytes in
+    let chart : List ℕ = replicate 4225 7 in
+    record {
+      loads = loadOf bytes 0 .answer;
+      first = firstOf g w chart (replicate 1024 9) .answer;
+      count = countOf g w chart .answer;
+      list = L (grammarOf g) w;
+      lengths = map (λ e. lengthOf g w e chart .answer) (L (grammarOf g) w);
+    }
+
+-- a line of the table: a book, an input, and what is to come of them
+pub record Line : Type 0 where
+  pub bytes : List ℕ
+  pub input : List ℕ
+  pub gives : Outcome
+
+-- a line whose input has derivations: the nodes of the first, the list, and the lengths in tenths
+unfoldable pub found : List ℕ → List ℕ → ℕ → ℕ → List (List ℕ) → List ℤ → Line
+found bytes w nodes n list lengths = record {
+  bytes = bytes;
+  input = w;
+  gives = record {
+    loads = loaded;
+    first = answered (handed nodes);
+    count = answered (counted n);
+    list = list;
+    lengths = map answered lengths;
+  };
+}
+
+-- a line whose input has no tree
+unfoldable pub absent : List ℕ → List ℕ → Line
+absent bytes w = record {
+  bytes = bytes;
+  input = w;
+  gives = record { loads = loaded; first = answered nothing; count = answered (counted 0); list = []; lengths = [] };
+}
+
+-- lengths of zero
+abbrev pub zeros : ℕ → List ℤ
+zeros n = replicate n (pos 0)
+
+-- the table, in document 01's order
+unfoldable pub table : List Line
+table =
+    found T (As 1) 3 2 ((1 ∷ 0 ∷ 0 ∷ 1 ∷ 1 ∷ 2 ∷ []) ∷ (1 ∷ 0 ∷ 1 ∷ 2 ∷ 0 ∷ 1 ∷ []) ∷ []) (pos 463 ∷ pos 463 ∷ [])
+    ∷ found T (As 2) 3 1 ((2 ∷ 0 ∷ 1 ∷ 2 ∷ 1 ∷ 2 ∷ []) ∷ []) (pos 465 ∷ [])
+    ∷ absent T (As 3)
+    ∷ absent T (0x42 ∷ [])
+    ∷ found unit (As 1) 1 1 ((1 ∷ 1 ∷ []) ∷ []) (zeros 1)
+    ∷ found left (As 3) 3 1 ((3 ∷ 0 ∷ 2 ∷ 0 ∷ 1 ∷ 1 ∷ []) ∷ []) (zeros 1)
+    ∷ found pairs (As 3) 5 2
+    ((3 ∷ 0 ∷ 1 ∷ 1 ∷ 2 ∷ 0 ∷ 1 ∷ 1 ∷ 1 ∷ 1 ∷ []) ∷ (3 ∷ 0 ∷ 2 ∷ 0 ∷ 1 ∷ 1 ∷ 1 ∷ 1 ∷ 1 ∷ 1 ∷ []) ∷ []) (zeros 2)
+    ∷ found nullablePairs (As 1) 1 1 ((1 ∷ 1 ∷ []) ∷ []) (zeros 1)
+    ∷ found emptyUnit (As 1) 2 1 ((1 ∷ 0 ∷ 0 ∷ 2 ∷ []) ∷ []) (zeros 1)
+    ∷ absent bare (As 1)
+    ∷ found recess (As 1) 1 1 ((1 ∷ 0 ∷ []) ∷ []) (negℤ (pos 3) ∷ [])
+    ∷ []
+
+-- what is proved of the starred plates
+pub record Starred : Type 0 where
+  -- every line comes out as the table says
+  pub lines : map (λ (l : Line). outcome (l .bytes) (l .input)) table ≡ map (λ (l : Line). l .gives) table
+  -- where the table says "no reading", the input has no tree of any size
+  pub no-tree-three : HasTree (grammarOf (grammarFrom T)) (As 3) → ⊥
+  pub no-tree-other : HasTree (grammarOf (grammarFrom T)) (0x42 ∷ []) → ⊥
+  pub no-tree-rules : HasTree (grammarOf (grammarFrom bare)) (As 1) → ⊥
+  -- the empty book: 1 at offset 0
+  pub no-bytes : loadOf [] 0 ≡ record { answer = refusedAt 1 0; grammar = zeroGrammar }
+  -- the sums 4,625, -25 and 24 in tenths
+  pub sums : (rounded (pos 4625) ≡ pos 463) × (rounded (negℤ (pos 25)) ≡ negℤ (pos 3)) × (rounded (pos 24) ≡ pos 2)
