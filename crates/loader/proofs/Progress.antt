@@ -13,7 +13,7 @@ use Rattle.grammar.specs.declared.Rule.{Rule}
 use Rattle.grammar.specs.declared.Grammar.{Grammar}
 use Rattle.grammar.specs.declared.Refusal.{Refusal}
 use Rattle.grammar.specs.Number.{numberOf}
-use Rattle.grammar.specs.Valid.{all, validGrammar}
+use Rattle.grammar.specs.Valid.{validGrammar}
 use Rattle.grammar.specs.Zero.{zeroGrammar, noRule}
 use Rattle.grammar.proofs.Bounds.{valid-count}
 use Rattle.results.specs.Load.{Step, next, step, run, loadOf, openRule, withStart, withRule, withPlace}
@@ -66,13 +66,13 @@ pub record Progress (bytes : List ℕ) (at : ℕ) (g : Grammar) : Type 0 where
   pub size : length (g .rules) ≡ 128
 
 pub progress-first : (bytes : List ℕ) (g : Grammar) → g ≡ zeroGrammar → Progress bytes 0 g
-unfolding loadOf validGrammar all
+unfolding loadOf
 progress-first bytes g e = subst (Progress bytes 0) (sym e) (record {
   within = omega arith;
   reached = λ d. run-fuel d bytes (suc (length bytes - 0)) (length bytes) 0 zeroGrammar (omega arith) (omega arith);
-  valid = refl;
+  valid = valid-invariant .zero;
   few = omega arith;
-  size = refl;
+  size = size-invariant .zero;
 })
 
 module _ (bytes : List ℕ) (at : ℕ) (g : Grammar) (P : Progress bytes at g) where
