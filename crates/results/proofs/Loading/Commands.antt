@@ -48,8 +48,8 @@ module _ {P : Grammar → Type 0} (I : Invariant P) where
     unfolding after outOfTurn
     after-kept at c a b d = go (eqb c 0x10) (eqb c 0x20) (eqb c 0x30) (eqb c 0x40)
       where
-        go : (t u v w : Bool) → cond t (ltb 0 at) (eqb at 0 || ((v || w) && eqb (g .count) 0)) ≡ false → ((t || u || v) && ltb 31 a) ≡ false
-            → (u && ltb 127 (g .count)) ≡ false → ((v || w) && ltb 7 (openRule g .count)) ≡ false
+        go : (t u v w : Bool) → cond t (ltb 0 at) (eqb at 0 || ((v || w) && eqb (g .count) 0)) ≡ false
+            → ((t || u || v) && ltb 31 a) ≡ false → (u && ltb 127 (g .count)) ≡ false → ((v || w) && ltb 7 (openRule g .count)) ≡ false
             → P (cond t (withStart g a) (cond u (withRule g a (signed b d))
             (cond v (withPlace g (Nonterminal a)) (cond w (withPlace g (Terminal a)) g))))
         go true u v w o n r p = I .start g H a (ltb-false 31 a n)
