@@ -7,6 +7,9 @@ pub mod Untouched
 pub mod Filled
 pub mod Order
 pub mod LoadOrder
+pub mod LoadFault
+pub mod LoadUnused
+pub mod LoadDemand
 pub mod Listed
 pub mod OrderOffered
 pub mod OrderTrees

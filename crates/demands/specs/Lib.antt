@@ -3,6 +3,7 @@ pub mod Kept
 pub mod Ready
 pub mod Order
 pub mod LoadOrder
+pub mod LoadDemand
 pub mod OrderAfter
 pub mod Demand1
 pub mod Recognized

@@ -5,7 +5,5 @@ pub mod Pass
 pub mod Empty
 pub mod Exact
 pub mod Depth
-pub mod Valid
-pub mod Run
 pub mod Progress
 pub mod Answer

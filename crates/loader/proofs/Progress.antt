@@ -5,7 +5,7 @@ use native.Mathlib.Omega.{arith}
 use mathlib.Core.Bool.{true}
 use mathlib.Core.List.{List}
 use mathlib.Core.Path.{_≡_, refl, sym, ap, _∙_, subst}
-use lib.ListN.{length, getD, set, length-set}
+use lib.ListN.{length, getD, set}
 use mir.Syntax.{w64}
 use mir.Val.{Fits}
 use Rattle.grammar.specs.declared.Symbol.{Symbol}
@@ -13,18 +13,19 @@ use Rattle.grammar.specs.declared.Rule.{Rule}
 use Rattle.grammar.specs.declared.Grammar.{Grammar}
 use Rattle.grammar.specs.declared.Refusal.{Refusal}
 use Rattle.grammar.specs.Number.{numberOf}
-use Rattle.grammar.specs.Valid.{all, validGrammar}
+use Rattle.grammar.specs.Valid.{validGrammar}
 use Rattle.grammar.specs.Zero.{zeroGrammar, noRule}
 use Rattle.grammar.proofs.Bounds.{valid-count}
 use Rattle.results.specs.Load.{Step, next, step, run, loadOf, openRule, withStart, withRule, withPlace}
+use Rattle.results.proofs.Loading.Run.{run-stop, run-next, run-done, step-forward, run-fuel}
+use Rattle.results.proofs.Loading.Commands.{step-kept}
+use Rattle.results.proofs.Loading.Valid.{valid-invariant, size-invariant}
 use Rattle.loader.specs.Answer.{loadingOf, Refuses, Accepts}
 use Rattle.loader.specs.Command.{stepOf, Bounded, Reads}
 use Rattle.loader.specs.Rule.{openedRule, placedRule}
 use Rattle.loader.specs.declared.Loaded.{Loaded}
 use Rattle.loader.specs.declared.command.Command.{Command}
 use Rattle.loader.specs.declared.command.Command.the-variants as C
-use Rattle.loader.proofs.Run.{run-stop, run-next, run-done, step-forward, run-fuel}
-use Rattle.loader.proofs.Valid.{start-valid, rule-valid, place-valid}
 
 -- ---- the bounds of a command that was read
 
@@ -65,26 +66,27 @@ pub record Progress (bytes : List ℕ) (at : ℕ) (g : Grammar) : Type 0 where
   pub size : length (g .rules) ≡ 128
 
 pub progress-first : (bytes : List ℕ) (g : Grammar) → g ≡ zeroGrammar → Progress bytes 0 g
-unfolding loadOf validGrammar all
+unfolding loadOf
 progress-first bytes g e = subst (Progress bytes 0) (sym e) (record {
   within = omega arith;
   reached = λ d. run-fuel d bytes (suc (length bytes - 0)) (length bytes) 0 zeroGrammar (omega arith) (omega arith);
-  valid = refl;
+  valid = valid-invariant .zero;
   few = omega arith;
-  size = refl;
+  size = size-invariant .zero;
 })
 
 module _ (bytes : List ℕ) (at : ℕ) (g : Grammar) (P : Progress bytes at g) where
-  progress-next : (at′ : ℕ) (g′ : Grammar) → next at′ g′ ≡ step bytes at g → at′ ≤ length bytes → validGrammar g′ ≡ true
-      → length (g′ .rules) ≡ 128 → Progress bytes at′ g′
-  progress-next at′ g′ e h v z = record {
-    within = h;
-    reached = λ d. run-fuel d bytes (suc (length bytes - at′)) (length bytes - at) at′ g′ (omega arith) fewer
-        ∙ sym (run-next d (length bytes - at) bytes at g at′ g′ (sym e)) ∙ P .reached d;
-    valid = v;
-    few = valid-count g′ v;
-    size = z;
-  }
+  progress-next : (at′ : ℕ) (g′ : Grammar) → next at′ g′ ≡ step bytes at g → at′ ≤ length bytes → Progress bytes at′ g′
+  progress-next at′ g′ e h =
+      let v = step-kept valid-invariant bytes at g at′ g′ (P .valid) (sym e) in
+      record {
+        within = h;
+        reached = λ d. run-fuel d bytes (suc (length bytes - at′)) (length bytes - at) at′ g′ (omega arith) fewer
+            ∙ sym (run-next d (length bytes - at) bytes at g at′ g′ (sym e)) ∙ P .reached d;
+        valid = v;
+        few = valid-count g′ v;
+        size = step-kept size-invariant bytes at g at′ g′ (P .size) (sym e);
+      }
     where
       fewer : length bytes - at′ ≤ length bytes - at
       fewer = let f = step-forward bytes at g at′ g′ (sym e) in omega arith
@@ -100,7 +102,7 @@ module _ (bytes : List ℕ) (at : ℕ) (g : Grammar) (P : Progress bytes at g) w
     unfolding withStart
     progress-start k e =
         let b = bounds bytes at (g .count) (getD (g .rules) q noRule .count) c R _ e in
-        progress-next _ _ (ap (λ (m : Command). stepOf m at g) (sym e) ∙ means) (b .0) (start-valid g (P .valid) k (b .1)) (P .size)
+        progress-next _ _ (ap (λ (m : Command). stepOf m at g) (sym e) ∙ means) (b .0)
 
     pub progress-rule : (k low high : ℕ) (r : Rule) → c ≡ C.Rule k low high → r ≡ openedRule k low high
         → Progress bytes (at + 4)
@@ -109,7 +111,6 @@ module _ (bytes : List ℕ) (at : ℕ) (g : Grammar) (P : Progress bytes at g) w
     progress-rule k low high r e o =
         let b = bounds bytes at (g .count) (getD (g .rules) q noRule .count) c R _ e in
         progress-next _ _ (ap opened o ∙ ap (λ (m : Command). stepOf m at g) (sym e) ∙ means) (b .0)
-        (rule-valid g (P .valid) r k low high o (b .1) (b .2)) (length-set (g .rules) (g .count) r ∙ P .size)
       where
         opened : Rule → Step
         opened m = next (at + 4) (record { start = g .start; count = g .count + 1; depth = g .depth; rules = set (g .rules) (g .count) m })
@@ -121,7 +122,6 @@ module _ (bytes : List ℕ) (at : ℕ) (g : Grammar) (P : Progress bytes at g) w
         let b = bounds bytes at (g .count) (getD (g .rules) q noRule .count) c R _ e in
         progress-next _ _ (ap (placed q) o ∙ ap (λ (i : ℕ). placed i (placedRule (getD (g .rules) i noRule) s)) f
         ∙ ap (λ (m : Command). stepOf m at g) (sym e) ∙ means) (b .0)
-        (place-valid g (P .valid) q r s f (b .1) o (b .2) (b .3)) (length-set (g .rules) q r ∙ P .size)
       where
         placed : ℕ → Rule → Step
         placed i m = next (at + 2) (record { start = g .start; count = g .count; depth = g .depth; rules = set (g .rules) i m })

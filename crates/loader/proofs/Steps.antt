@@ -14,6 +14,7 @@ use Rattle.grammar.specs.declared.Refusal.the-variants as R
 use Rattle.grammar.specs.declared.Symbol.the-variants.{Nonterminal, Terminal}
 use Rattle.results.specs.Answer.{decide}
 use Rattle.results.specs.Load.{Step, stop, next, done, step, commandChecks, unknown, outOfTurn, operands, after, openRule}
+use Rattle.results.proofs.Loading.Run.{step-past}
 use Rattle.loader.specs.Command.{stepOf, Bounded, Reads}
 use Rattle.loader.specs.declared.command.Command.{Command}
 use Rattle.loader.specs.declared.command.Command.the-variants.{Start, Rule, Place, End, Fault}
@@ -56,17 +57,13 @@ module _ (bytes : List ℕ) (at : ℕ) where
   four : at + 1 + 3 ≡ at + 4
   four = omega arith
 
-  pub step-past : (g : Grammar) → length bytes ≤ at → step bytes at g ≡ stop (record { number = 1; offset = length bytes })
-  unfolding step decide
-  step-past g h = rw (le-ltb at (length bytes) h)
-
   step-here : (g : Grammar) (c : ℕ) → at < length bytes → getD bytes at 0 ≡ c → step bytes at g ≡ stepBy bytes at g c
   unfolding step decide
   step-here g c h e = rw (lt-ltb at (length bytes) h) (ap (stepBy bytes at g) e)
 
   -- ---- the end of the bytes
   pub ended : (rules places : ℕ) → length bytes ≤ at → Reads bytes at rules places (Fault R.UnexpectedEnd (length bytes))
-  ended rules places h = record { means = λ g p q. sym (step-past g h); bounded = tt }
+  ended rules places h = record { means = λ g p q. sym (step-past bytes at g h); bounded = tt }
 
   module _ (h : at < length bytes) (rules places : ℕ) where
     -- the command is refused

@@ -1,4 +1,4 @@
--- The tables of document 01, and demand 3.
+-- The tables of document 01, demand 3, and the laws of loading.
 pub mod Decide
 pub mod Answers
 pub mod Computing
@@ -8,3 +8,4 @@ pub mod NoTree
 pub mod Starred
 pub mod Extra
 pub mod Demand3
+pub mod Loading

@@ -7,10 +7,10 @@ use mathlib.Core.List.{List, [], _∷_}
 use mathlib.Core.Path.{_≡_, refl, sym, ap, _∙_}
 use lib.Dec.{eqb}
 use lib.ListN.{length, getD}
+use borrow.Author.Tests.{le-ltb}
 use Rattle.grammar.specs.declared.Grammar.{Grammar}
 use Rattle.results.specs.Answer.{Check, decide}
 use Rattle.results.specs.Load.{Loading, Fault, Step, operands, stop, next, done, step, run, refusedLoad, acceptedLoad}
-use Rattle.loader.proofs.Steps.{step-past}
 
 -- ---- one command
 
@@ -33,6 +33,12 @@ module _ (d n : ℕ) (bytes : List ℕ) (at : ℕ) (g : Grammar) where
   run-done g′ e = ap (resume d n bytes) e
 
 -- ---- the number of commands allowed
+
+-- past the end of the book
+pub step-past : (bytes : List ℕ) (at : ℕ) (g : Grammar) → length bytes ≤ at
+    → step bytes at g ≡ stop (record { number = 1; offset = length bytes })
+unfolding step decide
+step-past bytes at g h = rw (le-ltb at (length bytes) h)
 
 decide-next : (checks : List (Check Fault)) (go : Unit {0} → Step) (at : ℕ) (g : Grammar) → decide checks stop go ≡ next at g
     → go tt ≡ next at g

@@ -1,0 +1,86 @@
+-- Demand 1 for loading, for every list of numbers as bytes: it is refused at its first fault from the left, or read to its end.
+-- Assumes nothing.
+use Prim.Native.Nat.{ℕ, zero, suc, _+_, _-_, _≤_}
+use native.Mathlib.Omega.{arith}
+use mathlib.Core.List.{List}
+use mathlib.Core.Logic.{inl, inr}
+use mathlib.Core.Path.{_≡_, refl, sym, ap, _∙_, subst}
+use lib.ListN.{length, getD}
+use Rattle.grammar.specs.declared.Grammar.{Grammar}
+use Rattle.grammar.specs.Valid.{validGrammar}
+use Rattle.grammar.specs.Zero.{zeroGrammar}
+use Rattle.results.specs.Load.{Fault, Step, stop, next, done, step, refusedLoad, acceptedLoad, run, loadOf}
+use Rattle.results.proofs.Loading.Run.{step-past, run-stop, run-next, run-done, step-forward}
+use Rattle.results.proofs.Loading.Commands.{Invariant, step-kept, step-done}
+use Rattle.demands.specs.LoadOrder.{CommandOrder}
+use Rattle.demands.specs.LoadDemand.{Reached, begin, further, withDepth, LoadRefused, LoadAccepted, LoadDemand}
+use Rattle.demands.proofs.LoadOrder.{step-order}
+use Rattle.demands.proofs.LoadFault.{step-fault}
+use Rattle.demands.proofs.LoadUnused.{Tidy, tidy-invariant}
+
+module _ (bytes : List ℕ) where
+  -- what each command keeps holds of each grammar that is reached
+  reached-kept : {P : Grammar → Type 0} → Invariant P → {at : ℕ} {g : Grammar} → Reached bytes at g → P g
+  reached-kept I begin = I .zero
+  reached-kept I (further {at} {at′} {g} {g′} R e) = step-kept I bytes at g at′ g′ (reached-kept I R) e
+
+  refused : (at : ℕ) (g : Grammar) (f : Fault) → Reached bytes at g → step bytes at g ≡ stop f → LoadRefused bytes (refusedLoad f)
+  unfolding refusedLoad
+  refused at g f R e = record {
+    number = f .number;
+    offset = f .offset;
+    answer = refl;
+    grammar = refl;
+    at = at;
+    before = g;
+    reached = R;
+    stops = e;
+    fault = step-fault bytes at g (f .number) (f .offset) e;
+    order = subst (CommandOrder bytes at (getD bytes at 0) (getD bytes (at + 1) 0) g) e (step-order bytes at g);
+  }
+
+  module _ (d : ℕ) where
+    -- the nullable depth is not looked at
+    depth-tidy : (g : Grammar) → Tidy g → Tidy (withDepth d g)
+    unfolding validGrammar
+    depth-tidy g T = record {
+      valid = T .valid;
+      behind = record { size = T .behind .size; unused = T .behind .unused; places = T .behind .places };
+    }
+
+    accepted : (at : ℕ) (g g′ : Grammar) → Reached bytes at g → step bytes at g ≡ done g′ → LoadAccepted bytes d (acceptedLoad d g′)
+    unfolding acceptedLoad
+    accepted at g g′ R e =
+        let E = step-done bytes at g g′ e in
+        let T = depth-tidy g′ (subst Tidy (sym (E .same)) (reached-kept tidy-invariant R)) in
+        record {
+          answer = refl;
+          at = at;
+          read = g;
+          reached = R;
+          ends = e ∙ ap done (E .same);
+          fifty = E .command;
+          last = omega (arith, E .last);
+          grammar = ap (withDepth d) (E .same);
+          valid = T .valid;
+          behind = T .behind;
+        }
+
+    -- from each offset that is reached, where so many commands are allowed as bytes are left
+    run-demand : (n at : ℕ) (g : Grammar) → length bytes - at ≤ n → Reached bytes at g → LoadDemand bytes d (run d bytes n at g)
+    unfolding run
+    run-demand zero at g h R = inl (refused at g _ R (step-past bytes at g (omega arith)))
+    run-demand (suc n) at g h R = go (step bytes at g) refl (run-demand n)
+      where
+        go : (s : Step) → step bytes at g ≡ s
+            → ((at′ : ℕ) (g′ : Grammar) → length bytes - at′ ≤ n → Reached bytes at′ g′ → LoadDemand bytes d (run d bytes n at′ g′))
+            → LoadDemand bytes d (run d bytes (suc n) at g)
+        go (stop f) e r = subst (LoadDemand bytes d) (sym (run-stop d n bytes at g f e)) (inl (refused at g f R e))
+        go (next at′ g′) e r =
+            let l = step-forward bytes at g at′ g′ e in
+            subst (LoadDemand bytes d) (sym (run-next d n bytes at g at′ g′ e)) (r at′ g′ (omega arith) (further R e))
+        go (done g′) e r = subst (LoadDemand bytes d) (sym (run-done d n bytes at g g′ e)) (inr (accepted at g g′ R e))
+
+pub load-demand : (bytes : List ℕ) (d : ℕ) → LoadDemand bytes d (loadOf bytes d)
+unfolding loadOf
+load-demand bytes d = run-demand bytes d (length bytes) 0 zeroGrammar (omega arith) begin

@@ -1,0 +1,79 @@
+-- Loading: each command keeps what is unused in the grammar read so far zero.
+-- Assumes nothing.
+use Prim.Native.Nat.{ℕ, _+_, _-_, _≤_, _<_}
+use native.Mathlib.Omega.{arith}
+use mathlib.Core.Bool.{true}
+use mathlib.Core.Path.{_≡_, refl, _∙_}
+use lib.IntN.{ℤ, pos}
+use lib.ListN.{getD, set, replicate, length-set}
+use lib.Seq.{drop-set-lt}
+use Rattle.grammar.specs.declared.Symbol.{Symbol}
+use Rattle.grammar.specs.declared.Rule.{Rule}
+use Rattle.grammar.specs.declared.Grammar.{Grammar}
+use Rattle.grammar.specs.Valid.{validGrammar}
+use Rattle.grammar.specs.Zero.{zeroPlace, zeroRule, zeroGrammar, noRule}
+use Rattle.grammar.proofs.Bounds.{valid-count}
+use Rattle.results.specs.Load.{openRule, withStart, withRule, withPlace}
+use Rattle.results.proofs.Loading.Lists.{set-each, replicate-each, drop-next}
+use Rattle.results.proofs.Loading.Commands.{Invariant}
+use Rattle.results.proofs.Loading.Valid.{valid-invariant}
+use Rattle.demands.specs.LoadDemand.{ZeroPlaces, ZeroBehind}
+
+-- ---- rules
+
+opened-zero : (k : ℕ) (z : ℤ) → ZeroPlaces (record { left = k; length = z; count = 0; places = replicate 8 zeroPlace })
+opened-zero k z = record { size = refl; unused = refl }
+
+placed-zero : (r : Rule) (s : Symbol) → ZeroPlaces r → ZeroPlaces (record {
+  left = r .left;
+  length = r .length;
+  count = r .count + 1;
+  places = set (r .places) (r .count) (record { symbol = s });
+})
+placed-zero r s Z = record {
+  size = length-set (r .places) (r .count) _ ∙ Z .size;
+  unused = drop-next (r .places) (r .count) 8 _ zeroPlace (Z .unused);
+}
+
+-- ---- grammars
+
+zero-zero : ZeroBehind zeroGrammar
+zero-zero = record { size = refl; unused = refl; places = replicate-each ZeroPlaces noRule zeroRule 128 (opened-zero 0 (pos 0)) }
+
+module _ (g : Grammar) (Z : ZeroBehind g) where
+  start-zero : (k : ℕ) → ZeroBehind (withStart g k)
+  unfolding withStart
+  start-zero k = record { size = Z .size; unused = Z .unused; places = Z .places }
+
+  rule-zero : (k : ℕ) (z : ℤ) → ZeroBehind (withRule g k z)
+  unfolding withRule
+  rule-zero k z = record {
+    size = length-set (g .rules) (g .count) _ ∙ Z .size;
+    unused = drop-next (g .rules) (g .count) 128 _ zeroRule (Z .unused);
+    places = set-each ZeroPlaces noRule 128 (g .rules) (g .count) _ (Z .places) (opened-zero k z);
+  }
+
+  place-zero : (s : Symbol) → 0 < g .count → g .count ≤ 128 → ZeroBehind (withPlace g s)
+  unfolding withPlace openRule
+  place-zero s m h = record {
+    size = length-set (g .rules) (g .count - 1) _ ∙ Z .size;
+    unused = drop-set-lt (g .count) (g .rules) (g .count - 1) _ (omega arith) ∙ Z .unused;
+    places = set-each ZeroPlaces noRule 128 (g .rules) (g .count - 1) _ (Z .places)
+        (placed-zero (getD (g .rules) (g .count - 1) noRule) s (Z .places (g .count - 1) (omega arith)));
+  }
+
+-- a grammar that check 8 lets through and in which what is unused is zero
+pub record Tidy (g : Grammar) : Type 0 where
+  pub valid : validGrammar g ≡ true
+  pub behind : ZeroBehind g
+
+pub tidy-invariant : Invariant Tidy
+tidy-invariant = record {
+  zero = record { valid = valid-invariant .zero; behind = zero-zero };
+  start = λ g T k h. record { valid = valid-invariant .start g (T .valid) k h; behind = start-zero g (T .behind) k };
+  rule = λ g T k z h m. record { valid = valid-invariant .rule g (T .valid) k z h m; behind = rule-zero g (T .behind) k z };
+  place = λ g T s m h u. record {
+    valid = valid-invariant .place g (T .valid) s m h u;
+    behind = place-zero g (T .behind) s m (valid-count g (T .valid));
+  };
+}
