@@ -1,6 +1,6 @@
--- Loading: at each command the first refusal that applies is given, and none without cause; the first command that is refused decides.
+-- Loading: at each command the first refusal that applies is given, and none without cause.
 -- Assumes nothing.
-use Prim.Native.Nat.{ℕ, suc, _+_}
+use Prim.Native.Nat.{ℕ, _+_}
 use mathlib.Core.Bool.{Bool, true, false, cond}
 use mathlib.Core.List.{List, [], _∷_}
 use mathlib.Core.Path.{_≡_, sym, _∙_}
@@ -10,7 +10,6 @@ use lib.ListN.{length, getD}
 use Rattle.grammar.specs.declared.Grammar.{Grammar}
 use Rattle.results.specs.Answer.{Check, decide}
 use Rattle.results.specs.Load.{operands, after, Fault, fault, unknown, outOfTurn, commandChecks, Step, stop, next, done, step}
-use Rattle.results.specs.Load.{refusedLoad, run}
 use Rattle.demands.specs.LoadOrder.{ended, endsInside, nonterminalOver, rulesOver, placesOver, furtherByte, CommandOrder}
 use Rattle.results.proofs.Decide.{decide-first, decide-passed}
 
@@ -72,14 +71,3 @@ step-order bytes at g =
     let a = getD bytes (at + 1) 0 in
     order bytes at c a g _
     (goes-on (eqb c 0x50) (at + 1 + operands c) g (after c a (getD bytes (at + 2) 0) (getD bytes (at + 3) 0) g))
-
--- ---- the first command that is refused decides
-
-module _ (d : ℕ) (bytes : List ℕ) (n at : ℕ) (g : Grammar) where
-  pub run-stop : (f : Fault) → step bytes at g ≡ stop f → run d bytes (suc n) at g ≡ refusedLoad f
-  unfolding run
-  run-stop f e = rw (e, run)
-
-  pub run-next : (at' : ℕ) (h : Grammar) → step bytes at g ≡ next at' h → run d bytes (suc n) at g ≡ run d bytes n at' h
-  unfolding run
-  run-next at' h e = rw (e, run)

@@ -5,10 +5,9 @@
 --   statement                         says                                                            source
 --   starred-table                     the starred plates, from book bytes to answers                   Plates from the drawer
 --   list-exact, list-rising           L holds exactly the readings, each once, in rising order         Trees and readings; The walk
---   load-demand                       a book is loaded or refused, and what each leaves                demand 1
+--   load-demand, load-order           a book is loaded or refused at its first fault; what is left     demand 1; Refusals
 --   open-, take-, .., next-demand     what is written, the first refusal that applies, what it leaves  demand 1
 --   ..-twelve, ..-thirteen            refusals 12 and 13 exactly where they apply                      demand 1; Refusals
---   load-order                        at one command the first fault that applies                      demand 1; Refusals
 --   take-any                          one mark taken over any sheet and any hand                       Plate in hand and sheet
 --   demand-2                          complete after each mark exactly if the marks have a tree        demand 2, first sentence
 --   check-yes, check-no               an offered reading is accepted exactly if it is one              demand 2, second sentence
@@ -46,6 +45,7 @@ use Rattle.demands.specs.Demand1.{OpenDemand, TakeDemand, InputDemand, OutputDe
 use Rattle.demands.specs.Ready.{Ready, ReadyOut}
 use Rattle.demands.specs.OrderAfter.{OfferedOrder, TreesOrder}
 use Rattle.demands.specs.LoadOrder.{CommandOrder}
+use Rattle.demands.specs.LoadDemand.{LoadDemand}
 use Rattle.demands.specs.Taken.{Taken}
 use Rattle.demands.specs.Recognized.{Recognized}
 use Rattle.listing.proofs.Exact as Exact
@@ -57,6 +57,7 @@ use Rattle.demands.proofs.Demand1 as Demand1
 use Rattle.demands.proofs.OrderOffered as Offered
 use Rattle.demands.proofs.OrderTrees as Trees
 use Rattle.demands.proofs.LoadOrder as LoadOrder
+use Rattle.demands.proofs.LoadDemand as Load
 use Rattle.demands.proofs.Check as Check
 use Rattle.demands.proofs.Taken as Take
 use Rattle.demands.proofs.Recognized as Fed
@@ -72,7 +73,18 @@ list-exact G w e = (Exact.listed→derivation G limit w e, Exact.derivation→li
 pub list-rising : (G : Cfg) (w : List ℕ) → Rising (L G w)
 list-rising G w = Exact.derivations-rising G limit w
 
--- DEMAND 1, for every input of every call: of a chart only the first 4,225 cells change, of an output only the derivation handed out;
+-- DEMAND 1 for loading, for every row of bytes and every nullable depth d: it is refused at the first fault from the left, with a number
+-- from 1 to 7, its offset and the grammar of zeros; or it is read to its end, the grammar passes check 8, so that demands 2 and 3 are about
+-- it, and what it does not use is zeros
+pub load-demand : (bytes : List ℕ) (d : ℕ) → LoadDemand bytes d (loadOf bytes d)
+load-demand = Load.load-demand
+
+-- at each command the first fault that applies decides
+pub load-order : (bytes : List ℕ) (at : ℕ) (g : Grammar)
+    → CommandOrder bytes at (getD bytes at 0) (getD bytes (at + 1) 0) g (step bytes at g)
+load-order = LoadOrder.step-order
+
+-- DEMAND 1, for every input of every other call: of a chart only the first 4,225 cells change, of an output only the derivation handed out;
 -- the refusal given is the first that applies; and what each refusal leaves
 pub open-demand : (g : Grammar) (chart : List ℕ) → OpenDemand g chart (openOf g chart)
 open-demand = Demand1.open-demand
@@ -118,11 +130,6 @@ first-thirteen = Trees.first-thirteen
 
 pub count-thirteen : (g : Grammar) (w chart : List ℕ) → TreesOrder (Ready g w chart) (grammarOf g) w (countOf g w chart .answer)
 count-thirteen = Trees.count-thirteen
-
--- loading: at each command the first fault that applies decides
-pub load-order : (bytes : List ℕ) (at : ℕ) (g : Grammar)
-    → CommandOrder bytes at (getD bytes at 0) (getD bytes (at + 1) 0) g (step bytes at g)
-load-order = LoadOrder.step-order
 
 -- TAKING over any chart and any state of 64 bytes: the state after it; of the chart only column n is written, the least one that is closed
 -- under the rules, earlier columns as found; "complete" is the start symbol's bit
