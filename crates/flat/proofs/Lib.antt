@@ -1,6 +1,6 @@
 -- The laws of flat rows.
 pub mod Complement
 pub mod Records
-pub mod Reading
-pub mod Writing
+pub mod Parts
+pub mod Written
 pub mod Round

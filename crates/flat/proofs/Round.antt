@@ -2,23 +2,21 @@
 -- Assumes nothing.
 use Prim.Native.Nat.{ℕ, zero, suc, _+_, _*_, _-_, _%_, _<_}
 use native.Mathlib.Omega.{arith}
-use mathlib.Core.Bool.{cond}
 use mathlib.Core.List.{List, [], _∷_, _++_, flatMap, append-assoc, append-nil}
 use mathlib.Core.Path.{_≡_, refl, sym, ap, _∙_}
-use lib.Dec.{eqb}
 use lib.IntN.{ℤ, pos, negsuc}
 use lib.ListN.{length, getD, drop}
 use lib.Seq.{getD-drop, drop-drop, drop-at}
 use lib.Signed.{mag}
-use borrow.Author.Tests.{lt-ltb, le-ltb}
+use borrow.Author.Tests.{lt-ltb, le-ltb, le-leb}
 use Rattle.grammar.specs.declared.Symbol.{Symbol}
 use Rattle.grammar.specs.declared.Symbol.the-variants.{Nonterminal, Terminal}
 use Rattle.grammar.specs.declared.Place.{Place}
 use Rattle.grammar.specs.declared.Rule.{Rule}
 use Rattle.grammar.specs.declared.Grammar.{Grammar}
 use Rattle.grammar.specs.Zero.{zeroPlace, noRule}
-use Rattle.flat.specs.Flat.{signedIn, recordsFrom, placeIn, placesIn, ruleIn, rulesIn, grammarIn}
-use Rattle.flat.specs.Flat.{unsignedOf, tagOf, valueOf, flatPlace, flatRule, flatOf}
+use Rattle.flat.specs.Flat.{byteIn, signedIn, symbolIn, recordsFrom, placeIn, placesIn, ruleIn, rulesIn, grammarIn}
+use Rattle.flat.specs.Flat.{countOf, unsignedOf, tagOf, valueOf, flatPlace, flatRule, flatOf}
 use Rattle.flat.specs.Fits.{FitsRule, Fits16}
 
 -- ---- one number and one place
@@ -33,15 +31,12 @@ signed-round (negsuc n) h =
     let d : 65536 - (65535 - n) ≡ suc n = omega arith in
     rw (e, le-ltb (65535 - n) 32768 (omega arith), d)
 
-symbol-round : (s : Symbol) (t v : ℕ) → t ≡ tagOf s → v ≡ valueOf s → valueOf s < 256
-    → cond (eqb t 0) (Nonterminal (v % 256)) (Terminal (v % 256)) ≡ s
-unfolding tagOf valueOf
+symbol-round : (s : Symbol) (t v : ℕ) → t ≡ tagOf s → v ≡ valueOf s → valueOf s < 256 → symbolIn t v ≡ s
+unfolding symbolIn tagOf valueOf
 symbol-round (Nonterminal k) t v e f h =
-    let d : k % 256 ≡ k = omega arith in
+    let d : byteIn k ≡ k = omega arith in
     rw (e, f, d)
-symbol-round (Terminal m) t v e f h =
-    let d : m % 256 ≡ m = omega arith in
-    rw (e, f, d)
+symbol-round (Terminal m) t v e f h = rw (e, f, le-leb m 255 (omega arith))
 
 -- ---- records
 
@@ -107,13 +102,13 @@ module _ (f : List ℕ) where
   rule-round ρ at rest fits h =
       let k : getD f at 0 ≡ ρ .left = at-index f (flatRule ρ ++ rest) at 0 at (omega arith) h in
       let m : getD f (at + 1) 0 ≡ unsignedOf (ρ .length) = at-index f (flatRule ρ ++ rest) at 1 (at + 1) refl h in
-      let n : getD f (at + 2) 0 ≡ ρ .count % 65536 = at-index f (flatRule ρ ++ rest) at 2 (at + 2) refl h in
-      let a : getD f at 0 % 256 ≡ ρ .left = omega (arith, fits .left) in
+      let n : getD f (at + 2) 0 ≡ countOf (ρ .count) = at-index f (flatRule ρ ++ rest) at 2 (at + 2) refl h in
+      let a : byteIn (getD f at 0) ≡ ρ .left = omega (arith, fits .left) in
       let b : signedIn (getD f (at + 1) 0) ≡ ρ .length = ap signedIn m ∙ signed-round (ρ .length) (fits .length) in
       let c : getD f (at + 2) 0 ≡ ρ .count = omega (arith, fits .count) in
       let e : placesIn f (at + 3) ≡ ρ .places =
       places-round (ρ .places) (at + 3) rest (fits .places) (fits .values)
-      (further f (ρ .left ∷ unsignedOf (ρ .length) ∷ ρ .count % 65536 ∷ []) (flatMap flatPlace (ρ .places) ++ rest) at 3 refl h)
+      (further f (ρ .left ∷ unsignedOf (ρ .length) ∷ countOf (ρ .count) ∷ []) (flatMap flatPlace (ρ .places) ++ rest) at 3 refl h)
       in
       λ i. record { left = a i; length = b i; count = c i; places = e i }
 
@@ -126,8 +121,8 @@ rules-round g fits =
 pub read-write : (g : Grammar) → Fits16 g → grammarIn (flatOf g) ≡ g
 unfolding grammarIn flatOf
 read-write g fits =
-    let a : g .start % 256 ≡ g .start = omega (arith, fits .start) in
-    let b : g .count % 65536 ≡ g .count = omega (arith, fits .count) in
-    let c : g .depth % 256 ≡ g .depth = omega (arith, fits .depth) in
+    let a : byteIn (g .start) ≡ g .start = omega (arith, fits .start) in
+    let b : countOf (g .count) ≡ g .count = omega (arith, fits .count) in
+    let c : byteIn (g .depth) ≡ g .depth = omega (arith, fits .depth) in
     let e = rules-round g fits in
     λ i. record { start = a i; count = b i; depth = c i; rules = e i }

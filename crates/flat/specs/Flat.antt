@@ -1,11 +1,12 @@
 -- A flat row is 2435 numbers of 16 bits: the start symbol, the number of rules used, the nullable depth, and 19 numbers for each of 128
--- rules: the left side, the length (two's complement), the number of places used, and for each of 8 places a tag (0 a nonterminal, else a
--- terminal) and a value. The grammar of a row, and the row of a grammar.
+-- rules: the left side, the length (two's complement), the number of places used, and for each of 8 places a tag (0 a nonterminal, 1 a
+-- terminal) and a value. The grammar of a row, and the row of a grammar. Each number of a row is judged whole: one that is too large for its
+-- place is read as a value that check 8 refuses where it is used.
 -- Assumes nothing.
-use Prim.Native.Nat.{ℕ, zero, suc, _+_, _-_, _%_}
-use mathlib.Core.Bool.{cond}
+use Prim.Native.Nat.{ℕ, zero, suc, _+_, _-_, _%_, min}
+use mathlib.Core.Bool.{cond, _&&_}
 use mathlib.Core.List.{List, [], _∷_, flatMap}
-use lib.Dec.{eqb, ltb}
+use lib.Dec.{eqb, ltb, leb}
 use lib.IntN.{ℤ, pos, negsuc, negℤ}
 use lib.ListN.{getD}
 use Rattle.grammar.specs.declared.Symbol.{Symbol}
@@ -16,6 +17,10 @@ use Rattle.grammar.specs.declared.Grammar.{Grammar}
 
 -- ---- the grammar of a row
 
+-- the number in a byte's place: one over 255 is read as 255, which is no nonterminal
+abbrev pub byteIn : ℕ → ℕ
+byteIn n = min n 255
+
 -- the signed number of 16 bits
 unfoldable pub signedIn : ℕ → ℤ
 signedIn n = cond (ltb n 32768) (pos n) (negℤ (pos (65536 - n)))
@@ -25,9 +30,14 @@ unfoldable pub recordsFrom : {A : Type 0} → (ℕ → A) → ℕ → ℕ → �
 recordsFrom read w at zero = []
 recordsFrom read w at (suc n) = read at ∷ recordsFrom read w (at + w) n
 
+-- the symbol of a tag and a value: a nonterminal, a terminal of one byte, or else the nonterminal 255
+unfoldable pub symbolIn : ℕ → ℕ → Symbol
+symbolIn tag value =
+    cond (eqb tag 0) (Nonterminal (byteIn value)) (cond (eqb tag 1 && leb value 255) (Terminal value) (Nonterminal 255))
+
 -- the place at an index
 unfoldable pub placeIn : List ℕ → ℕ → Place
-placeIn f at = record { symbol = cond (eqb (getD f at 0) 0) (Nonterminal (getD f (at + 1) 0 % 256)) (Terminal (getD f (at + 1) 0 % 256)) }
+placeIn f at = record { symbol = symbolIn (getD f at 0) (getD f (at + 1) 0) }
 
 -- the 8 places from an index on
 unfoldable pub placesIn : List ℕ → ℕ → List Place
@@ -36,7 +46,7 @@ placesIn f at = recordsFrom (placeIn f) 2 at 8
 -- the rule at an index
 unfoldable pub ruleIn : List ℕ → ℕ → Rule
 ruleIn f at = record {
-  left = getD f at 0 % 256;
+  left = byteIn (getD f at 0);
   length = signedIn (getD f (at + 1) 0);
   count = getD f (at + 2) 0;
   places = placesIn f (at + 3);
@@ -48,9 +58,13 @@ rulesIn f = recordsFrom (ruleIn f) 19 3 128
 
 -- the grammar of a row
 unfoldable pub grammarIn : List ℕ → Grammar
-grammarIn f = record { start = getD f 0 0 % 256; count = getD f 1 0; depth = getD f 2 0 % 256; rules = rulesIn f }
+grammarIn f = record { start = byteIn (getD f 0 0); count = getD f 1 0; depth = byteIn (getD f 2 0); rules = rulesIn f }
 
 -- ---- the row of a grammar
+
+-- a count: one over 65535 is written as 65535, which check 8 refuses too
+abbrev pub countOf : ℕ → ℕ
+countOf n = min n 65535
 
 -- the two's complement of 16 bits
 unfoldable pub unsignedOf : ℤ → ℕ
@@ -73,8 +87,8 @@ flatPlace p = tagOf (p .symbol) ∷ valueOf (p .symbol) ∷ []
 
 -- the numbers of a rule
 unfoldable pub flatRule : Rule → List ℕ
-flatRule r = r .left ∷ unsignedOf (r .length) ∷ r .count % 65536 ∷ flatMap flatPlace (r .places)
+flatRule r = r .left ∷ unsignedOf (r .length) ∷ countOf (r .count) ∷ flatMap flatPlace (r .places)
 
 -- the row of a grammar
 unfoldable pub flatOf : Grammar → List ℕ
-flatOf g = g .start ∷ g .count % 65536 ∷ g .depth ∷ flatMap flatRule (g .rules)
+flatOf g = g .start ∷ countOf (g .count) ∷ g .depth ∷ flatMap flatRule (g .rules)

@@ -7,7 +7,7 @@ use lib.ListN.{length-set, length-map, length-replicate, replicate}
 use borrow.Author.Needs.{needs}
 use Rattle.grammar.specs.Zero.{noRule}
 use Rattle.flat.specs.Flat.{flatRule}
-use Rattle.flat.proofs.Writing.{Written, written-start, written-step, grammar-done}
+use Rattle.flat.proofs.Written.{Written, written-start, written-step, grammar-done}
 use Rattle.flat.proofs.write.Statement.{statement}
 use Rattle.flat.proofs.write.Tie as tie
 
@@ -23,8 +23,8 @@ cast-f c = search needs
 element-write-f : tie.Need-element-write-f Inv-loop μ-loop
 element-write-f c = search needs
 
-cut-requires : tie.Need-cut-requires Inv-loop μ-loop
-cut-requires c κs = search needs
+count-of-requires : tie.Need-count-of-requires Inv-loop μ-loop
+count-of-requires c κs = search needs
 
 element-write-f-2 : tie.Need-element-write-f-2 Inv-loop μ-loop
 element-write-f-2 c = search needs
@@ -71,7 +71,7 @@ returns : tie.Need-returns Inv-loop μ-loop
 returns c =
     grammar-done _ (replicate 2435 0) _ _ _ (length-replicate {A = ℕ} 2435 0)
     (simp length-map at (c .before .before .before .before .good .0 .1 .1 .1 .1 .1 .0 .1 .0 .1)) (omega arith) (omega arith)
-    (c .before .before .cut .ensures) (c .before .loop .inv .1)
+    (c .before .before .count-of .ensures) (c .before .loop .inv .1)
 
 pub write-spec : {M : Type 1} → statement M
 write-spec =
@@ -81,7 +81,7 @@ write-spec =
     μ-loop
     cast-f
     element-write-f
-    cut-requires
+    count-of-requires
     element-write-f-2
     cast-f-2
     element-write-f-3

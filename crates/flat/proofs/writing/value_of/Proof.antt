@@ -1,9 +1,9 @@
--- `flat::value_of` meets its contract.
+-- `flat::writing::value_of` meets its contract.
 -- Assumes nothing.
 use borrow.Author.Needs.{needs}
 use Rattle.flat.specs.Flat.{valueOf}
-use Rattle.flat.proofs.value_of.Statement.{statement}
-use Rattle.flat.proofs.value_of.Tie as tie
+use Rattle.flat.proofs.writing.value_of.Statement.{statement}
+use Rattle.flat.proofs.writing.value_of.Tie as tie
 
 enum-known-s : tie.Need-enum-known-s
 enum-known-s c = search needs

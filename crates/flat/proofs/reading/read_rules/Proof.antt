@@ -1,4 +1,4 @@
--- `flat::read_rules` meets its contract. The loop's invariant: the rules passed are read.
+-- `flat::reading::read_rules` meets its contract. The loop's invariant: the rules passed are read.
 -- The measure is what is left of the 128 rules. Assumes nothing.
 use Prim.Native.Nat.{_≤_, _-_}
 use native.Mathlib.Omega.{arith}
@@ -7,8 +7,8 @@ use lib.ListN.{length, take, length-set}
 use borrow.Author.Needs.{needs}
 use Rattle.flat.specs.Flat.{recordsFrom, ruleIn, rulesIn}
 use Rattle.flat.proofs.Records.{records-step, records-done}
-use Rattle.flat.proofs.read_rules.Statement.{statement}
-use Rattle.flat.proofs.read_rules.Tie as tie
+use Rattle.flat.proofs.reading.read_rules.Statement.{statement}
+use Rattle.flat.proofs.reading.read_rules.Tie as tie
 
 abbrev Inv-loop : tie.InvT-loop
 Inv-loop f rules₀ r₀ rules r = (r ≤ 128) × (length rules ≡ 128) × (take r rules ≡ recordsFrom (ruleIn f) 19 3 r)

@@ -1,9 +1,9 @@
--- `flat::tag_of` meets its contract.
+-- `flat::writing::tag_of` meets its contract.
 -- Assumes nothing.
 use borrow.Author.Needs.{needs}
 use Rattle.flat.specs.Flat.{tagOf}
-use Rattle.flat.proofs.tag_of.Statement.{statement}
-use Rattle.flat.proofs.tag_of.Tie as tie
+use Rattle.flat.proofs.writing.tag_of.Statement.{statement}
+use Rattle.flat.proofs.writing.tag_of.Tie as tie
 
 enum-told : tie.Need-enum-told
 enum-told c = search needs

@@ -1,13 +1,13 @@
--- `flat::write_rule` meets its contract. The loop's invariant: the places passed stand behind the rule's first three numbers.
+-- `flat::writing::write_rule` meets its contract. The loop's invariant: the places passed stand behind the rule's first three numbers.
 -- The measure is what is left of the 8 places. Assumes nothing.
 use Prim.Native.Nat.{_≤_, _+_, _-_}
 use native.Mathlib.Omega.{arith}
 use lib.ListN.{length-set, length-map}
 use borrow.Author.Needs.{needs}
 use Rattle.flat.specs.Flat.{flatPlace}
-use Rattle.flat.proofs.Writing.{Written, written-start, place-step, rule-done}
-use Rattle.flat.proofs.write_rule.Statement.{statement}
-use Rattle.flat.proofs.write_rule.Tie as tie
+use Rattle.flat.proofs.Written.{Written, written-start, place-step, rule-done}
+use Rattle.flat.proofs.writing.write_rule.Statement.{statement}
+use Rattle.flat.proofs.writing.write_rule.Tie as tie
 
 abbrev Inv-loop : tie.InvT-loop
 Inv-loop at f₀ rule z q₀ f q = (q ≤ 8) × Written flatPlace 2 (at + 3) (rule .places) f₀ q f
@@ -36,8 +36,8 @@ mul-f-2 c = search needs
 element-write-f-2 : tie.Need-element-write-f-2 Inv-loop μ-loop
 element-write-f-2 c = search needs
 
-cut-requires : tie.Need-cut-requires Inv-loop μ-loop
-cut-requires c κs = search needs
+count-of-requires : tie.Need-count-of-requires Inv-loop μ-loop
+count-of-requires c κs = search needs
 
 add-f-2 : tie.Need-add-f-2 Inv-loop μ-loop
 add-f-2 c = search needs
@@ -113,7 +113,7 @@ returns c = (
   rule-done _ _ (c .before .before .before .before .before .pre .0) _ _ _ _ _ (c .before .before .before .before .before .pre .1)
       (simp length-map at (c .before .before .before .before .before .good .0 .1 .1 .1 .1 .1 .0 .1 .0 .1))
       (record { sfits = c .before .before .before .before .before .good .0 .1 .1 .1 .0 .1 }) (omega arith) (omega arith)
-      (c .before .before .before .unsigned .ensures) (c .before .before .cut .ensures) (c .before .loop .inv .1),
+      (c .before .before .before .unsigned .ensures) (c .before .before .count-of .ensures) (c .before .loop .inv .1),
   c .before .loop .inv .1 .long,
 )
 
@@ -130,7 +130,7 @@ write-rule-spec =
     add-f
     mul-f-2
     element-write-f-2
-    cut-requires
+    count-of-requires
     add-f-2
     mul-f-3
     element-write-f-3

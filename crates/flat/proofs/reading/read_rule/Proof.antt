@@ -1,18 +1,18 @@
--- `flat::read_rule` meets its contract: the rule of the parts that were read.
+-- `flat::reading::read_rule` meets its contract: the rule of the parts that were read.
 -- Assumes nothing.
 use borrow.Author.Needs.{needs}
-use Rattle.flat.proofs.Reading.{read-rule-of}
-use Rattle.flat.proofs.read_rule.Statement.{statement}
-use Rattle.flat.proofs.read_rule.Tie as tie
+use Rattle.flat.proofs.Parts.{read-rule-of}
+use Rattle.flat.proofs.reading.read_rule.Statement.{statement}
+use Rattle.flat.proofs.reading.read_rule.Tie as tie
 
-mul-low : tie.Need-mul-low
-mul-low c = search needs
+mul-byte : tie.Need-mul-byte
+mul-byte c = search needs
 
-element-copy-out-low : tie.Need-element-copy-out-low
-element-copy-out-low c = search needs
+element-copy-out-byte : tie.Need-element-copy-out-byte
+element-copy-out-byte c = search needs
 
-low-requires : tie.Need-low-requires
-low-requires c κs = search needs
+byte-requires : tie.Need-byte-requires
+byte-requires c κs = search needs
 
 add-signed : tie.Need-add-signed
 add-signed c = search needs
@@ -51,9 +51,9 @@ pub read-rule-spec : {M : Type 1} → statement M
 read-rule-spec =
     tie.close
     (tie.spec
-    mul-low
-    element-copy-out-low
-    low-requires
+    mul-byte
+    element-copy-out-byte
+    byte-requires
     add-signed
     mul-signed
     element-copy-out-signed

@@ -1,4 +1,4 @@
--- `flat::read_places` meets its contract. The loop's invariant: the places passed are read.
+-- `flat::reading::read_places` meets its contract. The loop's invariant: the places passed are read.
 -- The measure is what is left of the 8 places. Assumes nothing.
 use Prim.Native.Nat.{_≤_, _-_}
 use native.Mathlib.Omega.{arith}
@@ -7,8 +7,8 @@ use lib.ListN.{length, take, length-set}
 use borrow.Author.Needs.{needs}
 use Rattle.flat.specs.Flat.{recordsFrom, placeIn, placesIn}
 use Rattle.flat.proofs.Records.{records-step, records-done}
-use Rattle.flat.proofs.read_places.Statement.{statement}
-use Rattle.flat.proofs.read_places.Tie as tie
+use Rattle.flat.proofs.reading.read_places.Statement.{statement}
+use Rattle.flat.proofs.reading.read_places.Tie as tie
 
 abbrev Inv-loop : tie.InvT-loop
 Inv-loop f at places₀ q₀ places q = (q ≤ 8) × (length places ≡ 8) × (take q places ≡ recordsFrom (placeIn f) 2 at q)

@@ -1,6 +1,6 @@
 -- Records written one after the other into a row of 2435 numbers, behind what stands there already.
 -- Assumes nothing.
-use Prim.Native.Nat.{ℕ, _+_, _*_, _%_, _≤_, _<_}
+use Prim.Native.Nat.{ℕ, _+_, _*_, _≤_, _<_}
 use native.Mathlib.Omega.{arith}
 use mathlib.Core.List.{List, [], _∷_, _++_, flatMap, append-assoc, append-nil}
 use mathlib.Core.Path.{_≡_, sym, ap, _∙_}
@@ -12,7 +12,7 @@ use mir.Facts.{toZ-ofZ}
 use Rattle.grammar.specs.declared.Rule.{Rule}
 use Rattle.grammar.specs.declared.Grammar.{Grammar}
 use Rattle.grammar.specs.Zero.{zeroPlace}
-use Rattle.flat.specs.Flat.{unsignedOf, tagOf, valueOf, flatPlace, flatRule, flatOf}
+use Rattle.flat.specs.Flat.{countOf, unsignedOf, tagOf, valueOf, flatPlace, flatRule, flatOf}
 use Rattle.flat.proofs.Records.{put-two, put-three, flat-step}
 
 -- in f, what stands before b is as in f₀, and the first q elements of l follow, w numbers each
@@ -62,7 +62,7 @@ module _ (ρ : Rule) (at : ℕ) (low : at + 19 ≤ 2435) where
 
   -- the whole rule
   pub rule-done : (f₀ f : List ℕ) (u k q : ℕ) → length f₀ ≡ 2435 → length (ρ .places) ≡ 8 → SFits w16 (ρ .length) → q ≤ 8 → 8 ≤ q
-      → u ≡ unsignedOf (toZ w16 (ofZ w16 (ρ .length))) → k ≡ ρ .count % 65536
+      → u ≡ unsignedOf (toZ w16 (ofZ w16 (ρ .length))) → k ≡ countOf (ρ .count)
       → Written flatPlace 2 (at + 3) (ρ .places) (set (set (set f₀ at (ρ .left)) (at + 1) u) (at + 2) k) q f
       → take (at + 19) f ≡ take at f₀ ++ flatRule ρ
   unfolding flatRule
@@ -72,12 +72,12 @@ module _ (ρ : Rule) (at : ℕ) (low : at + 19 ≤ 2435) where
       ∙ ap (λ (x : List ℕ). x ++ flatMap flatPlace (ρ .places))
       (put-three f₀ at (at + 1) (at + 2) (at + 3) (ρ .left) u k (omega arith) (omega arith) (omega arith) (omega arith)
       ∙ λ i. take at f₀ ++ (ρ .left ∷ e i ∷ ek i ∷ []))
-      ∙ append-assoc (take at f₀) (ρ .left ∷ unsignedOf (ρ .length) ∷ ρ .count % 65536 ∷ []) (flatMap flatPlace (ρ .places))
+      ∙ append-assoc (take at f₀) (ρ .left ∷ unsignedOf (ρ .length) ∷ countOf (ρ .count) ∷ []) (flatMap flatPlace (ρ .places))
 
 -- ---- a grammar
 
 pub grammar-done : (g : Grammar) (f₀ f : List ℕ) (k r : ℕ) → length f₀ ≡ 2435 → length (g .rules) ≡ 128 → r ≤ 128 → 128 ≤ r
-    → k ≡ g .count % 65536
+    → k ≡ countOf (g .count)
     → Written flatRule 19 3 (g .rules) (set (set (set f₀ 0 (g .start)) 1 k) 2 (g .depth)) r f
     → f ≡ flatOf g
 unfolding flatOf

@@ -1,0 +1,101 @@
+// The parts of a grammar, read from a row. Each number is judged whole: one that is too large for its place is read as a value that check 8
+// refuses.
+use grammar::Place;
+use grammar::Rule;
+use grammar::Symbol;
+ghost use mathlib.Core.Path.{_≡_};
+ghost use Prim.Native.Nat.{_+_, _≤_};
+ghost use Rattle.flat.specs.Flat.{byteIn, signedIn, symbolIn, placeIn, placesIn, ruleIn, rulesIn};
+
+// A number in a byte's place, or 255 if that is less.
+pub fn byte(n: u16) -> u8
+    ensures { λ b. ⌜ b ≡ byteIn n ⌝ }
+{
+    if n < 255 { n as u8 } else { 255 }
+}
+
+// A count, as it is.
+pub fn wide(n: u16) -> usize
+    ensures { λ r. ⌜ r ≡ n ⌝ }
+{
+    n as usize
+}
+
+// The signed number of 16 bits, in two's complement.
+fn signed(n: u16) -> i16
+    ensures { λ z. ⌜ z ≡ signedIn n ⌝ }
+{
+    if n < 32768 {
+        n as i16
+    } else {
+        -1 - ((65535 - n) as i16)
+    }
+}
+
+// The symbol of a tag and a value. What is neither a nonterminal nor a terminal is the nonterminal 255.
+fn symbol(tag: u16, value: u16) -> Symbol
+    ensures { λ s. ⌜ s ≡ symbolIn tag value ⌝ }
+{
+    let v = byte(value);
+    match tag {
+        0 => Symbol::Nonterminal(v),
+        1 => {
+            if value <= 255 {
+                Symbol::Terminal(v)
+            } else {
+                Symbol::Nonterminal(255)
+            }
+        }
+        _ => Symbol::Nonterminal(255),
+    }
+}
+
+fn read_place(f: &[u16; 2435], at: usize) -> Place
+    requires { ⌜ at + 2 ≤ 2435 ⌝ }
+    ensures { λ p. ⌜ p ≡ placeIn (now (f .entry)) at ⌝ }
+{
+    Place {
+        symbol: symbol(f[at], f[at + 1]),
+    }
+}
+
+fn read_places(f: &[u16; 2435], at: usize) -> [Place; 8]
+    requires { ⌜ at + 16 ≤ 2435 ⌝ }
+    ensures { λ l. ⌜ l ≡ placesIn (now (f .entry)) at ⌝ }
+{
+    let mut places = [grammar::zero_place(); 8];
+    let mut q = 0;
+    while q < 8 {
+        places[q] = read_place(f, at + 2 * q);
+        q += 1;
+    }
+    places
+}
+
+fn read_rule(f: &[u16; 2435], at: usize) -> Rule
+    requires { ⌜ at + 19 ≤ 2435 ⌝ }
+    ensures { λ r. ⌜ r ≡ ruleIn (now (f .entry)) at ⌝ }
+{
+    let left = byte(f[at]);
+    let length = signed(f[at + 1]);
+    let count = wide(f[at + 2]);
+    let places = read_places(f, at + 3);
+    Rule {
+        left: left,
+        length: length,
+        count: count,
+        places: places,
+    }
+}
+
+pub fn read_rules(f: &[u16; 2435]) -> [Rule; 128]
+    ensures { λ l. ⌜ l ≡ rulesIn (now (f .entry)) ⌝ }
+{
+    let mut rules = [grammar::zero_rule(); 128];
+    let mut r = 0;
+    while r < 128 {
+        rules[r] = read_rule(f, 3 + 19 * r);
+        r += 1;
+    }
+    rules
+}

@@ -1,0 +1,62 @@
+-- `hand::read_bytes` meets its contract. The loop's invariant: the bytes passed are read.
+-- The measure is what is left of the 64 bytes. Assumes nothing.
+use Prim.Native.Nat.{_-_}
+use native.Mathlib.Omega.{arith}
+use mathlib.Core.List.{map}
+use mathlib.Core.Path.{refl}
+use borrow.Author.Needs.{needs}
+use Rattle.hand.specs.Hand.{byteIn}
+use Rattle.hand.proofs.Copies.{Copied, copied-start, read-step, read-done}
+use Rattle.hand.proofs.read_bytes.Statement.{statement}
+use Rattle.hand.proofs.read_bytes.Tie as tie
+
+abbrev Inv-loop : tie.InvT-loop
+Inv-loop h bytes₀ i₀ bytes i = Copied (map byteIn h) 64 i bytes
+
+abbrev μ-loop : tie.MeasureT-loop
+μ-loop h bytes₀ i₀ bytes i = 64 - i
+
+loop-holds : tie.Need-loop-holds Inv-loop μ-loop
+loop-holds c = copied-start _ _ _ refl
+
+mul-byte : tie.Need-mul-byte Inv-loop μ-loop
+mul-byte c = search needs
+
+array-read-byte : tie.Need-array-read-byte Inv-loop μ-loop
+array-read-byte c = search needs
+
+byte-requires : tie.Need-byte-requires Inv-loop μ-loop
+byte-requires c κs = search needs
+
+array-write-bytes : tie.Need-array-write-bytes Inv-loop μ-loop
+array-write-bytes c = search needs
+
+add-i : tie.Need-add-i Inv-loop μ-loop
+add-i c = search needs
+
+loop-less : tie.Need-loop-less Inv-loop μ-loop
+loop-less c = search needs
+
+loop-again : tie.Need-loop-again Inv-loop μ-loop
+loop-again c =
+    let l = c .before .before in
+    read-step (l .before .args .t1) _ _ _ (l .loop .inv) (l .before .good .0 .1 .0 .1) (omega arith) (c .byte .ensures)
+
+returns : tie.Need-returns Inv-loop μ-loop
+returns c = read-done _ _ _ (c .before .loop .inv) (omega arith)
+
+pub read-bytes-spec : {M : Type 1} → statement M
+read-bytes-spec =
+    tie.close
+    (tie.spec
+    Inv-loop
+    μ-loop
+    loop-holds
+    mul-byte
+    array-read-byte
+    byte-requires
+    array-write-bytes
+    add-i
+    loop-less
+    loop-again
+    returns)
