@@ -1,7 +1,8 @@
 -- What the exported functions return and leave, from what the functions that they call ensure.
 -- Assumes nothing.
-use Prim.Native.Nat.{ℕ, _<_}
+use Prim.Native.Nat.{ℕ, _+_, _<_}
 use native.Mathlib.Omega.{arith}
+use mathlib.Core.Bool.{Bool}
 use mathlib.Core.List.{List}
 use mathlib.Core.Path.{_≡_, sym, ap, _∙_, subst}
 use lib.IntN.{ℤ}
@@ -11,62 +12,94 @@ use Rattle.flat.specs.Fits.{Fits16}
 use Rattle.flat.specs.Flat.{grammarIn, flatOf}
 use Rattle.flat.proofs.Round.{read-write}
 use Rattle.grammar.specs.declared.Grammar.{Grammar}
+use Rattle.grammar.specs.declared.Refusal.{Refusal}
+use Rattle.grammar.specs.Number.{numberOf}
 use Rattle.grammar.specs.View.{grammarOf}
+use Rattle.hand.specs.Hand.{rowOf}
 use Rattle.loader.specs.declared.Loaded.{Loaded}
+use Rattle.loader.specs.declared.Outcome.{Outcome}
+use Rattle.loader.specs.declared.Outcome.the-variants as O
 use Rattle.loader.specs.Answer.{answerOf, loadingOf}
 use Rattle.results.specs.Check.{Checking}
 use Rattle.results.specs.Load.{Loading, loadOf}
-use Rattle.results.specs.Recognize.{Recognition}
-use Rattle.filbozseg.specs.Code.{codeOf, offsetOf, tenthsOf}
-use Rattle.filbozseg.specs.Calls.{Loads, Recognizes, Checks, Measures}
+use Rattle.results.specs.Recognize.{State, Recognition}
+use Rattle.filbozseg.specs.Code.{verdictCode, rowLeft, loadCode, offsetLeft, lengthCode, tenthsLeft}
+use Rattle.filbozseg.specs.Calls.{Loads, Opens, Takes, Checks, Measures}
 use Rattle.filbozseg.proofs.Fits.{load-fits}
 
-module _ (book : List ℕ) (small : (i : ℕ) → getD book i 0 < 256) (l : Loaded) (loads : loadingOf l ≡ loadOf book (l .grammar .depth)) where
-  read-back : l .grammar .depth < 256 → grammarIn (flatOf (l .grammar)) ≡ l .grammar
-  read-back h =
-      read-write (l .grammar) (subst (λ (x : Loading). Fits16 (x .grammar)) (sym loads) (load-fits book small (l .grammar .depth) h))
+-- ---- loading
+
+module _ (book : List ℕ) (small : (i : ℕ) → getD book i 0 < 256) (l : Loaded) (loads : loadingOf l ≡ loadOf book (l .grammar .depth))
+    (D : Depth (grammarOf (l .grammar)) (l .grammar .depth)) where
+  read-back : grammarIn (flatOf (l .grammar)) ≡ l .grammar
+  read-back =
+      read-write (l .grammar)
+      (subst (λ (x : Loading). Fits16 (x .grammar)) (sym loads) (load-fits book small (l .grammar .depth) (omega (arith, D .small))))
 
   -- the row of the grammar that was loaded
-  row-loads : Depth (grammarOf (l .grammar)) (l .grammar .depth)
-      → Loads book (codeOf (answerOf (l .outcome))) (flatOf (l .grammar)) (offsetOf (answerOf (l .outcome)))
+  row-loads : (found : ℕ)
+      → Loads book found (loadCode (answerOf (l .outcome))) (flatOf (l .grammar)) (offsetLeft (answerOf (l .outcome)) found)
   unfolding flatOf
-  row-loads D =
-      let b = read-back (omega (arith, D .small)) in
-      record {
-        returned = ap (λ (x : Loading). codeOf (x .answer)) loads;
-        grammar = ap (λ (x : Loading). flatOf (x .grammar)) loads;
-        at = ap (λ (x : Loading). offsetOf (x .answer)) loads;
-        read = b ∙ ap (λ (x : Loading). x .grammar) loads;
-        depth = subst (λ (g : Grammar). Depth (grammarOf g) (l .grammar .depth)) (sym b) D;
-      }
+  row-loads found = record {
+    returned = ap (λ (x : Loading). loadCode (x .answer)) loads;
+    grammar = ap (λ (x : Loading). flatOf (x .grammar)) loads;
+    at = ap (λ (x : Loading). offsetLeft (x .answer) found) loads;
+    read = read-back ∙ ap (λ (x : Loading). x .grammar) loads;
+    depth = subst (λ (g : Grammar). Depth (grammarOf g) (l .grammar .depth)) (sym read-back) D;
+  }
 
-  pub loads-of : Depth (grammarOf (l .grammar)) (l .grammar .depth) → (code offset : ℕ) (row : List ℕ) → row ≡ flatOf (l .grammar)
-      → code ≡ codeOf (answerOf (l .outcome)) → offset ≡ offsetOf (answerOf (l .outcome)) → Loads book code row offset
-  loads-of D code offset row e f k = rw (e, f, k) (row-loads D)
+  loads-of : (found code offset : ℕ) (row : List ℕ) → row ≡ flatOf (l .grammar) → code ≡ loadCode (answerOf (l .outcome))
+      → offset ≡ offsetLeft (answerOf (l .outcome)) found → Loads book found code row offset
+  loads-of found code offset row e f k = rw (e, f, k) (row-loads found)
 
--- a call f on the grammar h, which was read as g, and what it gave
+  module _ (found : ℕ) (row : List ℕ) (written : row ≡ flatOf (l .grammar)) where
+    pub loads-accepted : l .outcome ≡ O.Accepted → Loads book found 1 row found
+    loads-accepted e =
+        loads-of found 1 found row written (ap (λ (x : Outcome). loadCode (answerOf x)) (sym e))
+        (ap (λ (x : Outcome). offsetLeft (answerOf x) found) (sym e))
+
+    pub loads-refused : (r : Refusal) (at code : ℕ) → l .outcome ≡ O.Refused r at → code ≡ 256 + numberOf r → Loads book found code row at
+    loads-refused r at code e c =
+        loads-of found code at row written (c ∙ ap (λ (x : Outcome). loadCode (answerOf x)) (sym e))
+        (ap (λ (x : Outcome). offsetLeft (answerOf x) found) (sym e))
+
+-- ---- the other calls: f is the call, on the grammar h, which was read as g, and v is what it gave
+
 module _ {g h : Grammar} (read : g ≡ h) where
-  pub recognizes-of : (f : Grammar → Recognition) (v : Recognition) (code : ℕ) → v ≡ f g → code ≡ codeOf (v .answer)
-      → Recognizes (f h) code (v .state .bytes) (v .state .count) (v .chart)
-  recognizes-of f v code e c =
+  pub opens-of : (f : Grammar → Recognition) (v : Recognition) (code : ℕ) → v ≡ f g → (row : List ℕ) → row ≡ rowOf (v .state)
+      → code ≡ verdictCode (v .answer) → Opens (f h) code row (v .chart)
+  opens-of f v code e row w c =
       let d : v ≡ f h = e ∙ ap f read in
       record {
-        returned = c ∙ ap (λ (x : Recognition). codeOf (x .answer)) d;
-        state = ap (λ (x : Recognition). x .state) d;
+        returned = c ∙ ap (λ (x : Recognition). verdictCode (x .answer)) d;
+        state = w ∙ ap (λ (x : Recognition). rowOf (x .state)) d;
         left = ap (λ (x : Recognition). x .chart) d;
       }
 
-  pub checks-of : (f : Grammar → Checking) (v : Checking) (code : ℕ) → v ≡ f g → code ≡ codeOf (v .answer) → Checks (f h) code (v .chart)
+  -- taking reads a state too, s as t
+  pub takes-of : {s t : State} → s ≡ t → (f : Grammar → State → Recognition) (v : Recognition) (code : ℕ) → v ≡ f g s
+      → (found row : List ℕ) → row ≡ rowLeft (v .answer) (v .state) found → code ≡ verdictCode (v .answer)
+      → Takes (f h t) found code row (v .chart)
+  takes-of {s} {t} state f v code e found row w c =
+      let d : v ≡ f h t = e ∙ ap (λ (x : Grammar). f x s) read ∙ ap (f h) state in
+      record {
+        returned = c ∙ ap (λ (x : Recognition). verdictCode (x .answer)) d;
+        state = w ∙ ap (λ (x : Recognition). rowLeft (x .answer) (x .state) found) d;
+        left = ap (λ (x : Recognition). x .chart) d;
+      }
+
+  pub checks-of : (f : Grammar → Checking Bool) (v : Checking Bool) (code : ℕ) → v ≡ f g → code ≡ verdictCode (v .answer)
+      → Checks (f h) code (v .chart)
   checks-of f v code e c =
       let d : v ≡ f h = e ∙ ap f read in
-      record { returned = c ∙ ap (λ (x : Checking). codeOf (x .answer)) d; left = ap (λ (x : Checking). x .chart) d }
+      record { returned = c ∙ ap (λ (x : Checking Bool). verdictCode (x .answer)) d; left = ap (λ (x : Checking Bool). x .chart) d }
 
-  pub measures-of : (f : Grammar → Checking) (v : Checking) (code : ℕ) (tenths : ℤ) → v ≡ f g → code ≡ codeOf (v .answer)
-      → tenths ≡ tenthsOf (v .answer) → Measures (f h) code (v .chart) tenths
-  measures-of f v code tenths e c t =
+  pub measures-of : (f : Grammar → Checking ℤ) (v : Checking ℤ) (found : ℤ) (code : ℕ) (tenths : ℤ) → v ≡ f g
+      → code ≡ lengthCode (v .answer) → tenths ≡ tenthsLeft (v .answer) found → Measures (f h) found code (v .chart) tenths
+  measures-of f v found code tenths e c t =
       let d : v ≡ f h = e ∙ ap f read in
       record {
-        returned = c ∙ ap (λ (x : Checking). codeOf (x .answer)) d;
-        left = ap (λ (x : Checking). x .chart) d;
-        measured = t ∙ ap (λ (x : Checking). tenthsOf (x .answer)) d;
+        returned = c ∙ ap (λ (x : Checking ℤ). lengthCode (x .answer)) d;
+        left = ap (λ (x : Checking ℤ). x .chart) d;
+        measured = t ∙ ap (λ (x : Checking ℤ). tenthsLeft (x .answer) found) d;
       }

@@ -1,9 +1,9 @@
 -- `filbozseg::filbozseg_open` meets its contract.
 -- Assumes nothing.
-use borrow.Author.Needs.{needs}
 use Rattle.grammar.specs.declared.Grammar.{Grammar}
 use Rattle.results.specs.Recognize.{openOf}
-use Rattle.filbozseg.proofs.Given.{recognizes-of}
+use Rattle.filbozseg.proofs.Given.{opens-of}
+use borrow.Author.Needs.{needs}
 use Rattle.filbozseg.proofs.filbozseg_open.Statement.{statement}
 use Rattle.filbozseg.proofs.filbozseg_open.Tie as tie
 
@@ -13,19 +13,24 @@ read-requires c κs = search needs
 open-requires : tie.Need-open-requires
 open-requires c κs = search needs
 
-accepted-code-requires : tie.Need-accepted-code-requires
-accepted-code-requires c κs = search needs
+write-requires : tie.Need-write-requires
+write-requires c κs = search needs
+
+of-accepted-requires : tie.Need-of-accepted-requires
+of-accepted-requires c κs = search needs
 
 same-length : tie.Need-same-length
 same-length c = search needs
 
 returns : tie.Need-returns
 returns c =
-    let after-open = c .before .before .before .before .before in
+    let after-write = c .before in
+    let after-open = after-write .before .before .before .before .before in
     let a = after-open .before .before .before .before .args in
-    recognizes-of (after-open .before .before .read .ensures) (λ (g : Grammar). openOf g (a .chart .now)) _ _
-    (after-open .«open» .ensures) (c .accepted-code .ensures)
+    opens-of (after-open .before .before .read .ensures) (λ (g : Grammar). openOf g (a .chart .now)) _ _
+    (after-open .«open» .ensures) _ (after-write .write .ensures) (c .of-accepted .ensures)
 
 pub filbozseg-open-spec : {M : Type 1} → statement M
 filbozseg-open-spec =
-    tie.close (tie.spec read-requires open-requires accepted-code-requires same-length returns)
+    tie.close
+    (tie.spec read-requires open-requires write-requires of-accepted-requires same-length returns)

@@ -1,9 +1,9 @@
--- `filbozseg::accepted_code` meets its contract.
+-- `filbozseg::code::of_accepted` meets its contract.
 -- Assumes nothing.
 use borrow.Author.Needs.{needs}
 use Rattle.filbozseg.proofs.Codes.{recognition-refused}
-use Rattle.filbozseg.proofs.accepted_code.Statement.{statement}
-use Rattle.filbozseg.proofs.accepted_code.Tie as tie
+use Rattle.filbozseg.proofs.code.of_accepted.Statement.{statement}
+use Rattle.filbozseg.proofs.code.of_accepted.Tie as tie
 
 enum-told : tie.Need-enum-told
 enum-told c = search needs
@@ -14,8 +14,8 @@ enum-told-2 c = search needs
 enum-known-a : tie.Need-enum-known-a
 enum-known-a c = search needs
 
-refusal-code-requires : tie.Need-refusal-code-requires
-refusal-code-requires c κs = search needs
+of-refusal-requires : tie.Need-of-refusal-requires
+of-refusal-requires c κs = search needs
 
 returns : tie.Need-returns
 returns c = search needs
@@ -26,7 +26,7 @@ returns-2 c = search needs
 returns-3 : tie.Need-returns-3
 returns-3 c = search recognition-refused
 
-pub accepted-code-spec : {M : Type 1} → statement M
-accepted-code-spec =
+pub of-accepted-spec : {M : Type 1} → statement M
+of-accepted-spec =
     tie.close
-    (tie.spec enum-told enum-told-2 enum-known-a refusal-code-requires returns returns-2 returns-3)
+    (tie.spec enum-told enum-told-2 enum-known-a of-refusal-requires returns returns-2 returns-3)
