@@ -1,7 +1,7 @@
 -- A row is judged whole: check 8 lets the grammar of a row through exactly if the row's own numbers are valid. And it lets the row of a
 -- grammar through exactly if it lets the grammar through.
 -- Assumes nothing.
-use Prim.Native.Nat.{ℕ, zero, suc, _+_, _*_, _≤_, _<_, min}
+use Prim.Native.Nat.{ℕ, zero, suc, _+_, _*_, _≤_, _<_}
 use native.Mathlib.Decide.{decLe, ℕ-discrete}
 use native.Mathlib.Omega.{arith}
 use mathlib.Core.Bool.{Bool, true, false, cond, _&&_, and-true, and-false, or-false}
@@ -23,11 +23,11 @@ use Rattle.flat.proofs.Round.{keptRule, read-kept}
 
 -- ---- tests
 
--- a limit below the largest number that is kept
-leb-min : (n k m : ℕ) → m < k → leb (min n k) m ≡ leb n m
-leb-min n k m h =
-    dite (decLe n m) (λ a. le-leb (min n k) m (omega arith) ∙ sym (le-leb n m a))
-    (λ a. lt-leb (min n k) m (omega arith) ∙ sym (lt-leb n m (omega arith)))
+-- the limit of a nonterminal
+byte-limit : (n : ℕ) → leb (byteIn n) 31 ≡ leb n 31
+byte-limit n =
+    dite (decLe n 31) (λ a. le-leb (byteIn n) 31 (omega arith) ∙ sym (le-leb n 31 a))
+    (λ a. lt-leb (byteIn n) 31 (omega arith) ∙ sym (lt-leb n 31 (omega arith)))
 
 -- what is looked at only where a count is within its limit
 within : (a b x y : Bool) (n m : ℕ) → a ≡ b → (n ≤ m → x ≡ y) → (a && leb n m && x) ≡ (b && leb n m && y)
@@ -79,7 +79,7 @@ symbol-judged t v = dite (ℕ-discrete t 0) nonterminal (λ z. dite (ℕ-discret
     value false = refl
 
     nonterminal : t ≡ 0 → validSymbol (symbolIn t v) ≡ validTagged t v
-    nonterminal e = rw (e, or-false (leb v 31)) (leb-min v 255 31 (omega arith))
+    nonterminal e = rw (e, or-false (leb v 31)) (byte-limit v)
 
     terminal : (t ≡ 0 → ⊥) → t ≡ 1 → validSymbol (symbolIn t v) ≡ validTagged t v
     terminal z e = rw e (value (leb v 255))
@@ -95,13 +95,13 @@ module _ (f : List ℕ) where
   rule-judged : (at : ℕ) → validRule (ruleIn f at) ≡ validRuleAt f at
   unfolding validRule ruleIn placesIn validRuleAt
   rule-judged at =
-      within (leb (byteIn (getD f at 0)) 31) (leb (getD f at 0) 31) _ _ (getD f (at + 2) 0) 8 (leb-min (getD f at 0) 255 31 (omega arith))
+      within (leb (byteIn (getD f at 0)) 31) (leb (getD f at 0) 31) _ _ (getD f (at + 2) 0) 8 (byte-limit (getD f at 0))
       (records-judged validPlace (placeIn f) (validPlaceAt f) place-judged 2 (at + 3) (getD f (at + 2) 0) 8)
 
 pub judged-whole : (f : List ℕ) → validGrammar (grammarIn f) ≡ validRow f
 unfolding validGrammar grammarIn rulesIn validRow
 judged-whole f =
-    within (leb (byteIn (getD f 0 0)) 31) (leb (getD f 0 0) 31) _ _ (getD f 1 0) 128 (leb-min (getD f 0 0) 255 31 (omega arith))
+    within (leb (byteIn (getD f 0 0)) 31) (leb (getD f 0 0) 31) _ _ (getD f 1 0) 128 (byte-limit (getD f 0 0))
     (records-judged validRule (ruleIn f) (validRuleAt f) (rule-judged f) 19 3 (getD f 1 0) 128)
 
 -- ---- a grammar that is written

@@ -126,8 +126,8 @@ module _ (g : Grammar) (d : Declared g) where
   rules-back : rulesIn (flatOf g) ≡ map keptRule (g .rules)
   unfolding rulesIn flatOf
   rules-back =
-      records-back noRule flatRule keptRule (ruleIn (flatOf g)) 19 (flatOf g) DeclaredRule rule-size (rule-back (flatOf g)) (g .rules) 3 128
-      [] (d .rules) (d .each) (sym (append-nil (flatMap flatRule (g .rules))))
+      records-back noRule flatRule keptRule (ruleIn (flatOf g)) 19 (flatOf g) DeclaredRule rule-size (rule-back (flatOf g)) (g .rules) 3
+      128 [] (d .rules) (d .each) (sym (append-nil (flatMap flatRule (g .rules))))
 
   pub read-kept : grammarIn (flatOf g) ≡ kept g
   unfolding grammarIn flatOf
@@ -138,15 +138,15 @@ module _ (g : Grammar) (d : Declared g) where
 
 -- ---- a grammar that a row holds whole
 
-rules-kept : (l : List Rule) → ((r : ℕ) → r < length l → getD l r noRule .count < 65536) → map keptRule l ≡ l
+rules-kept : (l : List Rule) → ((r : ℕ) → r < length l → countOf (getD l r noRule .count) ≡ getD l r noRule .count) → map keptRule l ≡ l
 rules-kept [] h = refl
 rules-kept (ρ ∷ l) h =
-    let e : countOf (ρ .count) ≡ ρ .count = omega (arith, h 0 (omega arith)) in
+    let e = h 0 (omega arith) in
     let t = rules-kept l (λ r k. h (suc r) (omega arith)) in
     λ i. record { left = ρ .left; length = ρ .length; count = e i; places = ρ .places } ∷ t i
 
 pub read-write : (g : Grammar) → Fits16 g → grammarIn (flatOf g) ≡ g
 read-write g fits =
     let e : countOf (g .count) ≡ g .count = omega (arith, fits .count) in
-    let t = rules-kept (g .rules) (λ r h. fits .counts r (omega (arith, fits .declared .rules))) in
+    let t = rules-kept (g .rules) (λ r h. omega (arith, fits .counts r (omega (arith, fits .declared .rules)))) in
     read-kept g (fits .declared) ∙ λ i. record { start = g .start; count = e i; depth = g .depth; rules = t i }
