@@ -1,6 +1,7 @@
--- The laws of flat rows.
+-- The laws of flat rows. What others cite: Judged, Round.
 pub mod Complement
 pub mod Records
 pub mod Parts
 pub mod Written
 pub mod Round
+pub mod Judged

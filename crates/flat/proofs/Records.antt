@@ -35,7 +35,7 @@ module _ {A : Type 0} where
 -- ---- one more record read
 
 module _ {A : Type 0} (read : ℕ → A) (w : ℕ) where
-  records-more : (n at k : ℕ) → k ≡ at + w * n → recordsFrom read w at (suc n) ≡ recordsFrom read w at n ++ (read k ∷ [])
+  pub records-more : (n at k : ℕ) → k ≡ at + w * n → recordsFrom read w at (suc n) ≡ recordsFrom read w at n ++ (read k ∷ [])
   unfolding recordsFrom
   records-more zero at k e =
       let d : at ≡ k = omega arith in

@@ -1,4 +1,5 @@
--- The grammars that a flat row holds whole: 128 rules of 8 places, and every field within the bits that the row has for it.
+-- What the declared types give of a grammar: 128 rules of 8 places, every field but the counts within the bits that a flat row has for it.
+-- The counts may be any numbers. A grammar whose counts are of 16 bits too is one that a flat row holds whole.
 -- Assumes nothing.
 use Prim.Native.Nat.{ℕ, _<_}
 use mathlib.Core.Path.{_≡_}
@@ -11,16 +12,19 @@ use Rattle.grammar.specs.Zero.{zeroPlace, noRule}
 use Rattle.flat.specs.Flat.{valueOf}
 
 -- `mag (ρ .length) < 32768` says that the length is at least -32768 and below 32768
-pub record FitsRule (ρ : Rule) : Type 0 where
+pub record DeclaredRule (ρ : Rule) : Type 0 where
   pub left : ρ .left < 256
   pub length : mag (ρ .length) < 32768
-  pub count : ρ .count < 65536
   pub places : ListN.length (ρ .places) ≡ 8
   pub values : (q : ℕ) → q < 8 → valueOf (getD (ρ .places) q zeroPlace .symbol) < 256
 
-pub record Fits16 (g : Grammar) : Type 0 where
+pub record Declared (g : Grammar) : Type 0 where
   pub start : g .start < 256
-  pub count : g .count < 65536
   pub depth : g .depth < 256
   pub rules : ListN.length (g .rules) ≡ 128
-  pub each : (r : ℕ) → r < 128 → FitsRule (getD (g .rules) r noRule)
+  pub each : (r : ℕ) → r < 128 → DeclaredRule (getD (g .rules) r noRule)
+
+pub record Fits16 (g : Grammar) : Type 0 where
+  pub declared : Declared g
+  pub count : g .count < 65536
+  pub counts : (r : ℕ) → r < 128 → getD (g .rules) r noRule .count < 65536

@@ -1,7 +1,7 @@
 -- A flat row is 2435 numbers of 16 bits: the start symbol, the number of rules used, the nullable depth, and 19 numbers for each of 128
 -- rules: the left side, the length (two's complement), the number of places used, and for each of 8 places a tag (0 a nonterminal, 1 a
--- terminal) and a value. The grammar of a row, and the row of a grammar. Each number of a row is judged whole: one that is too large for its
--- place is read as a value that check 8 refuses where it is used.
+-- terminal) and a value. The grammar of a row, and the row of a grammar. Each number of a row is judged whole: one that is too large for
+-- its place is read as a value that check 8 refuses where it is used.
 -- Assumes nothing.
 use Prim.Native.Nat.{ℕ, zero, suc, _+_, _-_, _%_, min}
 use mathlib.Core.Bool.{cond, _&&_}

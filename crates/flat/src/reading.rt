@@ -1,5 +1,5 @@
-// The parts of a grammar, read from a row. Each number is judged whole: one that is too large for its place is read as a value that check 8
-// refuses.
+// The parts of a grammar, read from a row. Each number is judged whole: one that is too large for its place is read as a value that
+// check 8 refuses.
 use grammar::Place;
 use grammar::Rule;
 use grammar::Symbol;

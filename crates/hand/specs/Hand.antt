@@ -1,6 +1,6 @@
 -- A row is 65 numbers of 16 bits: the 64 bytes of a state of the recognizer (document 01: the marks of a plate in hand), then the count of
--- those that have been taken. The state of a row, and the row of a state. Each number of a row is judged whole: a row with a used number that
--- is no byte is read as a state that check 14 refuses.
+-- those that have been taken. The state of a row, and the row of a state. Each number of a row is judged whole: a row with a used number
+-- that is no byte is read as a state that check 14 refuses.
 -- Assumes nothing.
 use Prim.Native.Nat.{ℕ, min}
 use mathlib.Core.Bool.{Bool, cond, _&&_}

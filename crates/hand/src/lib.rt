@@ -80,10 +80,10 @@ pub fn write(r: Recognizer, h: &mut [u16; HAND])
     ensures { λ _. ⌜ now (h .exit) ≡ rowOf (stateIn r) ⌝ }
 {
     *h = [0u16; HAND];
-    let mut i = 0;
-    while i < 64 {
-        h[i] = r.bytes[i] as u16;
-        i += 1;
+    let mut k = 0;
+    while k < 64 {
+        h[k] = r.bytes[k] as u16;
+        k += 1;
     }
     h[64] = count_of(r.count);
 }

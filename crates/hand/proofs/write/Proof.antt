@@ -10,10 +10,10 @@ use Rattle.hand.proofs.write.Statement.{statement}
 use Rattle.hand.proofs.write.Tie as tie
 
 abbrev Inv-loop : tie.InvT-loop
-Inv-loop h₀ r i₀ h i = Copied (r .bytes) 65 i h
+Inv-loop h₀ r k₀ h k = Copied (r .bytes) 65 k h
 
 abbrev μ-loop : tie.MeasureT-loop
-μ-loop h₀ r i₀ h i = 64 - i
+μ-loop h₀ r k₀ h k = 64 - k
 
 loop-holds : tie.Need-loop-holds Inv-loop μ-loop
 loop-holds c = copied-start _ _ _ refl
@@ -30,8 +30,8 @@ mul-h c = search needs
 element-write-h : tie.Need-element-write-h Inv-loop μ-loop
 element-write-h c = search needs
 
-add-i : tie.Need-add-i Inv-loop μ-loop
-add-i c = search needs
+add-k : tie.Need-add-k Inv-loop μ-loop
+add-k c = search needs
 
 loop-less : tie.Need-loop-less Inv-loop μ-loop
 loop-less c = search needs
@@ -65,7 +65,7 @@ write-spec =
     cast-h
     mul-h
     element-write-h
-    add-i
+    add-k
     loop-less
     loop-again
     count-of-requires

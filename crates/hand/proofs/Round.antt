@@ -1,0 +1,108 @@
+-- A state that is written to a row is read back, with a count of at most 65535; check 14 judges the row as it judges the state.
+-- Assumes nothing.
+use Prim.Native.Nat.{ℕ, zero, suc, _-_, _≤_, _<_}
+use native.Mathlib.Decide.{decLt}
+use native.Mathlib.Omega.{arith}
+use mathlib.Core.Bool.{true, not}
+use mathlib.Core.List.{List, [], _∷_, _++_, map}
+use mathlib.Core.Logic.{dite}
+use mathlib.Core.Path.{_≡_, refl, sym, ap, _∙_}
+use lib.Dec.{ltb}
+use lib.ListN.{length, getD, take, replicate, length-append, length-replicate}
+use lib.Seq.{take-at, getD-at}
+use borrow.Author.Tests.{lt-ltb, le-leb}
+use Rattle.grammar.specs.Valid.{all}
+use Rattle.results.specs.Recognize.{State, stateOf, stateCheck}
+use Rattle.hand.specs.Declared.{Declared}
+use Rattle.hand.specs.Hand.{isByte, byteIn, bytesIn, countIn, stateOfRow, validHand, countOf, rowOf}
+use Rattle.hand.proofs.Judged.{judged-whole}
+
+-- ---- bytes
+
+-- each element is a byte
+abbrev Bytes : List ℕ → Type 0
+Bytes l = (i : ℕ) → getD l i 0 < 256
+
+bytes-front : (l r : List ℕ) → Bytes l → take (length l) (map byteIn (l ++ r)) ≡ l
+bytes-front [] r b = refl
+bytes-front (a ∷ l) r b =
+    let e : byteIn a ≡ a = omega (arith, b 0) in
+    let t = bytes-front l r (λ i. b (suc i)) in
+    λ i. e i ∷ t i
+
+bytes-all : (l : List ℕ) (n : ℕ) → Bytes l → all isByte (take n l) ≡ true
+unfolding all
+bytes-all l zero b = refl
+bytes-all [] (suc n) b = refl
+bytes-all (a ∷ l) (suc n) b = rw (le-leb a 255 (omega (arith, b 0)), bytes-all l n (λ i. b (suc i)))
+
+-- ---- a state
+
+-- the state with a count that a row holds
+abbrev pub kept : State → State
+kept s = record { bytes = s .bytes; count = countOf (s .count) }
+
+module _ (s : State) (d : Declared s) where
+  bytes-back : bytesIn (rowOf s) ≡ s .bytes
+  unfolding bytesIn rowOf
+  bytes-back =
+      ap (λ (n : ℕ). take n (map byteIn (s .bytes ++ (countOf (s .count) ∷ [])))) (sym (d .long))
+      ∙ bytes-front (s .bytes) (countOf (s .count) ∷ []) (d .each)
+
+  count-back : countIn (rowOf s) ≡ countOf (s .count)
+  unfolding countIn rowOf
+  count-back =
+      rw (
+        getD-at (s .bytes) (countOf (s .count)) [] 0 64 (d .long),
+        take-at (s .bytes) (countOf (s .count) ∷ []) 64 (d .long),
+        bytes-all (s .bytes) (countOf (s .count)) (d .each),
+      )
+
+  pub read-kept : stateOfRow (rowOf s) ≡ kept s
+  unfolding stateOfRow
+  read-kept = λ i. record { bytes = bytes-back i; count = count-back i }
+
+  -- a state whose count is one of 16 bits is read back as it was written
+  pub read-write : s .count < 65536 → stateOfRow (rowOf s) ≡ s
+  read-write h =
+      let e : countOf (s .count) ≡ s .count = omega arith in
+      read-kept ∙ λ i. record { bytes = s .bytes; count = e i }
+
+  -- what is written is refused exactly if the state is
+  pub write-judged : stateCheck (stateOfRow (rowOf s)) .fails ≡ stateCheck s .fails
+  write-judged = ap (λ (x : State). stateCheck x .fails) read-kept ∙ dite (decLt (s .count) 65536) small large
+    where
+      small : s .count < 65536 → ltb 64 (countOf (s .count)) ≡ ltb 64 (s .count)
+      small h =
+          let e : countOf (s .count) ≡ s .count = omega arith in
+          ap (ltb 64) e
+
+      large : (s .count < 65536 → ⊥) → ltb 64 (countOf (s .count)) ≡ ltb 64 (s .count)
+      large h = lt-ltb 64 (countOf (s .count)) (omega arith) ∙ sym (lt-ltb 64 (s .count) (omega arith))
+
+  pub write-valid : not (validHand (rowOf s)) ≡ stateCheck s .fails
+  write-valid = sym (judged-whole (rowOf s)) ∙ write-judged
+
+-- ---- the state that has taken an input
+
+zeros-small : (n i : ℕ) → getD (replicate n 0) i 0 < 256
+zeros-small zero i = omega arith
+zeros-small (suc n) zero = omega arith
+zeros-small (suc n) (suc i) = zeros-small n i
+
+padded-small : (w : List ℕ) (n : ℕ) → Bytes w → Bytes (w ++ replicate n 0)
+padded-small [] n b i = zeros-small n i
+padded-small (a ∷ w) n b zero = b 0
+padded-small (a ∷ w) n b (suc i) = padded-small w n (λ j. b (suc j)) i
+
+module _ (w : List ℕ) (few : length w ≤ 64) (bytes : (i : ℕ) → getD w i 0 < 256) where
+  pub state-declared : Declared (stateOf w)
+  unfolding stateOf
+  state-declared = record {
+    long = length-append w (replicate (64 - length w) 0) ∙ omega (arith, length-replicate {A = ℕ} (64 - length w) 0);
+    each = padded-small w (64 - length w) bytes;
+  }
+
+  pub read-write-input : stateOfRow (rowOf (stateOf w)) ≡ stateOf w
+  unfolding stateOf
+  read-write-input = read-write (stateOf w) state-declared (omega arith)
