@@ -55,6 +55,9 @@ module _ (g : Grammar) (n m : ℕ) (v : Bool) (valid : v ≡ validGrammar g) whe
     pub judge-passed : (n ≡ 0 → ⊥) → n ≤ 64 → 4225 ≤ m → Judging g n m J.Passed
     judge-passed e l r = passed fine (omega arith) l r
 
+-- for `search`: whichever test a way through the code ends with
+pub ruleset judge-laws = (judge-invalid, judge-empty, judge-long, judge-room, judge-passed)
+
 -- ---- the chart
 
 module _ (g : Grammar) (p w : List ℕ) (same : (r : ℕ) → rule (cfgIn (g .start) p) r ≡ rule (grammarOf g) r) where

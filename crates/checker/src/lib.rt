@@ -53,13 +53,13 @@ fn judge(g: Grammar, n: usize, m: usize) -> Judged
         return Judged::Refused(Refusal::InvalidGrammar);
     }
     if n == 0 {
-        return Judged::Refused(Refusal::InputLength);
+        return Judged::Refused(Refusal::InputLength); // none
     }
     if n > 64 {
-        return Judged::Refused(Refusal::InputLength);
+        return Judged::Refused(Refusal::InputLength); // too many
     }
     if m < 4225 {
-        return Judged::Refused(Refusal::ChartTooShort);
+        return Judged::Refused(Refusal::ChartTooShort); // too short
     }
     Judged::Passed
 }

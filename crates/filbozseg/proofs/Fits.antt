@@ -7,11 +7,11 @@ use mathlib.Core.List.{List, [], _∷_}
 use mathlib.Core.Path.{_≡_, refl, sym, ap, _∙_, subst}
 use lib.Dec.{eqb, ltb}
 use lib.IntN.{ℤ, pos, negℤ}
-use lib.ListN.{getD, set, replicate, length-set, length-replicate, getD-replicate}
+use lib.ListN.{getD, set, replicate, length-set}
 use lib.ListN as ListN
 use lib.Signed.{mag}
 use borrow.Author.Tests.{ltb-true, ltb-false}
-use Rattle.flat.specs.Fits.{Fits16, FitsRule}
+use Rattle.flat.specs.Fits.{DeclaredRule, Fits16}
 use Rattle.flat.specs.Flat.{valueOf}
 use Rattle.grammar.specs.declared.Symbol.{Symbol}
 use Rattle.grammar.specs.declared.Symbol.the-variants.{Nonterminal, Terminal}
@@ -21,30 +21,14 @@ use Rattle.grammar.specs.declared.Grammar.{Grammar}
 use Rattle.grammar.specs.Zero.{zeroPlace, zeroRule, zeroGrammar, noRule}
 use Rattle.results.specs.Load.{signed, openRule, withStart, withRule, withPlace, after, Fault, commandChecks, Step, stop, next, done, step}
 use Rattle.results.proofs.Decide.{decide-either}
+use Rattle.results.proofs.Loading.Lists.{set-each, replicate-each}
 use Rattle.results.specs.Load.{Loading, refusedLoad, acceptedLoad, run, loadOf}
-
--- ---- lists
-
--- what holds of each element that Q picks, and of one that is set, holds after it is set
-set-each : {A : Type 0} (P : A → Type 0) (Q : ℕ → Type 0) (d : A) (l : List A) (i : ℕ) (v : A) → ((k : ℕ) → Q k → P (getD l k d))
-    → P v → (k : ℕ) → Q k → P (getD (set l i v) k d)
-set-each P Q d [] i v h p k q = h k q
-set-each P Q d (a ∷ l) zero v h p zero q = p
-set-each P Q d (a ∷ l) zero v h p (suc k) q = h (suc k) q
-set-each P Q d (a ∷ l) (suc i) v h p zero q = h zero q
-set-each P Q d (a ∷ l) (suc i) v h p (suc k) q = set-each P (λ j. Q (suc j)) d l i v (λ j. h (suc j)) p k q
-
-replicate-each : {A : Type 0} (P : A → Type 0) (d a : A) (n : ℕ) → P a → (k : ℕ) → k < n → P (getD (replicate n a) k d)
-replicate-each P d a n p k h = subst P (sym (getD-replicate n k a d h)) p
 
 -- ---- the grammar read so far
 
 record SmallRule (ρ : Rule) : Type 0 where
-  pub left : ρ .left < 256
-  pub length : mag (ρ .length) < 32768
+  pub declared : DeclaredRule ρ
   pub count : ρ .count ≤ 8
-  pub places : ListN.length (ρ .places) ≡ 8
-  pub values : (q : ℕ) → q < 8 → valueOf (getD (ρ .places) q zeroPlace .symbol) < 256
 
 record Small (g : Grammar) : Type 0 where
   pub start : g .start < 256
@@ -55,26 +39,23 @@ record Small (g : Grammar) : Type 0 where
 small-fits : (g : Grammar) (d : ℕ) → Small g → d < 256
     → Fits16 (record { start = g .start; count = g .count; depth = d; rules = g .rules })
 small-fits g d S h = record {
-  start = S .start;
+  declared = record { start = S .start; depth = h; rules = S .rules; each = λ r m. S .each r m .declared };
   count = omega (arith, S .count);
-  depth = h;
-  rules = S .rules;
-  each = λ r m. rule-fits (S .each r m);
+  counts = λ r m. omega (arith, S .each r m .count);
 }
-  where
-    rule-fits : {ρ : Rule} → SmallRule ρ → FitsRule ρ
-    rule-fits R = record { left = R .left; length = R .length; count = omega (arith, R .count); places = R .places; values = R .values }
 
 -- a rule of no places
 opened-small : (k : ℕ) (z : ℤ) → k < 256 → mag z < 32768
     → SmallRule (record { left = k; length = z; count = 0; places = replicate 8 zeroPlace })
 unfolding valueOf
 opened-small k z h m = record {
-  left = h;
-  length = m;
+  declared = record {
+    left = h;
+    length = m;
+    places = refl;
+    values = replicate-each (λ p. valueOf (p .symbol) < 256) zeroPlace zeroPlace 8 (omega arith);
+  };
   count = omega arith;
-  places = refl;
-  values = replicate-each (λ p. valueOf (p .symbol) < 256) zeroPlace zeroPlace 8 (omega arith);
 }
 
 zero-small : Small zeroGrammar
@@ -107,7 +88,7 @@ module _ (g : Grammar) (S : Small g) where
     start = S .start;
     count = omega arith;
     rules = length-set (g .rules) (g .count) _ ∙ S .rules;
-    each = set-each SmallRule (λ r. r < 128) noRule (g .rules) (g .count) _ (S .each) (opened-small k z h m);
+    each = set-each SmallRule noRule 128 (g .rules) (g .count) _ (S .each) (opened-small k z h m);
   }
 
   place-small : (s : Symbol) → valueOf s < 256 → openRule g .count ≤ 7 → Small (withPlace g s)
@@ -118,7 +99,7 @@ module _ (g : Grammar) (S : Small g) where
         start = S .start;
         count = S .count;
         rules = length-set (g .rules) (g .count - 1) _ ∙ S .rules;
-        each = set-each SmallRule (λ r. r < 128) noRule (g .rules) (g .count - 1) _ (S .each) (placed R);
+        each = set-each SmallRule noRule 128 (g .rules) (g .count - 1) _ (S .each) (placed R);
       }
     where
       ρ : Rule
@@ -131,13 +112,15 @@ module _ (g : Grammar) (S : Small g) where
         places = set (ρ .places) (ρ .count) (record { symbol = s });
       })
       placed R = record {
-        left = R .left;
-        length = R .length;
+        declared = record {
+          left = R .declared .left;
+          length = R .declared .length;
+          places = length-set (ρ .places) (ρ .count) _ ∙ R .declared .places;
+          values =
+              set-each (λ (p : Place). valueOf (p .symbol) < 256) zeroPlace 8 (ρ .places) (ρ .count)
+              (record { symbol = s }) (R .declared .values) h;
+        };
         count = omega arith;
-        places = length-set (ρ .places) (ρ .count) _ ∙ R .places;
-        values =
-            set-each (λ (p : Place). valueOf (p .symbol) < 256) (λ q. q < 8) zeroPlace (ρ .places) (ρ .count) (record { symbol = s })
-            (R .values) h;
       }
 
   -- one command, which its checks let through

@@ -2,3 +2,4 @@
 pub mod Fits
 pub mod Given
 pub mod Codes
+pub mod Apart

@@ -62,17 +62,18 @@ pub extern "C" fn filbozseg_take(
         (takeOf (grammarIn (now (grammar .entry))) (stateOfRow (now (hand .entry))) byte (now (chart .entry)))
         (now (hand .entry)) c (now (hand .exit)) (now (chart .exit)) ⌝ }
 {
-    let a = hand::read(hand).take(flat::read(grammar), byte, chart);
-    let h = a.recognizer;
+    let found = hand::read(hand);
+    let a = found.take(flat::read(grammar), byte, chart);
+    let next = a.recognizer;
     let accepted = a.accepted;
     match accepted {
         Accepted::Refused(r) => code::of_refusal(r),
         Accepted::Yes => {
-            hand::write(h, hand);
+            hand::write(next, hand); // complete
             1
         }
         Accepted::No => {
-            hand::write(h, hand);
+            hand::write(next, hand);
             0
         }
     }

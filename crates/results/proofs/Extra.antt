@@ -11,7 +11,7 @@ use Rattle.grammar.specs.declared.Place.{Place}
 use Rattle.grammar.specs.Zero.{zeroPlace, zeroRule}
 use Rattle.results.specs.Answer.{Answer, answered}
 use Rattle.results.specs.Load.{loadOf}
-use Rattle.results.specs.Recognize.{State, takeOf}
+use Rattle.results.specs.Recognize.{State, openOf, takeOf}
 use Rattle.results.specs.Measure.{sameBuildOf}
 use Rattle.results.specs.Check.{checkOf}
 use Rattle.results.specs.Drawer.{T, start, rule, N, A, close, As}
@@ -72,6 +72,25 @@ taken = takeOf (grammarFrom T) (record { bytes = 65 ∷ replicate 63 9; count = 
 pub taken-clean : taken ≡ record { bytes = 65 ∷ 66 ∷ replicate 62 0; count = 2 }
 unfolding taken computing
 taken-clean = refl
+
+-- a refused take gives back the state as it was, dirty or not: here 15
+abbrev pub dirty : State
+dirty = record { bytes = replicate 64 9; count = 64 }
+
+unfoldable pub refusedTake : State
+refusedTake = takeOf (grammarFrom T) dirty 66 (replicate 4225 0) .state
+
+pub refused-take-kept : refusedTake ≡ dirty
+unfolding refusedTake computing
+refused-take-kept = refl
+
+-- a refused opening gives a state of zeros: here 10
+unfoldable pub refusedOpening : State
+refusedOpening = openOf (grammarFrom T) (replicate 4224 0) .state
+
+pub refused-opening-zeros : refusedOpening ≡ record { bytes = replicate 64 0; count = 0 }
+unfolding refusedOpening computing
+refused-opening-zeros = refl
 
 unfoldable pub checks : List ℕ → Answer Bool
 checks e = checkOf (grammarFrom T) (As 1) e (replicate 4225 7) .answer

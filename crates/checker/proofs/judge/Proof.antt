@@ -1,7 +1,7 @@
 -- `checker::judge` meets its contract, one case for each check.
 -- Assumes nothing.
 use borrow.Author.Needs.{needs}
-use Rattle.checker.proofs.Calls.{judge-invalid, judge-empty, judge-long, judge-room, judge-passed}
+use Rattle.checker.proofs.Calls.{judge-laws}
 use Rattle.checker.proofs.judge.Statement.{statement}
 use Rattle.checker.proofs.judge.Tie as tie
 
@@ -9,19 +9,19 @@ valid-requires : tie.Need-valid-requires
 valid-requires c κs = search needs
 
 returns : tie.Need-returns
-returns c = search judge-invalid
+returns c = search judge-laws
 
 returns-2 : tie.Need-returns-2
-returns-2 c = search judge-empty
+returns-2 c = search judge-laws
 
 returns-3 : tie.Need-returns-3
-returns-3 c = search judge-long
+returns-3 c = search judge-laws
 
 returns-4 : tie.Need-returns-4
-returns-4 c = search judge-room
+returns-4 c = search judge-laws
 
 returns-5 : tie.Need-returns-5
-returns-5 c = search judge-passed
+returns-5 c = search judge-laws
 
 pub judge-spec : {M : Type 1} → statement M
 judge-spec =
