@@ -1,23 +1,37 @@
 //! A grammar as the row of 2,435 numbers that crosses to C: start, count, depth, then 19 numbers a rule.
 
-use super::{Grammar, Rule, Symbol};
+use super::{Grammar, Rule, Symbol, PLACES, RULES};
 
 pub const FLAT: usize = 2435;
 
-pub fn read(flat: &[u16; FLAT]) -> Grammar {
+/// A value that fits its 8 bits.
+fn narrow(number: u16) -> Option<u8> {
+    u8::try_from(number).ok()
+}
+
+/// The grammar in a row; None where a used number is larger than its field, or a used tag is neither 0 nor 1. The depth is not judged, and
+/// unused rules and places are not read.
+pub fn read(flat: &[u16; FLAT]) -> Option<Grammar> {
     let mut g = Grammar::ZERO;
-    g.start = flat[0] as u8;
+    g.start = narrow(flat[0])?;
     g.count = flat[1] as usize;
     g.depth = flat[2] as u8;
-    for (rule, f) in g.rules.iter_mut().zip(flat[3..].chunks_exact(19)) {
-        rule.left = f[0] as u8;
+    let used = g.count.min(RULES);
+    for (rule, f) in g.rules[..used].iter_mut().zip(flat[3..].chunks_exact(19)) {
+        rule.left = narrow(f[0])?;
         rule.length = f[1] as i16;
         rule.count = f[2] as usize;
-        for (place, f) in rule.places.iter_mut().zip(f[3..].chunks_exact(2)) {
-            *place = if f[0] == 0 { Symbol::Nonterminal(f[1] as u8) } else { Symbol::Terminal(f[1] as u8) };
+        let used = rule.count.min(PLACES);
+        for (place, f) in rule.places[..used].iter_mut().zip(f[3..].chunks_exact(2)) {
+            let value = narrow(f[1])?;
+            *place = match f[0] {
+                0 => Symbol::Nonterminal(value),
+                1 => Symbol::Terminal(value),
+                _ => return None,
+            };
         }
     }
-    g
+    Some(g)
 }
 
 fn write_rule(rule: &Rule, f: &mut [u16]) {
