@@ -3,7 +3,8 @@
 //! + n refusal n.
 
 use crate::plain::flat::{self, FLAT};
-pub use crate::plain::recognizer::Hand;
+pub use crate::plain::hand::Hand;
+use crate::plain::hand::{self, HAND};
 use crate::plain::{checker, loader, recognizer, Grammar, Refusal, CHART, INPUT};
 
 pub type Flat = [u16; FLAT];
@@ -122,10 +123,6 @@ fn code(answer: Result<bool, Refusal>) -> u32 {
     answer.map_or_else(refusal, u32::from)
 }
 
-fn grammar(flat: &Flat) -> Result<Grammar, Refusal> {
-    flat::read(flat).ok_or(Refusal::InvalidGrammar)
-}
-
 impl Reader for Plain {
     fn load(book: &[u8], flat: &mut Flat, offset: &mut usize) -> u32 {
         match loader::load(book) {
@@ -142,20 +139,25 @@ impl Reader for Plain {
     }
 
     fn open(flat: &Flat, hand: &mut Hand, chart: &mut [u32]) -> u32 {
-        *hand = [0; INPUT + 1];
-        code(grammar(flat).and_then(|g| recognizer::open(&g, chart)))
+        *hand = [0; HAND];
+        code(recognizer::open(&flat::read(flat), chart))
     }
 
     fn take(flat: &Flat, hand: &mut Hand, byte: u8, chart: &mut [u32]) -> u32 {
-        code(grammar(flat).and_then(|g| recognizer::take(&g, hand, byte, chart)))
+        let mut state = hand::read(hand);
+        let answer = state.take(&flat::read(flat), byte, chart);
+        if answer.is_ok() {
+            hand::write(&state, hand);
+        }
+        code(answer)
     }
 
     fn check(flat: &Flat, input: &[u8], offered: &[u16], chart: &mut [u32]) -> u32 {
-        code(grammar(flat).and_then(|g| checker::check(&g, input, offered, chart)))
+        code(checker::check(&flat::read(flat), input, offered, chart))
     }
 
     fn length(flat: &Flat, input: &[u8], offered: &[u16], chart: &mut [u32], tenths: &mut i32) -> u32 {
-        match grammar(flat).and_then(|g| checker::length(&g, input, offered, chart)) {
+        match checker::length(&flat::read(flat), input, offered, chart) {
             Ok(measured) => {
                 *tenths = measured;
                 1
@@ -165,13 +167,13 @@ impl Reader for Plain {
     }
 
     fn same_build(flat: &Flat, input: &[u8], a: &[u16], b: &[u16], chart: &mut [u32]) -> u32 {
-        code(grammar(flat).and_then(|g| checker::same_build(&g, input, a, b, chart)))
+        code(checker::same_build(&flat::read(flat), input, a, b, chart))
     }
 }
 
 /// A hand to open: what it holds is no hand.
 pub fn hand() -> Hand {
-    [0xbeef; INPUT + 1]
+    [0xbeef; HAND]
 }
 
 pub fn chart() -> Vec<u32> {

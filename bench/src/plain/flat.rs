@@ -1,37 +1,38 @@
 //! A grammar as the row of 2,435 numbers that crosses to C: start, count, depth, then 19 numbers a rule.
 
-use super::{Grammar, Rule, Symbol, PLACES, RULES};
+use super::{Grammar, Rule, Symbol};
 
 pub const FLAT: usize = 2435;
 
-/// A value that fits its 8 bits.
-fn narrow(number: u16) -> Option<u8> {
-    u8::try_from(number).ok()
+/// A number in a byte's place, or 255 if that is less: check 8 refuses it.
+fn byte(number: u16) -> u8 {
+    number.min(255) as u8
 }
 
-/// The grammar in a row; None where a used number is larger than its field, or a used tag is neither 0 nor 1. The depth is not judged, and
-/// unused rules and places are not read.
-pub fn read(flat: &[u16; FLAT]) -> Option<Grammar> {
+/// The symbol of a tag and a value; what is none is the nonterminal 255, which check 8 refuses.
+fn symbol(tag: u16, value: u16) -> Symbol {
+    match tag {
+        0 => Symbol::Nonterminal(byte(value)),
+        1 if value <= 255 => Symbol::Terminal(byte(value)),
+        _ => Symbol::Nonterminal(255),
+    }
+}
+
+/// The grammar in a row. Each number is judged whole: one too large for its field is read as a value that check 8 refuses.
+pub fn read(flat: &[u16; FLAT]) -> Grammar {
     let mut g = Grammar::ZERO;
-    g.start = narrow(flat[0])?;
+    g.start = byte(flat[0]);
     g.count = flat[1] as usize;
-    g.depth = flat[2] as u8;
-    let used = g.count.min(RULES);
-    for (rule, f) in g.rules[..used].iter_mut().zip(flat[3..].chunks_exact(19)) {
-        rule.left = narrow(f[0])?;
+    g.depth = byte(flat[2]);
+    for (rule, f) in g.rules.iter_mut().zip(flat[3..].chunks_exact(19)) {
+        rule.left = byte(f[0]);
         rule.length = f[1] as i16;
         rule.count = f[2] as usize;
-        let used = rule.count.min(PLACES);
-        for (place, f) in rule.places[..used].iter_mut().zip(f[3..].chunks_exact(2)) {
-            let value = narrow(f[1])?;
-            *place = match f[0] {
-                0 => Symbol::Nonterminal(value),
-                1 => Symbol::Terminal(value),
-                _ => return None,
-            };
+        for (place, f) in rule.places.iter_mut().zip(f[3..].chunks_exact(2)) {
+            *place = symbol(f[0], f[1]);
         }
     }
-    Some(g)
+    g
 }
 
 fn write_rule(rule: &Rule, f: &mut [u16]) {

@@ -127,31 +127,34 @@ pub fn fill(p: &Packed, w: &[u8], chart: &mut [u32]) {
     }
 }
 
-/// The plate in hand as the row that crosses to C: 64 marks, and then their count.
-pub type Hand = [u16; INPUT + 1];
+#[derive(Clone, Debug, PartialEq)]
+pub struct Recognizer {
+    pub bytes: [u8; INPUT],
+    pub count: usize,
+}
 
-/// Takes a byte into the hand: whether the input is complete. Refused, it leaves everything as it was.
-pub fn take(g: &Grammar, hand: &mut Hand, byte: u8, chart: &mut [u32]) -> Result<bool, Refusal> {
-    if !g.valid() {
-        return Err(Refusal::InvalidGrammar);
+impl Recognizer {
+    /// Whether the input is complete; refused, it leaves everything as it was.
+    pub fn take(&mut self, g: &Grammar, byte: u8, chart: &mut [u32]) -> Result<bool, Refusal> {
+        if !g.valid() {
+            return Err(Refusal::InvalidGrammar);
+        }
+        if self.count > INPUT {
+            return Err(Refusal::InvalidRecognizer);
+        }
+        if chart.len() < CHART {
+            return Err(Refusal::ChartTooShort);
+        }
+        if self.count == INPUT {
+            return Err(Refusal::RecognizerFull);
+        }
+        let p = Packed::new(g);
+        self.bytes[self.count..].fill(0);
+        self.bytes[self.count] = byte;
+        self.count += 1;
+        write_column(&p, &self.bytes[..self.count], self.count, chart);
+        Ok(contains(chart[self.count], g.start as usize))
     }
-    let count = hand[INPUT] as usize;
-    if count > INPUT || hand[..count].iter().any(|&mark| mark > 255) {
-        return Err(Refusal::InvalidRecognizer);
-    }
-    if chart.len() < CHART {
-        return Err(Refusal::ChartTooShort);
-    }
-    if count == INPUT {
-        return Err(Refusal::RecognizerFull);
-    }
-    let p = Packed::new(g);
-    hand[count..INPUT].fill(0);
-    hand[count] = byte.into();
-    hand[INPUT] += 1;
-    let w = hand.map(|mark| mark as u8);
-    write_column(&p, &w[..=count], count + 1, chart);
-    Ok(contains(chart[count + 1], g.start as usize))
 }
 
 pub fn open(g: &Grammar, chart: &mut [u32]) -> Result<bool, Refusal> {

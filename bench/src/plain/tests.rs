@@ -194,6 +194,6 @@ fn the_flat_row_is_read_as_it_was_written() {
         g.rules[0].length = random.next() as i16;
         let mut row = [9u16; flat::FLAT];
         flat::write(&g, &mut row);
-        assert_eq!(flat::read(&row), Some(g));
+        assert_eq!(flat::read(&row), g);
     }
 }
