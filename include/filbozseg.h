@@ -41,13 +41,13 @@ extern "C" {
 #define FILBOZSEG_CELLS 4225
 #define FILBOZSEG_BYTES 64
 
-/* How many bytes of stack a call needs. A thread with 256 KiB is enough for each of them. */
-#define FILBOZSEG_LOAD_STACK (13 * 1024)
-#define FILBOZSEG_OPEN_STACK (44 * 1024)
-#define FILBOZSEG_TAKE_STACK (44 * 1024)
-#define FILBOZSEG_CHECK_STACK (133 * 1024)
-#define FILBOZSEG_LENGTH_STACK (137 * 1024)
-#define FILBOZSEG_SAME_BUILD_STACK (137 * 1024)
+/* How many bytes of stack a call needs, up to whole pages of 4 KiB. A thread with 256 KiB is enough for each of them. */
+#define FILBOZSEG_LOAD_STACK (16 * 1024)
+#define FILBOZSEG_OPEN_STACK (48 * 1024)
+#define FILBOZSEG_TAKE_STACK (48 * 1024)
+#define FILBOZSEG_CHECK_STACK (136 * 1024)
+#define FILBOZSEG_LENGTH_STACK (140 * 1024)
+#define FILBOZSEG_SAME_BUILD_STACK (140 * 1024)
 
 /*
  * The row of a grammar, numbers of 16 bits: the start symbol, the number of rules, the nullable depth, and then 19 numbers for each of 128
