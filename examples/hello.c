@@ -11,12 +11,13 @@ static uint32_t chart[FILBOZSEG_CELLS];
 
 int main(void)
 {
-    uint8_t bytes[FILBOZSEG_BYTES];
-    size_t count, offset;
-    int32_t tenths;
+    uint16_t hand[FILBOZSEG_HAND];
+    size_t offset = 0;  /* written with a refused book only */
+    int32_t tenths = 0; /* written with a measured reading only */
     printf("loaded: %u\n", filbozseg_load(book, sizeof book, grammar, &offset));
-    printf("nothing complete: %u\n", filbozseg_open(grammar, bytes, &count, chart, FILBOZSEG_CELLS));
-    printf("A complete: %u\n", filbozseg_take(grammar, bytes, &count, 'A', chart, FILBOZSEG_CELLS));
+    printf("nothing complete: %u\n", filbozseg_open(grammar, hand, chart, FILBOZSEG_CELLS));
+    printf("A complete: %u\n", filbozseg_take(grammar, hand, 'A', chart, FILBOZSEG_CELLS));
+    printf("in hand: %u mark, %c\n", hand[FILBOZSEG_BYTES], hand[0]);
     printf("reading: %u\n", filbozseg_check(grammar, plate, 1, reading, 6, chart, FILBOZSEG_CELLS));
     printf("measured: %u\n", filbozseg_length(grammar, plate, 1, reading, 6, chart, FILBOZSEG_CELLS, &tenths));
     printf("tenths: %d\n", (int)tenths);

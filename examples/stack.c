@@ -1,7 +1,8 @@
 /*
  * How much stack each call needs, at its deepest: a full book, 64 bytes, and a derivation of 512 nodes nested 512 deep. Each call runs on a
- * stack of its own that was painted first; what it painted over is what it needed. It then runs again on a stack of just that many KiB,
- * with a page below it that may not be touched. Build it as hello.c; x86-64 Linux.
+ * stack of its own that was painted first; what it painted over is what it needed. It then runs again on a stack of just as many bytes as
+ * the header's macro says, with a page below it that may not be touched. Exits 1 if a call answers wrongly or needs more than its macro
+ * says (or is killed by touching that page). x86-64 Linux; `examples/run stack` builds and runs it.
  */
 #define _GNU_SOURCE
 #include <stdio.h>
@@ -11,19 +12,33 @@
 #include <ucontext.h>
 #include "filbozseg.h"
 
-enum { KIB = 1024, PAGE = 4096, LARGE = 4096 * KIB, PAINT = 0xA5 };
+enum { KIB = 1024, PAGE = 4096, LARGE = 4096 * KIB, KNOWN = 100 * KIB, PAINT = 0xA5 };
 
-static uint8_t book[2563], plate[64], bytes[FILBOZSEG_BYTES];
-static uint16_t full[FILBOZSEG_ROW], deep[FILBOZSEG_ROW], left[FILBOZSEG_ROW], nested[1024];
+static uint8_t book[2563], plate[FILBOZSEG_BYTES];
+static uint16_t full[FILBOZSEG_ROW], deep[FILBOZSEG_ROW], left[FILBOZSEG_ROW], hand[FILBOZSEG_HAND], nested[1024];
 static uint32_t chart[FILBOZSEG_CELLS], code;
-static size_t count, offset, size;
+static size_t offset, size;
 static int32_t tenths;
 static ucontext_t home, away;
 
-static void none(void) { code = 1; }
+static void known(void)
+{
+    volatile uint8_t room[KNOWN];
+    size_t at;
+    for (at = 0; at < KNOWN; at++)
+        room[at] = 0;
+    code = room[0] + 1;
+}
 static void load(void) { code = filbozseg_load(book, size, left, &offset); }
-static void open_full(void) { code = filbozseg_open(full, bytes, &count, chart, FILBOZSEG_CELLS); }
-static void take_full(void) { code = filbozseg_take(full, bytes, &count, 'A', chart, FILBOZSEG_CELLS); }
+static void open_full(void) { code = filbozseg_open(full, hand, chart, FILBOZSEG_CELLS); }
+static void take_full(void)
+{
+    size_t at;
+    for (at = 0; at < FILBOZSEG_BYTES; at++)
+        hand[at] = 'A';
+    hand[FILBOZSEG_BYTES] = FILBOZSEG_BYTES - 1;
+    code = filbozseg_take(full, hand, 'A', chart, FILBOZSEG_CELLS);
+}
 static void check_deep(void) { code = filbozseg_check(deep, plate, 64, nested, 1024, chart, FILBOZSEG_CELLS); }
 static void check_full(void) { code = filbozseg_check(full, plate, 64, nested, 1024, chart, FILBOZSEG_CELLS); }
 static void length_deep(void) { code = filbozseg_length(deep, plate, 64, nested, 1024, chart, FILBOZSEG_CELLS, &tenths); }
@@ -31,6 +46,24 @@ static void build_deep(void)
 {
     code = filbozseg_same_build(deep, plate, 64, nested, 1024, nested, 1024, chart, FILBOZSEG_CELLS);
 }
+
+/* What is to be answered, and within how many bytes. The first is no call of the library: it shows that the measuring measures. */
+static const struct {
+    const char *name;
+    void (*call)(void);
+    uint32_t answer;
+    size_t limit;
+} calls[] = {
+    {"known", known, 1, KNOWN + KIB},
+    {"load", load, 1, FILBOZSEG_LOAD_STACK},
+    {"open", open_full, 0, FILBOZSEG_OPEN_STACK},
+    {"take", take_full, 0, FILBOZSEG_TAKE_STACK},
+    {"check deep", check_deep, 1, FILBOZSEG_CHECK_STACK},
+    {"check full", check_full, 0, FILBOZSEG_CHECK_STACK},
+    {"length", length_deep, 1, FILBOZSEG_LENGTH_STACK},
+    {"same build", build_deep, 1, FILBOZSEG_SAME_BUILD_STACK},
+};
+enum { CALLS = sizeof calls / sizeof calls[0] };
 
 /* Runs the call on a stack of so many bytes, with a page below it that may not be touched, and says how many bytes it used. */
 static size_t used(void (*call)(void), size_t room)
@@ -40,6 +73,7 @@ static size_t used(void (*call)(void), size_t room)
     if (low == MAP_FAILED || mprotect(low, PAGE, PROT_NONE) != 0)
         exit(2);
     memset(low + PAGE, PAINT, room);
+    code = ~0u;
     getcontext(&away);
     away.uc_stack.ss_sp = low + PAGE;
     away.uc_stack.ss_size = room;
@@ -52,13 +86,19 @@ static size_t used(void (*call)(void), size_t room)
     return room - at;
 }
 
-static void say(const char *name, void (*call)(void), uint32_t wanted)
+/* Whether the call answers as it has to, within its bytes, on a large stack and on one of just these bytes. */
+static int within(int n)
 {
-    size_t n = used(call, LARGE), kib = (n + KIB - 1) / KIB, room = (kib * KIB + PAGE - 1) / PAGE * PAGE;
-    if (code != wanted)
-        exit(3);
-    used(call, room);
-    printf("%-12s code %3u, %6zu bytes, %3zu KiB\n", name, code, n, kib);
+    size_t need = used(calls[n].call, LARGE), limit = calls[n].limit;
+    int right = code == calls[n].answer;
+    printf("%-10s %6zu bytes of %6zu (%3zu KiB), code %u\n", calls[n].name, need, limit, (need + KIB - 1) / KIB, code);
+    fflush(stdout);
+    if (!right || need > limit) {
+        printf("%s: %s\n", calls[n].name, right ? "MORE THAN THE HEADER SAYS" : "A WRONG ANSWER");
+        return 0;
+    }
+    used(calls[n].call, limit);
+    return code == calls[n].answer && (calls[n].call != known || need >= KNOWN);
 }
 
 static void put(const uint8_t *command, size_t n)
@@ -67,11 +107,11 @@ static void put(const uint8_t *command, size_t n)
     size += n;
 }
 
-int main(void)
+/* k -> k+1 for k = 0..30, 31 -> A A A A 0, 31 -> A A A A: no derivation has more nodes and bytes before its last place. */
+static int load_deep(void)
 {
-    size_t k, q;
-    memset(plate, 'A', sizeof plate);
-    /* k -> k+1 for k = 0..30, 31 -> A A A A 0, 31 -> A A A A: no derivation has more nodes and bytes before its last place */
+    size_t k;
+    size = 0;
     put((uint8_t[]){0x10, 0}, 2);
     for (k = 0; k < 31; k++)
         put((uint8_t[]){0x20, k, 1, 0, 0x30, k + 1}, 6);
@@ -79,13 +119,17 @@ int main(void)
         put((uint8_t[]){0x20, 31, 1, 0, 0x40, 'A', 0x40, 'A', 0x40, 'A', 0x40, 'A'}, 12);
         put(k == 0 ? (uint8_t[]){0x30, 0} : (uint8_t[]){0x50, 0}, k == 0 ? 2 : 1);
     }
-    if (filbozseg_load(book, size, deep, &offset) != 1)
-        return 1;
     for (k = 0; k < 512; k++) {
         nested[2 * k] = 64 - 4 * (k / 32);
         nested[2 * k + 1] = k == 511 ? 32 : k % 32;
     }
-    /* 128 rules of 8 places */
+    return filbozseg_load(book, size, deep, &offset) == 1;
+}
+
+/* 128 rules of 8 places. */
+static int load_full(void)
+{
+    size_t k, q;
     size = 0;
     put((uint8_t[]){0x10, 0}, 2);
     for (k = 0; k < 128; k++) {
@@ -94,15 +138,22 @@ int main(void)
             put(q % 2 ? (uint8_t[]){0x40, 'A'} : (uint8_t[]){0x30, (k + q) % 32}, 2);
     }
     put((uint8_t[]){0x50}, 1);
-    if (filbozseg_load(book, size, full, &offset) != 1)
+    return filbozseg_load(book, size, full, &offset) == 1;
+}
+
+int main(void)
+{
+    int n, good = 0;
+    memset(plate, 'A', sizeof plate);
+    if (!load_deep() || !load_full()) {
+        puts("a book is not loaded");
         return 1;
-    say("nothing", none, 1);
-    say("load", load, 1);
-    say("open", open_full, 0);
-    say("take", take_full, 0);
-    say("check deep", check_deep, 1);
-    say("check full", check_full, 0);
-    say("length", length_deep, 1);
-    say("same build", build_deep, 1);
-    return 0;
+    }
+    for (n = 0; n < CALLS; n++)
+        good += within(n);
+    /* 512 nodes of one hundredth each */
+    if (tenths != 51)
+        puts("length: A WRONG LENGTH");
+    printf("%d of %d within the bytes that the header says\n", good, CALLS);
+    return good == CALLS && tenths == 51 ? 0 : 1;
 }

@@ -15,10 +15,15 @@
  * Overlap. What is lent for writing (each pointer that is not to const) may overlap nothing else that is lent to the same call, and nobody
  * else may read or write it until the call returns. What is lent for reading may overlap.
  *
- * Words: a grammar is a loaded book, an input a plate, a chart a sheet, a derivation a reading, a node a part.
+ * What is written. A lent number is written only with an answer that carries it: an offset with a refused book, the tenths with a measured
+ * derivation; with any other answer it is left as found. What is left of a row, a hand and a chart stands at each call; cells from 4225 on
+ * are never touched. What a lent place holds before a call decides nothing, except the hand and the chart at filbozseg_take.
  *
- * Stack. Nothing proves how much stack a call needs. What stands at each call was measured by examples/stack.c on x86-64: at a full
- * grammar, 64 bytes and a derivation of 512 nodes nested 512 deep, in KiB of 1024 bytes. A thread with 256 KiB is enough for all of them.
+ * Words: a grammar is a loaded book, an input a plate, a hand a plate in hand, a mark one of its bytes, a chart a sheet, a derivation a
+ * reading, a node a part.
+ *
+ * Stack. Nothing proves how much stack a call needs. The macro named at each call has it in bytes, as measured on x86-64: at a full
+ * grammar, 64 bytes and a derivation of 512 nodes nested 512 deep. examples/stack.c measures it again and holds each call to its macro.
  */
 #ifndef FILBOZSEG_H
 #define FILBOZSEG_H
@@ -30,57 +35,72 @@
 extern "C" {
 #endif
 
-/* How many numbers the flat row of a grammar has, how many cells of a chart are used, and how many bytes a state has. */
+/* The numbers of a grammar's row, the numbers of a hand's row, the used cells of a chart, and the most bytes that an input has. */
 #define FILBOZSEG_ROW 2435
+#define FILBOZSEG_HAND 65
 #define FILBOZSEG_CELLS 4225
 #define FILBOZSEG_BYTES 64
 
+/* How many bytes of stack a call needs, up to whole pages of 4 KiB. A thread with 256 KiB is enough for each of them. */
+#define FILBOZSEG_LOAD_STACK (16 * 1024)
+#define FILBOZSEG_OPEN_STACK (48 * 1024)
+#define FILBOZSEG_TAKE_STACK (48 * 1024)
+#define FILBOZSEG_CHECK_STACK (136 * 1024)
+#define FILBOZSEG_LENGTH_STACK (140 * 1024)
+#define FILBOZSEG_SAME_BUILD_STACK (140 * 1024)
+
 /*
- * The flat row of a grammar: the start symbol, the number of rules, the nullable depth, and then 19 numbers for each of 128 rules: the left
- * side, the length in hundredths of a millimetre (16 bits, two's complement), the number of places, and for each of 8 places a tag (0 a
- * nonterminal, else a terminal) and a value. Of the start symbol, the depth, a left side and a value the low 8 bits count. A row may hold
- * anything: what is used and out of its range is refused with 8.
+ * The row of a grammar, numbers of 16 bits: the start symbol, the number of rules, the nullable depth, and then 19 numbers for each of 128
+ * rules: the left side, the length in hundredths of a millimetre (two's complement), the number of places, and for each of 8 places a tag
+ * (0 a nonterminal, 1 a terminal) and a value.
+ *
+ * A row may hold anything, and each number is judged whole, all 16 bits of it. Refusal 8: a start over 31; more than 128 rules; in a used
+ * rule a left side over 31, or more than 8 places; in a used place a tag other than 0 and 1, a nonterminal over 31, or a terminal over
+ * 255. A rule is used if its number is below the number of rules; a place of it is used if its number is below the rule's number of places.
+ * The depth, the lengths, and all numbers of unused rules and unused places may be any.
+ *
+ * The row of a hand, numbers of 16 bits: 64 marks, and then the count, hand[FILBOZSEG_BYTES]. It may hold anything too, and is judged
+ * whole. Refusal 14: a count over 64, or a used mark over 255. A mark is used if its number is below the count; the others may be any.
  */
 
 /*
- * Loads a book of any length. Returns 1 and leaves the row of its grammar, and 0 at offset; or 256 + n, n from 1 to 7, and leaves the row
- * of the grammar of no rules, and at offset where the fault is.
- * Stack: 13 KiB.
+ * Loads a book of any length. Returns 1 and leaves the row of its grammar, and the offset as found; or 256 + n, n from 1 to 7, and leaves
+ * the row of the grammar of no rules, which is all zeros, and where the fault is at offset. All numbers of the row are written either way.
+ * Stack: FILBOZSEG_LOAD_STACK.
  */
 uint32_t filbozseg_load(const uint8_t *book, size_t book_length, uint16_t grammar[FILBOZSEG_ROW], size_t *offset);
 
 /*
- * Opens the recognizer: leaves the state of no bytes (64 zeros, count 0), clears the first 4225 cells of the chart and writes its first
+ * Opens the recognizer: leaves the hand of no marks, which is all zeros, clears the first 4225 cells of the chart and writes its first
  * column. Returns whether the empty input is complete. Refusals, in this order: 8 the grammar; 10 a chart of fewer than 4225 cells.
- * Refused, it leaves the state of no bytes and the chart as found.
- * Stack: 44 KiB.
+ * Refused, it leaves the hand of no marks too, and the chart as found.
+ * Stack: FILBOZSEG_OPEN_STACK.
  */
-uint32_t filbozseg_open(const uint16_t grammar[FILBOZSEG_ROW], uint8_t bytes[FILBOZSEG_BYTES], size_t *count,
-                        uint32_t *chart, size_t chart_length);
+uint32_t filbozseg_open(const uint16_t grammar[FILBOZSEG_ROW], uint16_t hand[FILBOZSEG_HAND], uint32_t *chart, size_t chart_length);
 
 /*
- * Takes a byte, in a state of the recognizer: leaves the state with the byte, zeros behind it, and writes the column of the byte. Returns
- * whether the input so far is complete. Refusals, in this order: 8 the grammar; 14 a count over 64; 10 a chart of fewer than 4225 cells; 15
- * a count of 64. Refused, it leaves the state and the chart as found.
- * Stack: 44 KiB.
+ * Takes a byte into the hand: leaves the hand with the new mark, zeros behind it, and a count of one more, and writes the column of the
+ * mark. Returns whether the input so far is complete. Refusals, in this order: 8 the grammar; 14 the hand; 10 a chart of fewer than 4225
+ * cells; 15 a hand of 64 marks. Refused, it leaves the hand, whatever it holds, and the chart as found.
+ * Stack: FILBOZSEG_TAKE_STACK.
  */
-uint32_t filbozseg_take(const uint16_t grammar[FILBOZSEG_ROW], uint8_t bytes[FILBOZSEG_BYTES], size_t *count, uint8_t byte,
+uint32_t filbozseg_take(const uint16_t grammar[FILBOZSEG_ROW], uint16_t hand[FILBOZSEG_HAND], uint8_t byte,
                         uint32_t *chart, size_t chart_length);
 
 /*
  * Returns whether the offered row is a derivation of the input: for each node, in preorder, how many bytes it covers and the number of its
  * rule. Refusals, in this order: 8 the grammar; 9 an input of no bytes or of more than 64; 10 a chart of fewer than 4225 cells. Refused, it
  * leaves the chart as found, else filled for the input.
- * Stack: 133 KiB.
+ * Stack: FILBOZSEG_CHECK_STACK.
  */
 uint32_t filbozseg_check(const uint16_t grammar[FILBOZSEG_ROW], const uint8_t *input, size_t input_length,
                          const uint16_t *offered, size_t offered_length, uint32_t *chart, size_t chart_length);
 
 /*
- * Returns 1 and leaves the length of the offered derivation, in tenths of a millimetre, halves away from zero. Refusals, in this order: 8,
- * 9, 10 as at filbozseg_check; 12 the offered row is no derivation of the input. Refused, it leaves 0 at tenths, and the chart as found
- * (8, 9, 10) or filled for the input (12).
- * Stack: 137 KiB.
+ * Returns 1 and leaves the length of the offered derivation at tenths, in tenths of a millimetre, halves away from zero. Refusals, in this
+ * order: 8, 9, 10 as at filbozseg_check; 12 the offered row is no derivation of the input. Refused, it leaves the tenths as found, and the
+ * chart as found (8, 9, 10) or filled for the input (12).
+ * Stack: FILBOZSEG_LENGTH_STACK.
  */
 uint32_t filbozseg_length(const uint16_t grammar[FILBOZSEG_ROW], const uint8_t *input, size_t input_length,
                           const uint16_t *offered, size_t offered_length, uint32_t *chart, size_t chart_length, int32_t *tenths);
@@ -88,7 +108,7 @@ uint32_t filbozseg_length(const uint16_t grammar[FILBOZSEG_ROW], const uint8_t *
 /*
  * Returns whether two offered derivations of the input are the same build: whether the rules of their nodes that cover something agree,
  * each as often. Refusals and chart as at filbozseg_length; 12 where either row is no derivation.
- * Stack: 137 KiB.
+ * Stack: FILBOZSEG_SAME_BUILD_STACK.
  */
 uint32_t filbozseg_same_build(const uint16_t grammar[FILBOZSEG_ROW], const uint8_t *input, size_t input_length,
                               const uint16_t *a, size_t a_length, const uint16_t *b, size_t b_length,

@@ -3,23 +3,11 @@
 //! + n refusal n.
 
 use crate::plain::flat::{self, FLAT};
-use crate::plain::recognizer::{self, Recognizer};
-use crate::plain::{checker, loader, Grammar, Refusal, CHART, INPUT};
+pub use crate::plain::hand::Hand;
+use crate::plain::hand::{self, HAND};
+use crate::plain::{checker, loader, recognizer, Grammar, Refusal, CHART, INPUT};
 
 pub type Flat = [u16; FLAT];
-
-/// The bytes of the input so far and their count.
-#[derive(Clone, Debug, PartialEq)]
-pub struct Hand {
-    pub bytes: [u8; INPUT],
-    pub count: usize,
-}
-
-impl Hand {
-    pub fn new() -> Hand {
-        Hand { bytes: [0; INPUT], count: 0 }
-    }
-}
 
 pub trait Reader {
     fn load(book: &[u8], flat: &mut Flat, offset: &mut usize) -> u32;
@@ -43,21 +31,8 @@ pub trait Reader {
 mod c {
     extern "C" {
         pub fn filbozseg_load(book: *const u8, length: usize, grammar: *mut u16, offset: *mut usize) -> u32;
-        pub fn filbozseg_open(
-            grammar: *const u16,
-            bytes: *mut u8,
-            count: *mut usize,
-            chart: *mut u32,
-            length: usize,
-        ) -> u32;
-        pub fn filbozseg_take(
-            grammar: *const u16,
-            bytes: *mut u8,
-            count: *mut usize,
-            byte: u8,
-            chart: *mut u32,
-            length: usize,
-        ) -> u32;
+        pub fn filbozseg_open(grammar: *const u16, hand: *mut u16, chart: *mut u32, length: usize) -> u32;
+        pub fn filbozseg_take(grammar: *const u16, hand: *mut u16, byte: u8, chart: *mut u32, length: usize) -> u32;
         pub fn filbozseg_check(
             grammar: *const u16,
             input: *const u8,
@@ -101,13 +76,11 @@ impl Reader for Proved {
     }
 
     fn open(flat: &Flat, hand: &mut Hand, chart: &mut [u32]) -> u32 {
-        let (bytes, count) = (hand.bytes.as_mut_ptr(), &mut hand.count);
-        unsafe { c::filbozseg_open(flat.as_ptr(), bytes, count, chart.as_mut_ptr(), chart.len()) }
+        unsafe { c::filbozseg_open(flat.as_ptr(), hand.as_mut_ptr(), chart.as_mut_ptr(), chart.len()) }
     }
 
     fn take(flat: &Flat, hand: &mut Hand, byte: u8, chart: &mut [u32]) -> u32 {
-        let (bytes, count) = (hand.bytes.as_mut_ptr(), &mut hand.count);
-        unsafe { c::filbozseg_take(flat.as_ptr(), bytes, count, byte, chart.as_mut_ptr(), chart.len()) }
+        unsafe { c::filbozseg_take(flat.as_ptr(), hand.as_mut_ptr(), byte, chart.as_mut_ptr(), chart.len()) }
     }
 
     fn check(flat: &Flat, input: &[u8], offered: &[u16], chart: &mut [u32]) -> u32 {
@@ -155,7 +128,6 @@ impl Reader for Plain {
         match loader::load(book) {
             Ok(g) => {
                 flat::write(&g, flat);
-                *offset = 0;
                 1
             }
             Err((r, at)) => {
@@ -167,14 +139,16 @@ impl Reader for Plain {
     }
 
     fn open(flat: &Flat, hand: &mut Hand, chart: &mut [u32]) -> u32 {
-        *hand = Hand::new();
+        *hand = [0; HAND];
         code(recognizer::open(&flat::read(flat), chart))
     }
 
     fn take(flat: &Flat, hand: &mut Hand, byte: u8, chart: &mut [u32]) -> u32 {
-        let mut state = Recognizer { bytes: hand.bytes, count: hand.count };
+        let mut state = hand::read(hand);
         let answer = state.take(&flat::read(flat), byte, chart);
-        (hand.bytes, hand.count) = (state.bytes, state.count);
+        if answer.is_ok() {
+            hand::write(&state, hand);
+        }
         code(answer)
     }
 
@@ -183,9 +157,13 @@ impl Reader for Plain {
     }
 
     fn length(flat: &Flat, input: &[u8], offered: &[u16], chart: &mut [u32], tenths: &mut i32) -> u32 {
-        let measured = checker::length(&flat::read(flat), input, offered, chart);
-        *tenths = measured.unwrap_or(0);
-        measured.map_or_else(refusal, |_| 1)
+        match checker::length(&flat::read(flat), input, offered, chart) {
+            Ok(measured) => {
+                *tenths = measured;
+                1
+            }
+            Err(r) => refusal(r),
+        }
     }
 
     fn same_build(flat: &Flat, input: &[u8], a: &[u16], b: &[u16], chart: &mut [u32]) -> u32 {
@@ -193,6 +171,14 @@ impl Reader for Plain {
     }
 }
 
+/// A hand to open: what it holds is no hand.
+pub fn hand() -> Hand {
+    [0xbeef; HAND]
+}
+
 pub fn chart() -> Vec<u32> {
     vec![0xdead_beef; CHART]
 }
+
+#[cfg(test)]
+mod tests;

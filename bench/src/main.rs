@@ -9,7 +9,7 @@ mod random;
 mod timing;
 
 use books::{A, P};
-use calls::{chart, Flat, Hand, Plain, Proved, Reader};
+use calls::{chart, hand, Flat, Hand, Plain, Proved, Reader};
 use plain::flat::FLAT;
 use random::Random;
 use std::hint::black_box;
@@ -58,7 +58,7 @@ fn loaded(book: &[u8]) -> Flat {
 
 fn load_both(book: &[u8]) -> (u32, Flat, usize) {
     let (mut a, mut b) = ([1u16; FLAT], [2u16; FLAT]);
-    let (mut at, mut to) = (1, 2);
+    let (mut at, mut to) = (usize::MAX, usize::MAX); // left so where the book is loaded
     let code = Proved::load(book, &mut a, &mut at);
     assert_eq!(code, Plain::load(book, &mut b, &mut to));
     assert_eq!(at, to);
@@ -78,7 +78,7 @@ fn check_both(flat: &Flat, input: &[u8], offered: &[u16]) -> u32 {
 /// Both sides answer the same after each mark and leave the same hand and the same chart as a check does.
 fn feed_both(flat: &Flat, input: &[u8]) -> (Hand, Vec<u32>) {
     let (mut c, mut d, mut e) = (chart(), chart(), chart());
-    let (mut h, mut k) = (Hand::new(), Hand::new());
+    let (mut h, mut k) = (hand(), hand());
     let answers = Proved::feed(flat, input, &mut h, &mut c);
     assert_eq!(answers, Plain::feed(flat, input, &mut k, &mut d));
     assert!(answers.iter().all(|&code| code < 2) && h == k && c == d, "the charts differ");
@@ -158,7 +158,7 @@ fn fills(list: &[Case]) -> (f64, String) {
         &["On both sides each of the 65 calls reads the flat row, does check 8 and packs the grammar."],
     );
     for c in list {
-        let (mut h, mut k) = (Hand::new(), Hand::new());
+        let (mut h, mut k) = (hand(), hand());
         let (mut x, mut y) = (chart(), chart());
         let times = pair(
             || sink(Proved::feed(black_box(&c.flat), &c.input, &mut h, &mut x)),
@@ -191,19 +191,19 @@ fn takes(list: &[Case]) {
     heading("TAKE of the 64th mark", &["One call on both sides: flat row, check 8, pack, column 64."]);
     for c in list {
         let (full, sheet) = feed_both(&c.flat, &c.input);
-        let mut before = full.clone();
-        (before.bytes[63], before.count) = (0, 63);
+        let mut before = full;
+        (before[63], before[64]) = (0, 63);
         let (mut x, mut y) = (sheet.clone(), sheet.clone());
-        let (mut h, mut k) = (before.clone(), before.clone());
+        let (mut h, mut k) = (before, before);
         line(
             c.name,
             pair(
                 || {
-                    h.count = 63;
+                    h[64] = 63;
                     black_box(Proved::take(black_box(&c.flat), &mut h, c.input[63], &mut x));
                 },
                 || {
-                    k.count = 63;
+                    k[64] = 63;
                     black_box(Plain::take(black_box(&c.flat), &mut k, c.input[63], &mut y));
                 },
             ),
@@ -222,7 +222,9 @@ fn overheads(list: &[Case]) {
     );
     let empty = Case { name: "10 00 50", flat: loaded(&[0x10, 0, 0x50]), input: vec![] };
     for c in [&empty, &list[0], &list[2]] {
-        let (mut h, mut k) = (Hand { bytes: [65; 64], count: 64 }, Hand { bytes: [65; 64], count: 64 });
+        let mut h: Hand = [65; 65];
+        h[64] = 64;
+        let mut k = h;
         let (mut x, mut y) = (chart(), chart());
         assert_eq!(Proved::take(&c.flat, &mut h, 65, &mut x), 256 + 15);
         assert_eq!(Plain::take(&c.flat, &mut k, 65, &mut y), 256 + 15);
@@ -284,7 +286,7 @@ fn checks() {
         }
         println!("  (3,000 damaged rows answered alike, {yes} of them the reading itself)");
         let (mut x, mut y) = (chart(), chart());
-        let (mut s, mut t) = (0, 0);
+        let (mut s, mut t) = (i32::MIN, i32::MAX);
         assert_eq!(Proved::length(&flat, &input, &reading, &mut x, &mut s), 1);
         assert_eq!(Plain::length(&flat, &input, &reading, &mut y, &mut t), 1);
         assert_eq!(s, t);

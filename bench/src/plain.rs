@@ -4,6 +4,7 @@
 
 pub mod checker;
 pub mod flat;
+pub mod hand;
 pub mod loader;
 pub mod packed;
 pub mod recognizer;

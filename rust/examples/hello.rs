@@ -8,6 +8,7 @@ fn main() {
     let (mut plate, complete) = open(&grammar, &mut chart);
     println!("nothing complete: {}", complete.unwrap());
     println!("A complete: {}", plate.take(&grammar, b'A', &mut chart).unwrap());
+    println!("in hand: {:?}", plate.bytes());
     let reading = [1, 0, 0, 1, 1, 2];
     println!("reading: {}", check(&grammar, b"A", &reading, &mut chart).unwrap());
     println!("tenths: {}", length(&grammar, b"A", &reading, &mut chart).unwrap());

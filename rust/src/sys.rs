@@ -3,23 +3,21 @@
 //! What a caller owes: each pointer is that of as many live values as its length says (or its array type), and what is lent for writing
 //! overlaps nothing else that is lent.
 
-use crate::{BYTES, ROW};
+use crate::{HAND, ROW};
 
 extern "C" {
     pub fn filbozseg_load(book: *const u8, book_length: usize, grammar: *mut [u16; ROW], offset: *mut usize) -> u32;
 
     pub fn filbozseg_open(
         grammar: *const [u16; ROW],
-        bytes: *mut [u8; BYTES],
-        count: *mut usize,
+        hand: *mut [u16; HAND],
         chart: *mut u32,
         chart_length: usize,
     ) -> u32;
 
     pub fn filbozseg_take(
         grammar: *const [u16; ROW],
-        bytes: *mut [u8; BYTES],
-        count: *mut usize,
+        hand: *mut [u16; HAND],
         byte: u8,
         chart: *mut u32,
         chart_length: usize,

@@ -12,6 +12,10 @@ fn chart() -> Vec<u32> {
     vec![FOUND; CELLS + PAST]
 }
 
+/// Where the first and the last rule of T begin in its row.
+const FIRST: usize = 3;
+const LAST: usize = 41;
+
 /// T with one number of its row changed.
 fn changed(at: usize, number: u16) -> Grammar {
     let mut row = *load(T).unwrap().row();
@@ -39,42 +43,87 @@ fn a_book_is_loaded_or_refused_at_its_offset() {
 }
 
 #[test]
-fn a_refused_opening_leaves_the_chart() {
+fn the_numbers_of_a_grammar_are_judged_whole() {
     let mut chart = chart();
-    for bad in [changed(0, 200), changed(1, 129), changed(5, 9)] {
-        let (r, answer) = open(&bad, &mut chart);
-        assert_eq!((r.bytes, r.count, answer), ([0; BYTES], 0, Err(Refusal::InvalidGrammar)));
+    let small = |over: u16| [over, 255, 256, 257, 256 + 31, 0xFF00, u16::MAX];
+    let mut bad: Vec<(usize, u16)> = vec![(1, 129), (1, 256), (1, 256 + 3), (FIRST + 2, 9), (FIRST + 2, 256 + 2)];
+    for at in [0, FIRST, FIRST + 4] {
+        bad.extend(small(32).map(|number| (at, number)));
     }
-    assert_eq!(open(&load(T).unwrap(), &mut chart[..CELLS - 1]).1, Err(Refusal::ChartTooShort));
-    assert_eq!(open(&load(T).unwrap(), &mut []).1, Err(Refusal::ChartTooShort));
+    bad.extend(small(2).map(|tag| (LAST + 3, tag)));
+    bad.extend([256, 256 + 65, 0xFF00, u16::MAX].map(|terminal| (LAST + 4, terminal)));
+    for (at, number) in bad {
+        assert_eq!(open(&changed(at, number), &mut chart).1, Err(Refusal::InvalidGrammar), "{number} at {at}");
+    }
+    // what the wrapper lends before it is written
+    assert_eq!(open(&Grammar::from_row(&[u16::MAX; ROW]), &mut chart).1, Err(Refusal::InvalidGrammar));
     assert_eq!(chart, self::chart());
+    // the depth, a length, an unused place, an unused rule
+    for at in [2, FIRST + 1, FIRST + 7, FIRST + 8, LAST + 19, LAST + 21, LAST + 22] {
+        assert_eq!(open(&changed(at, u16::MAX), &mut chart).1, Ok(true), "{at}");
+    }
 }
 
 #[test]
-fn a_refused_byte_leaves_the_state_and_the_chart() {
+fn an_opening_leaves_no_bytes_also_where_it_is_refused() {
     let (grammar, mut chart) = (load(T).unwrap(), chart());
-    let mut r = Recognizer { bytes: [9; BYTES], count: usize::MAX };
-    assert_eq!(r.take(&changed(0, 200), b'A', &mut []), Err(Refusal::InvalidGrammar));
-    assert_eq!(r.take(&grammar, b'A', &mut []), Err(Refusal::InvalidRecognizer));
-    assert_eq!((r.bytes, r.count), ([9; BYTES], usize::MAX));
-    r.count = 64;
+    let refused = [
+        (open(&changed(0, 200), &mut chart), Refusal::InvalidGrammar),
+        (open(&changed(0, 200), &mut []), Refusal::InvalidGrammar),
+        (open(&grammar, &mut chart[..CELLS - 1]), Refusal::ChartTooShort),
+        (open(&grammar, &mut []), Refusal::ChartTooShort),
+    ];
+    assert_eq!(chart, self::chart());
+    let (opened, complete) = open(&grammar, &mut chart);
+    assert_eq!((complete, opened.row(), opened.count(), opened.bytes()), (Ok(true), &[0; HAND], 0, &[][..]));
+    for ((r, answer), refusal) in refused {
+        assert_eq!((r, answer), (opened, Err(refusal)));
+    }
+}
+
+/// A recognizer of nines, but for the count.
+fn nines(count: u16) -> Recognizer {
+    let mut row = [9; HAND];
+    row[BYTES] = count;
+    Recognizer::from_row(&row)
+}
+
+#[test]
+fn a_refused_byte_leaves_the_recognizer_and_the_chart() {
+    let (grammar, mut chart) = (load(T).unwrap(), chart());
+    let mut large = *nines(3).row();
+    large[2] = 256;
+    // the last is what the wrapper lends before it is written
+    let unwritten = Recognizer::from_row(&[u16::MAX; HAND]);
+    for found in [nines(65), nines(256), nines(256 + 3), Recognizer::from_row(&large), unwritten] {
+        let mut r = found;
+        assert_eq!(r.take(&changed(0, 200), b'A', &mut []), Err(Refusal::InvalidGrammar));
+        assert_eq!(r.take(&grammar, b'A', &mut []), Err(Refusal::InvalidRecognizer));
+        assert_eq!(r.take(&grammar, b'A', &mut chart), Err(Refusal::InvalidRecognizer));
+        assert_eq!(r, found);
+    }
+    let mut r = nines(64);
     assert_eq!(r.take(&grammar, b'A', &mut []), Err(Refusal::ChartTooShort));
     assert_eq!(r.take(&grammar, b'A', &mut chart), Err(Refusal::RecognizerFull));
-    assert_eq!((r.bytes, r.count), ([9; BYTES], 64));
+    assert_eq!((r, r.count(), r.bytes()), (nines(64), 64, &[9; 64][..]));
+    assert_eq!((nines(65).count(), nines(65).bytes()), (65, &[9; 64][..]));
     assert_eq!(chart, self::chart());
 }
 
 #[test]
-fn a_taken_byte_is_left_in_the_state() {
+fn a_taken_byte_is_left_in_the_recognizer() {
     let (grammar, mut chart) = (load(T).unwrap(), chart());
-    let mut r = Recognizer { bytes: [9; BYTES], count: 2 };
+    let mut row = *nines(2).row();
+    row[2..BYTES].fill(u16::MAX); // bytes not taken
+    let mut r = Recognizer::from_row(&row);
     r.take(&grammar, b'A', &mut chart).unwrap();
-    assert_eq!((r.count, &r.bytes[..4]), (3, &[9, 9, b'A', 0][..]));
-    assert!(r.bytes[3..].iter().all(|&b| b == 0));
+    assert_eq!((r.count(), r.bytes()), (3, &[9, 9, 65][..]));
+    assert!(r.row()[3..BYTES].iter().all(|&b| b == 0));
     let (mut r, answer) = open(&grammar, &mut chart);
     let mut said = vec![answer.unwrap()];
     said.extend((0..64).map(|_| r.take(&grammar, b'A', &mut chart).unwrap()));
     assert!(said.iter().enumerate().all(|(n, &complete)| complete == (n <= 2)));
+    assert_eq!((r.count(), r.bytes()), (64, &[65; 64][..]));
     assert_eq!(chart[CELLS..], [FOUND; PAST]);
 }
 

@@ -1,12 +1,26 @@
-//! The proved library as a `Reader`, through the safe wrapper that a user links (`rust/`).
+//! The proved library as a `Reader`. The calls that write a lent number, row or hand
+//! go to the library's functions themselves, with canaries around what is lent, so
+//! that nothing of the safe wrapper hides what they leave; the other calls go
+//! through the wrapper that a user links (`rust/`).
 
-use crate::reader::{Answer, FlatGrammar, Hand, Reader, Unloaded};
-use filbozseg::{Grammar, Recognizer, Refusal};
+use crate::reader::{Answer, FlatGrammar, Hand, Reader};
+use filbozseg::{sys, Grammar, Refusal};
 
 /// The proved library.
 pub struct Library;
 
-fn said(answer: Result<bool, Refusal>) -> Answer {
+/// What a code says.
+fn said(code: u32) -> Answer {
+    match code {
+        0 => Answer::No,
+        1 => Answer::Yes,
+        257..=271 => Answer::Refused((code - 256) as u8),
+        _ => panic!("the library returned the code {code}"),
+    }
+}
+
+/// What the wrapper says.
+fn told(answer: Result<bool, Refusal>) -> Answer {
     match answer {
         Ok(true) => Answer::Yes,
         Ok(false) => Answer::No,
@@ -14,41 +28,68 @@ fn said(answer: Result<bool, Refusal>) -> Answer {
     }
 }
 
+const CANARY: [u8; 32] = [0x5A; 32];
+
+/// A place to lend, with canaries right before and right after it.
+#[repr(C)]
+struct Guarded<T> {
+    before: [u8; 32],
+    place: T,
+    after: [u8; 32],
+}
+
+/// Lends a copy of the place, between canaries, and takes back what is left in it.
+fn lend<T: Copy>(place: &mut T, call: impl FnOnce(*mut T) -> u32) -> u32 {
+    let mut guarded = Guarded { before: CANARY, place: *place, after: CANARY };
+    let all: *mut Guarded<T> = &mut guarded;
+    // Safety: `all` points to a live value; no reference to it is used before the call ends.
+    let code = call(unsafe { std::ptr::addr_of_mut!((*all).place) });
+    assert!(guarded.before == CANARY && guarded.after == CANARY, "the library wrote beside what it was lent");
+    *place = guarded.place;
+    code
+}
+
+// Safety, of each call: the pointers are those of live values of these lengths, and those that are written overlap nothing.
 impl Reader for Library {
-    fn load(&self, book: &[u8]) -> Result<FlatGrammar, Unloaded> {
-        match filbozseg::load(book) {
-            Ok(grammar) => Ok(*grammar.row()),
-            Err(fault) => Err(Unloaded {
-                number: fault.refusal.number(),
-                offset: fault.offset,
-                grammar: *fault.grammar.row(),
-            }),
-        }
+    fn load(&self, book: &[u8], grammar: &mut FlatGrammar, offset: &mut usize) -> Answer {
+        said(lend(grammar, |grammar| {
+            lend(offset, |offset| unsafe { sys::filbozseg_load(book.as_ptr(), book.len(), grammar, offset) })
+        }))
     }
 
-    fn open(&self, grammar: &FlatGrammar, chart: &mut [u32]) -> (Answer, Hand) {
-        let (state, answer) = filbozseg::open(&Grammar::from_row(grammar), chart);
-        (said(answer), Hand { bytes: state.bytes, count: state.count })
+    fn open(&self, grammar: &FlatGrammar, hand: &mut Hand, chart: &mut [u32]) -> Answer {
+        said(lend(hand, |hand| unsafe { sys::filbozseg_open(grammar, hand, chart.as_mut_ptr(), chart.len()) }))
     }
 
-    fn take(&self, grammar: &FlatGrammar, hand: Hand, terminal: u8, chart: &mut [u32]) -> (Answer, Hand) {
-        let mut state = Recognizer { bytes: hand.bytes, count: hand.count };
-        let answer = state.take(&Grammar::from_row(grammar), terminal, chart);
-        (said(answer), Hand { bytes: state.bytes, count: state.count })
+    fn take(&self, grammar: &FlatGrammar, hand: &mut Hand, terminal: u8, chart: &mut [u32]) -> Answer {
+        said(lend(hand, |hand| unsafe {
+            sys::filbozseg_take(grammar, hand, terminal, chart.as_mut_ptr(), chart.len())
+        }))
     }
 
     fn check(&self, grammar: &FlatGrammar, input: &[u8], offered: &[u16], chart: &mut [u32]) -> Answer {
-        said(filbozseg::check(&Grammar::from_row(grammar), input, offered, chart))
+        told(filbozseg::check(&Grammar::from_row(grammar), input, offered, chart))
     }
 
-    fn length(&self, grammar: &FlatGrammar, input: &[u8], offered: &[u16], chart: &mut [u32]) -> Answer {
-        match filbozseg::length(&Grammar::from_row(grammar), input, offered, chart) {
-            Ok(tenths) => Answer::Tenths(tenths),
-            Err(refusal) => Answer::Refused(refusal.number()),
-        }
+    fn length(
+        &self,
+        grammar: &FlatGrammar,
+        input: &[u8],
+        offered: &[u16],
+        chart: &mut [u32],
+        tenths: &mut i32,
+    ) -> Answer {
+        let ((w, n), (e, m)) = ((input.as_ptr(), input.len()), (offered.as_ptr(), offered.len()));
+        said(lend(tenths, |tenths| unsafe {
+            sys::filbozseg_length(grammar, w, n, e, m, chart.as_mut_ptr(), chart.len(), tenths)
+        }))
     }
 
     fn same_build(&self, grammar: &FlatGrammar, input: &[u8], one: &[u16], other: &[u16], chart: &mut [u32]) -> Answer {
-        said(filbozseg::same_build(&Grammar::from_row(grammar), input, one, other, chart))
+        told(filbozseg::same_build(&Grammar::from_row(grammar), input, one, other, chart))
+    }
+
+    fn lists(&self) -> bool {
+        false
     }
 }

@@ -4,11 +4,12 @@
 
 pub mod chart;
 pub mod grammar;
+pub mod hand;
 pub mod listing;
 pub mod trees;
 pub mod walk;
 
-use crate::reader::{Answer, FlatGrammar, Hand, Reader, Unloaded, CELLS, FLAT, INPUT, OUTPUT};
+use crate::reader::{Answer, FlatGrammar, Hand, Reader, CELLS, FLAT, INPUT, OUTPUT};
 use grammar::Grammar;
 use walk::Given;
 
@@ -82,43 +83,44 @@ fn answered(given: Given, out: &mut [u16]) -> Answer {
 }
 
 impl Reader for Lister {
-    fn load(&self, book: &[u8]) -> Result<FlatGrammar, Unloaded> {
+    fn load(&self, book: &[u8], flat: &mut FlatGrammar, offset: &mut usize) -> Answer {
         match grammar::load(book) {
-            Err((number, offset)) => Err(Unloaded { number, offset, grammar: [0; FLAT] }),
+            Err((number, at)) => {
+                *flat = [0; FLAT];
+                *offset = at;
+                Answer::Refused(number)
+            }
             Ok(grammar) => {
                 let depth = grammar::empty_heights(&grammar).iter().flatten().copied().max().unwrap_or(0);
-                Ok(grammar::to_flat(&grammar, depth))
+                *flat = grammar::to_flat(&grammar, depth);
+                Answer::Yes
             }
         }
     }
 
-    fn open(&self, flat: &FlatGrammar, chart: &mut [u32]) -> (Answer, Hand) {
-        let empty = Hand { bytes: [0; INPUT], count: 0 };
-        let Some(grammar) = grammar::from_flat(flat) else { return (Answer::Refused(8), empty) };
+    fn open(&self, flat: &FlatGrammar, hand: &mut Hand, chart: &mut [u32]) -> Answer {
+        *hand = hand::of(&[]);
+        let Some(grammar) = grammar::from_flat(flat) else { return Answer::Refused(8) };
         if chart.len() < CELLS {
-            return (Answer::Refused(10), empty);
+            return Answer::Refused(10);
         }
         chart::open(&grammar, chart);
-        (complete(&grammar, chart, 0), empty)
+        complete(&grammar, chart, 0)
     }
 
-    fn take(&self, flat: &FlatGrammar, hand: Hand, terminal: u8, chart: &mut [u32]) -> (Answer, Hand) {
-        let Some(grammar) = grammar::from_flat(flat) else { return (Answer::Refused(8), hand) };
-        if hand.count > INPUT {
-            return (Answer::Refused(14), hand);
-        }
+    fn take(&self, flat: &FlatGrammar, hand: &mut Hand, terminal: u8, chart: &mut [u32]) -> Answer {
+        let Some(grammar) = grammar::from_flat(flat) else { return Answer::Refused(8) };
+        let Some(mut marks) = hand::marks(hand) else { return Answer::Refused(14) };
         if chart.len() < CELLS {
-            return (Answer::Refused(10), hand);
+            return Answer::Refused(10);
         }
-        if hand.count == INPUT {
-            return (Answer::Refused(15), hand);
+        if marks.len() == INPUT {
+            return Answer::Refused(15);
         }
-        let n = hand.count + 1;
-        let mut next = Hand { bytes: [0; INPUT], count: n };
-        next.bytes[..n - 1].copy_from_slice(&hand.bytes[..n - 1]);
-        next.bytes[n - 1] = terminal;
-        chart::fill_column(&grammar, &next.bytes[..n], chart);
-        (complete(&grammar, chart, n), next)
+        marks.push(terminal);
+        *hand = hand::of(&marks);
+        chart::fill_column(&grammar, &marks, chart);
+        complete(&grammar, chart, marks.len())
     }
 
     fn check(&self, flat: &FlatGrammar, input: &[u8], offered: &[u16], chart: &mut [u32]) -> Answer {
@@ -128,11 +130,14 @@ impl Reader for Lister {
         }
     }
 
-    fn length(&self, flat: &FlatGrammar, input: &[u8], offered: &[u16], chart: &mut [u32]) -> Answer {
+    fn length(&self, flat: &FlatGrammar, input: &[u8], offered: &[u16], chart: &mut [u32], tenths: &mut i32) -> Answer {
         match filled(flat, input, chart) {
             Err(refused) => refused,
             Ok(grammar) if !trees::is_derivation(&grammar, input, offered) => Answer::Refused(12),
-            Ok(grammar) => Answer::Tenths(trees::tenths(&grammar, offered)),
+            Ok(grammar) => {
+                *tenths = trees::tenths(&grammar, offered);
+                Answer::Yes
+            }
         }
     }
 

@@ -14,11 +14,13 @@ pub const CELLS: usize = 65 * 65;
 pub const OUTPUT: usize = 1024;
 /// The most terminals an input may have (document 01: marks of a plate).
 pub const INPUT: usize = 64;
+/// Numbers of a hand's row.
+pub const HAND: usize = INPUT + 1;
 
-/// A grammar (loaded book) as a flat row that can hold every field value:
-/// start, rules used, nullable depth (blank depth), then for each of 128 rule
-/// records: left side, length (two's complement), places used, then 8 times
-/// tag (0 nonterminal, 1 terminal) and value.
+/// A grammar (loaded book) as a flat row that can hold every value: start, rules
+/// used, nullable depth (blank depth), then for each of 128 rule records: left
+/// side, length (two's complement), places used, then 8 times tag (0 nonterminal,
+/// 1 terminal) and value. Each number is judged whole.
 pub type FlatGrammar = [u16; FLAT];
 
 /// Where the record of a rule begins in a flat grammar.
@@ -26,22 +28,18 @@ pub fn record(rule: usize) -> usize {
     3 + rule * RULE_WIDTH
 }
 
-/// A recognizer's state (document 01: plate in hand).
-#[derive(Clone, Copy, PartialEq, Eq, Debug)]
-pub struct Hand {
-    pub bytes: [u8; INPUT],
-    pub count: usize,
-}
+/// A recognizer's state (document 01: plate in hand) as a row that can hold
+/// every value: 64 marks, and then their count.
+pub type Hand = [u16; HAND];
 
 /// What a call answers.
 #[derive(Clone, Copy, PartialEq, Eq, Debug)]
 pub enum Answer {
+    /// Yes; from load: loaded; from length: measured.
     Yes,
     No,
     /// A refusal with its number in document 01.
     Refused(u8),
-    /// A stack length in tenths of a millimetre.
-    Tenths(i32),
     /// First, next: a derivation of so many nodes (parts) stands in the output.
     Nodes(usize),
     /// First: "no reading".
@@ -54,32 +52,29 @@ pub enum Answer {
     More,
 }
 
-/// A refused book: number, offset, and the grammar handed back with it.
-#[derive(Clone, PartialEq, Eq, Debug)]
-pub struct Unloaded {
-    pub number: u8,
-    pub offset: usize,
-    pub grammar: FlatGrammar,
-}
-
-/// The code under test.
+/// The code under test. What is lent for writing may hold anything before a call,
+/// and what it holds after it is a result as much as the answer is.
 pub trait Reader {
-    fn load(&self, book: &[u8]) -> Result<FlatGrammar, Unloaded>;
-    fn open(&self, grammar: &FlatGrammar, chart: &mut [u32]) -> (Answer, Hand);
-    fn take(&self, grammar: &FlatGrammar, hand: Hand, terminal: u8, chart: &mut [u32]) -> (Answer, Hand);
+    /// Always writes the grammar, and the offset with a refusal only.
+    fn load(&self, book: &[u8], grammar: &mut FlatGrammar, offset: &mut usize) -> Answer;
+    /// Always writes the hand.
+    fn open(&self, grammar: &FlatGrammar, hand: &mut Hand, chart: &mut [u32]) -> Answer;
+    /// Leaves the hand as found with a refusal.
+    fn take(&self, grammar: &FlatGrammar, hand: &mut Hand, terminal: u8, chart: &mut [u32]) -> Answer;
     fn check(&self, grammar: &FlatGrammar, input: &[u8], offered: &[u16], chart: &mut [u32]) -> Answer;
-    fn length(&self, grammar: &FlatGrammar, input: &[u8], offered: &[u16], chart: &mut [u32]) -> Answer;
+    /// Writes the stack length, in tenths of a millimetre, with `Yes` only.
+    fn length(
+        &self,
+        grammar: &FlatGrammar,
+        input: &[u8],
+        offered: &[u16],
+        chart: &mut [u32],
+        tenths: &mut i32,
+    ) -> Answer;
     fn same_build(&self, grammar: &FlatGrammar, input: &[u8], one: &[u16], other: &[u16], chart: &mut [u32]) -> Answer;
 
-    /// The largest count (rules used, places used) that may be handed in.
-    fn widest_count(&self) -> u16 {
-        u16::MAX
-    }
-
     /// Whether the three calls below are there.
-    fn lists(&self) -> bool {
-        false
-    }
+    fn lists(&self) -> bool;
     fn first(&self, _grammar: &FlatGrammar, _input: &[u8], _chart: &mut [u32], _out: &mut [u16]) -> Answer {
         unimplemented!("lists() is false")
     }

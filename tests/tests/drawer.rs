@@ -1,10 +1,13 @@
 //! The plates from the drawer (document 01) and the named cases, with the results
 //! written out by hand, run on the reader under test.
 
+mod calls;
+
+use calls::{check, complete, fault, length, loaded, row, same_build};
 use outside_tests::books::{Draft, Rng, Sym};
 use outside_tests::compare::{rubbish, Comparison, Counts};
 use outside_tests::lister::{self, trees, walk::Given};
-use outside_tests::reader::{record, Answer, FlatGrammar, Reader, CELLS, OUTPUT};
+use outside_tests::reader::{record, Answer, Reader, CELLS, FLAT, OUTPUT};
 use outside_tests::reader_under_test;
 
 /// Book T of document 01, in full.
@@ -28,39 +31,6 @@ fn book(start: u8, rules: &[&str]) -> Vec<u8> {
         draft.rule(left.trim().parse().expect("a left side"), &places);
     }
     draft.bytes()
-}
-
-fn loaded(book: &[u8]) -> FlatGrammar {
-    reader_under_test().load(book).unwrap_or_else(|refused| panic!("refused {} at {}", refused.number, refused.offset))
-}
-
-/// A reading as document 01 prints it: "1.0 0.1 1.2".
-fn row(text: &str) -> Vec<u16> {
-    text.split([' ', '.']).map(|number| number.parse().expect("a number")).collect()
-}
-
-/// Opens and takes the input; whether it is complete at the end.
-fn complete(flat: &FlatGrammar, input: &[u8]) -> bool {
-    let (reader, mut chart) = (reader_under_test(), rubbish(&mut Rng::new(1), CELLS));
-    let (mut answer, mut hand) = reader.open(flat, chart.part_mut());
-    for mark in input {
-        (answer, hand) = reader.take(flat, hand, *mark, chart.part_mut());
-    }
-    assert_eq!((hand.count, &hand.bytes[..input.len()]), (input.len(), input));
-    assert!(matches!(answer, Answer::Yes | Answer::No));
-    answer == Answer::Yes
-}
-
-fn check(flat: &FlatGrammar, input: &[u8], offered: &[u16]) -> Answer {
-    reader_under_test().check(flat, input, offered, rubbish(&mut Rng::new(2), CELLS).part_mut())
-}
-
-fn length(flat: &FlatGrammar, input: &[u8], offered: &[u16]) -> Answer {
-    reader_under_test().length(flat, input, offered, rubbish(&mut Rng::new(3), CELLS).part_mut())
-}
-
-fn same_build(flat: &FlatGrammar, input: &[u8], one: &[u16], other: &[u16]) -> Answer {
-    reader_under_test().same_build(flat, input, one, other, rubbish(&mut Rng::new(4), CELLS).part_mut())
 }
 
 /// Everything that the random comparison does, on this book and input.
@@ -122,11 +92,11 @@ fn book_t() {
     plate(&T, "B", &[]);
     let flat = loaded(&T);
     let (one, other) = (row("1.0 0.1 1.2"), row("1.0 1.2 0.1"));
-    assert_eq!(length(&flat, b"A", &one), Answer::Tenths(463));
-    assert_eq!(length(&flat, b"A", &other), Answer::Tenths(463));
-    assert_eq!(length(&flat, b"AA", &row("2.0 1.2 1.2")), Answer::Tenths(465));
-    assert_eq!(length(&flat, b"AA", &one), Answer::Refused(12));
-    assert_eq!(length(&flat, b"AAA", &row("3.0 1.2 2.0")), Answer::Refused(12));
+    assert_eq!(length(&flat, b"A", &one), Ok(463));
+    assert_eq!(length(&flat, b"A", &other), Ok(463));
+    assert_eq!(length(&flat, b"AA", &row("2.0 1.2 1.2")), Ok(465));
+    assert_eq!(length(&flat, b"AA", &one), Err(12));
+    assert_eq!(length(&flat, b"AAA", &row("3.0 1.2 2.0")), Err(12));
     assert_eq!(same_build(&flat, b"A", &one, &other), Answer::Yes);
     assert_eq!(same_build(&flat, b"A", &one, &row("2.0 1.2 1.2")), Answer::Refused(12));
     assert_eq!(check(&flat, b"B", &one), Answer::No);
@@ -182,7 +152,7 @@ fn the_limit_of_512() {
     assert!(complete(&loaded(&over), b"A"));
     let row513 = [&[1, 4], &readings[0][..]].concat();
     assert_eq!(check(&loaded(&over), b"A", &row513), Answer::No);
-    assert_eq!(length(&loaded(&over), b"A", &row513), Answer::Refused(12));
+    assert_eq!(length(&loaded(&over), b"A", &row513), Err(12));
     compared(&over, b"A");
 }
 
@@ -223,7 +193,7 @@ fn the_deepest_reading_on_a_small_stack() {
     let call = || {
         let (flat, input, offered) = (loaded(&deepest()), [b'A'; 16], deepest_row(16));
         assert_eq!(check(&flat, &input, &offered), Answer::Yes);
-        assert_eq!(length(&flat, &input, &offered), Answer::Tenths(0));
+        assert_eq!(length(&flat, &input, &offered), Ok(0));
         assert_eq!(same_build(&flat, &input, &offered, &offered), Answer::Yes);
     };
     std::thread::Builder::new().stack_size(256 * 1024).spawn(call).unwrap().join().unwrap();
@@ -259,7 +229,7 @@ fn sums_are_rounded() {
     {
         let mut draft = Draft::new(0);
         draft.rules.push((0, sum, vec![Sym::T(b'A')]));
-        assert_eq!(length(&loaded(&draft.bytes()), b"A", &[1, 0]), Answer::Tenths(tenths), "{sum}");
+        assert_eq!(length(&loaded(&draft.bytes()), b"A", &[1, 0]), Ok(tenths), "{sum}");
         assert_eq!(trees::round(i32::from(sum)), tenths);
     }
     // 512 parts at the extremes: 1 + 7 x (1 + 8 x 9) nodes.
@@ -270,7 +240,7 @@ fn sums_are_rounded() {
         draft.rules.push((2, each, vec![Sym::N(3); 8]));
         draft.rules.push((3, each, vec![]));
         let readings = listed(&draft.bytes(), b"A");
-        assert_eq!(length(&loaded(&draft.bytes()), b"A", &readings[0]), Answer::Tenths(tenths));
+        assert_eq!(length(&loaded(&draft.bytes()), b"A", &readings[0]), Ok(tenths));
     }
 }
 
@@ -308,9 +278,7 @@ fn faulty_books() {
         (with(&nine, &[0x40]), 1, 23),
     ];
     for (book, number, offset) in cases {
-        let refused = reader_under_test().load(&book).expect_err("a faulty book");
-        assert_eq!((refused.number, refused.offset), (number, offset), "{book:02X?}");
-        assert!(refused.grammar.iter().all(|number| *number == 0));
+        assert_eq!(fault(&book), (Some((number, offset)), [0; FLAT]), "{book:02X?}");
     }
     assert_eq!(loaded(&with(&full, &[0x50]))[1], 128);
     assert_eq!(loaded(&with(&nine, &[0x50]))[record(0) + 2], 8);

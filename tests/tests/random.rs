@@ -50,6 +50,13 @@ const DUE: &[(&str, u64)] = &[
     ("take: refused 10", 1000),
     ("take: refused 14", 1000),
     ("take: refused 15", 500),
+    ("take: an unused mark over 255", 5000),
+    ("refused 14: a count over 64", 400),
+    ("refused 14: a count over 64, its low byte in range", 500),
+    ("refused 14: a used mark of 256", 150),
+    ("refused 14: a used mark of 65,535", 150),
+    ("refused 14: a used mark over 255, the last", 250),
+    ("refused 14: a used mark over 255, not the last", 250),
     // Rows offered.
     ("check: Yes", 20_000),
     ("check: No", 20_000),
@@ -58,7 +65,7 @@ const DUE: &[(&str, u64)] = &[
     ("check: refused 8", 3000),
     ("check: refused 9", 2000),
     ("check: refused 10", 500),
-    ("length: answered", 20_000),
+    ("length: Yes", 20_000),
     ("length: refused 8", 3000),
     ("length: refused 9", 2000),
     ("length: refused 10", 500),
@@ -86,6 +93,22 @@ const DUE: &[(&str, u64)] = &[
     ("style: soup", 30),
     ("style: damaged", 100),
 ];
+
+/// The numbers that check 8 judges, and how they are out of range: each of the one
+/// comes up in each of the other, so often at least.
+const JUDGED: &[&str] =
+    &["a start", "a number of rules", "a left side", "a number of places", "a tag", "a kind", "a mark"];
+const OUT_OF_RANGE: &[(&str, u64)] = &[
+    ("one over", 80),
+    ("up to 255", 80),
+    ("256", 30),
+    ("257", 25),
+    ("low byte in range", 90),
+    ("low byte out of range", 45),
+    ("65,535", 25),
+];
+/// A mark up to 255 is in range, so is the low byte of any, and one over is 256.
+const NO_SUCH: &[&str] = &["a mark, up to 255", "a mark, 256", "a mark, low byte out of range"];
 
 /// The same for a reader that lists.
 const DUE_LISTING: &[(&str, u64)] = &[
@@ -124,6 +147,11 @@ fn random_books() {
     let listing = if reader_under_test().lists() { DUE_LISTING } else { &[] };
     for (name, due) in DUE.iter().chain(listing) {
         assert!(counts.get(name) >= *due, "{name}: came up {} times, due {due}", counts.get(name));
+    }
+    for (number, (how, due)) in JUDGED.iter().flat_map(|number| OUT_OF_RANGE.iter().map(move |how| (number, how))) {
+        let name = format!("{number}, {how}");
+        let (count, possible) = (counts.get(&format!("refused 8: {name}")), !NO_SUCH.contains(&name.as_str()));
+        assert!(count >= *due || !possible, "{name}: came up {count} times, due {due}");
     }
     let skipped = counts.get("skipped: too large to list");
     assert!(skipped * 10 < counts.get("one derivation") + counts.get("two or more"), "{skipped} inputs skipped");

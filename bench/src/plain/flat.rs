@@ -4,17 +4,32 @@ use super::{Grammar, Rule, Symbol};
 
 pub const FLAT: usize = 2435;
 
+/// A number in a byte's place, or 255 if that is less: check 8 refuses it.
+fn byte(number: u16) -> u8 {
+    number.min(255) as u8
+}
+
+/// The symbol of a tag and a value; what is none is the nonterminal 255, which check 8 refuses.
+fn symbol(tag: u16, value: u16) -> Symbol {
+    match tag {
+        0 => Symbol::Nonterminal(byte(value)),
+        1 if value <= 255 => Symbol::Terminal(byte(value)),
+        _ => Symbol::Nonterminal(255),
+    }
+}
+
+/// The grammar in a row. Each number is judged whole: one too large for its field is read as a value that check 8 refuses.
 pub fn read(flat: &[u16; FLAT]) -> Grammar {
     let mut g = Grammar::ZERO;
-    g.start = flat[0] as u8;
+    g.start = byte(flat[0]);
     g.count = flat[1] as usize;
-    g.depth = flat[2] as u8;
+    g.depth = byte(flat[2]);
     for (rule, f) in g.rules.iter_mut().zip(flat[3..].chunks_exact(19)) {
-        rule.left = f[0] as u8;
+        rule.left = byte(f[0]);
         rule.length = f[1] as i16;
         rule.count = f[2] as usize;
         for (place, f) in rule.places.iter_mut().zip(f[3..].chunks_exact(2)) {
-            *place = if f[0] == 0 { Symbol::Nonterminal(f[1] as u8) } else { Symbol::Terminal(f[1] as u8) };
+            *place = symbol(f[0], f[1]);
         }
     }
     g

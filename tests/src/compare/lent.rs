@@ -1,6 +1,8 @@
-//! Counts of outcomes, and rows to lend with canaries around them.
+//! Counts of outcomes, rows to lend with canaries around them, and rubbish to fill
+//! what is lent for writing.
 
 use crate::books::Rng;
+use crate::reader::{FlatGrammar, Hand};
 use std::collections::BTreeMap;
 use std::fmt::Debug;
 
@@ -73,5 +75,37 @@ pub(super) fn same<T: PartialEq + Debug>(what: &str, got: T, due: T) -> Result<(
         Ok(())
     } else {
         Err(format!("{what}: got {got:?}, due {due:?}"))
+    }
+}
+
+/// Rubbish for a number that is lent: anything but zero, and more than a byte as
+/// often as not.
+pub(super) fn number(rng: &mut Rng) -> u16 {
+    let most = rng.pick(&[64, 255, 65_535, 65_535]);
+    rng.within(1, most) as u16
+}
+
+/// A row of rubbish, for a grammar to be left in.
+pub(super) fn row(rng: &mut Rng) -> FlatGrammar {
+    std::array::from_fn(|_| number(rng))
+}
+
+/// A row of rubbish, for a hand to be left in.
+pub(super) fn hand(rng: &mut Rng) -> Hand {
+    std::array::from_fn(|_| number(rng))
+}
+
+/// Rubbish for an offset: larger than any book here.
+pub(super) fn offset(rng: &mut Rng) -> usize {
+    1 << 40 | rng.next() as usize
+}
+
+/// Rubbish for a length: longer than any stack, one way or the other.
+pub(super) fn tenths(rng: &mut Rng) -> i32 {
+    let far = rng.within(2_000_000, i32::MAX as usize) as i32;
+    if rng.one_in(2) {
+        far
+    } else {
+        -far
     }
 }

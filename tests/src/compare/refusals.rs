@@ -1,57 +1,76 @@
 //! The refusals 8 to 12, 14 and 15: which one comes first, and what they leave.
 
-use super::lent::{same, Lent};
+use super::hands::{opened, taken};
+use super::lent::{self, same, Lent};
 use super::Comparison;
 use crate::lister::judged;
 use crate::lister::trees::Row;
-use crate::reader::{Answer, FlatGrammar, Hand, Reader, INPUT, OUTPUT};
+use crate::reader::{Answer, FlatGrammar, Reader, HAND, OUTPUT};
 
 impl Comparison<'_> {
     /// Refusals 8, 9, 10, 12, 14 and 15 in all combinations: their order, and
     /// everything lent untouched.
     pub(super) fn refusals(&mut self, flat: &FlatGrammar, inputs: &[Vec<u8>]) -> Result<(), String> {
-        let none = Hand { bytes: [0; INPUT], count: 0 };
-        for bits in 0..12 {
-            let (bad_grammar, short) = (bits & 1 == 1, bits & 2 == 2);
-            let grammar = if bad_grammar { self.out_of_range(flat) } else { self.either(flat) };
-            let chart = if short { self.short_chart() } else { self.chart() };
-            let ((answer, hand), after) = self.both("open", &grammar, &chart, |r, g, c| r.open(g, c))?;
-            self.seen("open", answer, &chart, &after)?;
-            same("open refused: the hand", bad_grammar || short, hand == none && matches!(answer, Answer::Refused(_)))?;
-
-            let mut hand = none;
-            hand.bytes.iter_mut().for_each(|byte| *byte = self.rng.next() as u8);
-            hand.count = match bits / 4 {
-                0 => self.rng.pick(&[0, 1, 2, 5, 8, 30, 62, 63]),
-                1 => INPUT,
-                _ => self.rng.pick(&[65, 66, 128, 256, 320, 65_536, usize::MAX]),
+        for bits in 0..16 {
+            let (bad_grammar, short, which) = (bits & 1 == 1, bits & 2 == 2, bits / 4);
+            let (grammar, why) = match bad_grammar {
+                true => self.out_of_range(flat),
+                false => (self.either(flat), String::new()),
             };
-            let mark = self.rng.pick(&[0, 31, 65, 255]);
-            let call = |r: &dyn Reader, g: &FlatGrammar, c: &mut [u32]| r.take(g, hand, mark, c);
-            let ((answer, next), after) = self.both("take", &grammar, &chart, call)?;
-            self.seen("take", answer, &chart, &after)?;
-            if matches!(answer, Answer::Refused(_)) {
-                same("take refused: the hand", next, hand)?;
+            let chart = if short { self.short_chart() } else { self.chart() };
+            let found = lent::hand(&mut self.rng);
+            let call = |r: &dyn Reader, g: &FlatGrammar, c: &mut [u32]| opened(r, g, found, c);
+            let ((answer, left), after) = self.both("open", &grammar, &chart, call)?;
+            self.seen("open", answer, &chart, &after)?;
+            same("open refused", bad_grammar || short, matches!(answer, Answer::Refused(_)))?;
+            same("open: the hand left", left, [0; HAND])?;
+            if bad_grammar {
+                self.counts.add(&format!("refused 8: {why}"));
             }
 
-            let input: Vec<u8> = match bits / 4 {
+            let (found, what) = self.hand(which);
+            let mark = self.rng.pick(&[0, 31, 65, 255]);
+            let call = |r: &dyn Reader, g: &FlatGrammar, c: &mut [u32]| taken(r, g, found, mark, c);
+            let ((answer, left), after) = self.both("take", &grammar, &chart, call)?;
+            self.seen("take", answer, &chart, &after)?;
+            if matches!(answer, Answer::Refused(_)) {
+                same("take refused: the hand", left, found)?;
+            }
+            if answer == Answer::Refused(14) {
+                self.counts.add(&format!("refused 14: {what}"));
+            }
+
+            let input: Vec<u8> = match which {
                 0 => inputs.iter().find(|input| !input.is_empty()).cloned().unwrap_or(vec![65]),
                 1 => Vec::new(),
                 _ => vec![65; self.rng.pick(&[65, 66, 128, 320, 1000])],
             };
-            let row: Row = (0..self.rng.below(5)).map(|_| self.rng.below(3) as u16).collect();
-            let names = ["check", "length", "same build"];
-            for (which, name) in names.iter().enumerate() {
-                let call = |r: &dyn Reader, g: &FlatGrammar, c: &mut [u32]| match which {
-                    0 => r.check(g, &input, &row, c),
-                    1 => r.length(g, &input, &row, c),
-                    _ => r.same_build(g, &input, &row, &row, c),
-                };
-                let (answer, after) = self.both(name, &grammar, &chart, call)?;
-                self.seen(name, answer, &chart, &after)?;
-            }
+            self.refused_rows(&grammar, &input, &chart)?;
             if self.reader.lists() {
                 self.listing_refusals(&grammar, &input, &chart)?;
+            }
+        }
+        Ok(())
+    }
+
+    /// Refusals 8, 9, 10 and 12 of check, length and same build.
+    fn refused_rows(&mut self, flat: &FlatGrammar, input: &[u8], chart: &Lent<u32>) -> Result<(), String> {
+        let row: Row = (0..self.rng.below(5)).map(|_| self.rng.below(3) as u16).collect();
+        let found = lent::tenths(&mut self.rng);
+        for name in ["check", "length", "same build"] {
+            let call = |r: &dyn Reader, g: &FlatGrammar, c: &mut [u32]| {
+                let mut tenths = found;
+                let answer = match name {
+                    "check" => r.check(g, input, &row, c),
+                    "length" => r.length(g, input, &row, c, &mut tenths),
+                    _ => r.same_build(g, input, &row, &row, c),
+                };
+                (answer, tenths)
+            };
+            let ((answer, left), after) = self.both(name, flat, chart, call)?;
+            self.seen(name, answer, chart, &after)?;
+            if matches!(answer, Answer::Refused(_)) {
+                same(&format!("{name} refused: the tenths"), left, found)?;
             }
         }
         Ok(())

@@ -1,16 +1,25 @@
-//! Rows offered to check, length and same build, and the walk of first and next.
+//! Rows offered to check, length and same build.
 
-use super::lent::{same, Lent};
+use super::lent::{self, same, Lent};
 use super::{Comparison, WIDER};
 use crate::lister::grammar::Grammar;
 use crate::lister::listing::derivations;
 use crate::lister::trees::{self, Row, LIMIT};
-use crate::lister::walk::{Call, Given, Walk};
+use crate::lister::walk::Walk;
 use crate::lister::{has_tree, STEPS};
-use crate::reader::{Answer, FlatGrammar, CELLS, OUTPUT};
+use crate::reader::{Answer, FlatGrammar, CELLS};
 
 /// At most so many derivations of one input are offered to each call.
 const MOST_OFFERED: usize = 400;
+
+/// An input with its filled chart, and one row or two that are offered for it.
+#[derive(Clone, Copy)]
+struct Offer<'a> {
+    input: &'a [u8],
+    filled: &'a [u32],
+    one: &'a [u16],
+    other: &'a [u16],
+}
 
 impl Comparison<'_> {
     /// The derivations of an input, and rows that are none, offered to check, length
@@ -54,10 +63,12 @@ impl Comparison<'_> {
                 same("the lister's check against its list", yes, list.binary_search(row).is_ok())?;
             }
             self.classify(grammar, input, row, yes);
-            self.on_input(flat, input, filled, row, row, "check", if yes { Answer::Yes } else { Answer::No })?;
-            if yes || self.rng.one_in(4) {
-                let tenths = if yes { Answer::Tenths(trees::tenths(grammar, row)) } else { Answer::Refused(12) };
-                self.on_input(flat, input, filled, row, row, "length", tenths)?;
+            let offer = Offer { input, filled, one: row, other: row };
+            self.offered(flat, offer, "check", if yes { Answer::Yes } else { Answer::No }, None)?;
+            if yes {
+                self.offered(flat, offer, "length", Answer::Yes, Some(trees::tenths(grammar, row)))?;
+            } else if self.rng.one_in(4) {
+                self.offered(flat, offer, "length", Answer::Refused(12), None)?;
             }
         }
         for _ in 0..offered.len().min(pairs) {
@@ -74,7 +85,7 @@ impl Comparison<'_> {
                 Answer::No => "same build: two derivations, no",
                 _ => "same build: refused 12",
             });
-            self.on_input(flat, input, filled, one, other, "same build", due)?;
+            self.offered(flat, Offer { input, filled, one, other }, "same build", due, None)?;
         }
         if self.reader.lists() && derivations(grammar, input, LIMIT, STEPS / 10).is_ok() {
             self.walk(
@@ -101,30 +112,29 @@ impl Comparison<'_> {
         }
     }
 
-    /// Calls check, length or same build on the reader; the chart has to be the filled one.
-    #[allow(clippy::too_many_arguments)]
-    fn on_input(
+    /// Calls check, length or same build on the reader; the chart has to be the filled
+    /// one, and the tenths what is due, or as found where none are.
+    fn offered(
         &mut self,
         flat: &FlatGrammar,
-        input: &[u8],
-        filled: &[u32],
-        one: &[u16],
-        other: &[u16],
+        offer: Offer,
         name: &str,
         due: Answer,
+        tenths: Option<i32>,
     ) -> Result<(), String> {
-        let (mine, mut chart) = (self.either(flat), self.chart());
+        let (mine, mut chart, found) = (self.either(flat), self.chart(), lent::tenths(&mut self.rng));
         let mut expected = chart.clone();
-        expected.part_mut()[..CELLS].copy_from_slice(filled);
-        let (input, one, other) = (Lent::of(input, 0x41), Lent::of(one, 0), Lent::of(other, 0));
+        expected.part_mut()[..CELLS].copy_from_slice(offer.filled);
+        let (input, one, other) = (Lent::of(offer.input, 0x41), Lent::of(offer.one, 0), Lent::of(offer.other, 0));
         let before = (input.clone(), one.clone(), other.clone());
+        let mut left = found;
         let got = match name {
             "check" => self.reader.check(&mine, input.part(), one.part(), chart.part_mut()),
-            "length" => self.reader.length(&mine, input.part(), one.part(), chart.part_mut()),
+            "length" => self.reader.length(&mine, input.part(), one.part(), chart.part_mut(), &mut left),
             _ => self.reader.same_build(&mine, input.part(), one.part(), other.part(), chart.part_mut()),
         };
         let all_same = || {
-            same("answer", got, due)?;
+            same("answer and tenths", (got, left), (due, tenths.unwrap_or(found)))?;
             chart.against(&expected, "chart")?;
             input.against(&before.0, "the input lent")?;
             one.against(&before.1, "the row lent")?;
@@ -132,7 +142,6 @@ impl Comparison<'_> {
         };
         all_same().map_err(|what| format!("{name} of {:?} and {:?}: {what}", one.part(), other.part()))?;
         self.counts.add(&match due {
-            Answer::Tenths(_) => format!("{name}: answered"),
             Answer::Refused(number) => format!("{name}: refused {number}"),
             answer => format!("{name}: {answer:?}"),
         });
@@ -151,63 +160,5 @@ impl Comparison<'_> {
                 }
             }
         }
-    }
-
-    /// The walk of demand 3: a random list of calls, chart and output anew each time.
-    fn walk(
-        &mut self,
-        flat: &FlatGrammar,
-        input: &[u8],
-        filled: &[u32],
-        mut walk: Walk,
-        offered: &[Row],
-    ) -> Result<(), String> {
-        let mut copy = Row::new();
-        let calls = walk.list.len().min(8) + 4;
-        for number in 0..calls {
-            let call = match (number, self.rng.below(8)) {
-                (1, _) => Call::First,
-                (_, 0) => Call::First,
-                (_, 1) => Call::Count,
-                (_, 2) => Call::NextWithNoDerivation,
-                _ => Call::NextWithCopy,
-            };
-            let stranger = &offered[self.rng.below(offered.len())];
-            if call == Call::NextWithNoDerivation && walk.list.binary_search(stranger).is_ok() {
-                continue;
-            }
-            let (mine, mut chart) = (self.either(flat), self.chart());
-            let length = OUTPUT + self.rng.below(3);
-            let mut out = Lent::filled(length, || self.rng.next() as u16);
-            let (mut due_chart, mut due_out) = (chart.clone(), out.clone());
-            due_chart.part_mut()[..CELLS].copy_from_slice(filled);
-            let given = walk.call(call);
-            let due = match &given {
-                Given::Row(row) => {
-                    due_out.part_mut()[..row.len()].copy_from_slice(row);
-                    Answer::Nodes(row.len() / 2)
-                }
-                Given::NoDerivation => Answer::NoDerivation,
-                Given::NoneLeft => Answer::NoneLeft,
-                Given::Count(n) => Answer::Count(*n),
-                Given::More => Answer::More,
-                Given::Refused(refusal) => Answer::Refused(*refusal),
-            };
-            let (lent_chart, lent_out) = (chart.part_mut(), out.part_mut());
-            let got = match call {
-                Call::First => self.reader.first(&mine, input, lent_chart, lent_out),
-                Call::NextWithCopy => self.reader.next(&mine, input, &copy, lent_chart, lent_out),
-                Call::NextWithNoDerivation => self.reader.next(&mine, input, stranger, lent_chart, lent_out),
-                Call::Count => self.reader.count(&mine, input, lent_chart),
-            };
-            same(&format!("walk, {call:?}"), got, due)?;
-            chart.against(&due_chart, &format!("walk, {call:?}: chart"))?;
-            out.against(&due_out, &format!("walk, {call:?}: output"))?;
-            if let Given::Row(row) = given {
-                copy = row;
-            }
-            self.counts.add(&format!("walk: {call:?}"));
-        }
-        Ok(())
     }
 }

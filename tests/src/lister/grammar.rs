@@ -110,8 +110,9 @@ pub fn to_flat(grammar: &Grammar, depth: u16) -> FlatGrammar {
     flat
 }
 
-/// Check 8 on any grammar handed in: None if start or a used kind is over 31,
-/// there are more than 128 rules, or more than 8 places in a used rule. Unused
+/// Check 8 on any row handed in: None if start or a used kind is over 31, there
+/// are more than 128 rules, or more than 8 places in a used rule; and None if a
+/// used place holds no symbol: a tag other than 0 and 1, or a mark over 255. Unused
 /// records, unused places and the depth are not looked at.
 pub fn from_flat(flat: &FlatGrammar) -> Option<Grammar> {
     let (start, rules) = (flat[0], usize::from(flat[1]));
@@ -128,11 +129,11 @@ pub fn from_flat(flat: &FlatGrammar) -> Option<Grammar> {
         let mut rule = Rule { left: left as u8, length: i32::from(length), places: Vec::new() };
         for p in 0..places {
             let (tag, value) = (flat[at + 3 + 2 * p], flat[at + 4 + 2 * p]);
-            if tag == 0 && value > 31 {
-                return None;
-            }
-            let value = value as u8;
-            rule.places.push(if tag == 0 { Symbol::Nonterminal(value) } else { Symbol::Terminal(value) });
+            rule.places.push(match tag {
+                0 if value <= 31 => Symbol::Nonterminal(value as u8),
+                1 if value <= 255 => Symbol::Terminal(value as u8),
+                _ => return None,
+            });
         }
         grammar.rules.push(rule);
     }

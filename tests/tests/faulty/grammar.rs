@@ -125,11 +125,18 @@ pub fn to_flat(grammar: &Grammar, depth: u16) -> FlatGrammar {
     flat
 }
 
-/// Check 8 on any grammar handed in: None if start or a used kind is over 31,
-/// there are more than 128 rules, or more than 8 places in a used rule. Unused
+/// Check 8 on any row handed in: None if start or a used kind is over 31, there
+/// are more than 128 rules, or more than 8 places in a used rule; and None if a
+/// used place holds no symbol: a tag other than 0 and 1, or a mark over 255. Unused
 /// records, unused places and the depth are not looked at.
 pub fn from_flat(flat: &FlatGrammar) -> Option<Grammar> {
-    let (start, rules) = (flat[0], usize::from(flat[1]));
+    let (mut start, mut rules) = (flat[0], usize::from(flat[1]));
+    if faults().start_by_its_low_byte {
+        start %= 256;
+    }
+    if faults().rules_by_their_low_byte {
+        rules %= 256;
+    }
     if faults().check_8_reads_the_depth && flat[2] > 32 {
         return None;
     }
@@ -142,11 +149,20 @@ pub fn from_flat(flat: &FlatGrammar) -> Option<Grammar> {
     let mut grammar = Grammar { start: start as u8, rules: Vec::new() };
     for number in 0..rules {
         let at = record(number);
-        let (mut left, length, places) = (flat[at], flat[at + 1] as i16, usize::from(flat[at + 2]));
+        let (mut left, length, mut places) = (flat[at], flat[at + 1] as i16, usize::from(flat[at + 2]));
         if faults().check_8_forgets_left_sides {
             left &= 31;
         }
+        if faults().left_side_by_its_low_byte {
+            left %= 256;
+        }
+        if faults().places_by_their_low_byte {
+            places %= 256;
+        }
         if left > 31 || places > PLACES {
+            return None;
+        }
+        if faults().check_8_reads_unused_places && (places..PLACES).any(|p| flat[at + 3 + 2 * p] > 1) {
             return None;
         }
         let mut rule = Rule { left: left as u8, length: i32::from(length), places: Vec::new() };
@@ -154,12 +170,20 @@ pub fn from_flat(flat: &FlatGrammar) -> Option<Grammar> {
             rule.length = i32::from(length as u16);
         }
         for p in 0..places {
-            let (tag, value) = (flat[at + 3 + 2 * p], flat[at + 4 + 2 * p]);
-            if tag == 0 && value > 31 {
-                return None;
+            let (mut tag, value) = (flat[at + 3 + 2 * p], flat[at + 4 + 2 * p]);
+            if faults().tag_by_its_low_byte {
+                tag %= 256;
             }
-            let value = value as u8;
-            rule.places.push(if tag == 0 { Symbol::Nonterminal(value) } else { Symbol::Terminal(value) });
+            if (faults().tag_2_a_terminal && tag == 2) || (faults().every_other_tag_a_terminal && tag > 1) {
+                tag = 1;
+            }
+            rule.places.push(match tag {
+                0 if value <= 31 || (faults().kind_by_its_low_byte && value % 256 <= 31) => {
+                    Symbol::Nonterminal(value as u8)
+                }
+                1 if value <= 255 || faults().mark_by_its_low_byte => Symbol::Terminal(value as u8),
+                _ => return None,
+            });
         }
         grammar.rules.push(rule);
     }

@@ -2,98 +2,23 @@
 //! tests/faults.rs. It differs from the original only where `faults()` is asked.
 
 pub mod chart;
+pub mod forgetful;
 pub mod grammar;
+pub mod hand;
 pub mod listing;
+pub mod switches;
 pub mod trees;
 pub mod walk;
 
 use grammar::Grammar;
-use outside_tests::reader::{Answer, FlatGrammar, Hand, Reader, Unloaded, CELLS, FLAT, INPUT, OUTPUT};
+use outside_tests::reader::{Answer, FlatGrammar, Hand, Reader, CELLS, FLAT, INPUT, OUTPUT};
+pub use switches::{faults, set_faults, Faults};
 use walk::Given;
 
 /// Steps after which a listing is called too large.
 pub const STEPS: u64 = 40_000;
 /// Steps for the calls that have to give an answer.
 const MANY_STEPS: u64 = 20_000_000;
-
-/// The deliberate faults; all off, the copy is the lister.
-#[derive(Clone, Copy, Default)]
-pub struct Faults {
-    pub one_before_three: bool,
-    pub end_accepted_first: bool,
-    pub four_before_one: bool,
-    pub kind_32_accepted: bool,
-    pub offset_of_the_operand: bool,
-    pub rule_129_accepted: bool,
-    pub ninth_place_accepted: bool,
-    pub byte_after_the_end_ignored: bool,
-    pub check_8_reads_the_depth: bool,
-    pub check_8_reads_unused_records: bool,
-    pub check_8_forgets_left_sides: bool,
-    pub unsigned_length: bool,
-    pub one_pass_nullable: bool,
-    pub blank_first_place_only_blank: bool,
-    pub column_not_cleared: bool,
-    pub empty_piece_from_the_nullable_set: bool,
-    pub one_pass_column: bool,
-    pub idles_after_the_first: bool,
-    pub writes_another_word: bool,
-    pub writes_behind_the_cells: bool,
-    pub forgets_the_empty_span: bool,
-    pub one_pass_in_opening: bool,
-    pub opening_leaves_the_last_word: bool,
-    pub fewer_terminals_superfluous: bool,
-    pub no_forbidden_set: bool,
-    pub empty_recursion_let_through: bool,
-    pub check_always_no: bool,
-    pub limit_513: bool,
-    pub limit_511: bool,
-    pub any_start_accepted: bool,
-    pub front_stretch_accepted: bool,
-    pub tail_accepted: bool,
-    pub covers_not_compared: bool,
-    pub empty_lengths_left_out: bool,
-    pub half_toward_zero: bool,
-    pub half_upward: bool,
-    pub empty_nodes_in_the_build: bool,
-    pub build_in_order: bool,
-    pub build_as_a_set: bool,
-    pub listing_limit_513: bool,
-    pub listing_limit_511: bool,
-    pub order_reversed: bool,
-    pub first_never_looks: bool,
-    pub thirteen_forgotten: bool,
-    pub none_after_the_first: bool,
-    pub next_hands_back: bool,
-    pub count_invented: bool,
-    pub complete_from_another_word: bool,
-    pub nine_before_eight: bool,
-    pub ten_before_nine: bool,
-    pub output_cleared_behind: bool,
-    pub start_kept_with_a_refusal: bool,
-    pub other_legal_depth: bool,
-    pub depth_32: bool,
-    pub depth_one_too_low: bool,
-    pub ten_before_fourteen: bool,
-    pub fifteen_before_ten: bool,
-    pub hand_keeps_rubbish: bool,
-    pub twelve_spoils_the_chart: bool,
-    pub build_checks_one_row: bool,
-}
-
-std::thread_local! {
-    static FAULTS: std::cell::Cell<Faults> = std::cell::Cell::new(Faults::default());
-}
-
-/// The faults of this thread's copy.
-pub fn faults() -> Faults {
-    FAULTS.with(std::cell::Cell::get)
-}
-
-/// Sets the faults of this thread's copy.
-pub fn set_faults(faults: Faults) {
-    FAULTS.with(|cell| cell.set(faults));
-}
 
 pub struct Lister;
 
@@ -170,66 +95,101 @@ fn answered(given: Given, out: &mut [u16]) -> Answer {
     }
 }
 
+/// What a refused take leaves of the hand.
+fn refused(number: u8, hand: &mut Hand) -> Answer {
+    if faults().refused_take_clears_the_hand {
+        *hand = hand::of(&[]);
+    }
+    if faults().refused_take_normalises_the_hand {
+        let used = usize::from(hand[INPUT]).min(INPUT);
+        hand[used..INPUT].fill(0);
+    }
+    Answer::Refused(number)
+}
+
 impl Reader for Lister {
-    fn load(&self, book: &[u8]) -> Result<FlatGrammar, Unloaded> {
+    fn load(&self, book: &[u8], flat: &mut FlatGrammar, offset: &mut usize) -> Answer {
+        let found = *flat;
         match grammar::load(book) {
-            Err((number, offset)) => {
-                let mut grammar = [0; FLAT];
+            Err((number, at)) => {
+                *flat = [0; FLAT];
                 if faults().start_kept_with_a_refusal && book.len() > 1 && book[0] == 0x10 && book[1] < 32 {
-                    grammar[0] = u16::from(book[1]);
+                    flat[0] = u16::from(book[1]);
                 }
-                Err(Unloaded { number, offset, grammar })
+                if faults().refused_row_written_without_its_head {
+                    flat[..3].copy_from_slice(&found[..3]);
+                }
+                *offset = at;
+                Answer::Refused(number)
             }
             Ok(grammar) => {
-                if faults().other_legal_depth && grammar::empty_heights(&grammar).iter().any(Option::is_some) {
-                    return Ok(grammar::to_flat(&grammar, 32));
+                let mut depth = grammar::empty_heights(&grammar).iter().flatten().copied().max().unwrap_or(0);
+                if faults().depth_32 || (faults().other_legal_depth && depth > 0) {
+                    depth = 32;
                 }
-                if faults().depth_32 {
-                    return Ok(grammar::to_flat(&grammar, 32));
+                depth = depth.saturating_sub(u16::from(faults().depth_one_too_low));
+                *flat = grammar::to_flat(&grammar, depth);
+                if faults().row_written_without_its_end {
+                    flat[FLAT - 1] = found[FLAT - 1];
                 }
-                let depth = grammar::empty_heights(&grammar).iter().flatten().copied().max().unwrap_or(0);
-                let depth = depth.saturating_sub(u16::from(faults().depth_one_too_low));
-                Ok(grammar::to_flat(&grammar, depth))
+                if faults().depth_unwritten {
+                    flat[2] = found[2];
+                }
+                if faults().offset_zero_when_loaded {
+                    *offset = 0;
+                }
+                Answer::Yes
             }
         }
     }
 
-    fn open(&self, flat: &FlatGrammar, chart: &mut [u32]) -> (Answer, Hand) {
-        let empty = Hand { bytes: [0; INPUT], count: 0 };
-        let Some(grammar) = grammar::from_flat(flat) else { return (Answer::Refused(8), empty) };
+    fn open(&self, flat: &FlatGrammar, hand: &mut Hand, chart: &mut [u32]) -> Answer {
+        let found = *hand;
+        *hand = hand::of(&[]);
+        if faults().opened_hand_without_its_count {
+            hand[INPUT] = found[INPUT];
+        }
+        if faults().refused_opening_leaves_the_hand && (grammar::from_flat(flat).is_none() || chart.len() < CELLS) {
+            *hand = found;
+        }
+        let Some(grammar) = grammar::from_flat(flat) else { return Answer::Refused(8) };
         if chart.len() < CELLS {
-            return (Answer::Refused(10), empty);
+            return Answer::Refused(10);
         }
         chart::open(&grammar, chart);
-        (complete(&grammar, chart, 0), empty)
+        complete(&grammar, chart, 0)
     }
 
-    fn take(&self, flat: &FlatGrammar, hand: Hand, terminal: u8, chart: &mut [u32]) -> (Answer, Hand) {
-        let Some(grammar) = grammar::from_flat(flat) else { return (Answer::Refused(8), hand) };
-        if faults().ten_before_fourteen && chart.len() < CELLS {
-            return (Answer::Refused(10), hand);
+    fn take(&self, flat: &FlatGrammar, hand: &mut Hand, terminal: u8, chart: &mut [u32]) -> Answer {
+        let (found, full) = (*hand, usize::from(hand[INPUT]) == INPUT);
+        let Some(grammar) = grammar::from_flat(flat) else { return refused(8, hand) };
+        let large = usize::from(hand[INPUT]) > INPUT;
+        if (faults().ten_before_fourteen || (faults().ten_before_a_mark_over_255 && !large)) && chart.len() < CELLS {
+            return refused(10, hand);
         }
-        if faults().fifteen_before_ten && hand.count == INPUT {
-            return (Answer::Refused(15), hand);
+        if faults().fifteen_before_ten && full && hand::marks(hand).is_some() {
+            return refused(15, hand);
         }
-        if hand.count > INPUT {
-            return (Answer::Refused(14), hand);
+        if faults().fifteen_before_a_mark_over_255 && full && chart.len() >= CELLS {
+            return refused(15, hand);
         }
+        let Some(mut marks) = hand::marks(hand) else { return refused(14, hand) };
         if chart.len() < CELLS {
-            return (Answer::Refused(10), hand);
+            return refused(10, hand);
         }
-        if hand.count == INPUT {
-            return (Answer::Refused(15), hand);
+        if marks.len() == INPUT {
+            return refused(15, hand);
         }
-        let n = hand.count + 1;
-        let mut next = Hand { bytes: [0; INPUT], count: n };
-        next.bytes[..n - 1].copy_from_slice(&hand.bytes[..n - 1]);
+        marks.push(terminal);
+        *hand = hand::of(&marks);
         if faults().hand_keeps_rubbish {
-            next.bytes = hand.bytes;
+            hand[marks.len()..INPUT].copy_from_slice(&found[marks.len()..INPUT]);
         }
-        next.bytes[n - 1] = terminal;
-        chart::fill_column(&grammar, &next.bytes[..n], chart);
-        (complete(&grammar, chart, n), next)
+        if faults().taken_hand_without_its_count {
+            hand[INPUT] = found[INPUT];
+        }
+        chart::fill_column(&grammar, &marks, chart);
+        complete(&grammar, chart, marks.len())
     }
 
     fn check(&self, flat: &FlatGrammar, input: &[u8], offered: &[u16], chart: &mut [u32]) -> Answer {
@@ -239,16 +199,27 @@ impl Reader for Lister {
         }
     }
 
-    fn length(&self, flat: &FlatGrammar, input: &[u8], offered: &[u16], chart: &mut [u32]) -> Answer {
+    fn length(&self, flat: &FlatGrammar, input: &[u8], offered: &[u16], chart: &mut [u32], tenths: &mut i32) -> Answer {
         match filled(flat, input, chart) {
-            Err(refused) => refused,
+            Err(refused) => {
+                if faults().tenths_zero_when_refused {
+                    *tenths = 0;
+                }
+                refused
+            }
             Ok(grammar) if !trees::is_derivation(&grammar, input, offered) => {
                 if faults().twelve_spoils_the_chart {
                     chart[0] ^= 1;
                 }
+                if faults().tenths_zero_with_twelve {
+                    *tenths = 0;
+                }
                 Answer::Refused(12)
             }
-            Ok(grammar) => Answer::Tenths(trees::tenths(&grammar, offered)),
+            Ok(grammar) => {
+                *tenths = trees::tenths(&grammar, offered);
+                Answer::Yes
+            }
         }
     }
 

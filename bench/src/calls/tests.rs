@@ -1,0 +1,56 @@
+//! Both sides judge numbers whole, and leave the same of what is lent.
+
+use super::{chart, hand, Plain, Proved, Reader, FLAT};
+
+/// A row with one number changed: what both sides answer to it, and the same hand and chart left.
+fn opened(row: &[u16; FLAT], at: usize, number: u16) -> u32 {
+    let mut row = *row;
+    row[at] = number;
+    let (mut h, mut k, mut x, mut y) = (hand(), hand(), chart(), chart());
+    let code = Proved::open(&row, &mut h, &mut x);
+    assert_eq!(code, Plain::open(&row, &mut k, &mut y), "{number} at {at}");
+    assert!(h == k && h == [0; 65] && x == y, "{number} at {at}");
+    code
+}
+
+#[test]
+fn both_sides_judge_the_numbers_of_a_row_whole() {
+    // 0 -> 1 1, 1 -> nothing, 1 -> A
+    let book = b"\x10\x00\x20\x00\xf8\x11\x30\x01\x30\x01\x20\x01\x00\x00\x20\x01\x19\x00\x40A\x50";
+    let (mut row, mut offset) = ([9; FLAT], 9);
+    assert_eq!((Proved::load(book, &mut row, &mut offset), offset), (1, 9));
+    for at in [0, 1, 3, 5, 7, 41, 44] {
+        for number in [256, 257, 256 + 31, 0xff00, u16::MAX] {
+            assert_eq!(opened(&row, at, number), 256 + 8, "{number} at {at}");
+        }
+    }
+    let more = [(0, 32), (1, 129), (3, 32), (5, 9), (7, 32), (44, 2), (44, 255), (45, 256 + 65), (45, u16::MAX)];
+    assert!(more.iter().all(|&(at, number)| opened(&row, at, number) == 256 + 8));
+    // the depth, a length, the numbers of an unused place and of an unused rule
+    assert!([2, 4, 10, 11, 60, 61, 62, 63, 64].iter().all(|&at| opened(&row, at, u16::MAX) == 1));
+}
+
+#[test]
+fn both_sides_judge_a_hand_whole_and_leave_a_refused_one() {
+    let (mut row, mut offset) = ([9; FLAT], 9);
+    assert_eq!(Proved::load(b"\x10\x00\x50", &mut row, &mut offset), 1);
+    let of = |count: u16, at: usize, mark: u16| {
+        let mut hand = [7; 65];
+        (hand[at], hand[64]) = (mark, count);
+        hand
+    };
+    let cases = [
+        (of(65, 0, 7), 256 + 14),
+        (of(256 + 3, 0, 7), 256 + 14),
+        (of(3, 2, 256), 256 + 14),
+        (of(64, 63, u16::MAX), 256 + 14),
+        (of(64, 0, 7), 256 + 15),
+        (of(3, 3, u16::MAX), 0),
+    ];
+    for (found, code) in cases {
+        let (mut h, mut k, mut x, mut y) = (found, found, chart(), chart());
+        assert_eq!(Proved::take(&row, &mut h, 65, &mut x), code, "{found:?}");
+        assert_eq!(Plain::take(&row, &mut k, 65, &mut y), code, "{found:?}");
+        assert!(h == k && x == y && (code == 0) == (h != found), "{found:?}");
+    }
+}

@@ -1,0 +1,26 @@
+//! The plate in hand as the row of 65 numbers that crosses to C: 64 marks, and then their count.
+
+use super::recognizer::Recognizer;
+use super::INPUT;
+
+pub const HAND: usize = INPUT + 1;
+
+pub type Hand = [u16; HAND];
+
+/// The state in a row. Where a used mark is no byte the count is 65, which check 14 refuses.
+pub fn read(hand: &Hand) -> Recognizer {
+    let count = hand[INPUT] as usize;
+    let large = hand[..count.min(INPUT)].iter().any(|&mark| mark > 255);
+    let mut bytes = [0; INPUT];
+    for (byte, &mark) in bytes.iter_mut().zip(hand) {
+        *byte = mark.min(255) as u8;
+    }
+    Recognizer { bytes, count: if large { HAND } else { count } }
+}
+
+pub fn write(state: &Recognizer, hand: &mut Hand) {
+    for (mark, &byte) in hand.iter_mut().zip(&state.bytes) {
+        *mark = byte.into();
+    }
+    hand[INPUT] = state.count as u16;
+}

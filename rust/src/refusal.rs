@@ -1,0 +1,87 @@
+//! The refusals, and what the codes of the library say.
+
+use std::fmt;
+
+/// Why a call was refused. The discriminant is the refusal's number.
+#[derive(Clone, Copy, Debug, PartialEq, Eq, Hash)]
+#[repr(u8)]
+pub enum Refusal {
+    /// The book ends within a command or before its end command.
+    UnexpectedEnd = 1,
+    UnknownCommand = 2,
+    OutOfTurn = 3,
+    NonterminalTooLarge = 4,
+    TooManyRules = 5,
+    TooManyPlaces = 6,
+    /// A byte follows the end command.
+    FurtherByte = 7,
+    /// The grammar handed in has a used number out of its range.
+    InvalidGrammar = 8,
+    /// The input has no bytes, or more than 64.
+    InputLength = 9,
+    /// The chart has fewer than 4,225 cells.
+    ChartTooShort = 10,
+    OutputTooShort = 11,
+    /// An offered row is no derivation of the input.
+    NotADerivation = 12,
+    OnlyLargerTrees = 13,
+    /// The recognizer's count is over 64, or one of the bytes that it has taken is over 255.
+    InvalidRecognizer = 14,
+    /// The recognizer has taken 64 bytes.
+    RecognizerFull = 15,
+}
+
+use Refusal::*;
+
+const REFUSALS: [Refusal; 15] = [
+    UnexpectedEnd,
+    UnknownCommand,
+    OutOfTurn,
+    NonterminalTooLarge,
+    TooManyRules,
+    TooManyPlaces,
+    FurtherByte,
+    InvalidGrammar,
+    InputLength,
+    ChartTooShort,
+    OutputTooShort,
+    NotADerivation,
+    OnlyLargerTrees,
+    InvalidRecognizer,
+    RecognizerFull,
+];
+
+impl Refusal {
+    /// The refusal's number, 1 to 15.
+    pub fn number(self) -> u8 {
+        self as u8
+    }
+
+    /// The refusal of a number.
+    pub fn of_number(number: u8) -> Option<Refusal> {
+        REFUSALS.get(usize::from(number).checked_sub(1)?).copied()
+    }
+}
+
+impl fmt::Display for Refusal {
+    fn fmt(&self, f: &mut fmt::Formatter<'_>) -> fmt::Result {
+        write!(f, "refusal {}: {:?}", self.number(), self)
+    }
+}
+
+impl std::error::Error for Refusal {}
+
+/// What a code says: no, yes, or a refusal. The library is proved to return no other code.
+pub(crate) fn answer(code: u32) -> Result<bool, Refusal> {
+    match code {
+        0 => Ok(false),
+        1 => Ok(true),
+        257..=271 => Err(REFUSALS[code as usize - 257]),
+        _ => unreachable!("the library returned the code {code}"),
+    }
+}
+
+/// What the code of a call says that never answers no: done, or a refusal.
+pub(crate) fn done(code: u32) -> Result<(), Refusal> {
+    answer(code).map(|yes| assert!(yes, "the library returned the code 0"))
+}

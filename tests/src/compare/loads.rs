@@ -1,0 +1,57 @@
+//! Loading: the answer, the offset and the whole row left, of the book and of what
+//! damage makes of it.
+
+use super::lent::{offset, row, same, Lent};
+use super::Comparison;
+use crate::books::{damage, soup};
+use crate::lister::{grammar, Lister};
+use crate::reader::{Answer, FlatGrammar, Reader, FLAT};
+
+impl Comparison<'_> {
+    /// Loads the book damaged, cut, and cut with a command or two begun after the cut.
+    pub(super) fn other_loads(&mut self, book: &[u8]) -> Result<(), String> {
+        for number in 0..30 {
+            let mut bytes = if number % 6 == 5 { soup(&mut self.rng) } else { book.to_vec() };
+            if number % 2 == 0 {
+                damage(&mut self.rng, &mut bytes);
+            } else {
+                bytes.truncate(self.rng.below(bytes.len() + 1));
+                for _ in 0..self.rng.below(4) {
+                    bytes.push(self.rng.pick(&[0x10, 0x20, 0x30, 0x40, 0x50, 0x00, 0x1F, 0x20, 0x41, 0xFF]));
+                }
+            }
+            self.load(&bytes, "other load").map_err(|what| format!("as {bytes:02X?}: {what}"))?;
+        }
+        Ok(())
+    }
+
+    /// A load into a row and an offset of rubbish: the row is written whole, the
+    /// offset with a refusal only; the depth goes by its formula. Gives the grammar.
+    pub fn load(&mut self, book: &[u8], name: &str) -> Result<Option<FlatGrammar>, String> {
+        let lent = Lent::of(book, 0x10);
+        let before = lent.clone();
+        let (found, found_at) = (row(&mut self.rng), offset(&mut self.rng));
+        let (mut got, mut got_at) = (found, found_at);
+        let (mut due, mut due_at) = (found, found_at);
+        let answer = self.reader.load(lent.part(), &mut got, &mut got_at);
+        let due_answer = Lister.load(book, &mut due, &mut due_at);
+        lent.against(&before, "load: the book's bytes")?;
+        same("load: answer and offset", (answer, got_at), (due_answer, due_at))?;
+        for at in (0..FLAT).filter(|at| *at != 2) {
+            same("load: the row, index and number", (at, got[at]), (at, due[at]))?;
+        }
+        if let Answer::Refused(number) = answer {
+            same("load refused: the depth", got[2], 0)?;
+            same("the lister's row and offset, refused", due == [0; FLAT] && due_at <= book.len(), true)?;
+            self.counts.add(&format!("{name}: refused {number}"));
+            return Ok(None);
+        }
+        same("the lister's offset, loaded", due_at, found_at)?;
+        let (grammar, depth) = (grammar::from_flat(&due).expect("a loaded grammar passes check 8"), got[2]);
+        if !grammar::depth_is_legal(&grammar, depth) {
+            return Err(format!("load: depth {depth} against {:?}", grammar::empty_heights(&grammar)));
+        }
+        self.counts.add(&format!("{name}: depth {}", if depth == 0 { "0" } else { "above 0" }));
+        Ok(Some(got))
+    }
+}

@@ -1,0 +1,85 @@
+//! Opening and taking, over charts as they are filled and over charts spoilt.
+
+use super::hands::{opened, taken};
+use super::lent::{self, same, Lent};
+use super::Comparison;
+use crate::lister::chart::{self, cell};
+use crate::lister::grammar::Grammar;
+use crate::lister::has_tree;
+use crate::reader::{Answer, FlatGrammar, CELLS, HAND, INPUT};
+
+impl Comparison<'_> {
+    /// Opening and taking the input terminal by terminal, the chart full of rubbish
+    /// before, the hands with rubbish past their counts. Gives the chart.
+    pub(super) fn takes(&mut self, flat: &FlatGrammar, grammar: &Grammar, input: &[u8]) -> Result<Lent<u32>, String> {
+        let chart = self.chart();
+        let mine = self.either(flat);
+        let found = lent::hand(&mut self.rng);
+        let ((mut answer, mut hand), mut chart) = self.both("open", &mine, &chart, |r, g, c| opened(r, g, found, c))?;
+        for (n, mark) in input.iter().enumerate() {
+            self.counts.add(if answer == Answer::Yes { "complete: yes" } else { "complete: no" });
+            same("the lister's hand", usize::from(hand[INPUT]), n)?;
+            if self.rng.one_in(2) {
+                hand[n..INPUT].iter_mut().for_each(|mark| *mark = lent::number(&mut self.rng));
+                if hand[n..INPUT].iter().any(|mark| *mark > 255) {
+                    self.counts.add("take: an unused mark over 255");
+                }
+            }
+            let mine = self.either(flat);
+            let what = format!("take {}", n + 1);
+            ((answer, hand), chart) = self.both(&what, &mine, &chart, |r, g, c| taken(r, g, hand, *mark, c))?;
+        }
+        self.counts.add(if answer == Answer::Yes { "complete: yes" } else { "complete: no" });
+        // The lister against itself: from a fresh opening these are the true sets.
+        let derives = chart::derives(grammar, input);
+        for i in 0..65 {
+            for j in 0..65 {
+                let holds = |k: &usize| i <= j && j <= input.len() && derives[i][*k] >> j & 1 == 1;
+                let due: u32 = (0..32).filter(holds).map(|k| 1 << k).sum();
+                same("the lister's own cell: i, j, word", (i, j, chart.part()[cell(i, j)]), (i, j, due))?;
+            }
+        }
+        same("the lister's complete", answer == Answer::Yes, has_tree(grammar, input))?;
+        Ok(chart)
+    }
+
+    /// The same over spoilt charts: before each take some words are changed, and the
+    /// next column has to be the least one over the chart as found.
+    pub(super) fn spoilt_takes(&mut self, flat: &FlatGrammar, grammar: &Grammar, input: &[u8]) -> Result<(), String> {
+        let mut chart = self.chart();
+        chart::open(grammar, chart.part_mut());
+        let nullable = chart.part()[0];
+        let mut hand = [0; HAND];
+        let kinds: Vec<u8> = grammar.rules.iter().map(|rule| rule.left).chain([grammar.start]).collect();
+        for (n, mark) in input.iter().enumerate() {
+            for _ in 0..self.rng.within(1, 12) {
+                let b = self.rng.below(n + 1);
+                let at = match self.rng.below(8) {
+                    0..=2 => cell(b, b),
+                    3..=5 => cell(self.rng.below(b + 1), b),
+                    6 => cell(self.rng.below(n + 2), n + 1),
+                    _ => self.rng.below(CELLS),
+                };
+                let word = &mut chart.part_mut()[at];
+                match self.rng.below(6) {
+                    0 => *word = self.rng.next() as u32,
+                    1 => *word = 0,
+                    _ => *word ^= 1 << self.rng.pick(&kinds),
+                }
+            }
+            let before = chart.clone();
+            let what = format!("take {} over a spoilt chart", n + 1);
+            let mine = self.either(flat);
+            ((_, hand), chart) = self.both(&what, &mine, &chart, |r, g, c| taken(r, g, hand, *mark, c))?;
+            self.counts.add("take over a spoilt chart");
+            // How often the cells (a, a) as found decide, where the nullable set would say otherwise.
+            let mut other = before;
+            (0..=n).for_each(|a| other.part_mut()[cell(a, a)] = nullable);
+            chart::fill_column(grammar, &input[..n + 1], other.part_mut());
+            if (0..n + 2).any(|i| other.part()[cell(i, n + 1)] != chart.part()[cell(i, n + 1)]) {
+                self.counts.add("take over a spoilt chart: an empty piece as found decides");
+            }
+        }
+        Ok(())
+    }
+}

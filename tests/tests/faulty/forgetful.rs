@@ -1,0 +1,116 @@
+//! The lister, but for one lent place, or all, that it leaves as found: a library
+//! that writes nothing there must be caught.
+
+use outside_tests::lister::Lister;
+use outside_tests::reader::{Answer, FlatGrammar, Hand, Reader};
+
+/// What is left as found.
+#[derive(Clone, Copy, PartialEq, Eq, Debug)]
+pub enum Forgets {
+    Row,
+    Offset,
+    OpenedHand,
+    TakenHand,
+    Tenths,
+    OpenedChart,
+    TakenChart,
+    CheckedChart,
+    MeasuredChart,
+    ComparedChart,
+    ListedChart,
+    Output,
+    Everything,
+    /// Nothing: this one is the lister.
+    Nothing,
+}
+
+impl Forgets {
+    /// Every one that forgets something.
+    pub const ALL: [Forgets; 13] = [
+        Forgets::Row,
+        Forgets::Offset,
+        Forgets::OpenedHand,
+        Forgets::TakenHand,
+        Forgets::Tenths,
+        Forgets::OpenedChart,
+        Forgets::TakenChart,
+        Forgets::CheckedChart,
+        Forgets::MeasuredChart,
+        Forgets::ComparedChart,
+        Forgets::ListedChart,
+        Forgets::Output,
+        Forgets::Everything,
+    ];
+
+    fn place<T: Copy, A>(self, which: Forgets, place: &mut T, call: impl FnOnce(&mut T) -> A) -> A {
+        self.slice(which, std::slice::from_mut(place), |place| call(&mut place[0]))
+    }
+
+    /// Calls with what is lent, or with a copy of it.
+    fn slice<T: Copy, A>(self, which: Forgets, lent: &mut [T], call: impl FnOnce(&mut [T]) -> A) -> A {
+        if self == which || self == Forgets::Everything {
+            call(&mut lent.to_vec())
+        } else {
+            call(lent)
+        }
+    }
+}
+
+impl Reader for Forgets {
+    fn load(&self, book: &[u8], grammar: &mut FlatGrammar, offset: &mut usize) -> Answer {
+        self.place(Forgets::Row, grammar, |g| self.place(Forgets::Offset, offset, |at| Lister.load(book, g, at)))
+    }
+
+    fn open(&self, grammar: &FlatGrammar, hand: &mut Hand, chart: &mut [u32]) -> Answer {
+        self.place(Forgets::OpenedHand, hand, |h| {
+            self.slice(Forgets::OpenedChart, chart, |c| Lister.open(grammar, h, c))
+        })
+    }
+
+    fn take(&self, grammar: &FlatGrammar, hand: &mut Hand, terminal: u8, chart: &mut [u32]) -> Answer {
+        self.place(Forgets::TakenHand, hand, |h| {
+            self.slice(Forgets::TakenChart, chart, |c| Lister.take(grammar, h, terminal, c))
+        })
+    }
+
+    fn check(&self, grammar: &FlatGrammar, input: &[u8], offered: &[u16], chart: &mut [u32]) -> Answer {
+        self.slice(Forgets::CheckedChart, chart, |c| Lister.check(grammar, input, offered, c))
+    }
+
+    fn length(
+        &self,
+        grammar: &FlatGrammar,
+        input: &[u8],
+        offered: &[u16],
+        chart: &mut [u32],
+        tenths: &mut i32,
+    ) -> Answer {
+        self.place(Forgets::Tenths, tenths, |t| {
+            self.slice(Forgets::MeasuredChart, chart, |c| Lister.length(grammar, input, offered, c, t))
+        })
+    }
+
+    fn same_build(&self, grammar: &FlatGrammar, input: &[u8], one: &[u16], other: &[u16], chart: &mut [u32]) -> Answer {
+        self.slice(Forgets::ComparedChart, chart, |c| Lister.same_build(grammar, input, one, other, c))
+    }
+
+    fn lists(&self) -> bool {
+        true
+    }
+
+    fn first(&self, grammar: &FlatGrammar, input: &[u8], chart: &mut [u32], out: &mut [u16]) -> Answer {
+        self.slice(Forgets::ListedChart, chart, |c| {
+            self.slice(Forgets::Output, out, |o| Lister.first(grammar, input, c, o))
+        })
+    }
+
+    fn next(&self, grammar: &FlatGrammar, input: &[u8], offered: &[u16], chart: &mut [u32], out: &mut [u16]) -> Answer {
+        self.slice(Forgets::ListedChart, chart, |c| {
+            self.slice(Forgets::Output, out, |o| Lister.next(grammar, input, offered, c, o))
+        })
+    }
+
+    fn count(&self, grammar: &FlatGrammar, input: &[u8], chart: &mut [u32]) -> Answer {
+        self.slice(Forgets::ListedChart, chart, |c| Lister.count(grammar, input, c))
+    }
+}
