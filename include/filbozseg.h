@@ -88,7 +88,7 @@ uint32_t filbozseg_take(const uint16_t grammar[FILBOZSEG_ROW], uint16_t hand[FIL
                         uint32_t *chart, size_t chart_length);
 
 /*
- * Returns whether the offered row is a derivation of the input: for each node, in preorder, how many bytes it covers and the number of its
+ * Returns whether the offered derivation is one of the input: for each node, in preorder, how many bytes it covers and the number of its
  * rule. Refusals, in this order: 8 the grammar; 9 an input of no bytes or of more than 64; 10 a chart of fewer than 4225 cells. Refused, it
  * leaves the chart as found, else filled for the input.
  * Stack: FILBOZSEG_CHECK_STACK.
@@ -98,7 +98,7 @@ uint32_t filbozseg_check(const uint16_t grammar[FILBOZSEG_ROW], const uint8_t *i
 
 /*
  * Returns 1 and leaves the length of the offered derivation at tenths, in tenths of a millimetre, halves away from zero. Refusals, in this
- * order: 8, 9, 10 as at filbozseg_check; 12 the offered row is no derivation of the input. Refused, it leaves the tenths as found, and the
+ * order: 8, 9, 10 as at filbozseg_check; 12 the offered derivation is none of the input. Refused, it leaves the tenths as found, and the
  * chart as found (8, 9, 10) or filled for the input (12).
  * Stack: FILBOZSEG_LENGTH_STACK.
  */
@@ -107,7 +107,7 @@ uint32_t filbozseg_length(const uint16_t grammar[FILBOZSEG_ROW], const uint8_t *
 
 /*
  * Returns whether two offered derivations of the input are the same build: whether the rules of their nodes that cover something agree,
- * each as often. Refusals and chart as at filbozseg_length; 12 where either row is no derivation.
+ * each as often. Refusals and chart as at filbozseg_length; 12 where either is none.
  * Stack: FILBOZSEG_SAME_BUILD_STACK.
  */
 uint32_t filbozseg_same_build(const uint16_t grammar[FILBOZSEG_ROW], const uint8_t *input, size_t input_length,

@@ -126,7 +126,7 @@ impl Recognizer {
     }
 }
 
-/// Whether the offered row is a derivation of the input. The chart is filled for the input; refused (8, 9, 10), it is left as found.
+/// Whether the offered derivation is one of the input. The chart is filled for the input; refused (8, 9, 10), it is left as found.
 pub fn check(grammar: &Grammar, input: &[u8], offered: &[u16], chart: &mut [u32]) -> Result<bool, Refusal> {
     // Safety: as in `open`.
     answer(unsafe {

@@ -22,7 +22,7 @@ pub enum Refusal {
     /// The chart has fewer than 4,225 cells.
     ChartTooShort = 10,
     OutputTooShort = 11,
-    /// An offered row is no derivation of the input.
+    /// An offered derivation is none of the input.
     NotADerivation = 12,
     OnlyLargerTrees = 13,
     /// The recognizer's count is over 64, or one of the bytes that it has taken is over 255.

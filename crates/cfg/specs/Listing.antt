@@ -73,7 +73,7 @@ upTo found (find k above ∷ todo) w = found k above todo w
 upTo found (resume v ∷ todo) [] = upTo found todo v
 upTo found (resume v ∷ todo) (m ∷ w) = []
 
--- the codes of all rows of at most b nodes for these items over exactly these bytes, in which no node has the span of a node above it
+-- the codes of all forests of at most b nodes for these items over exactly these bytes, in which no node has the span of a node above it
 unfoldable pub listing : Cfg → ℕ → List Item → List ℕ → List (List ℕ)
 listing G zero = upTo (λ k above todo w. [])
 listing G (suc b) = upTo (λ k above todo w.

@@ -7,21 +7,22 @@ use mathlib.Core.Path.{_≡_, refl, sym, ap, _∙_}
 use native.Mathlib.Omega.{arith}
 use lib.ListN.{length, getD, take, drop, replicate, length-append, length-drop, length-replicate, getD-replicate, List·getD-append}
 use lib.Seq.{append-snoc, getD-take, take-at, drop-at}
+use Rattle.sizes.specs.Sizes.{cells}
 use Rattle.cfg.specs.Grammar.{Cfg, Terminal}
-use Rattle.chart.specs.Cell.{cell, cells, place, fitsAt}
+use Rattle.chart.specs.Cell.{cell, index, fitsAt}
 use Rattle.chart.specs.Column.{column, putColumn, written, opened, extended, extendedBy, filled}
 use Rattle.chart.proofs.Written.{put-before, written-length, written-behind, written-cell-other}
 use Rattle.chart.proofs.Cells.{column-cong, column-length}
 
 -- what is written depends only on the cells
 pub written-before : (G : Cfg) (fit : ℕ → Terminal → Bool) (n : ℕ) (chart : List ℕ) → n ≤ 64
-    → take 4225 (written G fit n chart) ≡ written G fit n (take 4225 chart)
+    → take cells (written G fit n chart) ≡ written G fit n (take cells chart)
 unfolding written
 written-before G fit n chart h =
     put-before (column G fit chart n (suc n)) chart n 0 h (omega (arith, column-length G fit chart n (suc n)))
-    ∙ ap (putColumn (take 4225 chart) n 0)
-    (column-cong G fit fit chart (take 4225 chart) n (λ a t _. refl)
-    (λ a b l m. sym (getD-take 4225 chart (place a b) 0 (omega arith))) (suc n))
+    ∙ ap (putColumn (take cells chart) n 0)
+    (column-cong G fit fit chart (take cells chart) n (λ a t _. refl)
+    (λ a b l m. sym (getD-take cells chart (index a b) 0 (omega arith))) (suc n))
 
 -- the length after one more byte
 pub length-snoc : (v : List ℕ) (m : ℕ) → length (v ++ (m ∷ [])) ≡ suc (length v)
@@ -41,7 +42,7 @@ module _ (G : Cfg) where
       let v' = v ++ (m ∷ []) in
       extendedBy-length v' u (extended G v' chart) ∙ extended-length v' chart
 
-  pub extendedBy-behind : (v u chart : List ℕ) → length v + length u ≤ 64 → drop 4225 (extendedBy G v u chart) ≡ drop 4225 chart
+  pub extendedBy-behind : (v u chart : List ℕ) → length v + length u ≤ 64 → drop cells (extendedBy G v u chart) ≡ drop cells chart
   unfolding extendedBy extended
   extendedBy-behind v [] chart h = refl
   extendedBy-behind v (m ∷ u) chart h =
@@ -50,7 +51,7 @@ module _ (G : Cfg) where
       extendedBy-behind v' u (extended G v' chart) (omega arith) ∙ written-behind G (fitsAt v') (length v') chart (omega arith)
 
   pub extendedBy-before : (v u chart : List ℕ) → length v + length u ≤ 64
-      → take 4225 (extendedBy G v u chart) ≡ extendedBy G v u (take 4225 chart)
+      → take cells (extendedBy G v u chart) ≡ extendedBy G v u (take cells chart)
   unfolding extendedBy extended
   extendedBy-before v [] chart h = refl
   extendedBy-before v (m ∷ u) chart h =
@@ -108,15 +109,15 @@ module _ (c : ℕ) (chart : List ℕ) where
       ∙ getD-replicate c p 0 0 h
 
 module _ (G : Cfg) (chart : List ℕ) where
-  pub opened-length : 4225 ≤ length chart → length (opened G chart) ≡ length chart
+  pub opened-length : cells ≤ length chart → length (opened G chart) ≡ length chart
   unfolding opened
   opened-length h = written-length G (fitsAt []) 0 (cleared cells chart) ∙ cleared-length cells chart h
 
-  pub opened-behind : drop 4225 (opened G chart) ≡ drop 4225 chart
+  pub opened-behind : drop cells (opened G chart) ≡ drop cells chart
   unfolding opened
   opened-behind = written-behind G (fitsAt []) 0 (cleared cells chart) (omega arith) ∙ cleared-behind cells chart
 
-  pub opened-before : take 4225 (opened G chart) ≡ written G (fitsAt []) 0 (replicate cells 0)
+  pub opened-before : take cells (opened G chart) ≡ written G (fitsAt []) 0 (replicate cells 0)
   unfolding opened
   opened-before = written-before G (fitsAt []) 0 (cleared cells chart) (omega arith)
       ∙ ap (written G (fitsAt []) 0) (cleared-before cells chart)
@@ -124,4 +125,4 @@ module _ (G : Cfg) (chart : List ℕ) where
   pub opened-zero : (i j : ℕ) → i ≤ 64 → j ≤ 64 → (j ≡ 0 → 0 < i) → cell (opened G chart) i j ≡ 0
   unfolding opened
   opened-zero i j h l d =
-      written-cell-other G (fitsAt []) 0 (cleared cells chart) (omega arith) i j l d ∙ cleared-zero cells chart (place i j) (omega arith)
+      written-cell-other G (fitsAt []) 0 (cleared cells chart) (omega arith) i j l d ∙ cleared-zero cells chart (index i j) (omega arith)

@@ -11,7 +11,8 @@ use lib.Seq.{ext-getD}
 use Rattle.sets.specs.Set.{has}
 use Rattle.sets.proofs.Laws.{set-ext}
 use Rattle.cfg.specs.Grammar.{Cfg, Terminal, rule, Of}
-use Rattle.chart.specs.Cell.{cells, fitsAt}
+use Rattle.sizes.specs.Sizes.{cells}
+use Rattle.chart.specs.Cell.{fitsAt}
 use Rattle.chart.specs.Column.{column, putColumn, written, opened, extended, extendedBy, filled}
 use Rattle.chart.proofs.Cut.{bool-ext}
 use Rattle.chart.proofs.Derived.{Bounded}

@@ -12,7 +12,7 @@ use lib.Seq.{slice, slice-empty, slice-cons}
 use borrow.Author.Tests.{lt-ltb, ltb-true}
 use Rattle.sets.specs.Set.{has}
 use Rattle.cfg.specs.Grammar.{Cfg, Symbol, nonterminal, Terminal, fits, Of}
-use Rattle.cfg.specs.Tree.{Row, end, leaf, node, yield, Fits, fits-end, fits-leaf, fits-node, Parse}
+use Rattle.cfg.specs.Tree.{Forest, end, leaf, node, yield, Fits, fits-end, fits-leaf, fits-node, Parse}
 use Rattle.chart.specs.Cell.{cell, fitsAt}
 use Rattle.chart.proofs.Cut.{Cut, cut-end, cut-leaf, cut-node}
 use Rattle.chart.proofs.Slices.{slice-append, slice-split, slice-nil, slice-head}
@@ -20,21 +20,21 @@ use Rattle.chart.proofs.Inside.{Piece, ClosedBy}
 
 -- a row for these places over u
 abbrev pub Over : Cfg → List Symbol → List ℕ → Type 0
-Over G places u = (row : Row) × Fits G places row × (yield row ≡ u)
+Over G places u = (row : Forest) × Fits G places row × (yield row ≡ u)
 
 -- a node of the nonterminal k over u
 abbrev pub Node : Cfg → ℕ → List ℕ → Type 0
 Node G k u = (r : ℕ) × (o : Of G r k) × Over G (o .the .places) u
 
-pub node→tree : (G : Cfg) (k : ℕ) (u : List ℕ) → Node G k u → (t : Row) × Parse G k u t
+pub node→tree : (G : Cfg) (k : ℕ) (u : List ℕ) → Node G k u → (t : Forest) × Parse G k u t
 unfolding yield
 node→tree G k u (r, o, (below, f, e)) = (node r below end, (fits-node o f fits-end, append-nil (yield below) ∙ e))
 
-one-node : {G : Cfg} {k : ℕ} {t : Row} → Fits G (nonterminal k ∷ []) t → Node G k (yield t)
+one-node : {G : Cfg} {k : ℕ} {t : Forest} → Fits G (nonterminal k ∷ []) t → Node G k (yield t)
 unfolding yield
 one-node (fits-node {r = r} {below = below} o f fits-end) = (r, o, (below, f, sym (append-nil (yield below))))
 
-pub tree→node : (G : Cfg) (k : ℕ) (u : List ℕ) → (t : Row) × Parse G k u t → Node G k u
+pub tree→node : (G : Cfg) (k : ℕ) (u : List ℕ) → (t : Forest) × Parse G k u t → Node G k u
 tree→node G k u (t, (f, e)) = subst (Node G k) e (one-node f)
 
 -- ---- bytes
@@ -71,7 +71,7 @@ module _ (G : Cfg) (w : List ℕ) (n : ℕ) (l : n ≤ length w) where
 
   module _ (chart : List ℕ) (P : ℕ → ℕ → Type 0) (closed : ClosedBy G (fitsAt w) chart n P)
       (full : (k a b : ℕ) → a ≤ b → b < n → Node G k (slice a b w) → has k (cell chart a b) ≡ true) where
-    pub row→cut : {places : List Symbol} {row : Row} → Fits G places row → (a : ℕ) → a ≤ n → yield row ≡ slice a n w
+    pub row→cut : {places : List Symbol} {row : Forest} → Fits G places row → (a : ℕ) → a ≤ n → yield row ≡ slice a n w
         → Cut (fitsAt w) (Piece chart n P) n places a
     unfolding yield
     row→cut fits-end a h e = cut-end (slice-nil a n w h l e)

@@ -9,9 +9,10 @@ use mathlib.Core.Path.{_≡_, sym, ap, _∙_, subst}
 use native.Mathlib.Omega.{arith}
 use lib.ListN.{length, take, drop, length-append, take-append-drop}
 use lib.Seq.{slice, take-length, length-take-le}
+use Rattle.sizes.specs.Sizes.{cells}
 use Rattle.sets.specs.Set.{has}
 use Rattle.cfg.specs.Grammar.{Cfg}
-use Rattle.cfg.specs.Tree.{Row, Parse, HasTree}
+use Rattle.cfg.specs.Tree.{Forest, Parse, HasTree}
 use Rattle.chart.specs.Cell.{cell}
 use Rattle.chart.specs.Column.{opened, extendedBy, filled, complete}
 use Rattle.chart.proofs.Derived.{Bounded}
@@ -22,8 +23,8 @@ use Rattle.chart.proofs.Exact.{exact-filled}
 
 module _ (G : Cfg) where
   -- a cell has exactly the nonterminals with a parse tree over its span
-  pub filled-true : Bounded G → (w chart : List ℕ) → length w ≤ 64 → 4225 ≤ length chart
-      → (i j k : ℕ) → i ≤ j → j ≤ length w → (has k (cell (filled G w chart) i j) ≡ true) ↔ ((t : Row) × Parse G k (slice i j w) t)
+  pub filled-true : Bounded G → (w chart : List ℕ) → length w ≤ 64 → cells ≤ length chart
+      → (i j k : ℕ) → i ≤ j → j ≤ length w → (has k (cell (filled G w chart) i j) ≡ true) ↔ ((t : Forest) × Parse G k (slice i j w) t)
   filled-true low w chart h c i j k a b =
       let x = exact-filled G low w chart h c in
       let b' : j < suc (length w) = omega arith in (
@@ -44,11 +45,11 @@ module _ (G : Cfg) where
       go n m e (inr l) = absurd (omega arith)
 
   -- the chart is complete exactly if the input has a tree
-  pub complete-tree : Bounded G → (w chart : List ℕ) → length w ≤ 64 → 4225 ≤ length chart
+  pub complete-tree : Bounded G → (w chart : List ℕ) → length w ≤ 64 → cells ≤ length chart
       → (complete G (length w) (filled G w chart) ≡ true) ↔ HasTree G w
   unfolding complete
   complete-tree low w chart h c =
-      subst (λ (u : List ℕ). (has (G .start) (cell (filled G w chart) 0 (length w)) ≡ true) ↔ ((t : Row) × Parse G (G .start) u t))
+      subst (λ (u : List ℕ). (has (G .start) (cell (filled G w chart) 0 (length w)) ≡ true) ↔ ((t : Forest) × Parse G (G .start) u t))
       (take-length w)
       (filled-true low w chart h c 0 (length w) (G .start) (omega arith) (omega arith))
 
@@ -64,17 +65,17 @@ module _ (G : Cfg) where
       ∙ extendedBy-other G (take j w) (drop j w) (filled G (take j w) chart) i j (omega arith) (omega arith)
       (λ n l m p. absurd (omega arith))
 
-  pub filled-length : (w chart : List ℕ) → 4225 ≤ length chart → length (filled G w chart) ≡ length chart
+  pub filled-length : (w chart : List ℕ) → cells ≤ length chart → length (filled G w chart) ≡ length chart
   unfolding filled
   filled-length w chart c = extendedBy-length G [] w (opened G chart) ∙ opened-length G chart c
 
   -- what lies behind the cells stays
-  pub filled-behind : (w chart : List ℕ) → length w ≤ 64 → drop 4225 (filled G w chart) ≡ drop 4225 chart
+  pub filled-behind : (w chart : List ℕ) → length w ≤ 64 → drop cells (filled G w chart) ≡ drop cells chart
   unfolding filled
   filled-behind w chart h = extendedBy-behind G [] w (opened G chart) (omega arith) ∙ opened-behind G chart
 
   -- what was found does not matter
-  pub filled-found : (w chart₁ chart₂ : List ℕ) → length w ≤ 64 → take 4225 (filled G w chart₁) ≡ take 4225 (filled G w chart₂)
+  pub filled-found : (w chart₁ chart₂ : List ℕ) → length w ≤ 64 → take cells (filled G w chart₁) ≡ take cells (filled G w chart₂)
   unfolding filled
   filled-found w chart₁ chart₂ h =
       extendedBy-before G [] w (opened G chart₁) (omega arith)

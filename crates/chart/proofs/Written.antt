@@ -9,14 +9,15 @@ use native.Mathlib.Decide.{ℕ-discrete}
 use native.Mathlib.Omega.{arith}
 use lib.ListN.{length, getD, take, drop, set, length-set}
 use lib.Seq.{getD-set-same, getD-set-other, drop-set-lt, take-set-lt}
+use Rattle.sizes.specs.Sizes.{cells}
 use Rattle.cfg.specs.Grammar.{Cfg, Terminal}
-use Rattle.chart.specs.Cell.{cell, place}
+use Rattle.chart.specs.Cell.{cell, index}
 use Rattle.chart.specs.Column.{column, putColumn, written}
 use Rattle.chart.proofs.Cells.{column-length}
 
--- two cells that stand at one place are the same
-pub place-inj : (i j a b : ℕ) → j ≤ 64 → b ≤ 64 → place i j ≡ place a b → (i ≡ a) × (j ≡ b)
-place-inj i j a b h l e = (x, omega arith)
+-- two cells that stand at one index are the same
+pub index-inj : (i j a b : ℕ) → j ≤ 64 → b ≤ 64 → index i j ≡ index a b → (i ≡ a) × (j ≡ b)
+index-inj i j a b h l e = (x, omega arith)
   where
     x : i ≡ a
     x = omega arith
@@ -26,53 +27,53 @@ place-inj i j a b h l e = (x, omega arith)
 pub put-length : (vs chart : List ℕ) (n i : ℕ) → length (putColumn chart n i vs) ≡ length chart
 unfolding putColumn
 put-length [] chart n i = refl
-put-length (v ∷ vs) chart n i = put-length vs (set chart (place i n) v) n (suc i) ∙ length-set chart (place i n) v
+put-length (v ∷ vs) chart n i = put-length vs (set chart (index i n) v) n (suc i) ∙ length-set chart (index i n) v
 
-pub put-behind : (vs chart : List ℕ) (n i : ℕ) → n ≤ 64 → i + length vs ≤ 65 → drop 4225 (putColumn chart n i vs) ≡ drop 4225 chart
+pub put-behind : (vs chart : List ℕ) (n i : ℕ) → n ≤ 64 → i + length vs ≤ 65 → drop cells (putColumn chart n i vs) ≡ drop cells chart
 unfolding putColumn
 put-behind [] chart n i h l = refl
 put-behind (v ∷ vs) chart n i h l =
-    put-behind vs (set chart (place i n) v) n (suc i) h (omega arith) ∙ drop-set-lt 4225 chart (place i n) v (omega arith)
+    put-behind vs (set chart (index i n) v) n (suc i) h (omega arith) ∙ drop-set-lt cells chart (index i n) v (omega arith)
 
 pub put-before : (vs chart : List ℕ) (n i : ℕ) → n ≤ 64 → i + length vs ≤ 65
-    → take 4225 (putColumn chart n i vs) ≡ putColumn (take 4225 chart) n i vs
+    → take cells (putColumn chart n i vs) ≡ putColumn (take cells chart) n i vs
 unfolding putColumn
 put-before [] chart n i h l = refl
 put-before (v ∷ vs) chart n i h l =
-    put-before vs (set chart (place i n) v) n (suc i) h (omega arith)
-    ∙ ap (λ (c : List ℕ). putColumn c n (suc i) vs) (take-set-lt 4225 chart (place i n) v (omega arith))
+    put-before vs (set chart (index i n) v) n (suc i) h (omega arith)
+    ∙ ap (λ (c : List ℕ). putColumn c n (suc i) vs) (take-set-lt cells chart (index i n) v (omega arith))
 
--- a place that is none of the column's stays
-pub put-other : (vs chart : List ℕ) (n i p : ℕ) → ((a : ℕ) → i ≤ a → a < i + length vs → p ≢ place a n)
+-- an index that is none of the column's stays
+pub put-other : (vs chart : List ℕ) (n i p : ℕ) → ((a : ℕ) → i ≤ a → a < i + length vs → p ≢ index a n)
     → getD (putColumn chart n i vs) p 0 ≡ getD chart p 0
 unfolding putColumn
 put-other [] chart n i p h = refl
 put-other (v ∷ vs) chart n i p h =
-    put-other vs (set chart (place i n) v) n (suc i) p (λ a l m. h a (omega arith) (omega arith))
-    ∙ getD-set-other chart (place i n) p v 0 (h i (omega arith) (omega arith))
+    put-other vs (set chart (index i n) v) n (suc i) p (λ a l m. h a (omega arith) (omega arith))
+    ∙ getD-set-other chart (index i n) p v 0 (h i (omega arith) (omega arith))
 
-pub put-same : (vs chart : List ℕ) (n i a : ℕ) → n ≤ 64 → 4225 ≤ length chart → i + length vs ≤ 65 → i ≤ a → a < i + length vs
+pub put-same : (vs chart : List ℕ) (n i a : ℕ) → n ≤ 64 → cells ≤ length chart → i + length vs ≤ 65 → i ≤ a → a < i + length vs
     → cell (putColumn chart n i vs) a n ≡ getD vs (a - i) 0
 unfolding putColumn
 put-same [] chart n i a h c l m o = absurd (omega arith)
-put-same (v ∷ vs) chart n i a h c l m o = go (ℕ-discrete a i) (put-same vs (set chart (place i n) v) n (suc i) a h)
+put-same (v ∷ vs) chart n i a h c l m o = go (ℕ-discrete a i) (put-same vs (set chart (index i n) v) n (suc i) a h)
   where
     go : Dec (a ≡ i)
-        → (4225 ≤ length (set chart (place i n) v) → suc i + length vs ≤ 65 → suc i ≤ a → a < suc i + length vs
-        → cell (putColumn (set chart (place i n) v) n (suc i) vs) a n ≡ getD vs (a - suc i) 0)
-        → cell (putColumn (set chart (place i n) v) n (suc i) vs) a n ≡ getD (v ∷ vs) (a - i) 0
+        → (cells ≤ length (set chart (index i n) v) → suc i + length vs ≤ 65 → suc i ≤ a → a < suc i + length vs
+        → cell (putColumn (set chart (index i n) v) n (suc i) vs) a n ≡ getD vs (a - suc i) 0)
+        → cell (putColumn (set chart (index i n) v) n (suc i) vs) a n ≡ getD (v ∷ vs) (a - i) 0
     go (yes e) later =
         let q : a - i ≡ 0 = omega arith in
-        let s : place a n ≡ place i n = omega arith in
-        let r : place i n < length chart = omega arith in
-        ap (λ (p : ℕ). getD (putColumn (set chart (place i n) v) n (suc i) vs) p 0) s
-        ∙ put-other vs (set chart (place i n) v) n (suc i) (place i n) (λ b x y. omega arith)
-        ∙ getD-set-same chart (place i n) v 0 r
+        let s : index a n ≡ index i n = omega arith in
+        let r : index i n < length chart = omega arith in
+        ap (λ (p : ℕ). getD (putColumn (set chart (index i n) v) n (suc i) vs) p 0) s
+        ∙ put-other vs (set chart (index i n) v) n (suc i) (index i n) (λ b x y. omega arith)
+        ∙ getD-set-same chart (index i n) v 0 r
         ∙ ap (λ (p : ℕ). getD (v ∷ vs) p 0) (sym q)
     go (no e) later =
         let d : a ≢ i = e in
         let q : a - i ≡ suc (a - suc i) = omega arith in
-        rw q (later (omega (arith, length-set chart (place i n) v)) (omega arith) (omega arith) (omega arith))
+        rw q (later (omega (arith, length-set chart (index i n) v)) (omega arith) (omega arith) (omega arith))
 
 -- ---- the column
 
@@ -85,17 +86,17 @@ module _ (G : Cfg) (fit : ℕ → Terminal → Bool) (n : ℕ) (chart : List ℕ
   unfolding written
   written-length = put-length (column G fit chart n (suc n)) chart n 0
 
-  pub written-behind : n ≤ 64 → drop 4225 (written G fit n chart) ≡ drop 4225 chart
+  pub written-behind : n ≤ 64 → drop cells (written G fit n chart) ≡ drop cells chart
   unfolding written
   written-behind h = put-behind (column G fit chart n (suc n)) chart n 0 h (omega (arith, whole))
 
   -- no other word is written
-  pub written-other : (p : ℕ) → ((a : ℕ) → a ≤ n → p ≢ place a n) → getD (written G fit n chart) p 0 ≡ getD chart p 0
+  pub written-other : (p : ℕ) → ((a : ℕ) → a ≤ n → p ≢ index a n) → getD (written G fit n chart) p 0 ≡ getD chart p 0
   unfolding written
   written-other p h = put-other (column G fit chart n (suc n)) chart n 0 p (λ a l m. h a (omega (arith, whole)))
 
   -- the cells of column n are the column's
-  pub written-cell : n ≤ 64 → 4225 ≤ length chart → (i : ℕ) → i ≤ n
+  pub written-cell : n ≤ 64 → cells ≤ length chart → (i : ℕ) → i ≤ n
       → cell (written G fit n chart) i n ≡ getD (column G fit chart n (suc n)) i 0
   unfolding written
   written-cell h c i l =
@@ -105,7 +106,7 @@ module _ (G : Cfg) (fit : ℕ → Terminal → Bool) (n : ℕ) (chart : List ℕ
 
   -- the others are as found
   pub written-cell-other : n ≤ 64 → (i j : ℕ) → j ≤ 64 → (j ≡ n → n < i) → cell (written G fit n chart) i j ≡ cell chart i j
-  written-cell-other h i j l d = written-other (place i j) (λ a m e.
-      let q = place-inj i j a n l h e in
+  written-cell-other h i j l d = written-other (index i j) (λ a m e.
+      let q = index-inj i j a n l h e in
       let o : n < i = d (q .1) in
       omega arith)

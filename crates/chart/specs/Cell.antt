@@ -6,24 +6,17 @@ use mathlib.Core.List.{List, [], _∷_}
 use mathlib.Core.Option.{Option, none, some}
 use lib.Dec.{eqb, ltb}
 use lib.ListN.{length, getD}
+use Rattle.sizes.specs.Sizes.{side}
 use Rattle.sets.specs.Set.{has, insert}
 use Rattle.cfg.specs.Grammar.{Rule, Symbol, nonterminal, terminal, Terminal, fits}
 
--- cells of a row of the chart: a span starts and ends at one of 0 to 64
-abbrev pub side : ℕ
-side = 65
-
--- cells of a chart
-abbrev pub cells : ℕ
-cells = 4225
-
 -- where the cell of the span from i to j stands
-abbrev pub place : ℕ → ℕ → ℕ
-place i j = side * i + j
+abbrev pub index : ℕ → ℕ → ℕ
+index i j = side * i + j
 
 -- the set of nonterminals in the cell of the span from i to j
 abbrev pub cell : List ℕ → ℕ → ℕ → ℕ
-cell chart i j = getD chart (place i j) 0
+cell chart i j = getD chart (index i j) 0
 
 -- whether the byte at position i of the input fits a terminal: the only reading of the input
 unfoldable pub fitsAt : List ℕ → ℕ → Terminal → Bool

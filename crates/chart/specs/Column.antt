@@ -7,7 +7,8 @@ use lib.Dec.{ltb}
 use lib.ListN.{length, getD, drop, set, replicate}
 use Rattle.sets.specs.Set.{has}
 use Rattle.cfg.specs.Grammar.{Cfg, Terminal}
-use Rattle.chart.specs.Cell.{cell, cells, place, derived, fitsAt}
+use Rattle.sizes.specs.Sizes.{cells}
+use Rattle.chart.specs.Cell.{cell, index, derived, fitsAt}
 
 -- the sets seen from cell (i, n): its own; those of the later starts of column n; and those of earlier columns as found
 unfoldable pub seen : List ℕ → ℕ → ℕ → List ℕ → ℕ → ℕ → ℕ → ℕ
@@ -30,7 +31,7 @@ column G fit chart n (suc m) = let later = column G fit chart n m in least G fit
 -- the chart with these cells at (i, n), (i + 1, n), and so on
 unfoldable pub putColumn : List ℕ → ℕ → ℕ → List ℕ → List ℕ
 putColumn chart n i [] = chart
-putColumn chart n i (v ∷ vs) = putColumn (set chart (place i n) v) n (suc i) vs
+putColumn chart n i (v ∷ vs) = putColumn (set chart (index i n) v) n (suc i) vs
 
 -- the chart after its column n is written, for an input of which the first n bytes are known
 unfoldable pub written : Cfg → (ℕ → Terminal → Bool) → ℕ → List ℕ → List ℕ

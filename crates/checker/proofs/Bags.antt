@@ -10,7 +10,7 @@ use lib.Dec.{eqb}
 use lib.ListN.{length, getD}
 use borrow.Author.Tests.{eq-eqb, ne-eqb, eqb-true}
 use Rattle.cfg.specs.Grammar.{Symbol}
-use Rattle.cfg.specs.Tree.{Row, yield, code, Fits, fits-end, fits-leaf, fits-node}
+use Rattle.cfg.specs.Tree.{Forest, yield, code, Fits, fits-end, fits-leaf, fits-node}
 use Rattle.cfg.specs.Derivation.{Derivation, limit}
 use Rattle.grammar.specs.Valid.{all}
 use Rattle.grammar.proofs.All.{and-parts, and-both}
@@ -101,7 +101,7 @@ module _ (k : ℕ) (high : 128 ≤ k) where
       go true = e
       go false = ap (λ (b : Bool). cond b (suc (occurrences k (rulesUsed l))) (occurrences k (rulesUsed l))) other ∙ e
 
-  row-low : (s : ℕ) (p : List ℕ) {places : List Symbol} {t : Row} (x : List ℕ) → Fits (cfgIn s p) places t
+  row-low : (s : ℕ) (p : List ℕ) {places : List Symbol} {t : Forest} (x : List ℕ) → Fits (cfgIn s p) places t
       → occurrences k (rulesUsed x) ≡ 0 → occurrences k (rulesUsed (code t ++ x)) ≡ 0
   unfolding code
   row-low s p x fits-end e = e

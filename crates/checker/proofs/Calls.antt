@@ -8,6 +8,7 @@ use mathlib.Core.Path.{_≡_, refl, sym, ap, ap₂, subst, _∙_}
 use native.Mathlib.Omega.{arith}
 use lib.ListN.{length}
 use borrow.Author.Tests.{lt-ltb, not-true, not-false}
+use Rattle.sizes.specs.Sizes.{cells}
 use Rattle.cfg.specs.Grammar.{rule}
 use Rattle.cfg.specs.Derivation.{limit}
 use Rattle.cfg.specs.Listing.{L}
@@ -49,10 +50,10 @@ module _ (g : Grammar) (n m : ℕ) (v : Bool) (valid : v ≡ validGrammar g) whe
     pub judge-long : 64 < n → Judging g n m (J.Refused InputLength)
     judge-long l = long-input fine l
 
-    pub judge-room : (n ≡ 0 → ⊥) → n ≤ 64 → m < 4225 → Judging g n m (J.Refused ChartTooShort)
+    pub judge-room : (n ≡ 0 → ⊥) → n ≤ 64 → m < cells → Judging g n m (J.Refused ChartTooShort)
     judge-room e l r = no-room fine (omega arith) l r
 
-    pub judge-passed : (n ≡ 0 → ⊥) → n ≤ 64 → 4225 ≤ m → Judging g n m J.Passed
+    pub judge-passed : (n ≡ 0 → ⊥) → n ≤ 64 → cells ≤ m → Judging g n m J.Passed
     judge-passed e l r = passed fine (omega arith) l r
 
 -- for `search`: whichever test a way through the code ends with
@@ -78,10 +79,10 @@ module _ (g : Grammar) (p w : List ℕ) (same : (r : ℕ) → rule (cfgIn (g .st
 
 -- once the checks are passed, what filling asks
 pub judged-ready : (g : Grammar) (n m : ℕ) (j : Judged) → Judging g n m j → j ≡ J.Passed
-    → (validGrammar g ≡ true) × (n ≤ 64) × (4225 ≤ m)
+    → (validGrammar g ≡ true) × (n ≤ 64) × (cells ≤ m)
 judged-ready g n m j judging h = go (subst (Judging g n m) h judging)
   where
-    go : Judging g n m J.Passed → (validGrammar g ≡ true) × (n ≤ 64) × (4225 ≤ m)
+    go : Judging g n m J.Passed → (validGrammar g ≡ true) × (n ≤ 64) × (cells ≤ m)
     go (passed v a b l) = (v, b, l)
 
 module _ (g : Grammar) (w chart : List ℕ) {A : Type 0} (answer : Unit {0} → Answer A) (j : Judged)
@@ -105,7 +106,7 @@ module _ (g : Grammar) (w chart : List ℕ) {A : Type 0} (answer : Unit {0} → 
           decide-first refuse on (grammarCheck g ∷ []) (inputCheck w) (chartCheck chart ∷ []) (ap not v, tt) (input-fails w (inr l))
       go (no-room v a b l) =
           decide-first refuse on (grammarCheck g ∷ inputCheck w ∷ []) (chartCheck chart) [] (ap not v, (input-passes w a b, tt))
-          (lt-ltb (length chart) 4225 l)
+          (lt-ltb (length chart) cells l)
 
   ready : j ≡ J.Passed → Ready g w chart
   ready h = go (subst (Judging g (length w) (length chart)) h judging)

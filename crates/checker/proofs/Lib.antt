@@ -1,4 +1,4 @@
--- The laws of the checker, from the walk over an offered row to the exported calls. What others cite: SameRules, Whole.
+-- The laws of the checker, from the walk over an offered derivation to the exported calls. What others cite: SameRules, Whole.
 pub mod Spans
 pub mod Walks
 pub mod Nodes

@@ -10,7 +10,7 @@ use lib.ListN.{length, getD, drop, length-drop}
 use lib.Seq.{slice, length-slice, drop-cons, drop-drop, drop-append-seam}
 use Rattle.sets.specs.Set.{has, insert}
 use Rattle.cfg.specs.Grammar.{Cfg, Symbol, nonterminal, Of}
-use Rattle.cfg.specs.Tree.{Row, end, node, yield, nodes, code, Fits, fits-end, fits-node}
+use Rattle.cfg.specs.Tree.{Forest, end, node, yield, nodes, code, Fits, fits-end, fits-node}
 use Rattle.cfg.specs.Derivation.{Superfluous}
 use Rattle.chart.proofs.Slices.{slice-append, slice-split}
 use Rattle.listing.proofs.Unique.{length-code}
@@ -42,21 +42,21 @@ at-two e i a b h p q =
     let d : drop (suc (suc i)) e ≡ drop (i + 2) e = ap (λ (y : ℕ). drop y e) k in
     drop-cons e i 0 (omega arith) ∙ ap (λ (l : List ℕ). getD e i 0 ∷ l) (drop-cons e (suc i) 0 h) ∙ λ z. p z ∷ x z ∷ d z
 
-yield-alone : (r : ℕ) (below : Row) → yield (node r below end) ≡ yield below
+yield-alone : (r : ℕ) (below : Forest) → yield (node r below end) ≡ yield below
 unfolding yield
 yield-alone r below = append-nil (yield below)
 
-code-alone : (r : ℕ) (below : Row) (x : List ℕ) → code (node r below end) ++ x ≡ length (yield below) ∷ r ∷ (code below ++ x)
+code-alone : (r : ℕ) (below : Forest) (x : List ℕ) → code (node r below end) ++ x ≡ length (yield below) ∷ r ∷ (code below ++ x)
 unfolding code
 code-alone r below x = ap (λ (l : List ℕ). length (yield below) ∷ r ∷ (l ++ x)) (append-nil (code below))
 
-pub code-first : (r : ℕ) (below rest : Row) (x : List ℕ)
+pub code-first : (r : ℕ) (below rest : Forest) (x : List ℕ)
     → code (node r below rest) ++ x ≡ length (yield below) ∷ r ∷ (code below ++ (code rest ++ x))
 unfolding code
 code-first r below rest x = ap (λ (l : List ℕ). length (yield below) ∷ r ∷ l) (append-assoc (code below) (code rest) x)
 
 -- after the code of a row, what follows it
-code-after : (e x : List ℕ) (t : Row) (at next : ℕ) → next ≡ at + nodes t → code t ++ x ≡ drop (2 * at) e → x ≡ drop (2 * next) e
+code-after : (e x : List ℕ) (t : Forest) (at next : ℕ) → next ≡ at + nodes t → code t ++ x ≡ drop (2 * at) e → x ≡ drop (2 * next) e
 code-after e x t at next h d =
     let i : 2 * at + length (code t) ≡ 2 * next = omega (arith, length-code t) in
     sym (drop-append-seam (code t) x) ∙ ap (drop (length (code t))) d ∙ drop-drop (length (code t)) (2 * at) e
@@ -71,20 +71,20 @@ module _ (G : Cfg) (w e : List ℕ) (n cover set k : ℕ) (places : List Symbol)
     unfolding yield nodes
     walk-node a b = go (a .fit) (a .plain) (a .free) (a .covers) (a .coded) (a .ends)
       where
-        go : {row : Row} → Fits G (nonterminal k ∷ []) row → ¬ Superfluous G row → Free G cover set row → yield row ≡ slice from mid w
-            → code row ++ drop (2 * middle) e ≡ drop (2 * at) e → middle ≡ at + nodes row
+        go : {forest : Forest} → Fits G (nonterminal k ∷ []) forest → ¬ Superfluous G forest → Free G cover set forest → yield forest ≡ slice from mid w
+            → code forest ++ drop (2 * middle) e ≡ drop (2 * at) e → middle ≡ at + nodes forest
             → Walked G w e n cover set (nonterminal k ∷ places) at from to next
         go (fits-node {r = r} {below = below} o f fits-end) s z c d m =
             let y = b .ends in
             record {
-              row = node r below (b .row);
+              forest = node r below (b .forest);
               fit = fits-node o f (b .fit);
-              plain = join-plain G r below (b .row) s (b .plain);
-              free = join-free G r below (b .row) cover set z (b .free);
+              plain = join-plain G r below (b .forest) s (b .plain);
+              free = join-free G r below (b .forest) cover set z (b .free);
               covers =
                   ap₂ _++_ (sym (yield-alone r below) ∙ c) (b .covers) ∙ slice-append from mid to w order rising known;
               coded =
-                  code-first r below (b .row) (drop (2 * next) e)
+                  code-first r below (b .forest) (drop (2 * next) e)
                   ∙ ap (λ (l : List ℕ). length (yield below) ∷ r ∷ (code below ++ l)) (b .coded)
                   ∙ sym (code-alone r below (drop (2 * middle) e))
                   ∙ d;
@@ -105,8 +105,8 @@ module _ (G : Cfg) (w e : List ℕ) (n cover set k : ℕ) (places : List Symbol)
     unfolding yield nodes
     node-walk a = go (a .fit) (a .plain) (a .free) (a .covers) (a .coded) (a .ends)
       where
-        go : {row : Row} → Fits G (nonterminal k ∷ places) row → ¬ Superfluous G row → Free G cover set row → yield row ≡ slice from to w
-            → code row ++ drop (2 * next) e ≡ drop (2 * at) e → next ≡ at + nodes row → Parted at from to next
+        go : {forest : Forest} → Fits G (nonterminal k ∷ places) forest → ¬ Superfluous G forest → Free G cover set forest → yield forest ≡ slice from to w
+            → code forest ++ drop (2 * next) e ≡ drop (2 * at) e → next ≡ at + nodes forest → Parted at from to next
         go (fits-node {r = r} {below = below} {rest = rest} o f g) s z c d m =
             let x = drop (2 * next) e in
             let middle : ℕ = at + suc (nodes below) in
@@ -123,7 +123,7 @@ module _ (G : Cfg) (w e : List ℕ) (n cover set k : ℕ) (places : List Symbol)
               early = omega arith;
               fitting = omega (arith, v .0);
               first = record {
-                row = node r below end;
+                forest = node r below end;
                 fit = fits-node o f fits-end;
                 plain = first-plain G r below rest s;
                 free = first-free G r below rest cover set z;
@@ -133,7 +133,7 @@ module _ (G : Cfg) (w e : List ℕ) (n cover set k : ℕ) (places : List Symbol)
                 inside = omega arith;
               };
               rest = record {
-                row = rest;
+                forest = rest;
                 fit = g;
                 plain = beside-plain G r below rest s;
                 free = beside-free G r below rest cover set z;
@@ -159,7 +159,7 @@ module _ (G : Cfg) (w e : List ℕ) (n cover set own k at from to next : ℕ) (s
     pub below : Walked G w e n (to - from) (insert k own) (of .the .places) (at + 1) from to next
 
   -- the node over its own row, the cover being the row's own
-  alone : {t : Row} {r : ℕ} (o : Of G r k) → Fits G (o .the .places) t → ¬ Superfluous G t → Free G (length (yield t)) (insert k own) t
+  alone : {t : Forest} {r : ℕ} (o : Of G r k) → Fits G (o .the .places) t → ¬ Superfluous G t → Free G (length (yield t)) (insert k own) t
       → SameSpan cover set (length (yield t)) own → has k own ≡ false → length (yield t) ≤ cover → yield t ≡ slice from to w
       → suc (2 * at) < length e → getD e (2 * at) 0 ≡ length (yield t) → getD e (2 * at + 1) 0 ≡ r
       → code t ++ drop (2 * next) e ≡ drop (2 * (at + 1)) e → next ≡ at + 1 + nodes t → next ≤ n
@@ -168,7 +168,7 @@ module _ (G : Cfg) (w e : List ℕ) (n cover set own k at from to next : ℕ) (s
   alone {t} {r} o f s z same fresh narrow c h x y d m l =
       let i : 2 * (at + 1) ≡ 2 * at + 2 = omega arith in
       record {
-        row = node r t end;
+        forest = node r t end;
         fit = fits-node o f fits-end;
         plain = node-plain G cover set own k r o t s z;
         free = node-free G cover set own k r o t same narrow fresh z;
@@ -184,13 +184,13 @@ module _ (G : Cfg) (w e : List ℕ) (n cover set own k at from to next : ℕ) (s
   pub walk-open : to ≤ from + cover → 2 * n ≤ length e → Opened → Walked G w e n cover set (nonterminal k ∷ []) at from to next
   walk-open narrow long a = go (ap length (a .below .covers) ∙ length-slice from to w known)
     where
-      go : length (yield (a .below .row)) ≡ to - from → Walked G w e n cover set (nonterminal k ∷ []) at from to next
+      go : length (yield (a .below .forest)) ≡ to - from → Walked G w e n cover set (nonterminal k ∷ []) at from to next
       go h =
           let b = a .below in
           let early = a .early in
-          let free : Free G (length (yield (b .row))) (insert k own) (b .row) =
-          subst (λ (x : ℕ). Free G x (insert k own) (b .row)) (sym h) (b .free) in
-          let same : SameSpan cover set (length (yield (b .row))) own = subst (λ (x : ℕ). SameSpan cover set x own) (sym h) span in
+          let free : Free G (length (yield (b .forest))) (insert k own) (b .forest) =
+          subst (λ (x : ℕ). Free G x (insert k own) (b .forest)) (sym h) (b .free) in
+          let same : SameSpan cover set (length (yield (b .forest))) own = subst (λ (x : ℕ). SameSpan cover set x own) (sym h) span in
           alone (a .of) (b .fit) (b .plain) free same (a .fresh) (omega arith) (b .covers) (omega arith) (a .bytes ∙ sym h) (a .number)
           (b .coded) (b .ends) (b .inside)
 
@@ -198,8 +198,8 @@ module _ (G : Cfg) (w e : List ℕ) (n cover set own k at from to next : ℕ) (s
   unfolding yield nodes
   open-walk a = go (a .fit) (a .plain) (a .free) (a .covers) (a .coded) (a .ends)
     where
-      go : {row : Row} → Fits G (nonterminal k ∷ []) row → ¬ Superfluous G row → Free G cover set row → yield row ≡ slice from to w
-          → code row ++ drop (2 * next) e ≡ drop (2 * at) e → next ≡ at + nodes row → Opened
+      go : {forest : Forest} → Fits G (nonterminal k ∷ []) forest → ¬ Superfluous G forest → Free G cover set forest → yield forest ≡ slice from to w
+          → code forest ++ drop (2 * next) e ≡ drop (2 * at) e → next ≡ at + nodes forest → Opened
       go (fits-node {r = r} {below = below} o f fits-end) s z c d m =
           let q : yield below ≡ slice from to w = sym (yield-alone r below) ∙ c in
           let width : length (yield below) ≡ to - from = ap length q ∙ length-slice from to w known in
@@ -216,7 +216,7 @@ module _ (G : Cfg) (w e : List ℕ) (n cover set own k at from to next : ℕ) (s
             number = u .2;
             fresh = node-fresh G cover set own k r o below same s z;
             below = record {
-              row = below;
+              forest = below;
               fit = f;
               plain = below-plain G cover set own k r o below same s z;
               free = subst (λ (y : ℕ). Free G y (insert k own) below) width (below-free G cover set own k r o below same s z);

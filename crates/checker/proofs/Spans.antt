@@ -11,13 +11,13 @@ use lib.ListN.{length, length-append}
 use Rattle.sets.specs.Set.{has, insert}
 use Rattle.sets.proofs.Laws.{has-empty, has-insert-same, has-insert-other, has-insert}
 use Rattle.cfg.specs.Grammar.{Cfg, Of}
-use Rattle.cfg.specs.Tree.{Row, end, leaf, node, yield}
+use Rattle.cfg.specs.Tree.{Forest, end, leaf, node, yield}
 use Rattle.cfg.specs.Derivation.{Has, has-here, has-below, has-beside, has-after, Superfluous, super-here, super-below, super-beside}
 use Rattle.cfg.specs.Derivation.{super-after}
 use Rattle.listing.proofs.Rules.{of-same-left}
 use Rattle.checker.specs.Walk.{Free, SameSpan}
 
-pub has-within : {G : Cfg} {k n : ℕ} {t : Row} → Has G k n t → n ≤ length (yield t)
+pub has-within : {G : Cfg} {k n : ℕ} {t : Forest} → Has G k n t → n ≤ length (yield t)
 unfolding yield
 has-within (has-here {below = below} {rest} o e) = omega (arith, length-append (yield below) (yield rest))
 has-within (has-below {below = below} {rest} h) = omega (arith, has-within h, length-append (yield below) (yield rest))
@@ -37,7 +37,7 @@ module _ (G : Cfg) where
   pub end-free : (cover set : ℕ) → Free G cover set end
   end-free cover set k h = elim [ ]
 
-  module _ (m : ℕ) (rest : Row) where
+  module _ (m : ℕ) (rest : Forest) where
     pub leaf-plain : ¬ Superfluous G rest → ¬ Superfluous G (leaf m rest)
     leaf-plain s (super-after i) = s i
 
@@ -51,7 +51,7 @@ module _ (G : Cfg) where
     after-free cover set f k h i = f k h (has-after i)
 
   -- a node alone, and before a row
-  module _ (r : ℕ) (below rest : Row) where
+  module _ (r : ℕ) (below rest : Forest) where
     pub join-plain : ¬ Superfluous G (node r below end) → ¬ Superfluous G rest → ¬ Superfluous G (node r below rest)
     join-plain s t (super-here o i) = s (super-here o i)
     join-plain s t (super-below i) = s (super-below i)
@@ -81,7 +81,7 @@ module _ (G : Cfg) where
 -- ---- a node and the row below it
 
 -- own: what matters of the set for the node
-module _ (G : Cfg) (cover set own k r : ℕ) (o : Of G r k) (below : Row) where
+module _ (G : Cfg) (cover set own k r : ℕ) (o : Of G r k) (below : Forest) where
   pub node-plain : ¬ Superfluous G below → Free G (length (yield below)) (insert k own) below → ¬ Superfluous G (node r below end)
   node-plain s f (super-here {k = j} p i) =
       f k (has-insert-same k own) (subst (λ (x : ℕ). Has G x (length (yield below)) below) (of-same-left p o) i)

@@ -4,6 +4,7 @@ use Prim.Native.Nat.{ℕ, suc, _+_, _-_, _≤_, _<_}
 use mathlib.Core.List.{List, [], _∷_}
 use mathlib.Core.Path.{_≡_, sym, ap, subst, _∙_}
 use native.Mathlib.Omega.{arith}
+use Rattle.sizes.specs.Sizes.{tooMany}
 use Rattle.sets.specs.Set.{insert}
 use Rattle.cfg.specs.Grammar.{Cfg, Symbol, nonterminal, terminal}
 use Rattle.packed.specs.Packed.{leftIn, countIn, symbolIn, placesFrom, placesIn, cfgIn}
@@ -16,7 +17,7 @@ use Rattle.checker.proofs.Walks.{walk-unique, walk-end, end-walk, walk-
 use Rattle.checker.proofs.Nodes.{walk-node, Parted, node-walk, Opened, walk-open, open-walk}
 
 -- the answer that there is none
-none-answers : (P : ℕ → Type 0) → ((s : ℕ) → P s → ⊥) → Answers P 513 513
+none-answers : (P : ℕ → Type 0) → ((s : ℕ) → P s → ⊥) → Answers P tooMany tooMany
 none-answers P f = record { found = λ h. absurd (omega arith); none = λ _. f }
 
 -- answers for one property are answers for another that holds of the same numbers
@@ -55,16 +56,16 @@ module _ (p w e : List ℕ) (n cover set at from to : ℕ) (room : Room w e n co
           fresh = o .fresh;
         }
 
-    pub node-none : (r : ℕ) → Answers (Opens p e n own k (to - from) at) 128 r → 127 < r → Answers (Rows (nonterminal k ∷ [])) 513 513
+    pub node-none : (r : ℕ) → Answers (Opens p e n own k (to - from) at) 128 r → 127 < r → Answers (Rows (nonterminal k ∷ [])) tooMany tooMany
     node-none r a h =
         none-answers (Rows (nonterminal k ∷ [])) (λ s x. a .none h (opened s x .rule) (opens s (opened s x)))
 
     pub node-some : (r next passed : ℕ) → Answers (Opens p e n own k (to - from) at) 128 r → r ≤ 127 → passed ≡ insert k own
-        → Answers (Walked (cfgIn 0 p) w e n (to - from) passed (placesFrom p r 0 (countIn p r - 0)) (at + 1) from to) 513 next
-        → Answers (Rows (nonterminal k ∷ [])) 513 next
+        → Answers (Walked (cfgIn 0 p) w e n (to - from) passed (placesFrom p r 0 (countIn p r - 0)) (at + 1) from to) tooMany next
+        → Answers (Rows (nonterminal k ∷ [])) tooMany next
     node-some r next passed a h same b =
-        answers-same (Below (placesFrom p r 0 (countIn p r - 0))) (Rows (nonterminal k ∷ [])) 513 next up down
-        (subst (λ (x : ℕ). Answers (Walked (cfgIn 0 p) w e n (to - from) x (placesFrom p r 0 (countIn p r - 0)) (at + 1) from to) 513 next)
+        answers-same (Below (placesFrom p r 0 (countIn p r - 0))) (Rows (nonterminal k ∷ [])) tooMany next up down
+        (subst (λ (x : ℕ). Answers (Walked (cfgIn 0 p) w e n (to - from) x (placesFrom p r 0 (countIn p r - 0)) (at + 1) from to) tooMany next)
         same b)
       where
         it : Opens p e n own k (to - from) at r
@@ -113,7 +114,7 @@ module _ (p w e : List ℕ) (n cover set at from to : ℕ) (room : Room w e n co
         let i : suc q ≡ q + 1 = omega arith in
         places-step p r q h ∙ λ z. e z ∷ placesFrom p r (i z) (countIn p r - i z)
 
-    pub row-none : (s : Step) → Looked p w e n r q at from to s → s ≡ No → Answers (Rows left) 513 513
+    pub row-none : (s : Step) → Looked p w e n r q at from to s → s ≡ No → Answers (Rows left) tooMany tooMany
     row-none s l h = none-answers (Rows left) (λ s x. go (subst (Looked p w e n r q at from to) h l) s x)
       where
         go : Looked p w e n r q at from to No → (s : ℕ) → Rows left s → ⊥
@@ -129,10 +130,10 @@ module _ (p w e : List ℕ) (n cover set at from to : ℕ) (room : Room w e n co
             (subst (λ (l : List Symbol). Rows l s) (left-cons (nonterminal k) c y) x) in
             d (u .early) (u .fitting)
 
-    pub row-end : (s : Step) → Looked p w e n r q at from to s → s ≡ End → Answers (Rows left) 513 at
+    pub row-end : (s : Step) → Looked p w e n r q at from to s → s ≡ End → Answers (Rows left) tooMany at
     row-end s l h = go (subst (Looked p w e n r q at from to) h l)
       where
-        go : Looked p w e n r q at from to End → Answers (Rows left) 513 at
+        go : Looked p w e n r q at from to End → Answers (Rows left) tooMany at
         go (at-end c d) =
             let few = room .few in
             let before = room .before in
@@ -143,19 +144,19 @@ module _ (p w e : List ℕ) (n cover set at from to : ℕ) (room : Room w e n co
             }
 
     pub row-byte : (s : Step) (next : ℕ) → Looked p w e n r q at from to s → s ≡ Byte
-        → Answers (Walked (cfgIn 0 p) w e n cover set later at (from + 1) to) 513 next → Answers (Rows left) 513 next
+        → Answers (Walked (cfgIn 0 p) w e n cover set later at (from + 1) to) tooMany next → Answers (Rows left) tooMany next
     row-byte s next l h a = go (subst (Looked p w e n r q at from to) h l)
       where
-        go : Looked p w e n r q at from to Byte → Answers (Rows left) 513 next
+        go : Looked p w e n r q at from to Byte → Answers (Rows left) tooMany next
         go (at-byte {t} c y d f) =
-            subst (λ (l : List Symbol). Answers (Rows l) 513 next) (sym (left-cons (terminal t) c y))
-            (answers-same (Walked (cfgIn 0 p) w e n cover set later at (from + 1) to) (Rows (terminal t ∷ later)) 513 next
+            subst (λ (l : List Symbol). Answers (Rows l) tooMany next) (sym (left-cons (terminal t) c y))
+            (answers-same (Walked (cfgIn 0 p) w e n cover set later at (from + 1) to) (Rows (terminal t ∷ later)) tooMany next
             (λ s x. walk-leaf (cfgIn 0 p) w e n cover set t later at from to s (room .known) d f x)
             (λ s x. leaf-walk (cfgIn 0 p) w e n cover set t later at from to s (room .known) (room .rising) x .2) a)
 
     module _ (s : Step) (k c middle : ℕ) (looked : Looked p w e n r q at from to s) (is : s ≡ Node k c)
-        (first : Answers (Walked (cfgIn 0 p) w e n cover set (nonterminal k ∷ []) at from (from + c)) 513 middle) where
-      pub row-node-none : 512 < middle → Answers (Rows left) 513 513
+        (first : Answers (Walked (cfgIn 0 p) w e n cover set (nonterminal k ∷ []) at from (from + c)) tooMany middle) where
+      pub row-node-none : 512 < middle → Answers (Rows left) tooMany tooMany
       row-node-none h = none-answers (Rows left) (λ s x. go (subst (Looked p w e n r q at from to) is looked) s x)
         where
           go : Looked p w e n r q at from to (Node k c) → (s : ℕ) → Rows left s → ⊥
@@ -166,13 +167,13 @@ module _ (p w e : List ℕ) (n cover set at from to : ℕ) (room : Room w e n co
               (subst (λ (z : ℕ). Walked (cfgIn 0 p) w e n cover set (nonterminal k ∷ []) at from (from + z) (u .middle)) d (u .first))
 
       pub row-node-some : (next : ℕ) → middle ≤ 512
-          → Answers (Walked (cfgIn 0 p) w e n cover set later middle (from + c) to) 513 next → Answers (Rows left) 513 next
+          → Answers (Walked (cfgIn 0 p) w e n cover set later middle (from + c) to) tooMany next → Answers (Rows left) tooMany next
       row-node-some next h a = go (subst (Looked p w e n r q at from to) is looked)
         where
-          go : Looked p w e n r q at from to (Node k c) → Answers (Rows left) 513 next
+          go : Looked p w e n r q at from to (Node k c) → Answers (Rows left) tooMany next
           go (at-node b y i d f) =
-              subst (λ (l : List Symbol). Answers (Rows l) 513 next) (sym (left-cons (nonterminal k) b y))
-              (answers-same (Walked (cfgIn 0 p) w e n cover set later middle (from + c) to) (Rows (nonterminal k ∷ later)) 513 next
+              subst (λ (l : List Symbol). Answers (Rows l) tooMany next) (sym (left-cons (nonterminal k) b y))
+              (answers-same (Walked (cfgIn 0 p) w e n cover set later middle (from + c) to) (Rows (nonterminal k ∷ later)) tooMany next
               (λ s x. walk-node (cfgIn 0 p) w e n cover set k later at from (from + c) to middle s (omega arith) f (room .known)
               (first .found (omega arith)) x)
               (λ s x. down s (node-walk (cfgIn 0 p) w e n cover set k later at from to s (room .rising) (room .known) x)) a)
@@ -204,7 +205,7 @@ node-room {p} {w} {e} {n} {r} {q} {at} {from} {to} {k} {c} looked h = go (subst 
     go (at-node a y d f l) = (omega (arith, count-le p r), d, l)
 
 pub walk-room : {G : Cfg} {w e : List ℕ} {n cover set at from to middle : ℕ} {places : List Symbol}
-    → Answers (Walked G w e n cover set places at from to) 513 middle → middle ≤ 512 → (at ≤ middle) × (middle ≤ n)
+    → Answers (Walked G w e n cover set places at from to) tooMany middle → middle ≤ 512 → (at ≤ middle) × (middle ≤ n)
 walk-room a h =
     let x = a .found (omega arith) in
     let y = x .ends in

@@ -8,7 +8,7 @@ use native.Mathlib.Omega.{arith}
 use lib.ListN.{length, getD, drop}
 use lib.Seq.{slice, slice-cons, slice-empty}
 use Rattle.cfg.specs.Grammar.{Cfg, Symbol, terminal, Terminal, fits}
-use Rattle.cfg.specs.Tree.{Row, end, leaf, yield, nodes, code, Fits, fits-end, fits-leaf}
+use Rattle.cfg.specs.Tree.{Forest, end, leaf, yield, nodes, code, Fits, fits-end, fits-leaf}
 use Rattle.cfg.specs.Derivation.{Superfluous}
 use Rattle.chart.proofs.Slices.{slice-nil, slice-head}
 use Rattle.listing.proofs.Unique.{row-unique}
@@ -23,7 +23,7 @@ module _ (G : Cfg) (w e : List ℕ) (n cover set : ℕ) where
   walk-unique places at from to next next' a b =
       let u = row-unique G (drop (2 * next) e) (drop (2 * next') e) [] [] (a .fit) (b .fit)
       (ap (λ (l : List ℕ). l ++ []) (a .covers ∙ sym (b .covers))) (a .coded ∙ sym (b .coded)) in
-      a .ends ∙ ap (λ (t : Row). at + nodes t) (u .0) ∙ sym (b .ends)
+      a .ends ∙ ap (λ (t : Forest). at + nodes t) (u .0) ∙ sym (b .ends)
 
   -- ---- the end of a row
 
@@ -31,7 +31,7 @@ module _ (G : Cfg) (w e : List ℕ) (n cover set : ℕ) where
   unfolding yield code nodes
   walk-end at from to l h =
       record {
-        row = end;
+        forest = end;
         fit = fits-end;
         plain = end-plain G;
         free = end-free G cover set;
@@ -43,9 +43,9 @@ module _ (G : Cfg) (w e : List ℕ) (n cover set : ℕ) where
 
   pub end-walk : (at from to next : ℕ) → from ≤ to → to ≤ length w → Walked G w e n cover set [] at from to next → from ≡ to
   unfolding yield
-  end-walk at from to next h l a = go (a .row) (a .fit) (a .covers)
+  end-walk at from to next h l a = go (a .forest) (a .fit) (a .covers)
     where
-      go : (t : Row) → Fits G [] t → yield t ≡ slice from to w → from ≡ to
+      go : (t : Forest) → Fits G [] t → yield t ≡ slice from to w → from ≡ to
       go end fits-end c = slice-nil from to w h l c
 
   -- ---- a byte before a row
@@ -57,10 +57,10 @@ module _ (G : Cfg) (w e : List ℕ) (n cover set : ℕ) where
     walk-leaf h f a =
         let i : from + 1 ≡ suc from = omega arith in
         record {
-          row = leaf (getD w from 0) (a .row);
+          forest = leaf (getD w from 0) (a .forest);
           fit = fits-leaf f (a .fit);
-          plain = leaf-plain G (getD w from 0) (a .row) (a .plain);
-          free = leaf-free G (getD w from 0) (a .row) cover set (a .free);
+          plain = leaf-plain G (getD w from 0) (a .forest) (a .plain);
+          free = leaf-free G (getD w from 0) (a .forest) cover set (a .free);
           covers =
               ap (λ (l : List ℕ). getD w from 0 ∷ l) (a .covers ∙ ap (λ (x : ℕ). slice x to w) i) ∙ sym (slice-cons from to w 0 h known);
           coded = a .coded;
@@ -73,8 +73,8 @@ module _ (G : Cfg) (w e : List ℕ) (n cover set : ℕ) where
     unfolding yield code nodes
     leaf-walk rising a = go (a .fit) (a .plain) (a .free) (a .covers) (a .coded) (a .ends)
       where
-        go : {row : Row} → Fits G (terminal t ∷ places) row → ¬ Superfluous G row → Free G cover set row → yield row ≡ slice from to w
-            → code row ++ drop (2 * next) e ≡ drop (2 * at) e → next ≡ at + nodes row
+        go : {forest : Forest} → Fits G (terminal t ∷ places) forest → ¬ Superfluous G forest → Free G cover set forest → yield forest ≡ slice from to w
+            → code forest ++ drop (2 * next) e ≡ drop (2 * at) e → next ≡ at + nodes forest
             → (from < to) × (fits t (getD w from 0) ≡ true) × Walked G w e n cover set places at (from + 1) to next
         go (fits-leaf {m = m} {rest = rest} f g) s r c d k =
             let x = slice-head from to w rising known m (yield rest) c in
@@ -82,7 +82,7 @@ module _ (G : Cfg) (w e : List ℕ) (n cover set : ℕ) where
               x .0,
               subst (λ (y : ℕ). fits t y ≡ true) (x .1) f,
               record {
-                row = rest;
+                forest = rest;
                 fit = g;
                 plain = after-plain G m rest s;
                 free = after-free G m rest cover set r;

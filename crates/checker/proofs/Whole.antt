@@ -1,4 +1,4 @@
--- A node that is walked over the whole input and the whole offered row is a derivation, and back; so the answer of `is_derivation`.
+-- A node that is walked over the whole input and the whole offered derivation is one, and back; so the answer of `is_derivation`.
 -- Assumes nothing.
 use Prim.Native.Nat.{ℕ, _*_, _/_, _%_, _≤_, _<_}
 use mathlib.Core.Bool.{Bool, true, false, true≢false}
@@ -10,6 +10,7 @@ use lib.Dec.{eqb}
 use lib.ListN.{length, drop, drop-of-length-le}
 use lib.Seq.{take-length}
 use borrow.Author.Tests.{eq-eqb, ne-eqb}
+use Rattle.sizes.specs.Sizes.{tooMany}
 use Rattle.sets.proofs.Laws.{has-empty}
 use Rattle.cfg.specs.Grammar.{Cfg, nonterminal}
 use Rattle.cfg.specs.Tree.{nodes, code}
@@ -53,7 +54,7 @@ module _ (G : Cfg) (w e : List ℕ) where
   pub odd-unlisted : length e % 2 ≡ 1 → false ≡ listed e (L G w)
   odd-unlisted h = none-listed (λ d. let l = derivation-even d in omega arith)
 
--- ---- the whole input and the whole offered row
+-- ---- the whole input and the whole offered derivation
 
 module _ (p w e : List ℕ) (start : ℕ) where
   -- the node that stands for the whole
@@ -70,11 +71,11 @@ module _ (p w e : List ℕ) (start : ℕ) where
       let l = a .ends in
       let none : drop (2 * (length e / 2)) e ≡ [] = drop-of-length-le e {i = 2 * (length e / 2)} (omega arith) in
       record {
-        tree = a .row;
+        tree = a .forest;
         parse = (fits-same-rules (cfgIn 0 p) (cfgIn start p) rules-same (a .fit), a .covers ∙ take-length w);
         plain = λ s. a .plain (superfluous-same-rules (cfgIn start p) (cfgIn 0 p) (same-sym (cfgIn 0 p) (cfgIn start p) rules-same) s);
         small = omega arith;
-        coded = sym (append-nil (code (a .row))) ∙ ap (λ (l : List ℕ). code (a .row) ++ l) (sym none) ∙ a .coded;
+        coded = sym (append-nil (code (a .forest))) ∙ ap (λ (l : List ℕ). code (a .forest) ++ l) (sym none) ∙ a .coded;
       }
 
   derivation→top : Derivation (cfgIn start p) limit w e → Top (length e / 2)
@@ -84,7 +85,7 @@ module _ (p w e : List ℕ) (start : ℕ) where
       let h : length e ≡ 2 * nodes (d .tree) = ap length (sym (d .coded)) ∙ length-code (d .tree) in
       let none : drop (2 * (length e / 2)) e ≡ [] = drop-of-length-le e {i = 2 * (length e / 2)} (omega arith) in
       record {
-        row = d .tree;
+        forest = d .tree;
         fit = fits-same-rules (cfgIn start p) (cfgIn 0 p) back (d .parse .0);
         plain = λ s. d .plain (superfluous-same-rules (cfgIn 0 p) (cfgIn start p) rules-same s);
         free = λ k m _. true≢false (sym m ∙ has-empty k);
@@ -94,7 +95,7 @@ module _ (p w e : List ℕ) (start : ℕ) where
         inside = omega arith;
       }
 
-  pub whole-listed : (next : ℕ) → length e ≤ 1024 → (length e % 2 ≡ 1 → ⊥) → Answers Top 513 next
+  pub whole-listed : (next : ℕ) → length e ≤ 1024 → (length e % 2 ≡ 1 → ⊥) → Answers Top tooMany next
       → eqb next (length e / 2) ≡ listed e (L (cfgIn start p) w)
   whole-listed next short odd a = go (ℕ-discrete next (length e / 2))
     where
@@ -106,9 +107,9 @@ module _ (p w e : List ℕ) (start : ℕ) where
           eq-eqb next (length e / 2) h
           ∙ derivation-listed (cfgIn start p) w e (top→derivation short even (subst Top h (a .found (omega arith))))
       go (no h) =
-          ne-eqb next (length e / 2) h ∙ none-listed (cfgIn start p) w e (λ d. other (decLt next 513) (derivation→top d))
+          ne-eqb next (length e / 2) h ∙ none-listed (cfgIn start p) w e (λ d. other (decLt next tooMany) (derivation→top d))
         where
-          other : Dec (next < 513) → Top (length e / 2) → ⊥
+          other : Dec (next < tooMany) → Top (length e / 2) → ⊥
           other (yes l) t =
               h (walk-unique (cfgIn 0 p) w e (length e / 2) (length w) 0 (nonterminal start ∷ []) 0 0 (length w) next (length e / 2)
               (a .found (omega arith)) t)

@@ -5,6 +5,7 @@ use mathlib.Core.Bool.{Bool, true, false, not}
 use mathlib.Core.List.{List, [], _∷_}
 use mathlib.Core.Path.{_≡_}
 use lib.IntN.{ℤ}
+use Rattle.sizes.specs.Sizes.{cells}
 use Rattle.grammar.specs.declared.Grammar.{Grammar}
 use Rattle.grammar.specs.declared.Refusal.the-variants.{InvalidGrammar, InputLength, ChartTooShort}
 use Rattle.grammar.specs.Number.{numberOf}
@@ -55,8 +56,8 @@ buildAnswer l d e =
 
 -- the first of the checks 8, 9 and 10 that fails, for an input of n bytes and a chart of m cells
 pub data Judging (g : Grammar) (n m : ℕ) : Judged → Type 0 where
-  passed : validGrammar g ≡ true → 0 < n → n ≤ 64 → 4225 ≤ m → Judging g n m J.Passed
+  passed : validGrammar g ≡ true → 0 < n → n ≤ 64 → cells ≤ m → Judging g n m J.Passed
   invalid : validGrammar g ≡ false → Judging g n m (J.Refused InvalidGrammar)
   no-input : validGrammar g ≡ true → n ≡ 0 → Judging g n m (J.Refused InputLength)
   long-input : validGrammar g ≡ true → 64 < n → Judging g n m (J.Refused InputLength)
-  no-room : validGrammar g ≡ true → 0 < n → n ≤ 64 → m < 4225 → Judging g n m (J.Refused ChartTooShort)
+  no-room : validGrammar g ≡ true → 0 < n → n ≤ 64 → m < cells → Judging g n m (J.Refused ChartTooShort)

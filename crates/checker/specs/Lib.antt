@@ -1,4 +1,4 @@
--- What the checker says: the walk over an offered row, the count of its rules, and the calls.
+-- What the checker says: the walk over an offered derivation, the count of its rules, and the calls.
 pub mod Walk
 pub mod Build
 pub mod Calls

@@ -1,5 +1,5 @@
--- What the checker of a node and the walker of a row find in an offered row of numbers. Node i of an offered row e is the two numbers at
--- 2 * i (how many bytes it covers) and 2 * i + 1 (its rule). The words of a set are those of crate sets.
+-- What the checker of a node and the walker of a row of places find in an offered derivation e. Its node i is the two numbers at 2 * i (how
+-- many bytes it covers) and 2 * i + 1 (its rule). The words of a set are those of crate sets.
 -- Assumes nothing.
 use Prim.Native.Nat.{ℕ, _+_, _*_, _≤_, _<_}
 use mathlib.Core.Bool.{true, false}
@@ -9,26 +9,26 @@ use lib.ListN.{length, getD, drop}
 use lib.Seq.{slice}
 use Rattle.sets.specs.Set.{has}
 use Rattle.cfg.specs.Grammar.{Cfg, Symbol, nonterminal, terminal, Terminal, fits}
-use Rattle.cfg.specs.Tree.{Row, yield, nodes, code, Fits}
+use Rattle.cfg.specs.Tree.{Forest, yield, nodes, code, Fits}
 use Rattle.cfg.specs.Derivation.{Has, Superfluous}
 use Rattle.packed.specs.Packed.{leftIn, countIn, symbolIn}
 use Rattle.checker.specs.declared.walk.Step.{Step}
 use Rattle.checker.specs.declared.walk.Step.the-variants.{No, End, Byte, Node}
 
--- no node of the row has a nonterminal of the set over that many bytes
-abbrev pub Free : Cfg → ℕ → ℕ → Row → Type 0
+-- no node of the forest has a nonterminal of the set over that many bytes
+abbrev pub Free : Cfg → ℕ → ℕ → Forest → Type 0
 Free G cover set t = (k : ℕ) → has k set ≡ true → Has G k cover t → ⊥
 
--- a row for the places over the bytes `from` to `to`, without superfluous recursion and free of the set over `cover` bytes, whose code
+-- a forest for the places over the bytes `from` to `to`, without superfluous recursion and free of the set over `cover` bytes, whose code
 -- stands in e from node `at` on; `next` is the node after it, and n the number of nodes that e has
 pub record Walked (G : Cfg) (w e : List ℕ) (n cover set : ℕ) (places : List Symbol) (at from to next : ℕ) : Type 0 where
-  pub row : Row
-  pub fit : Fits G places row
-  pub plain : ¬ Superfluous G row
-  pub free : Free G cover set row
-  pub covers : yield row ≡ slice from to w
-  pub coded : code row ++ drop (2 * next) e ≡ drop (2 * at) e
-  pub ends : next ≡ at + nodes row
+  pub forest : Forest
+  pub fit : Fits G places forest
+  pub plain : ¬ Superfluous G forest
+  pub free : Free G cover set forest
+  pub covers : yield forest ≡ slice from to w
+  pub coded : code forest ++ drop (2 * next) e ≡ drop (2 * at) e
+  pub ends : next ≡ at + nodes forest
   pub inside : next ≤ n
 
 -- r is below the bound and has the property, or no number has it

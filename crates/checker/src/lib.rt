@@ -1,6 +1,7 @@
 // The checker of an offered derivation (document 01: reading), its length, and the same build.
 use grammar::Grammar;
 use grammar::Refusal;
+use packed::Packed;
 ghost use mathlib.Core.Bool.{true};
 ghost use mathlib.Core.Path.{_≡_};
 ghost use Prim.Native.Nat.{ℕ, _≤_};
@@ -14,12 +15,13 @@ ghost use Rattle.packed.specs.Packed.{cfgIn};
 ghost use Rattle.results.specs.Check.{checkOf};
 ghost use Rattle.results.specs.Measure.{lengthOf, sameBuildOf, sum as sumOf, rounded as roundedOf};
 ghost use Rattle.checker.specs.Calls.{Judging, checkedOf, measuredOf, comparedOf, checkingOf, checkAnswer, lengthAnswer, buildAnswer};
+ghost use Rattle.sizes.specs.Sizes.{cells};
 
 mod build;
 pub mod measure;
 pub mod walk;
 
-// Whether the offered row is a derivation, or why the call was refused.
+// Whether the offered derivation is one, or why the call was refused.
 pub enum Checked {
     Yes,
     No,
@@ -58,15 +60,15 @@ fn judge(g: Grammar, n: usize, m: usize) -> Judged
     if n > 64 {
         return Judged::Refused(Refusal::InputLength); // too many
     }
-    if m < 4225 {
+    if m < sizes::CELLS {
         return Judged::Refused(Refusal::ChartTooShort); // too short
     }
     Judged::Passed
 }
 
 // The packed grammar, with the chart filled for the input.
-fn fill(g: Grammar, input: &[u8], chart: &mut [u32]) -> [u8; 2304]
-    requires { ⌜ (validGrammar g ≡ true) × (length (now input) ≤ 64) × (4225 ≤ length (now chart)) ⌝ }
+fn fill(g: Grammar, input: &[u8], chart: &mut [u32]) -> Packed
+    requires { ⌜ (validGrammar g ≡ true) × (length (now input) ≤ 64) × (cells ≤ length (now chart)) ⌝ }
     ensures { λ p. ⌜ (now (chart .exit) ≡ filled (grammarOf g) (now (input .entry)) (now (chart .entry)))
         × ((r : ℕ) → ruleOfNumber (cfgIn (g .start) p) r ≡ ruleOfNumber (grammarOf g) r) ⌝ }
 {
@@ -82,8 +84,8 @@ fn wide(x: u8) -> usize
     x as usize
 }
 
-// Whether the offered row is a derivation.
-fn check_offered(p: &[u8; 2304], start: usize, input: &[u8], offered: &[u16]) -> Checked
+// Whether the offered derivation is one.
+fn check_offered(p: &Packed, start: usize, input: &[u8], offered: &[u16]) -> Checked
     ensures { λ r. ⌜ checkedOf r ≡ checkAnswer (L (cfgIn start (now (p .entry))) (now (input .entry))) (now (offered .entry)) ⌝ }
 {
     if walk::is_derivation(p, start, input, offered) {
@@ -102,13 +104,7 @@ fn tenths(g: Grammar, e: &[u16]) -> i32
 }
 
 // The length of an offered derivation.
-fn measure_offered(
-    g: Grammar,
-    p: &[u8; 2304],
-    start: usize,
-    input: &[u8],
-    offered: &[u16],
-) -> Measured
+fn measure_offered(g: Grammar, p: &Packed, start: usize, input: &[u8], offered: &[u16]) -> Measured
     ensures { λ r. ⌜ measuredOf r ≡ lengthAnswer g (L (cfgIn start (now (p .entry))) (now (input .entry))) (now (offered .entry)) ⌝ }
 {
     if walk::is_derivation(p, start, input, offered) {
@@ -119,7 +115,7 @@ fn measure_offered(
 }
 
 // Whether two offered derivations are the same build.
-fn compare_offered(p: &[u8; 2304], start: usize, input: &[u8], a: &[u16], b: &[u16]) -> Compared
+fn compare_offered(p: &Packed, start: usize, input: &[u8], a: &[u16], b: &[u16]) -> Compared
     ensures { λ r. ⌜ comparedOf r
         ≡ buildAnswer (L (cfgIn start (now (p .entry))) (now (input .entry))) (now (a .entry)) (now (b .entry)) ⌝ }
 {
@@ -138,7 +134,7 @@ fn compare_offered(p: &[u8; 2304], start: usize, input: &[u8], a: &[u16], b: &[u
 
 // ---- the exported calls
 
-// Whether the offered row is a derivation of the input. Refusals 8, 9 and 10.
+// Whether the offered derivation is one of the input. Refusals 8, 9 and 10.
 pub fn check(g: Grammar, input: &[u8], offered: &[u16], chart: &mut [u32]) -> Checked
     ensures { λ r. ⌜ checkingOf (checkedOf r) (now (chart .exit))
         ≡ checkOf g (now (input .entry)) (now (offered .entry)) (now (chart .entry)) ⌝ }

@@ -28,7 +28,7 @@ fn length_of(rule: Rule) -> i32
     z as i32
 }
 
-// The rule lengths of all nodes of an offered row, empty ones too, added up.
+// The rule lengths of all nodes of an offered derivation, empty ones too, added up.
 pub fn total(g: Grammar, e: &[u16]) -> i32
     requires { ⌜ length (now e) ≤ 1024 ⌝ }
     ensures { λ r. ⌜ (r ≡ sumOf g (now (e .entry))) × (mag r ≤ 16777216) ⌝ }

@@ -1,5 +1,6 @@
 // The checker proper: the checker of a node calls the walker of a row of places, which calls the checker of a node.
-// Node i of an offered row e is the two numbers at 2 i (how many bytes it covers) and 2 i + 1 (its rule).
+// Node i of an offered derivation e is the two numbers at 2 i (how many bytes it covers) and 2 i + 1 (its rule).
+use packed::Packed;
 ghost use mathlib.Core.Path.{_≡_};
 ghost use mathlib.Core.List.{[], _∷_};
 ghost use Prim.Native.Nat.{_*_, _+_, _-_, _<_, _≤_, min};
@@ -9,6 +10,7 @@ ghost use Rattle.cfg.specs.Listing.{L};
 ghost use Rattle.packed.specs.Packed.{placesFrom, countIn, cfgIn};
 ghost use Rattle.results.specs.Check.{listed};
 ghost use Rattle.checker.specs.Walk.{Walked, Answers, Room, SameSpan, Opens, Looked};
+ghost use Rattle.sizes.specs.Sizes.{tooMany};
 
 // What comes next in a row: nothing that fits, its end, a byte, or a node of a nonterminal over so many bytes.
 pub enum Step {
@@ -18,7 +20,7 @@ pub enum Step {
     Node(usize, usize),
 }
 
-// A number of an offered row.
+// A number of an offered derivation.
 pub fn number(e: &[u16], i: usize) -> usize
     requires { ⌜ i < length (now e) ⌝ }
     ensures { λ r. ⌜ (r ≡ getD (now (e .entry)) i 0) × (r < 65536) ⌝ }
@@ -43,7 +45,7 @@ fn same_span(cover: usize, above: u32, c: usize) -> u32
 }
 
 // The rule of node `at`, if the node covers c bytes and is of the nonterminal k, which is not in the set; else 128.
-fn rule_at(p: &[u8; 2304], e: &[u16], n: usize, set: u32, k: usize, c: usize, at: usize) -> usize
+fn rule_at(p: &Packed, e: &[u16], n: usize, set: u32, k: usize, c: usize, at: usize) -> usize
     requires { ⌜ (2 * n ≤ length (now e)) × (n ≤ 512) ⌝ }
     ensures { λ r. ⌜ Answers (Opens (now (p .entry)) (now (e .entry)) n set k c at) 128 r ⌝ }
 {
@@ -68,7 +70,7 @@ fn rule_at(p: &[u8; 2304], e: &[u16], n: usize, set: u32, k: usize, c: usize, at
 
 // What comes next at place q of rule r, over the bytes `from` to `to`.
 fn look(
-    p: &[u8; 2304],
+    p: &Packed,
     w: &[u8],
     e: &[u16],
     n: usize,
@@ -104,9 +106,9 @@ fn look(
     Step::No
 }
 
-// The node after a node of the nonterminal k over the bytes `from` to `to` that stands at node `at`; 513 if there is none there.
+// The node after a node of the nonterminal k over the bytes `from` to `to` that stands at node `at`; TOO_MANY if there is none there.
 pub fn node(
-    p: &[u8; 2304],
+    p: &Packed,
     w: &[u8],
     e: &[u16],
     n: usize,
@@ -119,20 +121,20 @@ pub fn node(
 ) -> usize
     requires { ⌜ Room (now w) (now e) n cover at from to ⌝ }
     ensures { λ next. ⌜ Answers (Walked (cfgIn 0 (now (p .entry))) (now (w .entry)) (now (e .entry)) n cover above
-        (nonterminal k ∷ []) at from to) 513 next ⌝ }
+        (nonterminal k ∷ []) at from to) tooMany next ⌝ }
 {
     let c = to - from;
     let set = same_span(cover, above, c);
     let r = rule_at(p, e, n, set, k, c, at);
     if r > 127 {
-        return 513;
+        return sizes::TOO_MANY;
     }
     row(p, w, e, n, c, sets::with(set, k), r, 0, at + 1, from, to)
 }
 
-// The node after a row for the places of rule r from place q on; 513 if there is none.
+// The node after a row for the places of rule r from place q on; TOO_MANY if there is none.
 pub fn row(
-    p: &[u8; 2304],
+    p: &Packed,
     w: &[u8],
     e: &[u16],
     n: usize,
@@ -146,25 +148,25 @@ pub fn row(
 ) -> usize
     requires { ⌜ (r < 128) × Room (now w) (now e) n cover at from to ⌝ }
     ensures { λ next. ⌜ Answers (Walked (cfgIn 0 (now (p .entry))) (now (w .entry)) (now (e .entry)) n cover above
-        (placesFrom (now (p .entry)) r q (countIn (now (p .entry)) r - q)) at from to) 513 next ⌝ }
+        (placesFrom (now (p .entry)) r q (countIn (now (p .entry)) r - q)) at from to) tooMany next ⌝ }
 {
     let step = look(p, w, e, n, r, q, at, from, to);
     match step {
-        Step::No => 513,
+        Step::No => sizes::TOO_MANY,
         Step::End => at,
         Step::Byte => row(p, w, e, n, cover, above, r, q + 1, at, from + 1, to),
         Step::Node(k, c) => {
             let next = node(p, w, e, n, cover, above, k, at, from, from + c);
             if next > 512 {
-                return 513;
+                return sizes::TOO_MANY;
             }
             row(p, w, e, n, cover, above, r, q + 1, next, from + c, to)
         }
     }
 }
 
-// Whether the offered row is a derivation of w.
-pub fn is_derivation(p: &[u8; 2304], start: usize, w: &[u8], e: &[u16]) -> bool
+// Whether the offered derivation is one of w.
+pub fn is_derivation(p: &Packed, start: usize, w: &[u8], e: &[u16]) -> bool
     ensures { λ b. ⌜ b ≡ listed (now (e .entry)) (L (cfgIn start (now (p .entry))) (now (w .entry))) ⌝ }
 {
     let m = e.len();

@@ -1,4 +1,4 @@
--- Demand 2, second half: the check says yes exactly if the offered row is a derivation (reading) of the input, and no exactly if not.
+-- Demand 2, second half: the check says yes exactly if the offered derivation is one (reading) of the input, and no exactly if not.
 -- Assumes nothing.
 use Prim.Native.Nat.{ℕ}
 use mathlib.Core.Bool.{Bool, true, false}

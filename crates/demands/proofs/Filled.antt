@@ -6,6 +6,7 @@ use mathlib.Core.Bool.{true}
 use mathlib.Core.List.{List, []}
 use mathlib.Core.Path.{_≡_, refl, ap, _∙_}
 use lib.ListN.{length}
+use Rattle.sizes.specs.Sizes.{cells}
 use Rattle.chart.specs.Column.{extendedBy, filled}
 use Rattle.grammar.specs.declared.Grammar.{Grammar}
 use Rattle.grammar.specs.Valid.{validGrammar}
@@ -21,7 +22,7 @@ use Rattle.demands.proofs.Kept.{handing-chart, first-kept, next-kept}
 use Rattle.demands.proofs.Later.{open-passed, onInput-passed, first-passed, next-passed}
 
 -- opening is filling with no bytes
-pub open-filled : (g : Grammar) (chart : List ℕ) → validGrammar g ≡ true → 4225 ≤ length chart
+pub open-filled : (g : Grammar) (chart : List ℕ) → validGrammar g ≡ true → cells ≤ length chart
     → openOf g chart .chart ≡ filled (grammarOf g) [] chart
 unfolding filled extendedBy
 open-filled g chart v r = ap (λ (x : Recognition). x .chart) (open-passed g chart v r)

@@ -9,6 +9,7 @@ use native.Mathlib.Omega.{arith}
 use lib.ListN.{length, take, drop, length-append, length-drop, length-take}
 use lib.Seq.{drop-at}
 use borrow.Author.Tests.{ltb-false, eqb-false}
+use Rattle.sizes.specs.Sizes.{cells}
 use Rattle.cfg.specs.Listing.{L}
 use Rattle.chart.specs.Cell.{fitsAt}
 use Rattle.chart.specs.Column.{extended, filled}
@@ -28,7 +29,7 @@ use Rattle.results.proofs.Decide.{decide-either}
 use Rattle.results.proofs.Answers.{answered-inj, handed-inj}
 use Rattle.demands.proofs.Passed.{pass→ready, pass→readyOut}
 use Rattle.demands.proofs.Handed.{headOf-member, afterIn-member}
-use Rattle.results.proofs.Demand3.Listed.{row-even, row-short}
+use Rattle.results.proofs.Demand3.Listed.{reading-even, reading-short}
 
 -- ---- the chart
 
@@ -45,7 +46,7 @@ pub open-kept : (g : Grammar) (chart : List ℕ) → ChartKept chart (openOf g c
 unfolding openOf
 open-kept g chart =
     decide-either _ _ (λ (r : Recognition). ChartKept chart (r .chart)) _ (λ n. chart-same chart) (λ p. record {
-      same-length = opened-length (grammarOf g) chart (ltb-false (length chart) 4225 (p .1 .0));
+      same-length = opened-length (grammarOf g) chart (ltb-false (length chart) cells (p .1 .0));
       behind = opened-behind (grammarOf g) chart;
     })
 
@@ -114,7 +115,7 @@ module _ (g : Grammar) (w chart out : List ℕ) (answer : Answer Handing) (space
   handing-kept none m = output-same answer out
   handing-kept (some e) m =
       let i = m e refl in
-      output-handed e out (row-even (grammarOf g) w e i) (omega (arith, row-short (grammarOf g) w e i))
+      output-handed e out (reading-even (grammarOf g) w e i) (omega (arith, reading-short (grammarOf g) w e i))
 
 -- the chart and the output
 Both : (chart out : List ℕ) → Enumeration → Type 0

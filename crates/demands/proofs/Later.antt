@@ -9,6 +9,7 @@ use native.Mathlib.Omega.{arith}
 use lib.Dec.{eqb}
 use lib.ListN.{length, take}
 use borrow.Author.Tests.{le-ltb, ne-eqb}
+use Rattle.sizes.specs.Sizes.{cells}
 use Rattle.cfg.specs.Listing.{L}
 use Rattle.chart.specs.Column.{opened, extended, filled, complete}
 use Rattle.grammar.specs.declared.Grammar.{Grammar}
@@ -26,20 +27,20 @@ use Rattle.demands.proofs.Passed.{ready→pass, readyOut→pass}
 
 -- ---- what a call gives
 
-pub open-passed : (g : Grammar) (chart : List ℕ) → validGrammar g ≡ true → 4225 ≤ length chart
+pub open-passed : (g : Grammar) (chart : List ℕ) → validGrammar g ≡ true → cells ≤ length chart
     → let c = opened (grammarOf g) chart in
     openOf g chart ≡ record { answer = answered (complete (grammarOf g) 0 c); state = stateOf []; chart = c }
 unfolding openOf
-open-passed g chart v r = decide-passed _ _ _ (ap not v, (le-ltb (length chart) 4225 r, tt))
+open-passed g chart v r = decide-passed _ _ _ (ap not v, (le-ltb (length chart) cells r, tt))
 
-pub take-passed : (g : Grammar) (h : State) (m : ℕ) (chart : List ℕ) → validGrammar g ≡ true → h .count < 64 → 4225 ≤ length chart
+pub take-passed : (g : Grammar) (h : State) (m : ℕ) (chart : List ℕ) → validGrammar g ≡ true → h .count < 64 → cells ≤ length chart
     → let w = take (h .count) (h .bytes) ++ (m ∷ []) in
     let c = extended (grammarOf g) w chart in
     takeOf g h m chart ≡ record { answer = answered (complete (grammarOf g) (h .count + 1) c); state = stateOf w; chart = c }
 unfolding takeOf
 take-passed g h m chart v l r =
     decide-passed _ _ _
-    (ap not v, (le-ltb 64 (h .count) (omega arith), (le-ltb (length chart) 4225 r, (ne-eqb (h .count) 64 (λ e. omega arith), tt))))
+    (ap not v, (le-ltb 64 (h .count) (omega arith), (le-ltb (length chart) cells r, (ne-eqb (h .count) 64 (λ e. omega arith), tt))))
 
 pub onInput-passed : (g : Grammar) (w chart : List ℕ) {A : Type 0} (answer : Unit {0} → Answer A) → Ready g w chart
     → onInput g w chart answer ≡ record { answer = answer tt; chart = filled (grammarOf g) w chart }
@@ -60,15 +61,15 @@ module _ (g : Grammar) (w chart out : List ℕ) (r : ReadyOut g w chart out) whe
 
 -- ---- which refusals come after these checks
 
-pub open-later : (g : Grammar) (chart : List ℕ) → validGrammar g ≡ true → 4225 ≤ length chart → (n : ℕ)
+pub open-later : (g : Grammar) (chart : List ℕ) → validGrammar g ≡ true → cells ≤ length chart → (n : ℕ)
     → openOf g chart .answer ≡ refused n → ⊥
 open-later g chart v r n e = answered-apart (sym (ap (λ (x : Recognition). x .answer) (open-passed g chart v r)) ∙ e)
 
-pub take-later : (g : Grammar) (h : State) (m : ℕ) (chart : List ℕ) → validGrammar g ≡ true → h .count < 64 → 4225 ≤ length chart
+pub take-later : (g : Grammar) (h : State) (m : ℕ) (chart : List ℕ) → validGrammar g ≡ true → h .count < 64 → cells ≤ length chart
     → (n : ℕ) → takeOf g h m chart .answer ≡ refused n → ⊥
 take-later g h m chart v l r n e = answered-apart (sym (ap (λ (x : Recognition). x .answer) (take-passed g h m chart v l r)) ∙ e)
 
--- 12 alone, for one offered row or two
+-- 12 alone, for one offered derivation or two
 offered-refused : {A : Type 0} (b : Bool) (a : A) (n : ℕ) → decide (check b 12 ∷ []) refused (λ _. answered a) ≡ refused n → n ≡ 12
 offered-refused {A} b a n =
     decide-cases _ _ (λ (x : Answer A). x ≡ refused n → n ≡ 12) _ ((λ e p. sym (refused-inj p)), tt) (λ p e. absurd (answered-apart e))

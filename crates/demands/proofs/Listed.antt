@@ -16,7 +16,7 @@ use Rattle.results.specs.Check.{listed}
 use Rattle.results.specs.Measure.{unlisted}
 use Rattle.results.proofs.Demand3.Rows.{listed-member, member-listed}
 
--- ---- offered rows
+-- ---- offered derivations
 
 module _ (g : Grammar) (w e : List ℕ) where
   pub derivation→offered : Derivation (grammarOf g) limit w e → unlisted g w e ≡ false

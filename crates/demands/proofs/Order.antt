@@ -8,6 +8,7 @@ use native.Mathlib.Omega.{arith}
 use lib.Dec.{eqb}
 use lib.ListN.{length}
 use borrow.Author.Tests.{lt-ltb, le-ltb, eq-eqb}
+use Rattle.sizes.specs.Sizes.{cells}
 use Rattle.grammar.specs.declared.Grammar.{Grammar}
 use Rattle.results.specs.Answer.{Answer, refused, check, decide}
 use Rattle.results.specs.Recognize.{State, Recognition, grammarCheck, stateCheck, chartCheck, openOf, takeOf}
@@ -26,7 +27,7 @@ unfolding openOf
 open-order g chart = record {
   eight = λ v. ap (λ (x : Recognition). x .answer) (decide-first _ _ [] (grammarCheck g) _ tt (ap not v));
   ten = λ v r. ap (λ (x : Recognition). x .answer)
-      (decide-first _ _ (grammarCheck g ∷ []) (chartCheck chart) _ (ap not v, tt) (lt-ltb (length chart) 4225 r));
+      (decide-first _ _ (grammarCheck g ∷ []) (chartCheck chart) _ (ap not v, tt) (lt-ltb (length chart) cells r));
   passed = open-later g chart;
 }
 
@@ -38,10 +39,10 @@ take-order g h m chart = record {
       (decide-first _ _ (grammarCheck g ∷ []) (stateCheck h) _ (ap not v, tt) (lt-ltb 64 (h .count) l));
   ten = λ v l r. ap (λ (x : Recognition). x .answer)
       (decide-first _ _ (grammarCheck g ∷ stateCheck h ∷ []) (chartCheck chart) _ (ap not v, (le-ltb 64 (h .count) l, tt))
-      (lt-ltb (length chart) 4225 r));
+      (lt-ltb (length chart) cells r));
   fifteen = λ v l r. ap (λ (x : Recognition). x .answer)
       (decide-first _ _ (grammarCheck g ∷ stateCheck h ∷ chartCheck chart ∷ []) (check (eqb (h .count) 64) 15) _
-      (ap not v, (le-ltb 64 (h .count) (omega arith), (le-ltb (length chart) 4225 r, tt))) (eq-eqb (h .count) 64 l));
+      (ap not v, (le-ltb 64 (h .count) (omega arith), (le-ltb (length chart) cells r, tt))) (eq-eqb (h .count) 64 l));
   passed = take-later g h m chart;
 }
 
@@ -58,7 +59,7 @@ module _ (g : Grammar) (w chart : List ℕ) where
         (decide-first _ _ (grammarCheck g ∷ []) (inputCheck w) _ (ap not v, tt) (input-fails w l));
     ten = λ v s l r. ap (λ (x : Checking A). x .answer)
         (decide-first _ _ (grammarCheck g ∷ inputCheck w ∷ []) (chartCheck chart) _ (ap not v, (input-passes w s l, tt))
-        (lt-ltb (length chart) 4225 r));
+        (lt-ltb (length chart) cells r));
     passed = f;
   }
 
@@ -91,7 +92,7 @@ module _ (g : Grammar) (w chart out : List ℕ) where
         (decide-first _ _ (grammarCheck g ∷ []) (inputCheck w) _ (ap not v, tt) (input-fails w l));
     ten = λ v s l r. ap (λ (x : Enumeration). x .answer)
         (decide-first _ _ (grammarCheck g ∷ inputCheck w ∷ []) (chartCheck chart) _ (ap not v, (input-passes w s l, tt))
-        (lt-ltb (length chart) 4225 r));
+        (lt-ltb (length chart) cells r));
     eleven = λ r l. ap (λ (x : Enumeration). x .answer)
         (decide-first _ _ (inputChecks g w chart) (outputCheck out) [] (ready→pass g w chart r) (lt-ltb (length out) 1024 l));
     passed = f;

@@ -1,4 +1,4 @@
--- Refusal 12 of next, length and same build is given exactly where an offered row is no derivation of the input.
+-- Refusal 12 of next, length and same build is given exactly where an offered derivation is none of the input.
 -- Assumes nothing.
 use Prim.Native.Nat.{ℕ}
 use mathlib.Core.Bool.{Bool, true, false}
@@ -32,7 +32,7 @@ module _ (g : Grammar) (w : List ℕ) where
       by false p = inr p
 
   module _ {B : Type 0} (refuse : ℕ → B) (go : Unit {0} → B) where
-    -- one offered row
+    -- one offered derivation
     one-twelve : (e : List ℕ) → (Offered e → ⊥) → decide (check (unlisted g w e) 12 ∷ []) refuse go ≡ refuse 12
     one-twelve e f = by (unlisted-cases e)
       where
@@ -43,7 +43,7 @@ module _ (g : Grammar) (w : List ℕ) where
     one-passed : (e : List ℕ) → Offered e → decide (check (unlisted g w e) 12 ∷ []) refuse go ≡ go tt
     one-passed e d = decide-passed refuse go (check (unlisted g w e) 12 ∷ []) (derivation→offered g w e d, tt)
 
-    -- two offered rows
+    -- two offered derivations
     abbrev two : List ℕ → List ℕ → B
     two a b = decide (check (unlisted g w a) 12 ∷ check (unlisted g w b) 12 ∷ []) refuse go
 

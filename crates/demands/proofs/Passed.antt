@@ -9,6 +9,7 @@ use native.Mathlib.Omega.{arith}
 use lib.Dec.{eqb, ltb}
 use lib.ListN.{length}
 use borrow.Author.Tests.{ltb-false, eqb-false, not-false, lt-ltb, le-ltb, eq-eqb, ne-eqb}
+use Rattle.sizes.specs.Sizes.{cells}
 use Rattle.grammar.specs.declared.Grammar.{Grammar}
 use Rattle.grammar.specs.Valid.{validGrammar}
 use Rattle.results.specs.Check.{inputCheck, inputChecks}
@@ -41,14 +42,14 @@ module _ (w : List ℕ) where
 
 pub ready→pass : (g : Grammar) (w chart : List ℕ) → Ready g w chart → Pass (inputChecks g w chart)
 ready→pass g w chart r =
-    (ap not (r .valid), (input-passes w (r .nonempty) (r .short), (le-ltb (length chart) 4225 (r .room), tt)))
+    (ap not (r .valid), (input-passes w (r .nonempty) (r .short), (le-ltb (length chart) cells (r .room), tt)))
 
 pub pass→ready : (g : Grammar) (w chart : List ℕ) → Pass (inputChecks g w chart) → Ready g w chart
 pass→ready g w chart p = record {
   valid = not-false (validGrammar g) (p .0);
   nonempty = input-passed w (p .1 .0) .0;
   short = input-passed w (p .1 .0) .1;
-  room = ltb-false (length chart) 4225 (p .1 .1 .0);
+  room = ltb-false (length chart) cells (p .1 .1 .0);
 }
 
 module _ (g : Grammar) (w chart out : List ℕ) where

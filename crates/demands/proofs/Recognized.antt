@@ -11,8 +11,9 @@ use lib.Dec.{eqb}
 use lib.ListN.{length, take, drop, length-drop, take-append-drop}
 use lib.Seq.{slice, append-snoc, take-all, length-take-le, take-append-seam}
 use borrow.Author.Tests.{le-ltb, eq-eqb}
+use Rattle.sizes.specs.Sizes.{cells}
 use Rattle.sets.specs.Set.{has}
-use Rattle.cfg.specs.Tree.{Row, Parse, HasTree}
+use Rattle.cfg.specs.Tree.{Forest, Parse, HasTree}
 use Rattle.chart.specs.Cell.{cell}
 use Rattle.chart.specs.Column.{extended, extendedBy, filled, complete}
 use Rattle.chart.proofs.Filled.{length-snoc, filled-snoc}
@@ -53,7 +54,7 @@ module _ (g : Grammar) (found : List ℕ) where
   abbrev pub beyond : List ℕ → Recognition
   beyond u = record { answer = refused 15; state = stateOf u; chart = filled (grammarOf g) u found }
 
-  module _ (valid : validGrammar g ≡ true) (room : 4225 ≤ length found) where
+  module _ (valid : validGrammar g ≡ true) (room : cells ≤ length found) where
     open-after : openOf g found ≡ after []
     unfolding filled extendedBy
     open-after = open-passed g found valid room
@@ -84,9 +85,9 @@ module _ (g : Grammar) (found : List ℕ) where
       unfolding takeOf stateOf
       take-beyond m =
           let c = filled (grammarOf g) u found in
-          let r : 4225 ≤ length c = omega (arith, filled-length (grammarOf g) u found room) in
+          let r : cells ≤ length c = omega (arith, filled-length (grammarOf g) u found room) in
           decide-first _ _ (grammarCheck g ∷ stateCheck (stateOf u) ∷ chartCheck c ∷ []) (check (eqb (stateOf u .count) 64) 15) []
-          (ap not valid, (le-ltb 64 (length u) (omega arith), (le-ltb (length c) 4225 r, tt))) (eq-eqb (length u) 64 l)
+          (ap not valid, (le-ltb 64 (length u) (omega arith), (le-ltb (length c) cells r, tt))) (eq-eqb (length u) 64 l)
 
       fed-beyond : (v : List ℕ) → fed g (beyond u) v ≡ beyond u
       unfolding fed
@@ -115,7 +116,7 @@ module _ (g : Grammar) (found : List ℕ) where
 
     module _ (v : List ℕ) (l : length v ≤ 64) (r : Recognition) (c : r .chart ≡ filled (grammarOf g) v found) where
       cells-of : (i j k : ℕ) → i ≤ j → j ≤ length v
-          → (has k (cell (r .chart) i j) ≡ true) ↔ ((t : Row) × Parse (grammarOf g) k (slice i j v) t)
+          → (has k (cell (r .chart) i j) ≡ true) ↔ ((t : Forest) × Parse (grammarOf g) k (slice i j v) t)
       cells-of i j k a b = rw c (filled-true (grammarOf g) (valid-bounded g valid) v found l room i j k a b)
 
       zero-of : (i j : ℕ) → i ≤ 64 → j ≤ 64 → (j < i) ⊎ (length v < j) → cell (r .chart) i j ≡ 0

@@ -7,6 +7,7 @@ use mathlib.Core.Path.{_≡_, refl, sym, ap, subst, _∙_}
 use native.Mathlib.Omega.{arith}
 use lib.ListN.{length, take}
 use lib.Seq.{length-take-le}
+use Rattle.sizes.specs.Sizes.{cells}
 use Rattle.sets.specs.Set.{has}
 use Rattle.chart.specs.Cell.{cell, fitsAt}
 use Rattle.chart.specs.Column.{written, extended, complete}
@@ -23,7 +24,7 @@ use Rattle.demands.specs.Taken.{input, Taken}
 use Rattle.demands.proofs.Later.{take-passed}
 
 module _ (g : Grammar) (h : State) (m : ℕ) (found : List ℕ) (valid : validGrammar g ≡ true) (bytes : length (h .bytes) ≡ 64)
-    (small : h .count < 64) (room : 4225 ≤ length found) where
+    (small : h .count < 64) (room : cells ≤ length found) where
   size : length (input h m) ≡ h .count + 1
   size = omega (arith, length-snoc (take (h .count) (h .bytes)) m, length-take-le (h .count) (h .bytes) (omega arith))
 
@@ -44,14 +45,14 @@ module _ (g : Grammar) (h : State) (m : ℕ) (found : List ℕ) (valid : validGr
   of-left =
       let n = h .count + 1 in
       let fit = fitsAt (input h m) in
-      let cells = written-cell (grammarOf g) fit n found (omega arith) room in
+      let inside = written-cell (grammarOf g) fit n found (omega arith) room in
       record {
         state = refl;
         long = written-length (grammarOf g) fit n found;
         others = written-other (grammarOf g) fit n found;
-        closed = closed-same (grammarOf g) fit found n _ _ (λ i l. sym (cells i l))
+        closed = closed-same (grammarOf g) fit found n _ _ (λ i l. sym (inside i l))
             (column-closed (grammarOf g) fit found n (valid-bounded g valid));
-        least = λ f c i k l e. column-least (grammarOf g) fit found n f c i k l (ap (has k) (sym (cells i l)) ∙ e);
+        least = λ f c i k l e. column-least (grammarOf g) fit found n f c i k l (ap (has k) (sym (inside i l)) ∙ e);
         complete = refl;
       }
 

@@ -8,6 +8,7 @@ use mathlib.Core.Path.{_≡_, ap}
 use native.Mathlib.Omega.{arith}
 use lib.ListN.{length}
 use borrow.Author.Tests.{ltb-false, eqb-false, not-false}
+use Rattle.sizes.specs.Sizes.{cells}
 use Rattle.grammar.specs.declared.Grammar.{Grammar}
 use Rattle.grammar.specs.Valid.{validGrammar}
 use Rattle.results.specs.Answer.{Answer, refused}
@@ -26,7 +27,7 @@ pub open-untouched : (g : Grammar) (chart : List ℕ) (n : ℕ) → openOf g cha
 unfolding openOf
 open-untouched g chart n e =
     ⊎-elim (λ q. (ap (λ (x : Recognition). x .chart) (q .1), ap (λ (x : Recognition). x .state) (q .1)))
-    (λ p. absurd (open-later g chart (not-false (validGrammar g) (p .0)) (ltb-false (length chart) 4225 (p .1 .0)) n e))
+    (λ p. absurd (open-later g chart (not-false (validGrammar g) (p .0)) (ltb-false (length chart) cells (p .1 .0)) n e))
     (decide-or _ _ _)
 
 pub take-untouched : (g : Grammar) (h : State) (m : ℕ) (chart : List ℕ) (n : ℕ) → takeOf g h m chart .answer ≡ refused n
@@ -38,7 +39,7 @@ take-untouched g h m chart n e =
     let c : h .count ≤ 64 = ltb-false 64 (h .count) (p .1 .0) in
     let d : ¬ (h .count ≡ 64) = eqb-false (h .count) 64 (p .1 .1 .1 .0) in
     absurd
-    (take-later g h m chart (not-false (validGrammar g) (p .0)) (omega arith) (ltb-false (length chart) 4225 (p .1 .1 .0)) n e))
+    (take-later g h m chart (not-false (validGrammar g) (p .0)) (omega arith) (ltb-false (length chart) cells (p .1 .1 .0)) n e))
     (decide-or _ _ _)
 
 -- ---- the calls that write no output

@@ -5,6 +5,7 @@ use mathlib.Core.Bool.{true}
 use mathlib.Core.List.{List, []}
 use mathlib.Core.Path.{_≡_}
 use lib.ListN.{length}
+use Rattle.sizes.specs.Sizes.{cells}
 use Rattle.chart.specs.Column.{filled}
 use Rattle.grammar.specs.declared.Grammar.{Grammar}
 use Rattle.grammar.specs.Valid.{validGrammar}
@@ -24,7 +25,7 @@ pub record OpenDemand (g : Grammar) (chart : List ℕ) (r : Recognition) : Type 
   -- refused, it leaves the chart as found and gives a state of zeros
   pub untouched : (n : ℕ) → r .answer ≡ refused n → (r .chart ≡ chart) × (r .state ≡ stateOf [])
   -- else the chart is the one of no bytes
-  pub opened : validGrammar g ≡ true → 4225 ≤ length chart → r .chart ≡ filled (grammarOf g) [] chart
+  pub opened : validGrammar g ≡ true → cells ≤ length chart → r .chart ≡ filled (grammarOf g) [] chart
 
 -- taking
 pub record TakeDemand (g : Grammar) (h : State) (chart : List ℕ) (r : Recognition) : Type 0 where

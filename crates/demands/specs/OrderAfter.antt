@@ -1,4 +1,4 @@
--- The refusals after the checks 8 to 11: 12 for offered rows and 13 for trees, given exactly where they apply.
+-- The refusals after the checks 8 to 11: 12 for offered derivations and 13 for trees, given exactly where they apply.
 -- Assumes nothing.
 use Prim.Native.Nat.{ℕ}
 use mathlib.Core.List.{List}
@@ -9,9 +9,9 @@ use Rattle.cfg.specs.Tree.{HasTree}
 use Rattle.cfg.specs.Derivation.{Derivation, limit}
 use Rattle.results.specs.Answer.{Answer, refused}
 
--- next, length and same build, once the checks before are passed (`ready`); `offered` says that the offered rows are derivations
+-- next, length and same build, once the checks before are passed (`ready`); `offered` says that the offered derivations are such
 pub record OfferedOrder {A : Type 0} (ready offered : Type 0) (answer : Answer A) : Type 0 where
-  -- an offered row is none: 12
+  -- an offered derivation is none: 12
   pub twelve : ready → (offered → ⊥) → answer ≡ refused 12
   -- else nothing is refused
   pub passed : ready → offered → (n : ℕ) → answer ≡ refused n → ⊥

@@ -5,6 +5,7 @@ use mathlib.Core.Bool.{true}
 use mathlib.Core.List.{List}
 use mathlib.Core.Path.{_≡_}
 use lib.ListN.{length}
+use Rattle.sizes.specs.Sizes.{cells, maxInput, outputSize}
 use Rattle.grammar.specs.declared.Grammar.{Grammar}
 use Rattle.grammar.specs.Valid.{validGrammar}
 
@@ -15,13 +16,13 @@ pub record Ready (g : Grammar) (w chart : List ℕ) : Type 0 where
   -- 9: at least one byte
   pub nonempty : 1 ≤ length w
   -- 9: at most 64 bytes
-  pub short : length w ≤ 64
+  pub short : length w ≤ maxInput
   -- 10
-  pub room : 4225 ≤ length chart
+  pub room : cells ≤ length chart
 
 -- checks 8 to 11 are passed
 pub record ReadyOut (g : Grammar) (w chart out : List ℕ) : Type 0 where
   -- 8, 9 and 10
   pub input : Ready g w chart
   -- 11
-  pub space : 1024 ≤ length out
+  pub space : outputSize ≤ length out

@@ -9,7 +9,7 @@ use lib.ListN.{length, take}
 use lib.Seq.{slice}
 use Rattle.sets.specs.Set.{has}
 use Rattle.cfg.specs.Grammar.{Cfg}
-use Rattle.cfg.specs.Tree.{Row, Parse, HasTree}
+use Rattle.cfg.specs.Tree.{Forest, Parse, HasTree}
 use Rattle.chart.specs.Cell.{cell}
 use Rattle.chart.specs.Column.{filled}
 use Rattle.results.specs.Answer.{refused, answered}
@@ -28,6 +28,6 @@ pub record Recognized (G : Cfg) (found ms : List ℕ) (r : Recognition) : Type 0
   pub full : 64 < length ms → r .answer ≡ refused 15
   -- the cell of the span from i to j has exactly the nonterminals with a parse tree over the span
   pub cells : (i j k : ℕ) → i ≤ j → j ≤ length (take 64 ms)
-      → (has k (cell (r .chart) i j) ≡ true) ↔ ((t : Row) × Parse G k (slice i j (take 64 ms)) t)
+      → (has k (cell (r .chart) i j) ≡ true) ↔ ((t : Forest) × Parse G k (slice i j (take 64 ms)) t)
   -- the other cells are zero
   pub zeros : (i j : ℕ) → i ≤ 64 → j ≤ 64 → (j < i) ⊎ (length (take 64 ms) < j) → cell (r .chart) i j ≡ 0

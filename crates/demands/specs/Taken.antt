@@ -9,7 +9,7 @@ use mathlib.Core.Path.{_≡_}
 use lib.ListN.{length, getD, take}
 use Rattle.sets.specs.Set.{has}
 use Rattle.cfg.specs.Grammar.{Cfg}
-use Rattle.chart.specs.Cell.{place, cell, fitsAt}
+use Rattle.chart.specs.Cell.{index, cell, fitsAt}
 use Rattle.chart.specs.Closed.{Closed}
 use Rattle.results.specs.Answer.{answered}
 use Rattle.results.specs.Recognize.{State, stateOf, Recognition}
@@ -24,7 +24,7 @@ pub record Taken (G : Cfg) (h : State) (m : ℕ) (found : List ℕ) (n : ℕ) (r
   pub state : r .state ≡ stateOf (input h m)
   -- the chart is as long as found, and of its numbers only the cells (i, n) for i = 0 to n are written
   pub long : length (r .chart) ≡ length found
-  pub others : (p : ℕ) → ((i : ℕ) → i ≤ n → p ≢ place i n) → getD (r .chart) p 0 ≡ getD found p 0
+  pub others : (p : ℕ) → ((i : ℕ) → i ≤ n → p ≢ index i n) → getD (r .chart) p 0 ≡ getD found p 0
   -- these cells are closed under the rules, earlier columns as found
   pub closed : Closed G (fitsAt (input h m)) found n (λ (i : ℕ). cell (r .chart) i n)
   -- and they are the least such cells

@@ -4,6 +4,7 @@
 mod code;
 
 use checker::Measured;
+use flat::Flat;
 use loader::Outcome;
 use recognizer::Accepted;
 ghost use mathlib.Core.Path.{_≡_};
@@ -16,7 +17,7 @@ ghost use Rattle.filbozseg.specs.Calls.{Loads, Opens, Takes, Checks, Mea
 
 // Loads a book. The row left is its grammar, or one of no rules where the book is refused; the offset is written only then.
 #[no_mangle]
-pub extern "C" fn filbozseg_load(book: &[u8], grammar: &mut [u16; 2435], offset: &mut usize) -> u32
+pub extern "C" fn filbozseg_load(book: &[u8], grammar: &mut Flat, offset: &mut usize) -> u32
     ensures { λ c. ⌜ Loads (now (book .entry)) (now (offset .entry)) c (now (grammar .exit)) (now (offset .exit)) ⌝ }
 {
     let l = loader::load(book);
@@ -35,8 +36,8 @@ pub extern "C" fn filbozseg_load(book: &[u8], grammar: &mut [u16; 2435], offset:
 // Opens the recognizer: the state left is that of no bytes.
 #[no_mangle]
 pub extern "C" fn filbozseg_open(
-    grammar: &[u16; 2435],
-    hand: &mut [u16; 65],
+    grammar: &Flat,
+    hand: &mut [u16; hand::HAND],
     chart: &mut [u32],
 ) -> u32
     ensures { λ c. ⌜ Opens
@@ -53,8 +54,8 @@ pub extern "C" fn filbozseg_open(
 // Takes a byte. The state left is that with the byte, or, where the call is refused, the row found.
 #[no_mangle]
 pub extern "C" fn filbozseg_take(
-    grammar: &[u16; 2435],
-    hand: &mut [u16; 65],
+    grammar: &Flat,
+    hand: &mut [u16; hand::HAND],
     byte: u8,
     chart: &mut [u32],
 ) -> u32
@@ -79,10 +80,10 @@ pub extern "C" fn filbozseg_take(
     }
 }
 
-// Whether the offered row is a derivation (reading) of the input.
+// Whether the offered derivation is one (reading) of the input.
 #[no_mangle]
 pub extern "C" fn filbozseg_check(
-    grammar: &[u16; 2435],
+    grammar: &Flat,
     input: &[u8],
     offered: &[u16],
     chart: &mut [u32],
@@ -97,7 +98,7 @@ pub extern "C" fn filbozseg_check(
 // The length of an offered derivation, in tenths of a millimetre; where the call is refused, the number found.
 #[no_mangle]
 pub extern "C" fn filbozseg_length(
-    grammar: &[u16; 2435],
+    grammar: &Flat,
     input: &[u8],
     offered: &[u16],
     chart: &mut [u32],
@@ -120,7 +121,7 @@ pub extern "C" fn filbozseg_length(
 // Whether two offered derivations are the same build.
 #[no_mangle]
 pub extern "C" fn filbozseg_same_build(
-    grammar: &[u16; 2435],
+    grammar: &Flat,
     input: &[u8],
     a: &[u16],
     b: &[u16],

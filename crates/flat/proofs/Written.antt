@@ -1,4 +1,4 @@
--- Records written one after the other into a row of 2435 numbers, behind what stands there already.
+-- Records written one after the other into a flat row, behind what stands there already.
 -- Assumes nothing.
 use Prim.Native.Nat.{ℕ, _+_, _*_, _≤_, _<_}
 use native.Mathlib.Omega.{arith}
@@ -12,22 +12,22 @@ use mir.Facts.{toZ-ofZ}
 use Rattle.grammar.specs.declared.Rule.{Rule}
 use Rattle.grammar.specs.declared.Grammar.{Grammar}
 use Rattle.grammar.specs.Zero.{zeroPlace}
-use Rattle.flat.specs.Flat.{countOf, unsignedOf, tagOf, valueOf, flatPlace, flatRule, flatOf}
+use Rattle.flat.specs.Flat.{countOf, unsignedOf, tagOf, valueOf, flatPlace, flatRule, flatOf, flatSize}
 use Rattle.flat.proofs.Records.{put-two, put-three, flat-step}
 
 -- in f, what stands before b is as in f₀, and the first q elements of l follow, w numbers each
 pub record Written {A : Type 0} (flat : A → List ℕ) (w b : ℕ) (l : List A) (f₀ : List ℕ) (q : ℕ) (f : List ℕ) : Type 0 where
-  pub long : length f ≡ 2435
+  pub long : length f ≡ flatSize
   pub front : take (b + w * q) f ≡ take b f₀ ++ flatMap flat (take q l)
 
 module _ {A : Type 0} (flat : A → List ℕ) (w b : ℕ) (l : List A) where
-  pub written-start : (f : List ℕ) → length f ≡ 2435 → Written flat w b l f 0 f
+  pub written-start : (f : List ℕ) → length f ≡ flatSize → Written flat w b l f 0 f
   unfolding flatMap
   written-start f h =
       let e : b + w * 0 ≡ b = omega arith in
       record { long = h; front = ap (λ (k : ℕ). take k f) e ∙ sym (append-nil (take b f)) }
 
-  pub written-step : (d : A) (q : ℕ) (f₀ f g : List ℕ) → q < length l → length g ≡ 2435
+  pub written-step : (d : A) (q : ℕ) (f₀ f g : List ℕ) → q < length l → length g ≡ flatSize
       → take (b + w * q + w) g ≡ take (b + w * q) f ++ flat (getD l q d) → Written flat w b l f₀ q f → Written flat w b l f₀ (q + 1) g
   written-step d q f₀ f g h n e r =
       let k : b + w * (q + 1) ≡ b + w * q + w = omega arith in
@@ -46,7 +46,7 @@ module _ {A : Type 0} (flat : A → List ℕ) (w b : ℕ) (l : List A) where
 
 -- ---- a rule
 
-module _ (ρ : Rule) (at : ℕ) (low : at + 19 ≤ 2435) where
+module _ (ρ : Rule) (at : ℕ) (low : at + 19 ≤ flatSize) where
   -- one more place
   pub place-step : (f₀ f : List ℕ) (q t v : ℕ) → length (ρ .places) ≡ 8 → q < 8
       → t ≡ tagOf (getD (ρ .places) q zeroPlace .symbol) → v ≡ valueOf (getD (ρ .places) q zeroPlace .symbol)
@@ -61,7 +61,7 @@ module _ (ρ : Rule) (at : ℕ) (low : at + 19 ≤ 2435) where
       r
 
   -- the whole rule
-  pub rule-done : (f₀ f : List ℕ) (u k q : ℕ) → length f₀ ≡ 2435 → length (ρ .places) ≡ 8 → SFits w16 (ρ .length) → q ≤ 8 → 8 ≤ q
+  pub rule-done : (f₀ f : List ℕ) (u k q : ℕ) → length f₀ ≡ flatSize → length (ρ .places) ≡ 8 → SFits w16 (ρ .length) → q ≤ 8 → 8 ≤ q
       → u ≡ unsignedOf (toZ w16 (ofZ w16 (ρ .length))) → k ≡ countOf (ρ .count)
       → Written flatPlace 2 (at + 3) (ρ .places) (set (set (set f₀ at (ρ .left)) (at + 1) u) (at + 2) k) q f
       → take (at + 19) f ≡ take at f₀ ++ flatRule ρ
@@ -76,14 +76,14 @@ module _ (ρ : Rule) (at : ℕ) (low : at + 19 ≤ 2435) where
 
 -- ---- a grammar
 
-pub grammar-done : (g : Grammar) (f₀ f : List ℕ) (k r : ℕ) → length f₀ ≡ 2435 → length (g .rules) ≡ 128 → r ≤ 128 → 128 ≤ r
+pub grammar-done : (g : Grammar) (f₀ f : List ℕ) (k r : ℕ) → length f₀ ≡ flatSize → length (g .rules) ≡ 128 → r ≤ 128 → 128 ≤ r
     → k ≡ countOf (g .count)
     → Written flatRule 19 3 (g .rules) (set (set (set f₀ 0 (g .start)) 1 k) 2 (g .depth)) r f
     → f ≡ flatOf g
 unfolding flatOf
 grammar-done g f₀ f k r n m h j ek w =
-    sym (take-all 2435 f (omega (arith, w .long)))
-    ∙ written-all flatRule 19 3 (g .rules) r 2435 _ f (omega arith) (omega arith) w
+    sym (take-all flatSize f (omega (arith, w .long)))
+    ∙ written-all flatRule 19 3 (g .rules) r flatSize _ f (omega arith) (omega arith) w
     ∙ ap (λ (x : List ℕ). x ++ flatMap flatRule (g .rules))
     (put-three f₀ 0 1 2 3 (g .start) k (g .depth) (omega arith) (omega arith) (omega arith) (omega arith)
     ∙ λ i. g .start ∷ ek i ∷ g .depth ∷ [])

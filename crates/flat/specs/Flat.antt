@@ -1,19 +1,27 @@
--- A flat row is 2435 numbers of 16 bits: the start symbol, the number of rules used, the nullable depth, and 19 numbers for each of 128
+-- A flat row is a row of numbers of 16 bits: the start symbol, the number of rules used, the nullable depth, and 19 numbers for each of 128
 -- rules: the left side, the length (two's complement), the number of places used, and for each of 8 places a tag (0 a nonterminal, 1 a
 -- terminal) and a value. The grammar of a row, and the row of a grammar. Each number of a row is judged whole: one that is too large for
 -- its place is read as a value that check 8 refuses where it is used.
 -- Assumes nothing.
-use Prim.Native.Nat.{ℕ, zero, suc, _+_, _-_, _%_, min}
+use Prim.Native.Nat.{ℕ, zero, suc, _+_, _*_, _-_, _%_, min}
 use mathlib.Core.Bool.{cond, _&&_}
 use mathlib.Core.List.{List, [], _∷_, flatMap}
 use lib.Dec.{eqb, ltb, leb}
 use lib.IntN.{ℤ, pos, negsuc, negℤ}
 use lib.ListN.{getD}
+use Rattle.sizes.specs.Sizes.{maxRules, maxPlaces}
 use Rattle.grammar.specs.declared.Symbol.{Symbol}
 use Rattle.grammar.specs.declared.Symbol.the-variants.{Nonterminal, Terminal}
 use Rattle.grammar.specs.declared.Place.{Place}
 use Rattle.grammar.specs.declared.Rule.{Rule}
 use Rattle.grammar.specs.declared.Grammar.{Grammar}
+
+-- the numbers of a rule, and of a row
+abbrev pub ruleNumbers : ℕ
+ruleNumbers = 3 + 2 * maxPlaces
+
+abbrev pub flatSize : ℕ
+flatSize = 3 + maxRules * ruleNumbers
 
 -- ---- the grammar of a row
 

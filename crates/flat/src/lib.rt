@@ -1,14 +1,27 @@
-// A declared grammar as a flat row of 2435 numbers of 16 bits, which crosses to C and Rust. Check 8 refuses the grammar of a row exactly
+// A declared grammar as a flat row of numbers of 16 bits, which crosses to C and Rust. Check 8 refuses the grammar of a row exactly
 // if it has to refuse the row, and the row of a grammar exactly if it has to refuse the grammar.
 mod reading;
 mod writing;
 
 use grammar::Grammar;
 ghost use mathlib.Core.Path.{_≡_};
-ghost use Rattle.flat.specs.Flat.{grammarIn, flatOf};
+ghost use Rattle.flat.specs.Flat.{flatSize, grammarIn, flatOf};
+
+// The numbers of a rule (its left side, its length, its count, and two for each place), and of a row.
+pub const RULE_NUMBERS: usize = 3 + 2 * sizes::MAX_PLACES;
+
+pub const FLAT_SIZE: usize = 3 + sizes::MAX_RULES * RULE_NUMBERS;
+
+pub type Flat = [u16; FLAT_SIZE];
+
+pub fn tied_size() -> usize
+    ensures { λ n. ⌜ n ≡ flatSize ⌝ }
+{
+    FLAT_SIZE
+}
 
 // The grammar of a row.
-pub fn read(f: &[u16; 2435]) -> Grammar
+pub fn read(f: &Flat) -> Grammar
     ensures { λ g. ⌜ g ≡ grammarIn (now (f .entry)) ⌝ }
 {
     let start = reading::byte(f[0]);
@@ -24,17 +37,17 @@ pub fn read(f: &[u16; 2435]) -> Grammar
 }
 
 // Writes the row of the grammar. The row is cleared first, so that its length is known whatever it held.
-pub fn write(g: Grammar, f: &mut [u16; 2435])
+pub fn write(g: Grammar, f: &mut Flat)
     ensures { λ _. ⌜ now (f .exit) ≡ flatOf g ⌝ }
 {
-    *f = [0u16; 2435];
+    *f = [0u16; FLAT_SIZE];
     f[0] = g.start as u16;
     f[1] = writing::count_of(g.count);
     f[2] = g.depth as u16;
     let mut r = 0;
-    while r < 128 {
+    while r < sizes::MAX_RULES {
         let rule = g.rules[r];
-        writing::write_rule(rule, 3 + 19 * r, f);
+        writing::write_rule(rule, 3 + RULE_NUMBERS * r, f);
         r += 1;
     }
 }

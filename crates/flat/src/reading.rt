@@ -1,11 +1,13 @@
 // The parts of a grammar, read from a row. Each number is judged whole: one that is too large for its place is read as a value that
 // check 8 refuses.
+use super::Flat;
+use super::RULE_NUMBERS;
 use grammar::Place;
 use grammar::Rule;
 use grammar::Symbol;
 ghost use mathlib.Core.Path.{_≡_};
 ghost use Prim.Native.Nat.{_+_, _≤_};
-ghost use Rattle.flat.specs.Flat.{byteIn, signedIn, symbolIn, placeIn, placesIn, ruleIn, rulesIn};
+ghost use Rattle.flat.specs.Flat.{byteIn, signedIn, symbolIn, placeIn, placesIn, ruleIn, rulesIn, flatSize, ruleNumbers};
 
 // A number in a byte's place, or 255 if that is less.
 pub fn byte(n: u16) -> u8
@@ -50,8 +52,8 @@ fn symbol(tag: u16, value: u16) -> Symbol
     }
 }
 
-fn read_place(f: &[u16; 2435], at: usize) -> Place
-    requires { ⌜ at + 2 ≤ 2435 ⌝ }
+fn read_place(f: &Flat, at: usize) -> Place
+    requires { ⌜ at + 2 ≤ flatSize ⌝ }
     ensures { λ p. ⌜ p ≡ placeIn (now (f .entry)) at ⌝ }
 {
     Place {
@@ -59,8 +61,8 @@ fn read_place(f: &[u16; 2435], at: usize) -> Place
     }
 }
 
-fn read_places(f: &[u16; 2435], at: usize) -> [Place; 8]
-    requires { ⌜ at + 16 ≤ 2435 ⌝ }
+fn read_places(f: &Flat, at: usize) -> [Place; 8]
+    requires { ⌜ at + 16 ≤ flatSize ⌝ }
     ensures { λ l. ⌜ l ≡ placesIn (now (f .entry)) at ⌝ }
 {
     let mut places = [grammar::zero_place(); 8];
@@ -72,8 +74,8 @@ fn read_places(f: &[u16; 2435], at: usize) -> [Place; 8]
     places
 }
 
-fn read_rule(f: &[u16; 2435], at: usize) -> Rule
-    requires { ⌜ at + 19 ≤ 2435 ⌝ }
+fn read_rule(f: &Flat, at: usize) -> Rule
+    requires { ⌜ at + ruleNumbers ≤ flatSize ⌝ }
     ensures { λ r. ⌜ r ≡ ruleIn (now (f .entry)) at ⌝ }
 {
     let left = byte(f[at]);
@@ -88,13 +90,13 @@ fn read_rule(f: &[u16; 2435], at: usize) -> Rule
     }
 }
 
-pub fn read_rules(f: &[u16; 2435]) -> [Rule; 128]
+pub fn read_rules(f: &Flat) -> [Rule; 128]
     ensures { λ l. ⌜ l ≡ rulesIn (now (f .entry)) ⌝ }
 {
     let mut rules = [grammar::zero_rule(); 128];
     let mut r = 0;
     while r < 128 {
-        rules[r] = read_rule(f, 3 + 19 * r);
+        rules[r] = read_rule(f, 3 + RULE_NUMBERS * r);
         r += 1;
     }
     rules

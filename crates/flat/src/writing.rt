@@ -1,11 +1,12 @@
 // The parts of a grammar, written to a row.
+use super::Flat;
 use grammar::Rule;
 use grammar::Symbol;
 ghost use mathlib.Core.List.{_++_};
 ghost use mathlib.Core.Path.{_≡_};
 ghost use Prim.Native.Nat.{_+_, _≤_};
 ghost use lib.ListN.{length, take};
-ghost use Rattle.flat.specs.Flat.{countOf, unsignedOf, tagOf, valueOf, flatRule};
+ghost use Rattle.flat.specs.Flat.{countOf, unsignedOf, tagOf, valueOf, flatRule, flatSize, ruleNumbers};
 
 // A count, or 65535 if that is less: a count that check 8 refuses stays one.
 pub fn count_of(n: usize) -> u16
@@ -44,10 +45,10 @@ fn value_of(s: Symbol) -> u16
 }
 
 // Writes the rule behind the numbers before at.
-pub fn write_rule(rule: Rule, at: usize, f: &mut [u16; 2435])
-    requires { ⌜ (at + 19 ≤ 2435) × (length (now f) ≡ 2435) ⌝ }
-    ensures { λ _. ⌜ take (at + 19) (now (f .exit)) ≡ take at (now (f .entry)) ++ flatRule rule ⌝ }
-    ensures { λ _. ⌜ length (now (f .exit)) ≡ 2435 ⌝ }
+pub fn write_rule(rule: Rule, at: usize, f: &mut Flat)
+    requires { ⌜ (at + ruleNumbers ≤ flatSize) × (length (now f) ≡ flatSize) ⌝ }
+    ensures { λ _. ⌜ take (at + ruleNumbers) (now (f .exit)) ≡ take at (now (f .entry)) ++ flatRule rule ⌝ }
+    ensures { λ _. ⌜ length (now (f .exit)) ≡ flatSize ⌝ }
 {
     f[at] = rule.left as u16;
     let z = rule.length;

@@ -8,7 +8,7 @@ ghost use Rattle.recognizer.specs.Recognizer.{stateIn};
 ghost use Rattle.hand.specs.Hand.{byteIn, countOf, bytesIn, countIn, stateOfRow, rowOf};
 
 // How many numbers the row has.
-pub const HAND: usize = 65;
+pub const HAND: usize = sizes::MAX_INPUT + 1;
 
 // A number in a byte's place, or 255 if that is less.
 fn byte(n: u16) -> u8

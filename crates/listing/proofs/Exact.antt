@@ -8,7 +8,7 @@ use mathlib.Core.Path.{_≡_, sym, ap, subst, _∙_}
 use lib.ListN.{length}
 use native.Mathlib.Omega.{arith}
 use Rattle.cfg.specs.Grammar.{Cfg, nonterminal}
-use Rattle.cfg.specs.Tree.{Row, nodes, code, Fits, fits-node}
+use Rattle.cfg.specs.Tree.{Forest, nodes, code, Fits, fits-node}
 use Rattle.cfg.specs.Derivation.{Derivation, Rising}
 use Rattle.cfg.specs.Listing.{derivations}
 use Rattle.listing.specs.Budget.{filter, within}
@@ -37,7 +37,7 @@ unfolding derivations
 derivations-rising G b w = pairs→rising (listing-sorted G b _ w)
 
 -- the code of a tree is not empty
-pub code-not-empty : {G : Cfg} {k : ℕ} {t : Row} → Fits G (nonterminal k ∷ []) t → code t ≡ [] → ⊥
+pub code-not-empty : {G : Cfg} {k : ℕ} {t : Forest} → Fits G (nonterminal k ∷ []) t → code t ≡ [] → ⊥
 unfolding code
 code-not-empty (fits-node o f g) e = cons≢nil e
 

@@ -9,7 +9,7 @@ use lib.ListN.{length, take, drop, take-append-drop}
 use lib.Seq.{length-take-le}
 use native.Mathlib.Omega.{arith}
 use Rattle.cfg.specs.Grammar.{Cfg, Symbol, nonterminal, terminal, Terminal, fits, Of}
-use Rattle.cfg.specs.Tree.{Row, end, leaf, node, yield, nodes, code}
+use Rattle.cfg.specs.Tree.{Forest, end, leaf, node, yield, nodes, code}
 use Rattle.cfg.specs.Listing.{Span, among, Item, find, resume, items, listing}
 use Rattle.listing.proofs.Fit.{span, Fit, fit-end, fit-leaf, fit-node}
 use Rattle.listing.proofs.Steps.{listing-eat, listing-resume, listing-none-cases, listing-none-member, listing-resume-cases}
@@ -19,7 +19,7 @@ use Rattle.listing.proofs.Members.{when-member}
 -- e is the code of a row for the places over u, followed by a member for todo over v, with b nodes in all
 pub record RowFirst (G : Cfg) (b : ℕ) (above : List Span) (places : List Symbol) (v : List ℕ) (todo : List Item) (u e : List ℕ)
     : Type 0 where
-  pub row : Row
+  pub row : Forest
   pub fit : Fit G above places row
   pub covers : yield row ≡ u
   pub left : ℕ
@@ -69,11 +69,11 @@ node-first G b k c n above places v todo next u d e o new short q r s =
     }
 
 -- with b nodes, every member for the items of places and what comes after them starts with the code of a row for the places
-abbrev pub StartWithRows : Cfg → ℕ → Type 0
-StartWithRows G b = (above : List Span) (places : List Symbol) (v : List ℕ) (todo : List Item) (u e : List ℕ)
+abbrev pub StartWithForests : Cfg → ℕ → Type 0
+StartWithForests G b = (above : List Span) (places : List Symbol) (v : List ℕ) (todo : List Item) (u e : List ℕ)
     → List·Memᴰ e (listing G b (items above places ++ resume v ∷ todo) u) → RowFirst G b above places v todo u e
 
-pub start-with-rows-step : (G : Cfg) (b : ℕ) → ((c : ℕ) → c < b → StartWithRows G c) → StartWithRows G b
+pub start-with-rows-step : (G : Cfg) (b : ℕ) → ((c : ℕ) → c < b → StartWithForests G c) → StartWithForests G b
 unfolding items yield code nodes
 start-with-rows-step G b fewer above [] v todo u e i =
     let r = listing-resume-cases G b v todo u i in
@@ -93,7 +93,7 @@ start-with-rows-step G b fewer above (nonterminal k ∷ places) v todo u e i =
     subst (λ n. RowFirst G n above (nonterminal k ∷ places) v todo u e) (sym q)
     (node-first G (x .left) k c (x .number) above places v todo next u (x .rest) e (x .o) (x .fresh) (x .covers) (x .coded) r s)
 
-pub start-with-rows-within : (G : Cfg) (f b : ℕ) → b ≤ f → StartWithRows G b
+pub start-with-rows-within : (G : Cfg) (f b : ℕ) → b ≤ f → StartWithForests G b
 start-with-rows-within G zero b h = start-with-rows-step G b (λ c q. let z : ⊥ = omega arith in absurd z)
 start-with-rows-within G (suc f) b h = start-with-rows-step G b (λ c q. start-with-rows-within G f c (omega arith))
 
@@ -101,7 +101,7 @@ pub listed→row : (G : Cfg) (b : ℕ) (above : List Span) (places : List Symbol
     → List·Memᴰ e (listing G b (items above places ++ resume v ∷ todo) u) → RowFirst G b above places v todo u e
 listed→row G b = start-with-rows-within G b b (omega arith)
 
-pub row→listed : (G : Cfg) {above : List Span} {places : List Symbol} {t : Row} (b left : ℕ) (v : List ℕ) (todo : List Item) (e : List ℕ)
+pub row→listed : (G : Cfg) {above : List Span} {places : List Symbol} {t : Forest} (b left : ℕ) (v : List ℕ) (todo : List Item) (e : List ℕ)
     → Fit G above places t → nodes t + left ≡ b → List·Memᴰ e (listing G left todo v)
     → List·Memᴰ (code t ++ e) (listing G b (items above places ++ resume v ∷ todo) (yield t))
 unfolding items yield code nodes
@@ -120,7 +120,7 @@ row→listed G (suc b) left v todo e (fit-node {above} {k} {r} {places} {below} 
 
 -- a tree: a row for one nonterminal
 pub record TreeOf (G : Cfg) (b k : ℕ) (above : List Span) (w e : List ℕ) : Type 0 where
-  pub tree : Row
+  pub tree : Forest
   pub fit : Fit G above (nonterminal k ∷ []) tree
   pub covers : yield tree ≡ w
   pub small : nodes tree ≤ b
@@ -166,7 +166,7 @@ listed→tree G b k above w {e} i = finish (listing-find-cases G b k above [] w 
         (node-first G (x .left) k c (x .number) above [] [] [] [] w (x .rest) e (x .o) (x .fresh) (x .covers) (x .coded) r
         (ended (r .left) (drop c w) (r .rest) (r .listed))))
 
-pub tree→listed : (G : Cfg) (b k : ℕ) (above : List Span) (t : Row) → Fit G above (nonterminal k ∷ []) t → nodes t ≤ b
+pub tree→listed : (G : Cfg) (b k : ℕ) (above : List Span) (t : Forest) → Fit G above (nonterminal k ∷ []) t → nodes t ≤ b
     → List·Memᴰ (code t) (listing G b (find k above ∷ []) (yield t))
 unfolding yield nodes code
 tree→listed G zero k above t (fit-node o h f fit-end) n = let z : ⊥ = omega arith in absurd z

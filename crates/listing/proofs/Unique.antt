@@ -7,10 +7,10 @@ use mathlib.Core.Path.{_≡_, refl, sym, ap, ap₂, subst, _∙_}
 use lib.ListN.{length, length-append}
 use native.Mathlib.Omega.{arith}
 use Rattle.cfg.specs.Grammar.{Cfg, Symbol}
-use Rattle.cfg.specs.Tree.{Row, end, leaf, node, yield, nodes, code, Fits, fits-end, fits-leaf, fits-node}
+use Rattle.cfg.specs.Tree.{Forest, end, leaf, node, yield, nodes, code, Fits, fits-end, fits-leaf, fits-node}
 use Rattle.listing.proofs.Rules.{of-same-rule}
 
-pub length-code : (t : Row) → length (code t) ≡ 2 * nodes t
+pub length-code : (t : Forest) → length (code t) ≡ 2 * nodes t
 unfolding code nodes
 length-code end = refl
 length-code (leaf m rest) = length-code rest
@@ -22,7 +22,7 @@ length-code (node r below rest) =
 
 -- two rows for the same places, each followed by something: if bytes and codes agree with what follows, the rows are the same, and so is
 -- what follows
-pub row-unique : (G : Cfg) {places : List Symbol} {t u : Row} (x y v w : List ℕ) → Fits G places t → Fits G places u
+pub row-unique : (G : Cfg) {places : List Symbol} {t u : Forest} (x y v w : List ℕ) → Fits G places t → Fits G places u
     → yield t ++ v ≡ yield u ++ w → code t ++ x ≡ code u ++ y → (t ≡ u) × (x ≡ y) × (v ≡ w)
 unfolding yield code
 row-unique G x y v w fits-end fits-end p q = (refl, q, p)
@@ -40,11 +40,11 @@ row-unique G x y v w (fits-node {r = i} {below = a} {rest = t} o fa ft) (fits-no
     let s = row-unique G x y v w ft fu (r .2) (r .1) in
     (λ h. node (same h) (r .0 h) (s .0 h), s .1, s .2)
 
-pub tree-unique : (G : Cfg) {places : List Symbol} (t u : Row) → Fits G places t → Fits G places u → yield t ≡ yield u
+pub tree-unique : (G : Cfg) {places : List Symbol} (t u : Forest) → Fits G places t → Fits G places u → yield t ≡ yield u
     → code t ≡ code u → t ≡ u
 tree-unique G t u f g p q = row-unique G [] [] [] [] f g (ap (λ l. l ++ []) p) (ap (λ l. l ++ []) q) .0
 
 -- over the same input a code is no beginning of another one
-pub code-no-prefix : (G : Cfg) {places : List Symbol} {t u : Row} (x : List ℕ) → Fits G places t → Fits G places u → yield t ≡ yield u
+pub code-no-prefix : (G : Cfg) {places : List Symbol} {t u : Forest} (x : List ℕ) → Fits G places t → Fits G places u → yield t ≡ yield u
     → code u ≡ code t ++ x → x ≡ []
 code-no-prefix G {u = u} x f g p q = row-unique G x [] [] [] f g (ap (λ l. l ++ []) p) (sym q ∙ sym (append-nil (code u))) .1

@@ -12,7 +12,7 @@ use mathlib.Core.Logic.{dite}
 use mathlib.Core.Path.{_≡_, refl, sym, ap, _∙_, subst}
 use lib.ListN.{length}
 use Rattle.cfg.specs.Grammar.{Cfg, Symbol}
-use Rattle.cfg.specs.Tree.{Row, end, node, yield, height, Fits, fits-end, fits-node, Parse}
+use Rattle.cfg.specs.Tree.{Forest, end, node, yield, height, Fits, fits-end, fits-node, Parse}
 use Rattle.cfg.specs.Nullable.{Nullable, Depth}
 use Rattle.cfg.specs.Derivation.{Has}
 use Rattle.shrinking.proofs.Extract.{extract}
@@ -84,7 +84,7 @@ count-last n k w h l m = h ∙ ap (λ (j : ℕ). countBelow j w) (le-antisymm l 
 -- ---- the nodes of an empty tree
 
 -- the nonterminal of each node over nothing is nullable
-node-nullable : (G : Cfg) {places : List Symbol} {t : Row} {j : ℕ} → Fits G places t → Has G j 0 t → Nullable G j
+node-nullable : (G : Cfg) {places : List Symbol} {t : Forest} {j : ℕ} → Fits G places t → Has G j 0 t → Nullable G j
 unfolding yield
 node-nullable G f h =
     let F = extract G f h in
@@ -107,7 +107,7 @@ exact-depth g set E = record { small = card-le set; zero = none; reached = reach
         (λ l. members-mem 32 set j l (E .complete j n))
         (λ l. absurd (true-false (E .complete j n) (has-high j set (E .word) (omega arith))))
 
-    reached : (k : ℕ) → Nullable (grammarOf g) k → (t : Row) × Parse (grammarOf g) k [] t × (height t ≤ countBelow 32 set)
+    reached : (k : ℕ) → Nullable (grammarOf g) k → (t : Forest) × Parse (grammarOf g) k [] t × (height t ≤ countBelow 32 set)
     reached k n =
         let S = shrink (grammarOf g) (n .1 .0) in
         let e : yield (S .row) ≡ [] = S .same ∙ n .1 .1 in

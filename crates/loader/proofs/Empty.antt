@@ -12,7 +12,7 @@ use mathlib.Core.Path.{_≡_, refl, sym, ap, ap₂, _∙_, subst}
 use lib.ListN.{length, take, getD}
 use Rattle.cfg.specs.Grammar as Abstract
 use Rattle.cfg.specs.Grammar.{Cfg, nonterminal, terminal, Of}
-use Rattle.cfg.specs.Tree.{Row, end, node, yield, Fits, fits-end, fits-leaf, fits-node}
+use Rattle.cfg.specs.Tree.{Forest, end, node, yield, Fits, fits-end, fits-leaf, fits-node}
 use Rattle.cfg.specs.Nullable.{Nullable}
 use Rattle.shrinking.proofs.Nullable.{append-empty-left, append-empty-right}
 use Rattle.sets.specs.Set.{has, insert}
@@ -35,12 +35,12 @@ abbrev pub Sound : Cfg → ℕ → Type 0
 Sound G set = (k : ℕ) → has k set ≡ true → Nullable G k
 
 -- a row over nothing
-abbrev EmptyRow : Cfg → List Abstract.Symbol → Type 0
-EmptyRow G places = (t : Row) × Fits G places t × (yield t ≡ [])
+abbrev EmptyForest : Cfg → List Abstract.Symbol → Type 0
+EmptyForest G places = (t : Forest) × Fits G places t × (yield t ≡ [])
 
 -- an empty tree before an empty row
-join : (G : Cfg) {k : ℕ} {u : Row} {places : List Abstract.Symbol} → Fits G (nonterminal k ∷ []) u → yield u ≡ [] → EmptyRow G places
-    → EmptyRow G (nonterminal k ∷ places)
+join : (G : Cfg) {k : ℕ} {u : Forest} {places : List Abstract.Symbol} → Fits G (nonterminal k ∷ []) u → yield u ≡ [] → EmptyForest G places
+    → EmptyForest G (nonterminal k ∷ places)
 unfolding yield
 join G (fits-node {r} {below} {rest} o b s) e t = (
   node r below (t .0),
@@ -50,11 +50,11 @@ join G (fits-node {r} {below} {rest} o b s) e t = (
 
 -- places that hold members have an empty row
 symbol-row : (G : Cfg) (set : ℕ) → Sound G set → (s : Symbol) → symbolIn set s ≡ true → {places : List Abstract.Symbol}
-    → EmptyRow G places → EmptyRow G (symbolOf s ∷ places)
+    → EmptyForest G places → EmptyForest G (symbolOf s ∷ places)
 symbol-row G set sound (Nonterminal k) e t = let n = sound k e in join G (n .1 .0) (n .1 .1) t
 symbol-row G set sound (Terminal m) e t = absurd (true-false e refl)
 
-places-row : (G : Cfg) (set : ℕ) → Sound G set → (l : List Place) → all (placeIn set) l ≡ true → EmptyRow G (map placeOf l)
+places-row : (G : Cfg) (set : ℕ) → Sound G set → (l : List Place) → all (placeIn set) l ≡ true → EmptyForest G (map placeOf l)
 unfolding all yield
 places-row G set sound [] e = (end, fits-end, refl)
 places-row G set sound (p ∷ l) e =
@@ -130,7 +130,7 @@ module _ (g : Grammar) (size : length (g .rules) ≡ 128) (valid : validGrammar 
         outside : ¬ (r < g .count) → has k set ≡ true
         outside n = absurd (Option·some-ne-none (o .the) (sym (o .here) ∙ rule-past g r (omega arith)))
 
-    row-closed : {places : List Abstract.Symbol} {t : Row} → Fits (grammarOf g) places t → yield t ≡ [] → all (symbolHas set) places ≡ true
+    row-closed : {places : List Abstract.Symbol} {t : Forest} → Fits (grammarOf g) places t → yield t ≡ [] → all (symbolHas set) places ≡ true
     unfolding all yield symbolHas
     row-closed fits-end e = refl
     row-closed (fits-leaf {m} {rest} f s) e = absurd (cons-ne-nil m (yield rest) e)

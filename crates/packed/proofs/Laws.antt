@@ -13,12 +13,12 @@ use lib.ListN.{getElem?, getD}
 use borrow.Author.Tests.{lt-ltb, le-ltb, ltb-true}
 use Rattle.cfg.specs.Grammar.{Rule, joined, rule, Of}
 use Rattle.chart.proofs.Derived.{Bounded}
-use Rattle.packed.specs.Packed.{leftIn, countIn, symbolIn, placesFrom, placesIn, ruleIn, packedRules, rulesIn, cfgIn}
+use Rattle.packed.specs.Packed.{leftIn, countIn, symbolIn, placesFrom, placesIn, ruleIn, packedRules, rulesIn, cfgIn, ruleBytes}
 
 -- ---- places
 
 -- a rule that is there has the count that its byte says
-pub count-used : (p : List ℕ) (r : ℕ) → leftIn p r < 32 → countIn p r ≡ min (getD p (18 * r + 1) 0) 8
+pub count-used : (p : List ℕ) (r : ℕ) → leftIn p r < 32 → countIn p r ≡ min (getD p (ruleBytes * r + 1) 0) 8
 unfolding countIn
 count-used p r h = rw (lt-ltb (leftIn p r) 32 h)
 
@@ -31,10 +31,10 @@ pub count-le : (p : List ℕ) (r : ℕ) → countIn p r ≤ 8
 count-le p r = dite (decLt (leftIn p r) 32) (λ h. omega (arith, count-used p r h)) (λ h. omega (arith, count-unused p r (omega arith)))
 
 -- what `count` answers: the byte of a rule that is there, 8 where it is larger, and 0 for one that is not
-pub count-small : (p : List ℕ) (r k n : ℕ) → k ≡ leftIn p r → k < 32 → n ≡ getD p (18 * r + 1) 0 → n < 8 → (n ≡ countIn p r) × (n ≤ 8)
+pub count-small : (p : List ℕ) (r k n : ℕ) → k ≡ leftIn p r → k < 32 → n ≡ getD p (ruleBytes * r + 1) 0 → n < 8 → (n ≡ countIn p r) × (n ≤ 8)
 count-small p r k n e h f l = let c = count-used p r (omega arith) in (omega arith, omega arith)
 
-pub count-large : (p : List ℕ) (r k n : ℕ) → k ≡ leftIn p r → k < 32 → n ≡ getD p (18 * r + 1) 0 → 8 ≤ n → (8 ≡ countIn p r) × (8 ≤ 8)
+pub count-large : (p : List ℕ) (r k n : ℕ) → k ≡ leftIn p r → k < 32 → n ≡ getD p (ruleBytes * r + 1) 0 → 8 ≤ n → (8 ≡ countIn p r) × (8 ≤ 8)
 count-large p r k n e h f l = let c = count-used p r (omega arith) in (omega arith, omega arith)
 
 pub count-none : (p : List ℕ) (r k : ℕ) → k ≡ leftIn p r → 32 ≤ k → (0 ≡ countIn p r) × (0 ≤ 8)

@@ -20,7 +20,7 @@ use Rattle.grammar.specs.Valid.{validRule}
 use Rattle.grammar.specs.View.{symbolOf, placeOf, ruleOf}
 use Rattle.grammar.specs.Zero.{zeroPlace}
 use Rattle.grammar.proofs.Bounds.{rule-parts}
-use Rattle.packed.specs.Packed.{leftIn, countIn, tagIn, valueIn, symbolIn, placesFrom, placesIn, ruleIn}
+use Rattle.packed.specs.Packed.{leftIn, countIn, tagIn, valueIn, symbolIn, placesFrom, placesIn, ruleIn, packedSize, ruleBytes}
 use Rattle.packed.specs.Place.{tagOf, valueOf, RulePut}
 use Rattle.packed.proofs.Laws.{count-used, count-le, rule-used}
 
@@ -32,11 +32,11 @@ two-bytes (Terminal m) t v e f = rw (e, f)
 
 -- p is p₀ but for row r, which has the left side, the count and the first q places of the rule
 pub record Row (ρ : Rule) (r q : ℕ) (p₀ p : List ℕ) : Type 0 where
-  pub long : length p ≡ 2304
+  pub long : length p ≡ packedSize
   pub left : leftIn p r ≡ ρ .left
-  pub count : getD p (18 * r + 1) 0 ≡ ρ .count
+  pub count : getD p (ruleBytes * r + 1) 0 ≡ ρ .count
   pub places : (k : ℕ) → k < q → symbolIn p r k ≡ placeOf (getD (ρ .places) k zeroPlace)
-  pub other : (s b : ℕ) → s ≢ r → b < 18 → getD p (18 * s + b) 0 ≡ getD p₀ (18 * s + b) 0
+  pub other : (s b : ℕ) → s ≢ r → b < ruleBytes → getD p (ruleBytes * s + b) 0 ≡ getD p₀ (ruleBytes * s + b) 0
 
 module _ (p : List ℕ) (a x c y : ℕ) where
   -- after two stores
@@ -54,19 +54,19 @@ module _ (p : List ℕ) (a x c y : ℕ) where
 
 -- the bytes with the left side and the count
 abbrev pub headed : List ℕ → ℕ → ℕ → ℕ → List ℕ
-headed p r left count = set (set p (18 * r) left) (18 * r + 1) count
+headed p r left count = set (set p (ruleBytes * r) left) (ruleBytes * r + 1) count
 
-headed-other : (p : List ℕ) (r left count s b : ℕ) → s ≢ r → b < 18 → getD (headed p r left count) (18 * s + b) 0 ≡ getD p (18 * s + b) 0
-headed-other p r left count s b d h = two-other p (18 * r) left (18 * r + 1) count (18 * s + b) (omega arith) (omega arith)
+headed-other : (p : List ℕ) (r left count s b : ℕ) → s ≢ r → b < ruleBytes → getD (headed p r left count) (ruleBytes * s + b) 0 ≡ getD p (ruleBytes * s + b) 0
+headed-other p r left count s b d h = two-other p (ruleBytes * r) left (ruleBytes * r + 1) count (ruleBytes * s + b) (omega arith) (omega arith)
 
 module _ (ρ : Rule) (r : ℕ) (low : r < 128) where
-  pub row-start : (p : List ℕ) → length p ≡ 2304 → Row ρ r 0 (headed p r (ρ .left) (ρ .count)) (headed p r (ρ .left) (ρ .count))
+  pub row-start : (p : List ℕ) → length p ≡ packedSize → Row ρ r 0 (headed p r (ρ .left) (ρ .count)) (headed p r (ρ .left) (ρ .count))
   unfolding leftIn
   row-start p e =
       record {
-        long = two-length p (18 * r) (ρ .left) (18 * r + 1) (ρ .count) ∙ e;
-        left = two-first p (18 * r) (ρ .left) (18 * r + 1) (ρ .count) (omega arith) (omega arith);
-        count = two-second p (18 * r) (ρ .left) (18 * r + 1) (ρ .count) (omega arith);
+        long = two-length p (ruleBytes * r) (ρ .left) (ruleBytes * r + 1) (ρ .count) ∙ e;
+        left = two-first p (ruleBytes * r) (ρ .left) (ruleBytes * r + 1) (ρ .count) (omega arith) (omega arith);
+        count = two-second p (ruleBytes * r) (ρ .left) (ruleBytes * r + 1) (ρ .count) (omega arith);
         places = λ k h. absurd (omega arith);
         other = λ s b d h. refl;
       }
@@ -75,21 +75,21 @@ module _ (ρ : Rule) (r : ℕ) (low : r < 128) where
       (et : t ≡ tagOf (getD (ρ .places) q zeroPlace .symbol)) (ev : v ≡ valueOf (getD (ρ .places) q zeroPlace .symbol)) where
     -- the bytes with one more place
     abbrev next : List ℕ
-    next = set (set p (18 * r + 2 + 2 * q) t) (18 * r + 3 + 2 * q) v
+    next = set (set p (ruleBytes * r + 2 + 2 * q) t) (ruleBytes * r + 3 + 2 * q) v
 
-    stays : (j : ℕ) → j ≢ 18 * r + 2 + 2 * q → j ≢ 18 * r + 3 + 2 * q → getD next j 0 ≡ getD p j 0
-    stays = two-other p (18 * r + 2 + 2 * q) t (18 * r + 3 + 2 * q) v
+    stays : (j : ℕ) → j ≢ ruleBytes * r + 2 + 2 * q → j ≢ ruleBytes * r + 3 + 2 * q → getD next j 0 ≡ getD p j 0
+    stays = two-other p (ruleBytes * r + 2 + 2 * q) t (ruleBytes * r + 3 + 2 * q) v
 
     place-same : symbolIn next r q ≡ placeOf (getD (ρ .places) q zeroPlace)
     unfolding symbolIn tagIn valueIn
-    place-same = two-bytes (getD (ρ .places) q zeroPlace .symbol) (getD next (18 * r + 2 + 2 * q) 0) (getD next (18 * r + 3 + 2 * q) 0)
-        (two-first p (18 * r + 2 + 2 * q) t (18 * r + 3 + 2 * q) v (omega arith) (omega (arith, row .long)) ∙ et)
-        (two-second p (18 * r + 2 + 2 * q) t (18 * r + 3 + 2 * q) v (omega (arith, row .long)) ∙ ev)
+    place-same = two-bytes (getD (ρ .places) q zeroPlace .symbol) (getD next (ruleBytes * r + 2 + 2 * q) 0) (getD next (ruleBytes * r + 3 + 2 * q) 0)
+        (two-first p (ruleBytes * r + 2 + 2 * q) t (ruleBytes * r + 3 + 2 * q) v (omega arith) (omega (arith, row .long)) ∙ et)
+        (two-second p (ruleBytes * r + 2 + 2 * q) t (ruleBytes * r + 3 + 2 * q) v (omega (arith, row .long)) ∙ ev)
 
     place-other : (k : ℕ) → k < q → symbolIn next r k ≡ symbolIn p r k
     unfolding symbolIn tagIn valueIn
     place-other k h =
-        rw (stays (18 * r + 2 + 2 * k) (omega arith) (omega arith), stays (18 * r + 3 + 2 * k) (omega arith) (omega arith))
+        rw (stays (ruleBytes * r + 2 + 2 * k) (omega arith) (omega arith), stays (ruleBytes * r + 3 + 2 * k) (omega arith) (omega arith))
 
     places-more : (k : ℕ) → k < q + 1 → symbolIn next r k ≡ placeOf (getD (ρ .places) k zeroPlace)
     places-more k h = go (ℕ-discrete k q)
@@ -106,11 +106,11 @@ module _ (ρ : Rule) (r : ℕ) (low : r < 128) where
     unfolding leftIn
     row-step =
         record {
-          long = two-length p (18 * r + 2 + 2 * q) t (18 * r + 3 + 2 * q) v ∙ row .long;
-          left = stays (18 * r) (omega arith) (omega arith) ∙ row .left;
-          count = stays (18 * r + 1) (omega arith) (omega arith) ∙ row .count;
+          long = two-length p (ruleBytes * r + 2 + 2 * q) t (ruleBytes * r + 3 + 2 * q) v ∙ row .long;
+          left = stays (ruleBytes * r) (omega arith) (omega arith) ∙ row .left;
+          count = stays (ruleBytes * r + 1) (omega arith) (omega arith) ∙ row .count;
           places = places-more;
-          other = λ s b d h. stays (18 * s + b) (omega arith) (omega arith) ∙ row .other s b d h;
+          other = λ s b d h. stays (ruleBytes * s + b) (omega arith) (omega arith) ∙ row .other s b d h;
         }
 
 -- ---- the places written are those of the rule
@@ -126,26 +126,26 @@ places-are l p r (suc n) q h f =
 
 -- ---- a row that keeps its bytes keeps its rule
 
-module _ (p p' : List ℕ) (s : ℕ) (same : (b : ℕ) → b < 18 → getD p (18 * s + b) 0 ≡ getD p' (18 * s + b) 0) where
-  byte-same : (j b : ℕ) → j ≡ 18 * s + b → b < 18 → getD p j 0 ≡ getD p' j 0
+module _ (p p' : List ℕ) (s : ℕ) (same : (b : ℕ) → b < ruleBytes → getD p (ruleBytes * s + b) 0 ≡ getD p' (ruleBytes * s + b) 0) where
+  byte-same : (j b : ℕ) → j ≡ ruleBytes * s + b → b < ruleBytes → getD p j 0 ≡ getD p' j 0
   byte-same j b e h = ap (λ (x : ℕ). getD p x 0) e ∙ same b h ∙ ap (λ (x : ℕ). getD p' x 0) (sym e)
 
   left-same : leftIn p s ≡ leftIn p' s
   unfolding leftIn
-  left-same = byte-same (18 * s) 0 (omega arith) (omega arith)
+  left-same = byte-same (ruleBytes * s) 0 (omega arith) (omega arith)
 
   count-same : countIn p s ≡ countIn p' s
   unfolding countIn
   count-same =
       let e = left-same in
-      let f = byte-same (18 * s + 1) 1 refl (omega arith) in
+      let f = byte-same (ruleBytes * s + 1) 1 refl (omega arith) in
       λ i. cond (ltb (e i) 32) (min (f i) 8) 0
 
   symbol-same : (q : ℕ) → q < 8 → symbolIn p s q ≡ symbolIn p' s q
   unfolding symbolIn tagIn valueIn
   symbol-same q h =
-      let e = byte-same (18 * s + 2 + 2 * q) (2 + 2 * q) (omega arith) (omega arith) in
-      let f = byte-same (18 * s + 3 + 2 * q) (3 + 2 * q) (omega arith) (omega arith) in
+      let e = byte-same (ruleBytes * s + 2 + 2 * q) (2 + 2 * q) (omega arith) (omega arith) in
+      let f = byte-same (ruleBytes * s + 3 + 2 * q) (3 + 2 * q) (omega arith) (omega arith) in
       rw (e, f)
 
   places-same : (n q : ℕ) → q + n ≤ 8 → placesFrom p s q n ≡ placesFrom p' s q n

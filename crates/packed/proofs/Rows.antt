@@ -16,24 +16,24 @@ use Rattle.grammar.specs.View.{ruleOf, grammarOf}
 use Rattle.grammar.specs.Zero.{noRule}
 use Rattle.grammar.proofs.Bounds.{valid-count}
 use Rattle.grammar.proofs.RuleAt.{rule-at, rule-past}
-use Rattle.packed.specs.Packed.{leftIn, ruleIn, cfgIn}
+use Rattle.packed.specs.Packed.{leftIn, ruleIn, cfgIn, packedSize, ruleBytes}
 use Rattle.packed.specs.Place.{RulePut}
 use Rattle.packed.proofs.Laws.{rule-unused, rule-in, rule-in-past}
 
 -- p has the first r rules of the grammar, and no others
 pub record Rows (g : Grammar) (r : ℕ) (p : List ℕ) : Type 0 where
-  pub long : length p ≡ 2304
+  pub long : length p ≡ packedSize
   pub done : (k : ℕ) → k < r → ruleIn p k ≡ ruleOf (getD (g .rules) k noRule)
   pub unused : (k : ℕ) → r ≤ k → k < 128 → ruleIn p k ≡ none
 
-all-unused : (n k : ℕ) → n ≡ 2304 → k < 128 → ruleIn (replicate n 255) k ≡ none
+all-unused : (n k : ℕ) → n ≡ packedSize → k < 128 → ruleIn (replicate n 255) k ≡ none
 unfolding leftIn
 all-unused n k e h =
-    let l : leftIn (replicate n 255) k ≡ 255 = getD-replicate n (18 * k) 255 0 (omega arith) in
+    let l : leftIn (replicate n 255) k ≡ 255 = getD-replicate n (ruleBytes * k) 255 0 (omega arith) in
     rule-unused (replicate n 255) k (omega arith)
 
 -- any number of bytes, so that nothing computes
-rows-of : (g : Grammar) (n : ℕ) → n ≡ 2304 → Rows g 0 (replicate n 255)
+rows-of : (g : Grammar) (n : ℕ) → n ≡ packedSize → Rows g 0 (replicate n 255)
 rows-of g n e =
     record {
       long = length-replicate {A = ℕ} n 255 ∙ e;
@@ -41,8 +41,8 @@ rows-of g n e =
       unused = λ k _ h. all-unused n k e h;
     }
 
-pub rows-start : (g : Grammar) → Rows g 0 (replicate 2304 255)
-rows-start g = rows-of g 2304 (λ i. 2304)
+pub rows-start : (g : Grammar) → Rows g 0 (replicate packedSize 255)
+rows-start g = rows-of g packedSize (λ i. packedSize)
 
 module _ (g : Grammar) where
   pub rows-step : (r : ℕ) (p p' : List ℕ) → Rows g r p → RulePut (getD (g .rules) r noRule) r p p' → Rows g (r + 1) p'

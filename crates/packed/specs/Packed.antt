@@ -1,4 +1,4 @@
--- A packed grammar is 2304 bytes, 18 for each of 128 rules: the left side (32 or more: no rule of this number), the number of places,
+-- A packed grammar has as many bytes for each of 128 rules: the left side (32 or more: no rule of this number), the number of places,
 -- and for each of 8 places a tag (0 a nonterminal, else a terminal) and a value. What such bytes mean.
 -- Assumes nothing.
 use Prim.Native.Nat.{ℕ, zero, suc, _+_, _*_, min}
@@ -7,24 +7,33 @@ use mathlib.Core.List.{List, [], _∷_}
 use mathlib.Core.Option.{Option, none, some}
 use lib.Dec.{eqb, ltb}
 use lib.ListN.{getD}
+use Rattle.sizes.specs.Sizes.{maxRules, maxPlaces}
 use Rattle.cfg.specs.Grammar.{Cfg, Rule, Symbol, nonterminal, terminal, byte}
 use Rattle.chart.specs.Cell.{fitsAt}
 
+-- the bytes of a rule: its left side, its count, and two for each place
+abbrev pub ruleBytes : ℕ
+ruleBytes = 2 + 2 * maxPlaces
+
+-- the bytes of a packed grammar
+abbrev pub packedSize : ℕ
+packedSize = maxRules * ruleBytes
+
 -- the byte of rule r's left side
 unfoldable pub leftIn : List ℕ → ℕ → ℕ
-leftIn p r = getD p (18 * r) 0
+leftIn p r = getD p (ruleBytes * r) 0
 
 -- the number of places of rule r, 8 at most; none where there is no such rule
 unfoldable pub countIn : List ℕ → ℕ → ℕ
-countIn p r = cond (ltb (leftIn p r) 32) (min (getD p (18 * r + 1) 0) 8) 0
+countIn p r = cond (ltb (leftIn p r) 32) (min (getD p (ruleBytes * r + 1) 0) maxPlaces) 0
 
 -- the tag of place q of rule r
 unfoldable pub tagIn : List ℕ → ℕ → ℕ → ℕ
-tagIn p r q = getD p (18 * r + 2 + 2 * q) 0
+tagIn p r q = getD p (ruleBytes * r + 2 + 2 * q) 0
 
 -- the value of place q of rule r
 unfoldable pub valueIn : List ℕ → ℕ → ℕ → ℕ
-valueIn p r q = getD p (18 * r + 3 + 2 * q) 0
+valueIn p r q = getD p (ruleBytes * r + 3 + 2 * q) 0
 
 -- the symbol in place q of rule r
 unfoldable pub symbolIn : List ℕ → ℕ → ℕ → Symbol
@@ -50,7 +59,7 @@ packedRules p r (suc n) = ruleIn p r ∷ packedRules p (suc r) n
 
 -- the rules 0 to 127
 unfoldable pub rulesIn : List ℕ → List (Option Rule)
-rulesIn p = packedRules p 0 128
+rulesIn p = packedRules p 0 maxRules
 
 -- the grammar of these rules with this start symbol
 unfoldable pub cfgIn : ℕ → List ℕ → Cfg

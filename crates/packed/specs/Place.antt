@@ -9,7 +9,7 @@ use Rattle.grammar.specs.declared.Symbol.{Symbol}
 use Rattle.grammar.specs.declared.Symbol.the-variants.{Nonterminal, Terminal}
 use Rattle.grammar.specs.declared.Rule.{Rule}
 use Rattle.grammar.specs.View.{ruleOf}
-use Rattle.packed.specs.Packed.{ruleIn}
+use Rattle.packed.specs.Packed.{ruleIn, packedSize}
 
 -- the tag of a symbol: 0 a nonterminal, 1 a terminal
 abbrev pub tagOf : Symbol → ℕ
@@ -23,6 +23,6 @@ valueOf (Terminal m) = m
 
 -- p is p₀ but for rule r, which is the declared rule
 pub record RulePut (ρ : Rule) (r : ℕ) (p₀ p : List ℕ) : Type 0 where
-  pub long : length p ≡ 2304
+  pub long : length p ≡ packedSize
   pub here : ruleIn p r ≡ ruleOf ρ
   pub other : (s : ℕ) → s ≢ r → ruleIn p s ≡ ruleIn p₀ s

@@ -1,4 +1,4 @@
-// The flat copy of a grammar for inner loops: 2304 bytes, which loops and recursion take by reference.
+// The flat copy of a grammar for inner loops, which loops and recursion take by reference.
 use grammar::Grammar;
 use grammar::Rule;
 use grammar::Symbol;
@@ -11,8 +11,21 @@ ghost use Rattle.sets.specs.Set.{has as inSet};
 ghost use Rattle.cfg.specs.Grammar.{rule as ruleOfNumber};
 ghost use Rattle.grammar.specs.Valid.{validRule, validGrammar};
 ghost use Rattle.grammar.specs.View.{grammarOf};
-ghost use Rattle.packed.specs.Packed.{leftIn, countIn, tagIn, valueIn, symbolIn, cfgIn, fitsPlace};
+ghost use Rattle.packed.specs.Packed.{leftIn, countIn, tagIn, valueIn, symbolIn, cfgIn, fitsPlace, packedSize};
 ghost use Rattle.packed.specs.Place.{tagOf, valueOf, RulePut};
+
+// The bytes of a rule (its left side, its count, and two for each place), and of a packed grammar.
+pub const RULE_BYTES: usize = 2 + 2 * sizes::MAX_PLACES;
+
+pub const PACKED_SIZE: usize = sizes::MAX_RULES * RULE_BYTES;
+
+pub type Packed = [u8; PACKED_SIZE];
+
+pub fn tied_size() -> usize
+    ensures { λ n. ⌜ n ≡ packedSize ⌝ }
+{
+    PACKED_SIZE
+}
 
 // A byte as a number.
 fn wide(x: u8) -> usize
@@ -22,20 +35,20 @@ fn wide(x: u8) -> usize
 }
 
 // The left side of rule r: 32 or more where there is no such rule.
-pub fn left(p: &[u8; 2304], r: usize) -> usize
+pub fn left(p: &Packed, r: usize) -> usize
     requires { ⌜ r < 128 ⌝ }
     ensures { λ k. ⌜ k ≡ leftIn (now (p .entry)) r ⌝ }
 {
-    wide(p[18 * r])
+    wide(p[RULE_BYTES * r])
 }
 
 // How many places rule r has: none where there is no such rule, so that loops pass it over.
-pub fn count(p: &[u8; 2304], r: usize) -> usize
+pub fn count(p: &Packed, r: usize) -> usize
     requires { ⌜ r < 128 ⌝ }
     ensures { λ n. ⌜ (n ≡ countIn (now (p .entry)) r) × (n ≤ 8) ⌝ }
 {
     if left(p, r) < 32 {
-        let n = wide(p[18 * r + 1]);
+        let n = wide(p[RULE_BYTES * r + 1]);
         if n < 8 { n } else { 8 }
     } else {
         0
@@ -43,19 +56,19 @@ pub fn count(p: &[u8; 2304], r: usize) -> usize
 }
 
 // Whether place q of rule r holds a nonterminal.
-pub fn is_nonterminal(p: &[u8; 2304], r: usize, q: usize) -> bool
+pub fn is_nonterminal(p: &Packed, r: usize, q: usize) -> bool
     requires { ⌜ (r < 128) × (q < 8) ⌝ }
     ensures { λ b. ⌜ b ≡ eqb (tagIn (now (p .entry)) r q) 0 ⌝ }
 {
-    p[18 * r + 2 + 2 * q] == 0
+    p[RULE_BYTES * r + 2 + 2 * q] == 0
 }
 
 // The number that place q of rule r holds.
-pub fn value(p: &[u8; 2304], r: usize, q: usize) -> usize
+pub fn value(p: &Packed, r: usize, q: usize) -> usize
     requires { ⌜ (r < 128) × (q < 8) ⌝ }
     ensures { λ v. ⌜ (v ≡ valueIn (now (p .entry)) r q) × (v < 256) ⌝ }
 {
-    wide(p[18 * r + 3 + 2 * q])
+    wide(p[RULE_BYTES * r + 3 + 2 * q])
 }
 
 // Whether k is in the set, for every k.
@@ -66,7 +79,7 @@ pub fn contains(word: u32, k: usize) -> bool
 }
 
 // Whether the byte at position i of the input fits place q of rule r. The only reading of the input.
-pub fn fits_at(p: &[u8; 2304], r: usize, q: usize, w: &[u8], i: usize) -> bool
+pub fn fits_at(p: &Packed, r: usize, q: usize, w: &[u8], i: usize) -> bool
     requires { ⌜ (r < 128) × (q < 8) ⌝ }
     ensures { λ b. ⌜ b ≡ fitsPlace (now (w .entry)) (symbolIn (now (p .entry)) r q) i ⌝ }
 {
@@ -98,29 +111,29 @@ fn value_of(s: Symbol) -> u8
 }
 
 // Writes the rule into row r.
-fn pack_rule(rule: Rule, r: usize, p: &mut [u8; 2304])
-    requires { ⌜ (r < 128) × (validRule rule ≡ true) × (length (now p) ≡ 2304) ⌝ }
+fn pack_rule(rule: Rule, r: usize, p: &mut Packed)
+    requires { ⌜ (r < 128) × (validRule rule ≡ true) × (length (now p) ≡ packedSize) ⌝ }
     ensures { λ _. ⌜ RulePut rule r (now (p .entry)) (now (p .exit)) ⌝ }
 {
     let n = rule.count;
-    p[18 * r] = rule.left;
-    p[18 * r + 1] = n as u8;
+    p[RULE_BYTES * r] = rule.left;
+    p[RULE_BYTES * r + 1] = n as u8;
     let mut q = 0;
     while q < n {
         let place = rule.places[q];
         let s = place.symbol;
-        p[18 * r + 2 + 2 * q] = tag_of(s);
-        p[18 * r + 3 + 2 * q] = value_of(s);
+        p[RULE_BYTES * r + 2 + 2 * q] = tag_of(s);
+        p[RULE_BYTES * r + 3 + 2 * q] = value_of(s);
         q += 1;
     }
 }
 
 // The packed grammar. Rules that are not used have the left side 255.
-pub fn pack(g: Grammar) -> [u8; 2304]
+pub fn pack(g: Grammar) -> Packed
     requires { ⌜ validGrammar g ≡ true ⌝ }
     ensures { λ p. ⌜ ((r : ℕ) → ruleOfNumber (cfgIn (g .start) p) r ≡ ruleOfNumber (grammarOf g) r) ⌝ }
 {
-    let mut p = [255u8; 2304];
+    let mut p = [255u8; PACKED_SIZE];
     let n = g.count;
     let mut r = 0;
     while r < n {

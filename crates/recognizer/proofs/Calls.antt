@@ -8,6 +8,7 @@ use native.Mathlib.Omega.{arith}
 use lib.ListN.{length, take, replicate, length-append}
 use lib.Seq.{take-at, length-take-le}
 use borrow.Author.Tests.{not-true, not-false, lt-ltb, le-ltb, eq-eqb, ne-eqb}
+use Rattle.sizes.specs.Sizes.{cells}
 use Rattle.sets.specs.Set.{has}
 use Rattle.cfg.specs.Grammar.{rule}
 use Rattle.chart.specs.Cell.{cell}
@@ -67,19 +68,19 @@ module _ (g : Grammar) (chart : List ℕ) where
     unfolding openOf decide
     open-invalid v e = rw v (given-same a (refused 8) h (stateOf []) chart chart e zeros refl)
 
-    pub open-short : validGrammar g ≡ true → length chart < 4225 → a ≡ refused 10 → given a h chart ≡ openOf g chart
+    pub open-short : validGrammar g ≡ true → length chart < cells → a ≡ refused 10 → given a h chart ≡ openOf g chart
     unfolding openOf decide
     open-short v l e =
-        rw (v, lt-ltb (length chart) 4225 l) (given-same a (refused 10) h (stateOf []) chart chart e zeros refl)
+        rw (v, lt-ltb (length chart) cells l) (given-same a (refused 10) h (stateOf []) chart chart e zeros refl)
 
-    pub open-right : (p chart' : List ℕ) → validGrammar g ≡ true → 4225 ≤ length chart
+    pub open-right : (p chart' : List ℕ) → validGrammar g ≡ true → cells ≤ length chart
         → ((r : ℕ) → rule (cfgIn (g .start) p) r ≡ rule (grammarOf g) r)
         → chart' ≡ opened (cfgIn 0 p) chart → a ≡ answered (has (g .start) (cell chart' 0 0)) → given a h chart' ≡ openOf g chart
     unfolding openOf decide complete
     open-right p chart' v l same e f =
         let c : chart' ≡ opened (grammarOf g) chart =
         e ∙ opened-same-rules (cfgIn 0 p) (grammarOf g) (same-rules g (g .start) p same) (cfg-in-bounded 0 p) chart in
-        rw (v, le-ltb (length chart) 4225 l)
+        rw (v, le-ltb (length chart) cells l)
         (given-same a (answered (complete (grammarOf g) 0 (opened (grammarOf g) chart))) h (stateOf []) chart' (opened (grammarOf g) chart)
         (f ∙ ap (λ (x : List ℕ). answered (has (g .start) (cell x 0 0))) c) zeros c)
 
@@ -95,17 +96,17 @@ module _ (g : Grammar) (chart : List ℕ) where
       unfolding takeOf decide
       take-over v o e = rw (v, lt-ltb 64 (h .count) o) (given-same a (refused 14) k h chart chart e kept refl)
 
-      pub take-short : validGrammar g ≡ true → h .count ≤ 64 → length chart < 4225 → a ≡ refused 10
+      pub take-short : validGrammar g ≡ true → h .count ≤ 64 → length chart < cells → a ≡ refused 10
           → given a k chart ≡ takeOf g h m chart
       unfolding takeOf decide
       take-short v o l e =
-          rw (v, le-ltb 64 (h .count) o, lt-ltb (length chart) 4225 l) (given-same a (refused 10) k h chart chart e kept refl)
+          rw (v, le-ltb 64 (h .count) o, lt-ltb (length chart) cells l) (given-same a (refused 10) k h chart chart e kept refl)
 
-      pub take-full : validGrammar g ≡ true → h .count ≤ 64 → 4225 ≤ length chart → h .count ≡ 64 → a ≡ refused 15
+      pub take-full : validGrammar g ≡ true → h .count ≤ 64 → cells ≤ length chart → h .count ≡ 64 → a ≡ refused 15
           → given a k chart ≡ takeOf g h m chart
       unfolding takeOf decide
       take-full v o l f e =
-          rw (v, le-ltb 64 (h .count) o, le-ltb (length chart) 4225 l, eq-eqb (h .count) 64 f)
+          rw (v, le-ltb 64 (h .count) o, le-ltb (length chart) cells l, eq-eqb (h .count) 64 f)
           (given-same a (refused 15) k h chart chart e kept refl)
 
     -- the input so far, and the byte
@@ -122,7 +123,7 @@ module _ (g : Grammar) (chart : List ℕ) where
       bytes = ap (λ (x : List ℕ). take (k .count) x) (ap (λ (s : State). s .bytes) next)
           ∙ take-at input (replicate (64 - length input) 0) (k .count) size
 
-      pub take-right : (p chart' : List ℕ) → validGrammar g ≡ true → h .count < 64 → 4225 ≤ length chart
+      pub take-right : (p chart' : List ℕ) → validGrammar g ≡ true → h .count < 64 → cells ≤ length chart
           → ((r : ℕ) → rule (cfgIn (g .start) p) r ≡ rule (grammarOf g) r)
           → chart' ≡ columnOf p (take (k .count) (k .bytes)) (k .count) chart
           → a ≡ answered (has (g .start) (cell chart' 0 (k .count))) → given a k chart' ≡ takeOf g h m chart
@@ -132,7 +133,7 @@ module _ (g : Grammar) (chart : List ℕ) where
           e ∙ ap (λ (x : List ℕ). columnOf p x (k .count) chart) bytes ∙ ap (λ (x : ℕ). columnOf p input x chart) (sym size)
           ∙ extended-same-rules (cfgIn 0 p) (grammarOf g) (same-rules g (g .start) p same) (cfg-in-bounded 0 p) input chart in
           let d : h .count ≤ 64 = omega arith in
-          rw (v, le-ltb 64 (h .count) d, le-ltb (length chart) 4225 l, ne-eqb (h .count) 64 (omega arith))
+          rw (v, le-ltb 64 (h .count) d, le-ltb (length chart) cells l, ne-eqb (h .count) 64 (omega arith))
           (given-same a (answered (complete (grammarOf g) (h .count + 1) (extended (grammarOf g) input chart))) k (stateOf input)
           chart' (extended (grammarOf g) input chart)
           (f ∙ ap (λ (x : ℕ). answered (has (g .start) (cell chart' 0 x))) count

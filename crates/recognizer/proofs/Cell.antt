@@ -9,6 +9,7 @@ use mathlib.Core.Path.{_≡_, refl, sym, ap, ap₂, _∙_, subst}
 use native.Mathlib.Decide.{decLt}
 use native.Mathlib.Omega.{arith}
 use lib.ListN.{length}
+use Rattle.sizes.specs.Sizes.{cells}
 use Rattle.sets.specs.Set.{has}
 use Rattle.sets.proofs.Laws.{set-ext}
 use Rattle.cfg.specs.Grammar.{Symbol, Of}
@@ -24,7 +25,7 @@ use Rattle.recognizer.specs.Passes.{Within, Used, ClosedAt, Settled}
 use Rattle.recognizer.specs.Columns.{columnOf}
 use Rattle.recognizer.proofs.Owned.{owned-cases}
 
-module _ (p w found : List ℕ) (n : ℕ) (small : n ≤ 64) (room : 4225 ≤ length found) where
+module _ (p w found : List ℕ) (n : ℕ) (small : n ≤ 64) (room : cells ≤ length found) where
   -- the sets of the chart with column n written
   abbrev full : Sets
   full = cell (columnOf p w n found)

@@ -7,6 +7,7 @@ use native.Mathlib.Numerals.{add-one}
 use native.Mathlib.Omega.{arith}
 use lib.ListN.{length, getD, take, drop, set, replicate, length-replicate, length-append, replicate-append-replicate}
 use lib.Seq.{append-snoc, set-at, drop-cons, take-suc, take-all, length-take-le}
+use Rattle.sizes.specs.Sizes.{cells}
 use Rattle.chart.specs.Cell.{fitsAt}
 use Rattle.chart.specs.Column.{written, opened, extended, extendedBy, filled}
 use Rattle.chart.proofs.Filled.{extendedBy-append}
@@ -31,15 +32,15 @@ clear-step l chart i h e =
     ∙ set-next (replicate i 0) l i 0 (length-replicate {A = ℕ} i 0) h
     ∙ ap (λ (x : List ℕ). x ++ drop (i + 1) l) (replicate-append-replicate {A = ℕ} i 1 0)
 
-pub clear-done : (l chart : List ℕ) (i : ℕ) → i ≤ 4225 → 4225 ≤ i → chart ≡ replicate i 0 ++ drop i l
-    → chart ≡ replicate 4225 0 ++ drop 4225 l
+pub clear-done : (l chart : List ℕ) (i : ℕ) → i ≤ cells → cells ≤ i → chart ≡ replicate i 0 ++ drop i l
+    → chart ≡ replicate cells 0 ++ drop cells l
 clear-done l chart i h m e =
-    let d : i ≡ 4225 = omega arith in
+    let d : i ≡ cells = omega arith in
     subst (λ (x : ℕ). chart ≡ replicate x 0 ++ drop x l) d e
 
 -- ---- opening and filling
 
-pub opened-is : (p chart chart₁ chart₂ : List ℕ) → chart₁ ≡ replicate 4225 0 ++ drop 4225 chart → chart₂ ≡ columnOf p [] 0 chart₁
+pub opened-is : (p chart chart₁ chart₂ : List ℕ) → chart₁ ≡ replicate cells 0 ++ drop cells chart → chart₂ ≡ columnOf p [] 0 chart₁
     → chart₂ ≡ opened (cfgIn 0 p) chart
 unfolding opened
 opened-is p chart chart₁ chart₂ e f = f ∙ ap (written (cfgIn 0 p) (fitsAt []) 0) e

@@ -18,7 +18,7 @@ use Rattle.chart.specs.Cell.{cuts}
 use Rattle.chart.proofs.Rounds.{sub-empty}
 use Rattle.packed.specs.Packed.{leftIn, placesIn}
 use Rattle.packed.proofs.Laws.{places-start}
-use Rattle.recognizer.specs.Flags.{Fit, Sets, flag, Cutting, Inner, owned}
+use Rattle.recognizer.specs.Flags.{Fit, Sets, flag, Cutting, Inner, owned, flagsSize}
 use Rattle.recognizer.specs.Passes.{Within, Words, RuleMask, addedIn, Stepped, Ready, ClosedAt, Settled, Passed, Reached, Closing}
 use Rattle.recognizer.proofs.Bits.{and-both, and-parts}
 use Rattle.recognizer.proofs.Owned.{owned-here, owned-end, cutting-owned, inner-owned, owned-mono}
@@ -59,7 +59,7 @@ module _ (p : List ℕ) (r v own : ℕ) where
 -- ---- one rule
 
 module _ (p : List ℕ) (r i n own start inner : ℕ) (flags : List ℕ) where
-  pub stepped : (empty last m v : ℕ) → r < 128 → i ≤ n → n ≤ 64 → length flags ≡ 8320
+  pub stepped : (empty last m v : ℕ) → r < 128 → i ≤ n → n ≤ 64 → length flags ≡ flagsSize
       → (i < n → empty ≡ start) × (n ≤ i → empty ≡ own) → (i < n → last ≡ flag flags n r) × (n ≤ i → last ≡ 0)
       → RuleMask p r i n empty own inner last m → v ≡ addedIn p r m own
       → Stepped p r i n own start inner flags (set flags (128 * i + r) m) v
@@ -106,7 +106,7 @@ ready-same fit sets p rules i n start masks flags flags' few other ready =
     }
 
 module _ (p : List ℕ) (rules i n own start : ℕ) (masks flags : List ℕ) where
-  pub passed-start : length flags ≡ 8320 → Passed p rules i n own start masks flags 0 own flags
+  pub passed-start : length flags ≡ flagsSize → Passed p rules i n own start masks flags 0 own flags
   passed-start long =
       record {
         long = long;
@@ -180,7 +180,7 @@ module _ (p : List ℕ) (rules i n own start : ℕ) (masks flags : List ℕ) whe
 -- ---- until nothing changes
 
 module _ (p : List ℕ) (rules i n start : ℕ) (masks flags : List ℕ) where
-  pub reached-start : length flags ≡ 8320 → Reached p rules i n start masks flags 0 flags
+  pub reached-start : length flags ≡ flagsSize → Reached p rules i n start masks flags 0 flags
   reached-start long =
       record { long = long; other = λ a r h d. refl; sound = λ fit sets ready T c. sub-empty T }
 

@@ -8,6 +8,7 @@ use mathlib.Core.Logic.{_↔_}
 use mathlib.Core.Path.{_≡_}
 use lib.Dec.{eqb}
 use lib.ListN.{length, getD}
+use Rattle.sizes.specs.Sizes.{maxRules, side}
 use Rattle.sets.specs.Set.{has}
 use Rattle.cfg.specs.Grammar.{Symbol, nonterminal, terminal, Terminal}
 use Rattle.chart.specs.Cell.{cell, cuts}
@@ -25,9 +26,13 @@ Sets = ℕ → ℕ → ℕ
 abbrev pub tail : List ℕ → ℕ → ℕ → List Symbol
 tail p r q = placesFrom p r q (countIn p r - q)
 
+-- the words of the flags: one for each start and rule
+abbrev pub flagsSize : ℕ
+flagsSize = side * maxRules
+
 -- the flags of rule r at the start a
 abbrev pub flag : List ℕ → ℕ → ℕ → ℕ
-flag flags a r = getD flags (128 * a + r) 0
+flag flags a r = getD flags (maxRules * a + r) 0
 
 -- v has q exactly if the places q.. of rule r cut the span from a to n
 abbrev pub Cutting : Fit → Sets → List ℕ → ℕ → ℕ → ℕ → ℕ → Type 0

@@ -12,7 +12,7 @@ use Rattle.sets.specs.Set.{has, insert}
 use Rattle.cfg.specs.Grammar.{Symbol, nonterminal, terminal}
 use Rattle.chart.specs.Cell.{cuts}
 use Rattle.packed.specs.Packed.{leftIn, placesIn}
-use Rattle.recognizer.specs.Flags.{Fit, Sets, flag, Cutting, Inner, owned}
+use Rattle.recognizer.specs.Flags.{Fit, Sets, flag, Cutting, Inner, owned, flagsSize}
 
 -- each member of v is one of w
 abbrev pub Within : ℕ → ℕ → Type 0
@@ -45,7 +45,7 @@ addedIn p r v own = cond (has 0 v && ltb (leftIn p r) 32) (insert (leftIn p r) o
 
 -- rule r was looked at: own is its set before, own' after
 pub record Stepped (p : List ℕ) (r i n own start inner : ℕ) (flags flags' : List ℕ) (own' : ℕ) : Type 0 where
-  pub long : length flags' ≡ 8320
+  pub long : length flags' ≡ flagsSize
   pub other : (x : ℕ) → x ≢ 128 * i + r → getD flags' x 0 ≡ getD flags x 0
   pub result : own' ≡ addedIn p r (flag flags' i r) own
   pub exact : (fit : Fit) (sets : Sets) → sets i n ≡ own → (i < n → sets i i ≡ start) → Inner fit sets p r i n inner
@@ -75,7 +75,7 @@ pub record Settled (fit : Fit) (sets : Sets) (p : List ℕ) (r i n own v : ℕ) 
 
 -- the rules below m were looked at, and own became v
 pub record Passed (p : List ℕ) (rules i n own start : ℕ) (masks flags : List ℕ) (m v : ℕ) (flags' : List ℕ) : Type 0 where
-  pub long : length flags' ≡ 8320
+  pub long : length flags' ≡ flagsSize
   pub other : (a r : ℕ) → r < 128 → a ≢ i → flag flags' a r ≡ flag flags a r
   pub grows : own ≤ v
   pub sound : (fit : Fit) (sets : Sets) → Ready fit sets p rules i n start masks flags → (T : ℕ) → ClosedAt fit sets p i n T
@@ -85,7 +85,7 @@ pub record Passed (p : List ℕ) (rules i n own start : ℕ) (masks flags : List
 
 -- passes from the empty set on came to v: it has nothing that a closed set lacks
 pub record Reached (p : List ℕ) (rules i n start : ℕ) (masks flags : List ℕ) (v : ℕ) (flags' : List ℕ) : Type 0 where
-  pub long : length flags' ≡ 8320
+  pub long : length flags' ≡ flagsSize
   pub other : (a r : ℕ) → r < 128 → a ≢ i → flag flags' a r ≡ flag flags a r
   pub sound : (fit : Fit) (sets : Sets) → Ready fit sets p rules i n start masks flags → (T : ℕ) → ClosedAt fit sets p i n T → Within v T
 

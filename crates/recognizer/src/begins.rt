@@ -1,4 +1,6 @@
 // Where cuts of a span begin whose first piece lies inside the span: for each rule, the set of the places at which one begins.
+use super::Flags;
+use packed::Packed;
 ghost use mathlib.Core.Bool.{false, cond, _&&_};
 ghost use mathlib.Core.List.{List};
 ghost use mathlib.Core.Path.{_≡_};
@@ -9,6 +11,7 @@ ghost use Rattle.sets.specs.Set.{has as inSet, insert};
 ghost use Rattle.chart.specs.Cell.{fitsAt};
 ghost use Rattle.packed.specs.Packed.{tagIn, countIn};
 ghost use Rattle.recognizer.specs.Flags.{Between, InnerPlace, InnerMask, InnerMasks};
+ghost use Rattle.sizes.specs.Sizes.{cells};
 
 // Whether k is in one set and q in the other.
 pub fn both(word: u32, k: usize, rest: u32, q: usize) -> bool
@@ -37,9 +40,9 @@ fn inner_nonterminal(
     i: usize,
     n: usize,
     chart: &[u32],
-    flags: &[u32; 8320],
+    flags: &Flags,
 ) -> bool
-    requires { ⌜ (r < 128) × (i ≤ n) × (n ≤ 64) × (4225 ≤ length (now chart)) ⌝ }
+    requires { ⌜ (r < 128) × (i ≤ n) × (n ≤ 64) × (cells ≤ length (now chart)) ⌝ }
     ensures { λ f. ⌜ Between k r q i n (now (chart .entry)) (now (flags .entry)) f ⌝ }
 {
     let mut b = i + 1;
@@ -54,13 +57,13 @@ fn inner_nonterminal(
 
 // Whether place q of rule r holds a terminal that fits the byte at i, after which the places behind it cut the rest.
 fn inner_terminal(
-    p: &[u8; 2304],
+    p: &Packed,
     r: usize,
     q: usize,
     w: &[u8],
     i: usize,
     n: usize,
-    flags: &[u32; 8320],
+    flags: &Flags,
 ) -> bool
     requires { ⌜ (r < 128) × (q < 8) × (n ≤ 64) × (q < countIn (now p) r) × (eqb (tagIn (now p) r q) 0 ≡ false) ⌝ }
     ensures { λ f. ⌜ ((chart : List ℕ) → InnerPlace (fitsAt (now (w .entry))) (now (p .entry)) r q i n chart (now (flags .entry)) f) ⌝ }
@@ -75,16 +78,16 @@ fn inner_terminal(
 
 // Whether the places q.. of rule r cut the span from i to n with a first piece that is a byte, or neither empty nor the whole.
 fn inner_place(
-    p: &[u8; 2304],
+    p: &Packed,
     r: usize,
     q: usize,
     w: &[u8],
     i: usize,
     n: usize,
     chart: &[u32],
-    flags: &[u32; 8320],
+    flags: &Flags,
 ) -> bool
-    requires { ⌜ (r < 128) × (q < 8) × (i ≤ n) × (n ≤ 64) × (q < countIn (now p) r) × (4225 ≤ length (now chart)) ⌝ }
+    requires { ⌜ (r < 128) × (q < 8) × (i ≤ n) × (n ≤ 64) × (q < countIn (now p) r) × (cells ≤ length (now chart)) ⌝ }
     ensures { λ f. ⌜ InnerPlace (fitsAt (now (w .entry))) (now (p .entry)) r q i n (now (chart .entry)) (now (flags .entry)) f ⌝ }
 {
     if packed::is_nonterminal(p, r, q) {
@@ -95,15 +98,15 @@ fn inner_place(
 
 // The places of rule r at which such a cut of the span from i to n begins.
 fn inner_mask(
-    p: &[u8; 2304],
+    p: &Packed,
     r: usize,
     w: &[u8],
     i: usize,
     n: usize,
     chart: &[u32],
-    flags: &[u32; 8320],
+    flags: &Flags,
 ) -> u32
-    requires { ⌜ (r < 128) × (i ≤ n) × (n ≤ 64) × (4225 ≤ length (now chart)) ⌝ }
+    requires { ⌜ (r < 128) × (i ≤ n) × (n ≤ 64) × (cells ≤ length (now chart)) ⌝ }
     ensures { λ v. ⌜ InnerMask (fitsAt (now (w .entry))) (now (p .entry)) r i n (now (chart .entry)) (now (flags .entry)) v ⌝ }
 {
     let count = packed::count(p, r);
@@ -118,16 +121,16 @@ fn inner_mask(
 
 // The same of every rule below a number.
 pub fn inner_masks(
-    p: &[u8; 2304],
+    p: &Packed,
     rules: usize,
     w: &[u8],
     i: usize,
     n: usize,
     chart: &[u32],
-    flags: &[u32; 8320],
+    flags: &Flags,
     masks: &mut [u32; 128],
 )
-    requires { ⌜ (rules ≤ 128) × (i ≤ n) × (n ≤ 64) × (4225 ≤ length (now chart)) × (length (now masks) ≡ 128) ⌝ }
+    requires { ⌜ (rules ≤ 128) × (i ≤ n) × (n ≤ 64) × (cells ≤ length (now chart)) × (length (now masks) ≡ 128) ⌝ }
     ensures { λ _.
         ⌜ InnerMasks (fitsAt (now (w .entry))) (now (p .entry)) rules i n
         (now (chart .entry)) (now (flags .entry)) (now (masks .exit)) ⌝ }

@@ -5,6 +5,7 @@ mod passes;
 use begins::inner_masks;
 use grammar::Grammar;
 use grammar::Refusal;
+use packed::Packed;
 use passes::closure;
 ghost use mathlib.Core.Bool.{true};
 ghost use mathlib.Core.List.{[], _∷_, _++_};
@@ -22,6 +23,19 @@ ghost use Rattle.results.specs.Recognize.{stateOf, openOf, takeOf};
 ghost use Rattle.recognizer.specs.Passes.{Used};
 ghost use Rattle.recognizer.specs.Columns.{columnOf, CellWritten};
 ghost use Rattle.recognizer.specs.Recognizer.{stateIn, answerOf, recognitionOf};
+ghost use Rattle.recognizer.specs.Flags.{flagsSize};
+ghost use Rattle.sizes.specs.Sizes.{cells};
+
+// One word for each start and rule: the flags of a column.
+pub const FLAGS_SIZE: usize = sizes::SIDE * sizes::MAX_RULES;
+
+pub type Flags = [u32; FLAGS_SIZE];
+
+pub fn tied_flags() -> usize
+    ensures { λ n. ⌜ n ≡ flagsSize ⌝ }
+{
+    FLAGS_SIZE
+}
 
 // The state: 64 bytes, of which the first `count` have been taken.
 pub struct Recognizer {
@@ -44,7 +58,7 @@ pub struct Advanced {
 // ---- columns
 
 // A number that no used rule reaches: one past the last of them.
-fn rule_count(p: &[u8; 2304]) -> usize
+fn rule_count(p: &Packed) -> usize
     ensures { λ m. ⌜ (m ≤ 128) × Used (now (p .entry)) m ⌝ }
 {
     let mut m = 128;
@@ -60,15 +74,15 @@ fn rule_count(p: &[u8; 2304]) -> usize
 
 // Writes the cell (i, n), those of the later starts being written.
 fn close_cell(
-    p: &[u8; 2304],
+    p: &Packed,
     rules: usize,
     w: &[u8],
     i: usize,
     n: usize,
     chart: &mut [u32],
-    flags: &mut [u32; 8320],
+    flags: &mut Flags,
 )
-    requires { ⌜ (rules ≤ 128) × Used (now p) rules × (i ≤ n) × (n ≤ 64) × (4225 ≤ length (now chart)) × (length (now flags) ≡ 8320) ⌝ }
+    requires { ⌜ (rules ≤ 128) × Used (now p) rules × (i ≤ n) × (n ≤ 64) × (cells ≤ length (now chart)) × (length (now flags) ≡ flagsSize) ⌝ }
     ensures { λ _.
         ⌜ CellWritten (now (p .entry)) (now (w .entry)) rules n i
         (now (chart .entry)) (now (flags .entry)) (now (chart .exit)) (now (flags .exit)) ⌝ }
@@ -80,12 +94,12 @@ fn close_cell(
 }
 
 // Writes column n.
-pub fn write_column(p: &[u8; 2304], w: &[u8], n: usize, chart: &mut [u32])
-    requires { ⌜ (n ≤ 64) × (4225 ≤ length (now chart)) ⌝ }
+pub fn write_column(p: &Packed, w: &[u8], n: usize, chart: &mut [u32])
+    requires { ⌜ (n ≤ 64) × (cells ≤ length (now chart)) ⌝ }
     ensures { λ _. ⌜ now (chart .exit) ≡ columnOf (now (p .entry)) (now (w .entry)) n (now (chart .entry)) ⌝ }
 {
     let rules = rule_count(p);
-    let mut flags = [0u32; 8320];
+    let mut flags = [0u32; FLAGS_SIZE];
     let mut i = n + 1;
     while i > 0 {
         i -= 1;
@@ -94,19 +108,19 @@ pub fn write_column(p: &[u8; 2304], w: &[u8], n: usize, chart: &mut [u32])
 }
 
 fn clear(chart: &mut [u32])
-    requires { ⌜ 4225 ≤ length (now chart) ⌝ }
-    ensures { λ _. ⌜ now (chart .exit) ≡ replicate 4225 0 ++ drop 4225 (now (chart .entry)) ⌝ }
+    requires { ⌜ cells ≤ length (now chart) ⌝ }
+    ensures { λ _. ⌜ now (chart .exit) ≡ replicate cells 0 ++ drop cells (now (chart .entry)) ⌝ }
 {
     let mut i = 0;
-    while i < 4225 {
+    while i < sizes::CELLS {
         chart[i] = 0;
         i += 1;
     }
 }
 
 // Opening.
-pub fn open_chart(p: &[u8; 2304], chart: &mut [u32])
-    requires { ⌜ 4225 ≤ length (now chart) ⌝ }
+pub fn open_chart(p: &Packed, chart: &mut [u32])
+    requires { ⌜ cells ≤ length (now chart) ⌝ }
     ensures { λ _. ⌜ now (chart .exit) ≡ opened (cfgIn 0 (now (p .entry))) (now (chart .entry)) ⌝ }
 {
     let none = [0u8; 1];
@@ -115,8 +129,8 @@ pub fn open_chart(p: &[u8; 2304], chart: &mut [u32])
 }
 
 // Opening, and then taking the whole input.
-pub fn fill(p: &[u8; 2304], w: &[u8], chart: &mut [u32])
-    requires { ⌜ (length (now w) ≤ 64) × (4225 ≤ length (now chart)) ⌝ }
+pub fn fill(p: &Packed, w: &[u8], chart: &mut [u32])
+    requires { ⌜ (length (now w) ≤ 64) × (cells ≤ length (now chart)) ⌝ }
     ensures { λ _. ⌜ now (chart .exit) ≡ filled (cfgIn 0 (now (p .entry))) (now (w .entry)) (now (chart .entry)) ⌝ }
 {
     open_chart(p, chart);
@@ -129,7 +143,7 @@ pub fn fill(p: &[u8; 2304], w: &[u8], chart: &mut [u32])
 
 // Whether the start symbol is in the cell of the whole input.
 pub fn complete(start: usize, n: usize, chart: &[u32]) -> bool
-    requires { ⌜ (n ≤ 64) × (4225 ≤ length (now chart)) ⌝ }
+    requires { ⌜ (n ≤ 64) × (cells ≤ length (now chart)) ⌝ }
     ensures { λ b. ⌜ b ≡ inSet start (cell (now (chart .entry)) 0 n) ⌝ }
 {
     packed::contains(chart[n], start)
@@ -145,7 +159,7 @@ fn wide(x: u8) -> usize
 
 // The answer "complete", after n bytes.
 fn says(start: u8, n: usize, chart: &[u32]) -> Accepted
-    requires { ⌜ (n ≤ 64) × (4225 ≤ length (now chart)) ⌝ }
+    requires { ⌜ (n ≤ 64) × (cells ≤ length (now chart)) ⌝ }
     ensures { λ a. ⌜ answerOf a ≡ answered (inSet start (cell (now (chart .entry)) 0 n)) ⌝ }
 {
     if complete(wide(start), n, chart) {
@@ -195,7 +209,7 @@ fn refused(h: Recognizer, r: Refusal) -> Advanced
 
 // Opening, once the checks are passed.
 fn opening(g: Grammar, chart: &mut [u32]) -> Advanced
-    requires { ⌜ (validGrammar g ≡ true) × (4225 ≤ length (now chart)) ⌝ }
+    requires { ⌜ (validGrammar g ≡ true) × (cells ≤ length (now chart)) ⌝ }
     ensures { λ r. ⌜ recognitionOf r (now (chart .exit)) ≡ openOf g (now (chart .entry)) ⌝ }
 {
     let p = packed::pack(g);
@@ -213,7 +227,7 @@ pub fn open(g: Grammar, chart: &mut [u32]) -> Advanced
     if !grammar::valid(g) {
         return refused(blank(), Refusal::InvalidGrammar);
     }
-    if chart.len() < 4225 {
+    if chart.len() < sizes::CELLS {
         return refused(blank(), Refusal::ChartTooShort);
     }
     opening(g, chart)
@@ -221,7 +235,7 @@ pub fn open(g: Grammar, chart: &mut [u32]) -> Advanced
 
 // Taking, once the checks are passed.
 fn taking(h: Recognizer, g: Grammar, byte: u8, chart: &mut [u32]) -> Advanced
-    requires { ⌜ (validGrammar g ≡ true) × (h .count < 64) × (4225 ≤ length (now chart)) ⌝ }
+    requires { ⌜ (validGrammar g ≡ true) × (h .count < 64) × (cells ≤ length (now chart)) ⌝ }
     ensures { λ r. ⌜ recognitionOf r (now (chart .exit)) ≡ takeOf g (stateIn h) byte (now (chart .entry)) ⌝ }
 {
     let p = packed::pack(g);
@@ -247,7 +261,7 @@ impl Recognizer {
         if n > 64 {
             return refused(self, Refusal::InvalidRecognizer);
         }
-        if room < 4225 {
+        if room < sizes::CELLS {
             return refused(self, Refusal::ChartTooShort);
         }
         if n == 64 {

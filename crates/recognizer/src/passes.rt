@@ -1,11 +1,14 @@
 // Passes of the rules over one cell of a column, until nothing is added.
+use super::Flags;
 use super::begins::both;
 use super::begins::with_if;
+use packed::Packed;
 ghost use mathlib.Core.Path.{_≡_};
 ghost use Prim.Native.Nat.{_<_, _≤_};
 ghost use lib.ListN.{length};
 ghost use Rattle.packed.specs.Packed.{symbolIn};
 ghost use Rattle.recognizer.specs.Passes.{placeCuts, RuleMask, addedIn, Stepped, Passed, Closing};
+ghost use Rattle.recognizer.specs.Flags.{flagsSize};
 
 // The first word where i is before n, else the second.
 fn pick(i: usize, n: usize, before: u32, at: u32) -> u32
@@ -16,7 +19,7 @@ fn pick(i: usize, n: usize, before: u32, at: u32) -> u32
 
 // Whether the places q.. of rule r cut a span, v having that of the places behind q.
 fn place_cuts(
-    p: &[u8; 2304],
+    p: &Packed,
     r: usize,
     q: usize,
     empty: u32,
@@ -43,7 +46,7 @@ fn place_cuts(
 
 // The places q of rule r such that the places q.. cut the span from i to n.
 fn rule_mask(
-    p: &[u8; 2304],
+    p: &Packed,
     r: usize,
     i: usize,
     n: usize,
@@ -65,7 +68,7 @@ fn rule_mask(
 }
 
 // The set, with the left side of rule r in it if all its places cut the span.
-fn added(p: &[u8; 2304], r: usize, m: u32, own: u32) -> u32
+fn added(p: &Packed, r: usize, m: u32, own: u32) -> u32
     requires { ⌜ r < 128 ⌝ }
     ensures { λ v. ⌜ v ≡ addedIn (now (p .entry)) r m own ⌝ }
 {
@@ -80,16 +83,16 @@ fn added(p: &[u8; 2304], r: usize, m: u32, own: u32) -> u32
 
 // Rule r at the cell (i, n) of which `own` is known.
 fn rule_step(
-    p: &[u8; 2304],
+    p: &Packed,
     r: usize,
     i: usize,
     n: usize,
     own: u32,
     start: u32,
     inner: u32,
-    flags: &mut [u32; 8320],
+    flags: &mut Flags,
 ) -> u32
-    requires { ⌜ (r < 128) × (i ≤ n) × (n ≤ 64) × (length (now flags) ≡ 8320) ⌝ }
+    requires { ⌜ (r < 128) × (i ≤ n) × (n ≤ 64) × (length (now flags) ≡ flagsSize) ⌝ }
     ensures { λ v. ⌜ Stepped (now (p .entry)) r i n own start inner (now (flags .entry)) (now (flags .exit)) v ⌝ }
 {
     let empty = pick(i, n, start, own);
@@ -101,16 +104,16 @@ fn rule_step(
 
 // The rules below a number, once.
 fn pass(
-    p: &[u8; 2304],
+    p: &Packed,
     rules: usize,
     i: usize,
     n: usize,
     own: u32,
     start: u32,
     masks: &[u32; 128],
-    flags: &mut [u32; 8320],
+    flags: &mut Flags,
 ) -> u32
-    requires { ⌜ (rules ≤ 128) × (i ≤ n) × (n ≤ 64) × (length (now flags) ≡ 8320) ⌝ }
+    requires { ⌜ (rules ≤ 128) × (i ≤ n) × (n ≤ 64) × (length (now flags) ≡ flagsSize) ⌝ }
     ensures { λ v. ⌜ Passed (now (p .entry)) rules i n own start (now (masks .entry)) (now (flags .entry)) rules v (now (flags .exit)) ⌝ }
 {
     let mut v = own;
@@ -124,15 +127,15 @@ fn pass(
 
 // These rules, until nothing is added.
 pub fn closure(
-    p: &[u8; 2304],
+    p: &Packed,
     rules: usize,
     i: usize,
     n: usize,
     start: u32,
     masks: &[u32; 128],
-    flags: &mut [u32; 8320],
+    flags: &mut Flags,
 ) -> u32
-    requires { ⌜ (rules ≤ 128) × (i ≤ n) × (n ≤ 64) × (length (now flags) ≡ 8320) ⌝ }
+    requires { ⌜ (rules ≤ 128) × (i ≤ n) × (n ≤ 64) × (length (now flags) ≡ flagsSize) ⌝ }
     ensures { λ v. ⌜ Closing (now (p .entry)) rules i n start (now (masks .entry)) (now (flags .entry)) v (now (flags .exit)) ⌝ }
 {
     let mut own: u32 = 0;

@@ -1,11 +1,12 @@
 -- Rows beyond document 01's own plates.
 -- Assumes nothing.
-use Prim.Native.Nat.{ℕ}
+use Prim.Native.Nat.{ℕ, _-_}
 use mathlib.Core.Bool.{Bool, true, false}
 use mathlib.Core.List.{List, [], _∷_}
 use mathlib.Core.Path.{_≡_, refl}
 use lib.IntN.{pos, negℤ}
 use lib.ListN.{replicate}
+use Rattle.sizes.specs.Sizes.{cells}
 use Rattle.grammar.specs.declared.Symbol.the-variants.{Nonterminal, Terminal}
 use Rattle.grammar.specs.declared.Place.{Place}
 use Rattle.grammar.specs.Zero.{zeroPlace, zeroRule}
@@ -28,7 +29,7 @@ unfolding computing
 gap-length = refl
 
 unfoldable pub build : List ℕ → List ℕ → List ℕ → List ℕ → Answer Bool
-build bytes w a b = sameBuildOf (grammarFrom bytes) w a b (replicate 4225 7) .answer
+build bytes w a b = sameBuildOf (grammarFrom bytes) w a b (replicate cells 7) .answer
 
 -- T, `A`: both derivations are one build, whichever place is empty
 pub same-T : build T (As 1) (1 ∷ 0 ∷ 0 ∷ 1 ∷ 1 ∷ 2 ∷ []) (1 ∷ 0 ∷ 1 ∷ 2 ∷ 0 ∷ 1 ∷ []) ≡ answered true
@@ -67,7 +68,7 @@ loaded-gap = refl
 
 -- a dirty state is clean after a take
 unfoldable pub taken : State
-taken = takeOf (grammarFrom T) (record { bytes = 65 ∷ replicate 63 9; count = 1 }) 66 (replicate 4225 0) .state
+taken = takeOf (grammarFrom T) (record { bytes = 65 ∷ replicate 63 9; count = 1 }) 66 (replicate cells 0) .state
 
 pub taken-clean : taken ≡ record { bytes = 65 ∷ 66 ∷ replicate 62 0; count = 2 }
 unfolding taken computing
@@ -78,7 +79,7 @@ abbrev pub dirty : State
 dirty = record { bytes = replicate 64 9; count = 64 }
 
 unfoldable pub refusedTake : State
-refusedTake = takeOf (grammarFrom T) dirty 66 (replicate 4225 0) .state
+refusedTake = takeOf (grammarFrom T) dirty 66 (replicate cells 0) .state
 
 pub refused-take-kept : refusedTake ≡ dirty
 unfolding refusedTake computing
@@ -86,14 +87,14 @@ refused-take-kept = refl
 
 -- a refused opening gives a state of zeros: here 10
 unfoldable pub refusedOpening : State
-refusedOpening = openOf (grammarFrom T) (replicate 4224 0) .state
+refusedOpening = openOf (grammarFrom T) (replicate (cells - 1) 0) .state
 
 pub refused-opening-zeros : refusedOpening ≡ record { bytes = replicate 64 0; count = 0 }
 unfolding refusedOpening computing
 refused-opening-zeros = refl
 
 unfoldable pub checks : List ℕ → Answer Bool
-checks e = checkOf (grammarFrom T) (As 1) e (replicate 4225 7) .answer
+checks e = checkOf (grammarFrom T) (As 1) e (replicate cells 7) .answer
 
 pub check-yes : checks (1 ∷ 0 ∷ 1 ∷ 2 ∷ 0 ∷ 1 ∷ []) ≡ answered true
 unfolding checks computing

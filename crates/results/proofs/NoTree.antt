@@ -6,6 +6,7 @@ use mathlib.Core.List.{List, [], _∷_}
 use mathlib.Core.Path.{_≡_, refl, sym, _∙_}
 use native.Mathlib.Omega.{arith}
 use lib.ListN.{length, replicate, length-replicate}
+use Rattle.sizes.specs.Sizes.{cells}
 use Rattle.cfg.specs.Tree.{HasTree}
 use Rattle.chart.specs.Column.{filled, complete}
 use Rattle.chart.proofs.Truth.{complete-tree}
@@ -19,11 +20,11 @@ use Rattle.results.proofs.Computing.{computing}
 
 -- where the chart of an input is not complete, the input has no tree
 pub incomplete-no-tree : (g : Grammar) (w : List ℕ) → validGrammar g ≡ true → length w ≤ 64
-    → complete (grammarOf g) (length w) (filled (grammarOf g) w (replicate 4225 0)) ≡ false → HasTree (grammarOf g) w → ⊥
+    → complete (grammarOf g) (length w) (filled (grammarOf g) w (replicate cells 0)) ≡ false → HasTree (grammarOf g) w → ⊥
 incomplete-no-tree g w valid small e tree =
-    let room : 4225 ≤ length (replicate {A = ℕ} 4225 0) = omega (arith, length-replicate {A = ℕ} 4225 0) in
-    let said : complete (grammarOf g) (length w) (filled (grammarOf g) w (replicate 4225 0)) ≡ true =
-    complete-tree (grammarOf g) (valid-bounded g valid) w (replicate 4225 0) small room .1 tree in
+    let room : cells ≤ length (replicate {A = ℕ} cells 0) = omega (arith, length-replicate {A = ℕ} cells 0) in
+    let said : complete (grammarOf g) (length w) (filled (grammarOf g) w (replicate cells 0)) ≡ true =
+    complete-tree (grammarOf g) (valid-bounded g valid) w (replicate cells 0) small room .1 tree in
     true≢false (sym said ∙ e)
 
 pub no-tree-T-AAA : HasTree (grammarOf (grammarFrom T)) (As 3) → ⊥

@@ -1,10 +1,11 @@
--- Checking an offered row: whether it is a derivation (reading) of the input.
+-- Checking an offered derivation: whether it is a derivation (reading) of the input.
 -- Assumes nothing.
 use Prim.Native.Nat.{ℕ}
 use mathlib.Core.Bool.{Bool, true, false, _&&_, _||_}
 use mathlib.Core.List.{List, [], _∷_}
 use lib.Dec.{eqb, ltb}
 use lib.ListN.{length}
+use Rattle.sizes.specs.Sizes.{maxInput}
 use Rattle.cfg.specs.Listing.{L}
 use Rattle.chart.specs.Column.{filled}
 use Rattle.grammar.specs.declared.Grammar.{Grammar}
@@ -12,21 +13,21 @@ use Rattle.grammar.specs.View.{grammarOf}
 use Rattle.results.specs.Answer.{Answer, refused, answered, Check, check, decide}
 use Rattle.results.specs.Recognize.{grammarCheck, chartCheck}
 
--- two rows of numbers are the same
+-- two lists of numbers are the same
 unfoldable pub same : List ℕ → List ℕ → Bool
 same [] [] = true
 same [] (b ∷ y) = false
 same (a ∷ x) [] = false
 same (a ∷ x) (b ∷ y) = eqb a b && same x y
 
--- a row is in a list of rows
+-- a list is in a list of lists
 unfoldable pub listed : List ℕ → List (List ℕ) → Bool
 listed e [] = false
 listed e (d ∷ l) = same e d || listed e l
 
 -- 9: no bytes, or more than 64
 abbrev pub inputCheck : List ℕ → Check ℕ
-inputCheck w = check (eqb (length w) 0 || ltb 64 (length w)) 9
+inputCheck w = check (eqb (length w) 0 || ltb maxInput (length w)) 9
 
 -- 8, 9, 10: the checks of every call on an input
 abbrev pub inputChecks : Grammar → List ℕ → List ℕ → List (Check ℕ)
@@ -44,6 +45,6 @@ onInput g w chart answer =
     (λ n. record { answer = refused n; chart = chart })
     (λ _. record { answer = answer tt; chart = filled (grammarOf g) w chart })
 
--- check: yes exactly if the offered row is in L
+-- check: yes exactly if the offered derivation is in L
 unfoldable pub checkOf : Grammar → List ℕ → List ℕ → List ℕ → Checking Bool
 checkOf g w offered chart = onInput g w chart (λ _. answered (listed offered (L (grammarOf g) w)))

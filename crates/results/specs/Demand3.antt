@@ -5,7 +5,7 @@ use mathlib.Core.List.{List, [], _∷_, _++_, map}
 use mathlib.Core.Logic.{_⊎_}
 use mathlib.Core.Path.{_≡_}
 use lib.ListN.{length, take, drop}
-use Rattle.cfg.specs.Tree.{Row, nodes, Parse, HasTree}
+use Rattle.cfg.specs.Tree.{Forest, nodes, Parse, HasTree}
 use Rattle.cfg.specs.Derivation.{limit}
 use Rattle.cfg.specs.Listing.{L}
 use Rattle.grammar.specs.declared.Grammar.{Grammar}
@@ -28,7 +28,7 @@ place g w tree calls = placeAfter (grammarOf g) w tree (map which calls) 0
 
 -- the claim for a list of calls, whether the input has a tree being decided by `tree`
 pub record Demand3 (g : Grammar) (w : List ℕ) (tree : Dec (HasTree (grammarOf g) w)) (calls : List Made) : Type 0 where
-  -- all answers and all rows handed out are the walk's
+  -- all answers and all derivations handed out are the walk's
   pub walks : history g w [] calls ≡ walked (grammarOf g) w tree (map which calls) 0
   -- the list has no first, or it splits at its last one
   pub splits : NoFirst (map which calls) ⊎ LastFirst calls
@@ -37,7 +37,7 @@ pub record Demand3 (g : Grammar) (w : List ℕ) (tree : Dec (HasTree (grammarOf 
   pub handed-before : NoFirst (map which calls) → handedOut (history g w [] calls) ≡ []
   -- after one, p is the smaller of N and 1 plus how often next was since offered the copy
   pub place-since : (f : LastFirst calls) → place g w tree calls ≡ min (N (grammarOf g) w) (1 + nexts (map which (f .after)))
-  -- and the rows handed out since the last first, its own included, are the first p of L in their order
+  -- and the derivations handed out since the last first, its own included, are the first p of L in their order
   pub handed-since : (f : LastFirst calls)
       → handedOut (drop (length (f .before)) (history g w [] calls)) ≡ take (place g w tree calls) (L (grammarOf g) w)
 
@@ -47,4 +47,4 @@ nextCalls lent = map (λ (l : List ℕ × List ℕ). nextCopy (l .0) (l .1)) len
 
 -- the input has trees, all of more than 512 nodes
 abbrev pub Larger : Grammar → List ℕ → Type 0
-Larger g w = HasTree (grammarOf g) w × ((t : Row) → Parse (grammarOf g) (grammarOf g .start) w t → limit < nodes t)
+Larger g w = HasTree (grammarOf g) w × ((t : Forest) → Parse (grammarOf g) (grammarOf g .start) w t → limit < nodes t)

@@ -6,6 +6,7 @@ use mathlib.Core.List.{List, [], _∷_, _++_}
 use mathlib.Core.Option.{Option, none, some}
 use lib.Dec.{eqb, leb, ltb}
 use lib.ListN.{length, drop}
+use Rattle.sizes.specs.Sizes.{outputSize}
 use Rattle.cfg.specs.Listing.{L}
 use Rattle.chart.specs.Column.{filled, complete}
 use Rattle.grammar.specs.declared.Grammar.{Grammar}
@@ -22,7 +23,7 @@ pub record Enumeration : Type 0 where
 
 -- 11: the output is shorter than 1,024 numbers
 abbrev pub outputCheck : List ℕ → Check ℕ
-outputCheck out = check (ltb (length out) 1024) 11
+outputCheck out = check (ltb (length out) outputSize) 11
 
 -- whether the input has a tree, of any size: the start symbol is in the cell of the whole input
 unfoldable pub treeIn : Grammar → List ℕ → List ℕ → Bool
@@ -50,7 +51,7 @@ firstOf g w chart out =
     (λ n. record { answer = refused n; chart = chart; output = out })
     (λ _. handingOut (headOf (L (grammarOf g) w)) (cond (treeIn g w chart) (refused 13) (answered nothing)) (filled (grammarOf g) w chart) out)
 
--- next: the one after the offered derivation in L, or "none"; refusal 12 where the offered row is none
+-- next: the one after the offered derivation in L, or "none"; refusal 12 where the offered derivation is none
 unfoldable pub nextOf : Grammar → List ℕ → List ℕ → List ℕ → List ℕ → Enumeration
 nextOf g w offered chart out =
     decide (inputChecks g w chart ++ (outputCheck out ∷ []))

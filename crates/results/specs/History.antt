@@ -1,9 +1,10 @@
 -- The other side of demand 3: a list of calls as they are made, each with a chart and an output of its own, and what the decided
--- results of first, next and count say to the caller, who keeps a copy of the row handed out last.
+-- results of first, next and count say to the caller, who keeps a copy of the derivation handed out last.
 -- Assumes nothing.
 use Prim.Native.Nat.{ℕ, _*_, _≤_}
 use mathlib.Core.List.{List, [], _∷_}
 use lib.ListN.{length, take}
+use Rattle.sizes.specs.Sizes.{cells, outputSize}
 use Rattle.cfg.specs.Derivation.{Derivation, limit}
 use Rattle.results.specs.Walk.{Call, Said, handsOut, noDerivation, noneLeft, refuses, counts}
 use Rattle.results.specs.Walk as Walk
@@ -12,7 +13,7 @@ use Rattle.grammar.specs.View.{grammarOf}
 use Rattle.results.specs.Answer.{Answer, refused, answered, Handing, handed, nothing, Figure, counted, more}
 use Rattle.results.specs.Enumerate.{firstOf, nextOf, countOf}
 
--- a call with what is lent to it: chart and output, and for a next that is not offered the copy the row that is
+-- a call with what is lent to it: chart and output, and for a next that is not offered the copy what it is offered
 pub data Made : Type 0 where
   first : List ℕ → List ℕ → Made
   nextCopy : List ℕ → List ℕ → Made
@@ -26,13 +27,13 @@ which (nextCopy chart out) = Walk.nextCopy
 which (nextOther e chart out) = Walk.nextOther
 which (count chart) = Walk.count
 
--- chart and output are long enough, and may hold anything; a row that is not the copy is no derivation of the input
+-- chart and output are long enough, and may hold anything; what is offered and is not the copy is no derivation of the input
 abbrev pub Allowed : Grammar → List ℕ → Made → Type 0
-Allowed g w (first chart out) = (4225 ≤ length chart) × (1024 ≤ length out)
-Allowed g w (nextCopy chart out) = (4225 ≤ length chart) × (1024 ≤ length out)
+Allowed g w (first chart out) = (cells ≤ length chart) × (outputSize ≤ length out)
+Allowed g w (nextCopy chart out) = (cells ≤ length chart) × (outputSize ≤ length out)
 Allowed g w (nextOther e chart out) =
-    (4225 ≤ length chart) × (1024 ≤ length out) × (Derivation (grammarOf g) limit w e → ⊥)
-Allowed g w (count chart) = 4225 ≤ length chart
+    (cells ≤ length chart) × (outputSize ≤ length out) × (Derivation (grammarOf g) limit w e → ⊥)
+Allowed g w (count chart) = cells ≤ length chart
 
 -- every call of the list is allowed
 abbrev pub AllAllowed : Grammar → List ℕ → List Made → Type 0
@@ -59,7 +60,7 @@ says g w copy (nextCopy chart out) = let r = nextOf g w copy chart out in saidOf
 says g w copy (nextOther e chart out) = let r = nextOf g w e chart out in saidOf noneLeft (r .answer) (r .output)
 says g w copy (count chart) = countSaid (countOf g w chart .answer)
 
--- the copy after a call: the row that was handed out, if one was
+-- the copy after a call: the derivation that was handed out, if one was
 unfoldable pub copied : Said → List ℕ → List ℕ
 copied (handsOut n e) copy = e
 copied noDerivation copy = copy

@@ -14,7 +14,7 @@ use Rattle.grammar.specs.Zero.{noRule}
 use Rattle.results.specs.Answer.{refused, answered, check, decide}
 use Rattle.results.specs.Check.{listed, Checking, onInput}
 
--- the rule lengths of all nodes of a row, empty ones too, added up: hundredths of a millimetre
+-- the rule lengths of all nodes of a derivation, empty ones too, added up: hundredths of a millimetre
 unfoldable pub sum : Grammar → List ℕ → ℤ
 sum g [] = pos 0
 sum g (cover ∷ []) = pos 0
@@ -25,7 +25,7 @@ unfoldable pub rounded : ℤ → ℤ
 rounded (pos n) = pos ((n + 5) / 10)
 rounded (negsuc n) = negℤ (pos ((suc n + 5) / 10))
 
--- 12: an offered row is no derivation of the input
+-- 12: an offered derivation is none of the input
 unfoldable pub unlisted : Grammar → List ℕ → List ℕ → Bool
 unlisted g w e = not (listed e (L (grammarOf g) w))
 

@@ -9,7 +9,7 @@ use lib.ListN.{length, take, replicate}
 use Rattle.grammar.specs.declared.Grammar.{Grammar}
 use Rattle.grammar.specs.Valid.{validGrammar}
 use Rattle.grammar.specs.View.{grammarOf}
-use Rattle.chart.specs.Cell.{cells}
+use Rattle.sizes.specs.Sizes.{maxInput, cells}
 use Rattle.chart.specs.Column.{opened, extended, complete}
 use Rattle.results.specs.Answer.{Answer, refused, answered, Check, check, decide}
 
@@ -20,7 +20,7 @@ pub record State : Type 0 where
 
 -- the state that has taken w: what is unused is zero
 unfoldable pub stateOf : List ℕ → State
-stateOf w = record { bytes = w ++ replicate (64 - length w) 0; count = length w }
+stateOf w = record { bytes = w ++ replicate (maxInput - length w) 0; count = length w }
 
 -- what opening and taking give: the answer, yes if complete, the state, and what the chart holds at the end
 pub record Recognition : Type 0 where
@@ -38,7 +38,7 @@ chartCheck chart = check (ltb (length chart) cells) 10
 
 -- 14: a count over 64
 abbrev pub stateCheck : State → Check ℕ
-stateCheck h = check (ltb 64 (h .count)) 14
+stateCheck h = check (ltb maxInput (h .count)) 14
 
 -- opening. Refused, it gives a state of zeros and leaves the chart as found
 unfoldable pub openOf : Grammar → List ℕ → Recognition
@@ -51,7 +51,7 @@ openOf g chart =
 -- taking a byte. Refused, it leaves the state and the chart as found
 unfoldable pub takeOf : Grammar → State → ℕ → List ℕ → Recognition
 takeOf g h m chart =
-    decide (grammarCheck g ∷ stateCheck h ∷ chartCheck chart ∷ check (eqb (h .count) 64) 15 ∷ [])
+    decide (grammarCheck g ∷ stateCheck h ∷ chartCheck chart ∷ check (eqb (h .count) maxInput) 15 ∷ [])
     (λ n. record { answer = refused n; state = h; chart = chart })
     (λ _. let w = take (h .count) (h .bytes) ++ (m ∷ []) in
     let left = extended (grammarOf g) w chart in

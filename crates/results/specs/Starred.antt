@@ -6,6 +6,7 @@ use mathlib.Core.List.{List, [], _∷_, map}
 use mathlib.Core.Path.{_≡_}
 use lib.IntN.{ℤ, pos, negℤ}
 use lib.ListN.{replicate}
+use Rattle.sizes.specs.Sizes.{cells}
 use Rattle.cfg.specs.Listing.{L}
 use Rattle.cfg.specs.Tree.{HasTree}
 use Rattle.grammar.specs.declared.Grammar.{Grammar}
@@ -17,7 +18,7 @@ use Rattle.results.specs.Measure.{lengthOf, rounded}
 use Rattle.results.specs.Enumerate.{firstOf, countOf}
 use Rattle.results.specs.Drawer.{T, unit, left, pairs, nullablePairs, emptyUnit, bare, recess, As}
 
--- what is asked of a book and an input: the answers of loading, first and count, L, and the length of each row of L
+-- what is asked of a book and an input: the answers of loading, first and count, L, and the length of each derivation in L
 pub record Outcome : Type 0 where
   pub loads : LoadAnswer
   pub first : Answer Handing
@@ -33,7 +34,7 @@ grammarFrom bytes = loadOf bytes 0 .grammar
 unfoldable pub outcome : List ℕ → List ℕ → Outcome
 outcome bytes w =
     let g = grammarFrom bytes in
-    let chart : List ℕ = replicate 4225 7 in
+    let chart : List ℕ = replicate cells 7 in
     record {
       loads = loadOf bytes 0 .answer;
       first = firstOf g w chart (replicate 1024 9) .answer;

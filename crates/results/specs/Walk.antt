@@ -11,11 +11,11 @@ use Rattle.cfg.specs.Tree.{HasTree}
 use Rattle.cfg.specs.Listing.{L}
 use Rattle.results.specs.Answer.{most}
 
--- the calls: first; next, offered the caller's copy; next, offered a row that is no derivation (reading); count
+-- the calls: first; next, offered the caller's copy; next, offered a reading that is no derivation (reading); count
 pub data Call : Type 0 where
   first nextCopy nextOther count : Call
 
--- what is answered; where a row is handed out, how many nodes it has and the row
+-- what is answered; where a reading is handed out, how many nodes it has and the reading
 pub data Said : Type 0 where
   handsOut : ℕ → List ℕ → Said
   noDerivation noneLeft : Said
@@ -35,12 +35,12 @@ move s p = record { said = s; place = p }
 abbrev pub N : Cfg → List ℕ → ℕ
 N G w = length (L G w)
 
--- row i of L, counted from 1
-abbrev pub row : Cfg → List ℕ → ℕ → List ℕ
-row G w zero = []
-row G w (suc i) = getD (L G w) i []
+-- reading i of L, counted from 1
+abbrev pub reading : Cfg → List ℕ → ℕ → List ℕ
+reading G w zero = []
+reading G w (suc i) = getD (L G w) i []
 
--- a row is handed out: it has two numbers for each node
+-- a reading is handed out: it has two numbers for each node
 abbrev pub hands : List ℕ → Said
 hands e = handsOut (length e / 2) e
 
@@ -52,10 +52,10 @@ module _ (G : Cfg) (w : List ℕ) (tree : Dec (HasTree G w)) where
   -- one call at the place p, which stays unless a line says otherwise
   unfoldable pub walk : Call → ℕ → Move
   walk first p =
-      elim (ltb 0 (N G w)) [ true ↦ move (hands (row G w 1)) 1 | false ↦ move (ite tree (refuses 13) noDerivation) p ]
+      elim (ltb 0 (N G w)) [ true ↦ move (hands (reading G w 1)) 1 | false ↦ move (ite tree (refuses 13) noDerivation) p ]
   walk nextCopy zero = move (refuses 12) zero
   walk nextCopy (suc p) =
-      elim (ltb (suc p) (N G w)) [ true ↦ move (hands (row G w (suc (suc p)))) (suc (suc p)) | false ↦ move noneLeft (suc p) ]
+      elim (ltb (suc p) (N G w)) [ true ↦ move (hands (reading G w (suc (suc p)))) (suc (suc p)) | false ↦ move noneLeft (suc p) ]
   walk nextOther p = move (refuses 12) p
   walk count p =
       elim (eqb (N G w) 0) [
@@ -73,7 +73,7 @@ module _ (G : Cfg) (w : List ℕ) (tree : Dec (HasTree G w)) where
   placeAfter [] p = p
   placeAfter (c ∷ calls) p = placeAfter calls (walk c p .place)
 
--- the rows that are handed out
+-- the derivations that are handed out
 unfoldable pub handedOut : List Said → List (List ℕ)
 handedOut [] = []
 handedOut (handsOut n e ∷ said) = e ∷ handedOut said

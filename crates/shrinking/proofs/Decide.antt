@@ -8,7 +8,7 @@ use mathlib.Core.Path.{_≡_, refl, sym, ap, _∙_, subst}
 use mathlib.Core.Option.{Option, none, some, Option·some-injective, Option·some-ne-none}
 use lib.ListN.{length}
 use Rattle.cfg.specs.Grammar.{Cfg, Rule, rule, Of}
-use Rattle.cfg.specs.Tree.{Row, end, leaf, node, yield}
+use Rattle.cfg.specs.Tree.{Forest, end, leaf, node, yield}
 use Rattle.cfg.specs.Derivation.{Has, has-here, has-below, has-beside, has-after}
 use Rattle.cfg.specs.Derivation.{Superfluous, super-here, super-below, super-beside, super-after}
 
@@ -41,22 +41,22 @@ dec-or (no a) (yes b) = yes (inr b)
 dec-or (no a) (no b) = no λ c. ⊎-elim a b c
 
 -- the places where a row that begins with a node can have a node of k over n bytes: the node itself, the row below it, the rest
-pub has-node : (G : Cfg) {k n r : ℕ} {below rest : Row} → (Of G r k × (length (yield below) ≡ n)) ⊎ (Has G k n below ⊎ Has G k n rest)
+pub has-node : (G : Cfg) {k n r : ℕ} {below rest : Forest} → (Of G r k × (length (yield below) ≡ n)) ⊎ (Has G k n below ⊎ Has G k n rest)
     → Has G k n (node r below rest)
 has-node G (inl p) = has-here (p .0) (p .1)
 has-node G (inr (inl h)) = has-below h
 has-node G (inr (inr h)) = has-beside h
 
-pub has-node-cases : (G : Cfg) {k n r : ℕ} {below rest : Row} → Has G k n (node r below rest)
+pub has-node-cases : (G : Cfg) {k n r : ℕ} {below rest : Forest} → Has G k n (node r below rest)
     → (Of G r k × (length (yield below) ≡ n)) ⊎ (Has G k n below ⊎ Has G k n rest)
 has-node-cases G (has-here o e) = inl (o, e)
 has-node-cases G (has-below h) = inr (inl h)
 has-node-cases G (has-beside h) = inr (inr h)
 
-pub has-leaf-cases : (G : Cfg) {k n m : ℕ} {rest : Row} → Has G k n (leaf m rest) → Has G k n rest
+pub has-leaf-cases : (G : Cfg) {k n m : ℕ} {rest : Forest} → Has G k n (leaf m rest) → Has G k n rest
 has-leaf-cases G (has-after h) = h
 
-pub has-dec : (G : Cfg) (k n : ℕ) (t : Row) → Dec (Has G k n t)
+pub has-dec : (G : Cfg) (k n : ℕ) (t : Forest) → Dec (Has G k n t)
 has-dec G k n end = no λ h. elim h [ ]
 has-dec G k n (leaf m rest) = map-dec has-after (has-leaf-cases G) (has-dec G k n rest)
 has-dec G k n (node r below rest) =
@@ -64,10 +64,10 @@ has-dec G k n (node r below rest) =
     (dec-or (Dec·and (of-dec G r k) (ℕ-discrete (length (yield below)) n)) (dec-or (has-dec G k n below) (has-dec G k n rest)))
 
 -- a node of rule r above this row would have superfluous recursion
-abbrev pub Over : (G : Cfg) (r : ℕ) (below : Row) → Type 0
+abbrev pub Over : (G : Cfg) (r : ℕ) (below : Forest) → Type 0
 Over G r below = (k : ℕ) × Of G r k × Has G k (length (yield below)) below
 
-pub over-dec : (G : Cfg) (r : ℕ) (below : Row) → Dec (Over G r below)
+pub over-dec : (G : Cfg) (r : ℕ) (below : Forest) → Dec (Over G r below)
 over-dec G r below = go (rule G r) refl
   where
     go : (o : Option Rule) → rule G r ≡ o → Dec (Over G r below)
@@ -77,22 +77,22 @@ over-dec G r below = go (rule G r) refl
         (λ p. subst (λ (j : ℕ). Has G j (length (yield below)) below) (sym (of-left G ρ e (p .1))) (p .2))
         (has-dec G (ρ .left) (length (yield below)) below)
 
-pub super-node : (G : Cfg) {r : ℕ} {below rest : Row} → Over G r below ⊎ (Superfluous G below ⊎ Superfluous G rest)
+pub super-node : (G : Cfg) {r : ℕ} {below rest : Forest} → Over G r below ⊎ (Superfluous G below ⊎ Superfluous G rest)
     → Superfluous G (node r below rest)
 super-node G (inl p) = super-here (p .1) (p .2)
 super-node G (inr (inl h)) = super-below h
 super-node G (inr (inr h)) = super-beside h
 
-pub super-node-cases : (G : Cfg) {r : ℕ} {below rest : Row} → Superfluous G (node r below rest)
+pub super-node-cases : (G : Cfg) {r : ℕ} {below rest : Forest} → Superfluous G (node r below rest)
     → Over G r below ⊎ (Superfluous G below ⊎ Superfluous G rest)
 super-node-cases G (super-here {k} o h) = inl (k, o, h)
 super-node-cases G (super-below h) = inr (inl h)
 super-node-cases G (super-beside h) = inr (inr h)
 
-pub super-leaf-cases : (G : Cfg) {m : ℕ} {rest : Row} → Superfluous G (leaf m rest) → Superfluous G rest
+pub super-leaf-cases : (G : Cfg) {m : ℕ} {rest : Forest} → Superfluous G (leaf m rest) → Superfluous G rest
 super-leaf-cases G (super-after h) = h
 
-pub superfluous-dec : (G : Cfg) (t : Row) → Dec (Superfluous G t)
+pub superfluous-dec : (G : Cfg) (t : Forest) → Dec (Superfluous G t)
 superfluous-dec G end = no λ h. elim h [ ]
 superfluous-dec G (leaf m rest) = map-dec super-after (super-leaf-cases G) (superfluous-dec G rest)
 superfluous-dec G (node r below rest) =

@@ -7,16 +7,16 @@ use mathlib.Core.Path.{_≡_, refl, sym, ap, _∙_}
 use mathlib.Core.List.{List, [], _∷_, _++_, append-nil, append-assoc}
 use lib.ListN.{length, length-append}
 use Rattle.cfg.specs.Grammar.{Cfg, Symbol, Of}
-use Rattle.cfg.specs.Tree.{Row, end, leaf, node, yield, nodes, Fits, fits-end, fits-leaf, fits-node}
+use Rattle.cfg.specs.Tree.{Forest, end, leaf, node, yield, nodes, Fits, fits-end, fits-leaf, fits-node}
 use Rattle.cfg.specs.Derivation.{Has, has-here, has-below, has-beside, has-after}
 use Rattle.cfg.specs.Derivation.{Superfluous, super-here, super-below, super-beside, super-after}
 use Rattle.shrinking.proofs.Decide.{of-unique, of-same}
 
 -- a node of k over n bytes of the row t, with an empty row beside it
-pub record Found (G : Cfg) (k n : ℕ) (t : Row) : Type 0 where
+pub record Found (G : Cfg) (k n : ℕ) (t : Forest) : Type 0 where
   pub number : ℕ
   pub of : Of G number k
-  pub below : Row
+  pub below : Forest
   pub fitted : Fits G (of .the .places) below
   pub cover : length (yield below) ≡ n
   pub before : List ℕ
@@ -27,7 +27,7 @@ pub record Found (G : Cfg) (k n : ℕ) (t : Row) : Type 0 where
   pub super : Superfluous G (node number below end) → Superfluous G t
 
 -- the first node of a row
-pub found-here : (G : Cfg) {k n j r : ℕ} {below rest : Row} (o : Of G r j) → Fits G (o .the .places) below → Of G r k
+pub found-here : (G : Cfg) {k n j r : ℕ} {below rest : Forest} (o : Of G r j) → Fits G (o .the .places) below → Of G r k
     → length (yield below) ≡ n → Found G k n (node r below rest)
 unfolding yield nodes
 found-here G {r} {below} {rest} o f p e = record {
@@ -55,7 +55,7 @@ found-here G {r} {below} {rest} o f p e = record {
     super (super-beside h) = elim h [ ]
 
 -- what is found in the row below a node
-pub found-below : (G : Cfg) {k n r : ℕ} {below rest : Row} → Found G k n below → Found G k n (node r below rest)
+pub found-below : (G : Cfg) {k n r : ℕ} {below rest : Forest} → Found G k n below → Found G k n (node r below rest)
 unfolding yield nodes
 found-below G {r} {below} {rest} F = record {
   number = F .number;
@@ -73,7 +73,7 @@ found-below G {r} {below} {rest} F = record {
 }
 
 -- what is found in the row beside a node
-pub found-beside : (G : Cfg) {k n r : ℕ} {below rest : Row} → Found G k n rest → Found G k n (node r below rest)
+pub found-beside : (G : Cfg) {k n r : ℕ} {below rest : Forest} → Found G k n rest → Found G k n (node r below rest)
 unfolding yield nodes
 found-beside G {r} {below} {rest} F = record {
   number = F .number;
@@ -90,7 +90,7 @@ found-beside G {r} {below} {rest} F = record {
 }
 
 -- what is found in the row after a leaf
-pub found-after : (G : Cfg) {k n m : ℕ} {rest : Row} → Found G k n rest → Found G k n (leaf m rest)
+pub found-after : (G : Cfg) {k n m : ℕ} {rest : Forest} → Found G k n rest → Found G k n (leaf m rest)
 unfolding yield nodes
 found-after G {m} F = record {
   number = F .number;
@@ -106,7 +106,7 @@ found-after G {m} F = record {
   super = λ h. super-after (F .super h);
 }
 
-pub extract : (G : Cfg) {k n : ℕ} {places : List Symbol} {t : Row} → Fits G places t → Has G k n t → Found G k n t
+pub extract : (G : Cfg) {k n : ℕ} {places : List Symbol} {t : Forest} → Fits G places t → Has G k n t → Found G k n t
 extract G fits-end h = elim h [ ]
 extract G (fits-leaf f s) (has-after h) = found-after G (extract G s h)
 extract G (fits-node o b s) (has-here p e) = found-here G o b p e

@@ -10,7 +10,7 @@ use mathlib.Core.Path.{_≡_, refl, sym, ap, _∙_, subst}
 use mathlib.Core.List.{List, [], _∷_, _++_, List·Memᴰ, List·Memᴰ·head, List·Memᴰ·tail, cons-ne-nil}
 use lib.ListN.{length}
 use Rattle.cfg.specs.Grammar.{Cfg, Symbol, Of}
-use Rattle.cfg.specs.Tree.{Row, yield, height, Fits, fits-end, fits-leaf, fits-node, Parse}
+use Rattle.cfg.specs.Tree.{Forest, yield, height, Fits, fits-end, fits-leaf, fits-node, Parse}
 use Rattle.cfg.specs.Derivation.{Has, has-here, has-below, has-beside, has-after}
 use Rattle.cfg.specs.Derivation.{Superfluous, super-here, super-below, super-beside}
 use Rattle.shrinking.proofs.Decide.{of-same}
@@ -64,7 +64,7 @@ append-empty-right [] y e = e
 append-empty-right (a ∷ x) y e = cc
 
 -- a row over nothing, without superfluous recursion, is no higher than a list is long that holds each of its nonterminals
-pub empty-low : (G : Cfg) {places : List Symbol} {t : Row} (free : List ℕ) → Fits G places t → yield t ≡ [] → ¬ Superfluous G t
+pub empty-low : (G : Cfg) {places : List Symbol} {t : Forest} (free : List ℕ) → Fits G places t → yield t ≡ [] → ¬ Superfluous G t
     → ((j : ℕ) → Has G j 0 t → List·Memᴰ j free) → height t ≤ length free
 unfolding yield height
 empty-low G free fits-end e p h = omega arith
@@ -82,15 +82,15 @@ empty-low G free (fits-node {k} {below = b} {rest} o f s) e p h =
     distinct lb j q d = p (super-here (of-same G (sym d) o) (subst (λ (n : ℕ). Has G j n b) (sym lb) q))
 
 -- each nonterminal in a row has a rule
-pub has-of : (G : Cfg) {k n : ℕ} {t : Row} → Has G k n t → (r : ℕ) × Of G r k
+pub has-of : (G : Cfg) {k n : ℕ} {t : Forest} → Has G k n t → (r : ℕ) × Of G r k
 has-of G (has-here {r} o e) = (r, o)
 has-of G (has-below h) = has-of G h
 has-of G (has-beside h) = has-of G h
 has-of G (has-after h) = has-of G h
 
 -- where every rule's left side is below b, a parse tree over nothing can be had of height at most b
-pub empty-parse-low : (G : Cfg) (b : ℕ) {k : ℕ} {t : Row} → ((r j : ℕ) → Of G r j → j < b) → Parse G k [] t
-    → (u : Row) × Parse G k [] u × (height u ≤ b)
+pub empty-parse-low : (G : Cfg) (b : ℕ) {k : ℕ} {t : Forest} → ((r j : ℕ) → Of G r j → j < b) → Parse G k [] t
+    → (u : Forest) × Parse G k [] u × (height u ≤ b)
 empty-parse-low G b l p =
     let S = shrink G (p .0) in
     let e = S .same ∙ p .1 in
@@ -100,6 +100,6 @@ empty-parse-low G b l p =
     known : (j : ℕ) → (r : ℕ) × Of G r j → List·Memᴰ j (numbers-below b)
     known j o = numbers-below-mem b j (l (o .0) j (o .1))
 
-pub nullable-low : (G : Cfg) {k : ℕ} {t : Row} → ((r j : ℕ) → Of G r j → j < 32) → Parse G k [] t
-    → (u : Row) × Parse G k [] u × (height u ≤ 32)
+pub nullable-low : (G : Cfg) {k : ℕ} {t : Forest} → ((r j : ℕ) → Of G r j → j < 32) → Parse G k [] t
+    → (u : Forest) × Parse G k [] u × (height u ≤ 32)
 nullable-low G l p = empty-parse-low G 32 l p

@@ -10,15 +10,15 @@ use mathlib.Core.Path.{_≡_, refl, sym, ap, ap₂, _∙_, subst}
 use mathlib.Core.List.{List, [], _∷_, _++_}
 use lib.ListN.{length}
 use Rattle.cfg.specs.Grammar.{Cfg, Symbol, nonterminal, Of}
-use Rattle.cfg.specs.Tree.{Row, end, leaf, node, yield, nodes, code, Fits, fits-end, fits-leaf, fits-node, Parse}
+use Rattle.cfg.specs.Tree.{Forest, end, leaf, node, yield, nodes, code, Fits, fits-end, fits-leaf, fits-node, Parse}
 use Rattle.cfg.specs.Derivation.{Has, has-here, has-below, has-beside, has-after, Derivation}
 use Rattle.cfg.specs.Derivation.{Superfluous, super-here, super-below, super-beside, super-after}
 use Rattle.shrinking.proofs.Decide.{of-unique, has-dec}
 use Rattle.shrinking.proofs.Extract.{Found, extract, middle-whole}
 
 -- a row for the same places over the same bytes as t, without superfluous recursion
-pub record Shrunk (G : Cfg) (places : List Symbol) (t : Row) : Type 0 where
-  pub row : Row
+pub record Shrunk (G : Cfg) (places : List Symbol) (t : Forest) : Type 0 where
+  pub row : Forest
   pub fitted : Fits G places row
   pub same : yield row ≡ yield t
   pub plain : ¬ Superfluous G row
@@ -35,8 +35,8 @@ shrunk-end G = record {
   from = λ k n h. h;
 }
 
-pub shrunk-leaf : (G : Cfg) {places : List Symbol} {s : Symbol} {m : ℕ} {rest : Row} → Shrunk G places rest
-    → ((u : Row) → Fits G places u → Fits G (s ∷ places) (leaf m u)) → Shrunk G (s ∷ places) (leaf m rest)
+pub shrunk-leaf : (G : Cfg) {places : List Symbol} {s : Symbol} {m : ℕ} {rest : Forest} → Shrunk G places rest
+    → ((u : Forest) → Fits G places u → Fits G (s ∷ places) (leaf m u)) → Shrunk G (s ∷ places) (leaf m rest)
 unfolding yield nodes
 shrunk-leaf G {m} {rest} S f = record {
   row = leaf m (S .row);
@@ -54,7 +54,7 @@ shrunk-leaf G {m} {rest} S f = record {
     from k n (has-after h) = has-after (S .from k n h)
 
 -- a node stays where the shrunk row below it has no node of its nonterminal over as many bytes
-pub shrunk-keep : (G : Cfg) {k r : ℕ} {places : List Symbol} {below rest : Row} (o : Of G r k) (B : Shrunk G (o .the .places) below)
+pub shrunk-keep : (G : Cfg) {k r : ℕ} {places : List Symbol} {below rest : Forest} (o : Of G r k) (B : Shrunk G (o .the .places) below)
     → Shrunk G places rest → ¬ Has G k (length (yield (B .row))) (B .row) → Shrunk G (nonterminal k ∷ places) (node r below rest)
 unfolding yield nodes
 shrunk-keep G {k} {r} {below} {rest} o B S n = record {
@@ -77,7 +77,7 @@ shrunk-keep G {k} {r} {below} {rest} o B S n = record {
     from j m (has-beside h) = has-beside (S .from j m h)
 
 -- where there is such a node, it takes the place of the node above it
-pub shrunk-replace : (G : Cfg) {k r : ℕ} {places inner : List Symbol} {below rest : Row} (B : Shrunk G inner below)
+pub shrunk-replace : (G : Cfg) {k r : ℕ} {places inner : List Symbol} {below rest : Forest} (B : Shrunk G inner below)
     → Shrunk G places rest → Found G k (length (yield (B .row))) (B .row) → Shrunk G (nonterminal k ∷ places) (node r below rest)
 unfolding yield nodes
 shrunk-replace G {k} {r} {below} {rest} B S F = record {
@@ -100,28 +100,28 @@ shrunk-replace G {k} {r} {below} {rest} B S F = record {
     from j m (has-below h) = has-below (B .from j m (F .from j m (has-below h)))
     from j m (has-beside h) = has-beside (S .from j m h)
 
-pub shrunk-node : (G : Cfg) {k r : ℕ} {places : List Symbol} {below rest : Row} (o : Of G r k) → Shrunk G (o .the .places) below
+pub shrunk-node : (G : Cfg) {k r : ℕ} {places : List Symbol} {below rest : Forest} (o : Of G r k) → Shrunk G (o .the .places) below
     → Shrunk G places rest → Shrunk G (nonterminal k ∷ places) (node r below rest)
 shrunk-node G {k} o B S = dite (has-dec G k (length (yield (B .row))) (B .row))
     (λ h. shrunk-replace G B S (extract G (B .fitted) h))
     (λ n. shrunk-keep G o B S n)
 
-pub shrink : (G : Cfg) {places : List Symbol} {t : Row} → Fits G places t → Shrunk G places t
+pub shrink : (G : Cfg) {places : List Symbol} {t : Forest} → Fits G places t → Shrunk G places t
 shrink G fits-end = shrunk-end G
 shrink G (fits-leaf f s) = shrunk-leaf G (shrink G s) (λ u h. fits-leaf f h)
 shrink G (fits-node o b s) = shrunk-node G o (shrink G b) (shrink G s)
 
-pub shrunk-parse : (G : Cfg) {k : ℕ} {w : List ℕ} {t : Row} → Parse G k w t
-    → (u : Row) × Parse G k w u × (¬ Superfluous G u) × (nodes u ≤ nodes t)
+pub shrunk-parse : (G : Cfg) {k : ℕ} {w : List ℕ} {t : Forest} → Parse G k w t
+    → (u : Forest) × Parse G k w u × (¬ Superfluous G u) × (nodes u ≤ nodes t)
 shrunk-parse G p = let S = shrink G (p .0) in (S .row, (S .fitted, S .same ∙ p .1), S .plain, S .fewer)
 
-pub small-tree→derivation : (G : Cfg) (b : ℕ) (w : List ℕ) (t : Row) → Parse G (G .start) w t → nodes t ≤ b
+pub small-tree→derivation : (G : Cfg) (b : ℕ) (w : List ℕ) (t : Forest) → Parse G (G .start) w t → nodes t ≤ b
     → (e : List ℕ) × Derivation G b w e
 small-tree→derivation G b w t p l = let s = shrunk-parse G p in
     (code (s .0), record { tree = s .0; parse = s .1; plain = s .2; small = le-trans (s .3) l; coded = refl })
 
 -- where no derivation of at most b nodes exists, each parse tree has more than b nodes
-pub no-derivation→large : (G : Cfg) (b : ℕ) (w : List ℕ) → ((e : List ℕ) → Derivation G b w e → ⊥) → (t : Row)
+pub no-derivation→large : (G : Cfg) (b : ℕ) (w : List ℕ) → ((e : List ℕ) → Derivation G b w e → ⊥) → (t : Forest)
     → Parse G (G .start) w t → b < nodes t
 no-derivation→large G b w n t p = dite (decLe (nodes t) b)
     (λ l. let d = small-tree→derivation G b w t p l in absurd (n (d .0) (d .1)))

@@ -24,6 +24,7 @@ use mathlib.Core.List.{List, [], _∷_, _++_, List·Memᴰ, map}
 use mathlib.Core.Logic.{_↔_, _⊎_}
 use mathlib.Core.Path.{_≡_}
 use lib.ListN.{length, getD, replicate}
+use Rattle.sizes.specs.Sizes.{cells}
 use Rattle.cfg.specs.Grammar.{Cfg}
 use Rattle.cfg.specs.Tree.{HasTree}
 use Rattle.cfg.specs.Derivation.{Derivation, Rising, limit}
@@ -110,7 +111,7 @@ first-demand = Demand1.first-demand
 pub next-demand : (g : Grammar) (w e chart out : List ℕ) → OutputDemand g w chart out (nextOf g w e chart out)
 next-demand = Demand1.next-demand
 
--- refusal 12 exactly where an offered row is no derivation, 13 exactly where there are trees and no derivation
+-- refusal 12 exactly where an offered derivation is none, 13 exactly where there are trees and no derivation
 pub length-twelve : (g : Grammar) (w chart e : List ℕ)
     → OfferedOrder (Ready g w chart) (Derivation (grammarOf g) limit w e) (lengthOf g w e chart .answer)
 length-twelve = Offered.length-twelve
@@ -134,12 +135,12 @@ count-thirteen = Trees.count-thirteen
 -- TAKING over any chart and any state of 64 bytes: the state after it; of the chart only column n is written, the least one that is closed
 -- under the rules, earlier columns as found; "complete" is the start symbol's bit
 pub take-any : (g : Grammar) (h : State) (m : ℕ) (found : List ℕ) → validGrammar g ≡ true → length (h .bytes) ≡ 64 → h .count < 64
-    → 4225 ≤ length found → Taken (grammarOf g) h m found (h .count + 1) (takeOf g h m found)
+    → cells ≤ length found → Taken (grammarOf g) h m found (h .count + 1) (takeOf g h m found)
 take-any = Take.take-any
 
 -- DEMAND 2: opened over any chart and fed any row of bytes, the recognizer says "complete" exactly if the bytes so far have a parse tree,
 -- and each cell holds exactly the nonterminals that derive its span
-pub demand-2 : (g : Grammar) (found : List ℕ) → validGrammar g ≡ true → 4225 ≤ length found → (ms : List ℕ)
+pub demand-2 : (g : Grammar) (found : List ℕ) → validGrammar g ≡ true → cells ≤ length found → (ms : List ℕ)
     → Recognized (grammarOf g) found ms (fed g (openOf g found) ms)
 demand-2 = Fed.recognized
 
@@ -172,7 +173,7 @@ module _ (g : Grammar) (valid : validGrammar g ≡ true) (w : List ℕ) (low : 1
       ≡ map hands (L (grammarOf g) w) ++ replicate (suc (length lent) - length (L (grammarOf g) w)) noneLeft
   first-then-next-said = Consequences.first-then-next-said g valid w low high
 
-  module _ (chart : List ℕ) (room : 4225 ≤ length chart) where
+  module _ (chart : List ℕ) (room : cells ≤ length chart) where
     -- count is N up to 4,096, where N is not 0 or the input has no tree, and "more" exactly above
     pub count-exact : length (L (grammarOf g) w) ≤ 4096 → (1 ≤ length (L (grammarOf g) w)) ⊎ (HasTree (grammarOf g) w → ⊥)
         → countOf g w chart .answer ≡ answered (counted (length (L (grammarOf g) w)))

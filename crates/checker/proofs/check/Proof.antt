@@ -1,4 +1,4 @@
--- `checker::check` meets its contract: a check that fails refuses, and else the chart is filled and the offered row is judged.
+-- `checker::check` meets its contract: a check that fails refuses, and else the chart is filled and the offered derivation is judged.
 -- Assumes nothing.
 use borrow.Author.Needs.{needs}
 use Rattle.checker.proofs.Calls.{judged-ready}

@@ -1,4 +1,4 @@
--- `checker::length` meets its contract: a check that fails refuses, and else the chart is filled and the offered row is measured.
+-- `checker::length` meets its contract: a check that fails refuses, and else the chart is filled and the offered derivation is measured.
 -- Assumes nothing.
 use borrow.Author.Needs.{needs}
 use Rattle.checker.proofs.Calls.{judged-ready}

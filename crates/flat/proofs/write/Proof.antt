@@ -6,7 +6,7 @@ use mathlib.Core.Path.{refl}
 use lib.ListN.{length-set, length-map, length-replicate, replicate}
 use borrow.Author.Needs.{needs}
 use Rattle.grammar.specs.Zero.{noRule}
-use Rattle.flat.specs.Flat.{flatRule}
+use Rattle.flat.specs.Flat.{flatRule, flatSize}
 use Rattle.flat.proofs.Written.{Written, written-start, written-step, grammar-done}
 use Rattle.flat.proofs.write.Statement.{statement}
 use Rattle.flat.proofs.write.Tie as tie
@@ -69,7 +69,7 @@ loop-again c = (
 
 returns : tie.Need-returns Inv-loop μ-loop
 returns c =
-    grammar-done _ (replicate 2435 0) _ _ _ (length-replicate {A = ℕ} 2435 0)
+    grammar-done _ (replicate flatSize 0) _ _ _ (length-replicate {A = ℕ} flatSize 0)
     (simp length-map at (c .before .before .before .before .good .0 .1 .1 .1 .1 .1 .0 .1 .0 .1)) (omega arith) (omega arith)
     (c .before .before .count-of .ensures) (c .before .loop .inv .1)
 

@@ -1,5 +1,6 @@
 -- `recognizer::clear` meets its contract. The loop's invariant: the cells passed are zero, and the others as found.
--- The measure is what is left of the 4225 cells. Assumes nothing.
+-- The measure is what is left of the cells. Assumes nothing.
+use Rattle.sizes.specs.Sizes.{cells}
 use Rattle.recognizer.proofs.Filling.{clear-step, clear-done}
 use lib.ListN.{length, drop, replicate, length-set}
 use native.Mathlib.Omega.{arith}
@@ -10,10 +11,10 @@ use Rattle.recognizer.proofs.clear.Statement.{statement}
 use Rattle.recognizer.proofs.clear.Tie as tie
 
 abbrev Inv-loop : tie.InvT-loop
-Inv-loop chart₀ i₀ chart i = (i ≤ 4225) × (length chart ≡ length chart₀) × (chart ≡ replicate i 0 ++ drop i chart₀)
+Inv-loop chart₀ i₀ chart i = (i ≤ cells) × (length chart ≡ length chart₀) × (chart ≡ replicate i 0 ++ drop i chart₀)
 
 abbrev μ-loop : tie.MeasureT-loop
-μ-loop chart₀ i₀ chart i = 4225 - i
+μ-loop chart₀ i₀ chart i = cells - i
 
 loop-holds : tie.Need-loop-holds Inv-loop μ-loop
 loop-holds c = (omega arith, refl, refl)

@@ -10,6 +10,7 @@ use mathlib.Core.Logic.{_↔_, _⊎_, inl, inr, dite}
 use mathlib.Core.Path.{_≡_, refl, sym, ap, subst, _∙_}
 use lib.ListN.{length, take, replicate}
 use lib.Seq.{take-length}
+use Rattle.sizes.specs.Sizes.{cells}
 use Rattle.cfg.specs.Tree.{HasTree}
 use Rattle.cfg.specs.Listing.{L}
 use Rattle.grammar.specs.declared.Grammar.{Grammar}
@@ -78,7 +79,7 @@ module _ (g : Grammar) (valid : validGrammar g ≡ true) (w : List ℕ) (low : 1
 
   -- ---- what count answers
 
-  module _ (chart : List ℕ) (c : 4225 ≤ length chart) where
+  module _ (chart : List ℕ) (c : cells ≤ length chart) where
     -- by how many rows L has, and whether the input has a tree
     count-by : (P : Answer Figure → Type 0)
         → (0 < length (L (grammarOf g) w) → length (L (grammarOf g) w) ≤ most → P (answered (counted (length (L (grammarOf g) w)))))
@@ -95,7 +96,7 @@ module _ (g : Grammar) (valid : validGrammar g ≡ true) (w : List ℕ) (low : 1
             subst P (sym (count-answer-none g valid w low high chart c z (yes t))) (larger (t, L-none (grammarOf g) w z))
         by z (no n) = subst P (sym (count-answer-none g valid w low high chart c z (no n))) (none n)
 
-    -- N where it is at most 4,096 and there is a row, or no tree
+    -- N where it is at most 4,096 and there is a reading, or no tree
     pub count-exact : length (L (grammarOf g) w) ≤ most → (1 ≤ length (L (grammarOf g) w)) ⊎ (HasTree (grammarOf g) w → ⊥)
         → countOf g w chart .answer ≡ answered (counted (length (L (grammarOf g) w)))
     count-exact h (inl l) = countOf-some g valid w low high chart c l ∙ ap answered (figure-counted (length (L (grammarOf g) w)) h)

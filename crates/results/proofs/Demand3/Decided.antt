@@ -9,6 +9,7 @@ use mathlib.Core.Path.{_≡_, refl, sym, ap, _∙_}
 use lib.Dec.{eqb, ltb}
 use lib.ListN.{length, getD, replicate, length-replicate}
 use borrow.Author.Tests.{le-ltb, eq-eqb, ne-eqb}
+use Rattle.sizes.specs.Sizes.{cells}
 use Rattle.cfg.specs.Tree.{HasTree}
 use Rattle.cfg.specs.Listing.{L}
 use Rattle.chart.specs.Column.{filled}
@@ -25,9 +26,9 @@ use Rattle.results.proofs.Decide.{Pass, decide-first, decide-passed}
 use Rattle.results.proofs.Demand3.Rows.{head-some, head-none, member-listed, not-member-listed}
 
 module _ (g : Grammar) (valid : validGrammar g ≡ true) (w : List ℕ) (low : 1 ≤ length w) (high : length w ≤ 64) where
-  module _ (chart : List ℕ) (c : 4225 ≤ length chart) where
+  module _ (chart : List ℕ) (c : cells ≤ length chart) where
     input-passes : Pass (inputChecks g w chart)
-    input-passes = (ap not valid, (either, (le-ltb (length chart) 4225 c, tt)))
+    input-passes = (ap not valid, (either, (le-ltb (length chart) cells c, tt)))
       where
         either : (eqb (length w) 0 || ltb 64 (length w)) ≡ false
         either = rw (ne-eqb (length w) 0 (omega arith)) (le-ltb 64 (length w) high)
@@ -97,10 +98,10 @@ module _ (g : Grammar) (valid : validGrammar g ≡ true) (w : List ℕ) (low : 1
   tree-decided = go (treeIn g w fresh) refl
     where
       fresh : List ℕ
-      fresh = replicate 4225 0
+      fresh = replicate cells 0
 
-      long : 4225 ≤ length fresh
-      long = omega (arith, length-replicate {A = ℕ} 4225 0)
+      long : cells ≤ length fresh
+      long = omega (arith, length-replicate {A = ℕ} cells 0)
 
       go : (t : Bool) → treeIn g w fresh ≡ t → Dec (HasTree (grammarOf g) w)
       go true e = yes (treeIn-exact fresh long .0 e)

@@ -92,7 +92,7 @@ module _ (G : Cfg) (w : List ℕ) (tree : Dec (HasTree G w)) where
   unfolding walked
   idle-handed c calls p i = i .1 _ ∙ ap (λ (q : ℕ). handedOut (walked G w tree calls q)) (i .0)
 
-  -- a call that hands out the row e and goes to the place q
+  -- a call that hands out the reading e and goes to the place q
   pub moves-place : (c : Call) (calls : List Call) (p q : ℕ) (e : List ℕ) → walk G w tree c p ≡ move (hands e) q
       → placeAfter G w tree (c ∷ calls) p ≡ placeAfter G w tree calls q
   unfolding placeAfter

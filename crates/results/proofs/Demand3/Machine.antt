@@ -1,5 +1,5 @@
--- The machine call by call: what each call says at a place and where it goes; the place never passes N, and the row handed out last is the
--- row of the place.
+-- The machine call by call: what each call says at a place and where it goes; the place never passes N, and the reading handed out last is the
+-- reading of the place.
 -- Assumes nothing.
 use Prim.Native.Nat.{ℕ, zero, suc, _≤_, _<_}
 use native.Mathlib.Decide.{decLt}
@@ -11,12 +11,12 @@ use borrow.Author.Tests.{lt-ltb, le-ltb, eq-eqb, ne-eqb}
 use Rattle.cfg.specs.Grammar.{Cfg}
 use Rattle.cfg.specs.Tree.{HasTree}
 use Rattle.results.specs.Walk.{Call, first, nextCopy, nextOther, count, hands, noDerivation, noneLeft, refuses, counts, saysCount}
-use Rattle.results.specs.Walk.{Move, move, N, row, walk}
+use Rattle.results.specs.Walk.{Move, move, N, reading, walk}
 use Rattle.results.specs.History.{copied}
 use Rattle.results.proofs.Demand3.Figures.{saysCount-copied}
 
 module _ (G : Cfg) (w : List ℕ) (tree : Dec (HasTree G w)) where
-  pub first-some : (p : ℕ) → 0 < N G w → walk G w tree first p ≡ move (hands (row G w 1)) 1
+  pub first-some : (p : ℕ) → 0 < N G w → walk G w tree first p ≡ move (hands (reading G w 1)) 1
   unfolding walk
   first-some p h = rw (lt-ltb 0 (N G w) h, walk)
 
@@ -29,7 +29,7 @@ module _ (G : Cfg) (w : List ℕ) (tree : Dec (HasTree G w)) where
   next-zero = refl
 
   pub next-some : (p : ℕ) → suc p < N G w
-      → walk G w tree nextCopy (suc p) ≡ move (hands (row G w (suc (suc p)))) (suc (suc p))
+      → walk G w tree nextCopy (suc p) ≡ move (hands (reading G w (suc (suc p)))) (suc (suc p))
   unfolding walk
   next-some p h = rw (lt-ltb (suc p) (N G w) h, walk)
 
@@ -49,9 +49,9 @@ module _ (G : Cfg) (w : List ℕ) (tree : Dec (HasTree G w)) where
   unfolding walk
   count-some p h = rw (ne-eqb (N G w) 0 (omega arith), walk)
 
-  -- a move from the place p keeps to L: its place is at most N, and the copy after it is the row of its place
+  -- a move from the place p keeps to L: its place is at most N, and the copy after it is the reading of its place
   abbrev pub Keeps : ℕ → Move → Type 0
-  Keeps p m = (m .place ≤ N G w) × (copied (m .said) (row G w p) ≡ row G w (m .place))
+  Keeps p m = (m .place ≤ N G w) × (copied (m .said) (reading G w p) ≡ reading G w (m .place))
 
   pub walk-keeps : (c : Call) (p : ℕ) → p ≤ N G w → Keeps p (walk G w tree c p)
   unfolding copied
@@ -68,7 +68,7 @@ module _ (G : Cfg) (w : List ℕ) (tree : Dec (HasTree G w)) where
       (λ k. subst (Keeps (suc p)) (sym (next-last p (omega arith))) (h, refl))
   walk-keeps nextOther p h = subst (Keeps p) (sym (next-other p)) (h, refl)
   walk-keeps count p h = dite (decLt 0 (N G w))
-      (λ k. subst (Keeps p) (sym (count-some p k)) (h, saysCount-copied (N G w) (row G w p)))
+      (λ k. subst (Keeps p) (sym (count-some p k)) (h, saysCount-copied (N G w) (reading G w p)))
       (λ k. subst (Keeps p) (sym (count-none p (omega arith))) (none tree))
     where
       none : (d : Dec (HasTree G w)) → Keeps p (move (ite d (refuses 13) (counts 0)) p)

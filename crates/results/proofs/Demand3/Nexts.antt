@@ -1,4 +1,4 @@
--- The machine over a first followed by enough nexts, each offered the copy: it hands out L, row by row, and then says "none".
+-- The machine over a first followed by enough nexts, each offered the copy: it hands out L, reading by reading, and then says "none".
 -- Assumes nothing.
 use Prim.Native.Nat.{ℕ, zero, suc, _+_, _-_, _≤_}
 use native.Mathlib.Nat.{zero-add, suc-add}
@@ -10,7 +10,7 @@ use lib.Seq.{drop-cons}
 use Rattle.cfg.specs.Grammar.{Cfg}
 use Rattle.cfg.specs.Tree.{HasTree}
 use Rattle.cfg.specs.Listing.{L}
-use Rattle.results.specs.Walk.{Call, first, nextCopy, Said, hands, noneLeft, Move, move, N, row, walk, walked}
+use Rattle.results.specs.Walk.{Call, first, nextCopy, Said, hands, noneLeft, Move, move, N, reading, walk, walked}
 use Rattle.results.proofs.Demand3.Machine.{first-some, next-some, next-last}
 
 module _ (G : Cfg) (w : List ℕ) (tree : Dec (HasTree G w)) where
@@ -20,7 +20,7 @@ module _ (G : Cfg) (w : List ℕ) (tree : Dec (HasTree G w)) where
   unfolding walked
   walked-move c calls p q s m = ap (λ (k : Move). k .said ∷ walked G w tree calls (k .place)) m
 
-  -- at the last row each next says "none"
+  -- at the last reading each next says "none"
   pub nexts-at-end : (n i : ℕ) → N G w ≤ suc i → walked G w tree (replicate n nextCopy) (suc i) ≡ replicate n noneLeft
   unfolding walked
   nexts-at-end zero i h = refl
@@ -39,12 +39,12 @@ module _ (G : Cfg) (w : List ℕ) (tree : Dec (HasTree G w)) where
       (next-some G w tree i (omega arith))
       ∙ ap (λ (l : List Said). hands (getD (L G w) (suc i) []) ∷ l) (nexts-to-end k n (suc i) (omega arith)))
 
-  -- a first and n nexts, where L has a row and at most one row more than there are nexts
+  -- a first and n nexts, where L has a reading and at most one reading more than there are nexts
   pub first-nexts : (n p : ℕ) → 1 ≤ N G w → N G w ≤ suc n
       → walked G w tree (first ∷ replicate n nextCopy) p ≡ map hands (L G w) ++ replicate (suc n - N G w) noneLeft
   first-nexts n p l h =
-      walked-move first (replicate n nextCopy) p 1 (hands (row G w 1)) (first-some G w tree p l)
-      ∙ ap (λ (s : List Said). hands (row G w 1) ∷ s) later
+      walked-move first (replicate n nextCopy) p 1 (hands (reading G w 1)) (first-some G w tree p l)
+      ∙ ap (λ (s : List Said). hands (reading G w 1) ∷ s) later
       ∙ ap (λ (r : List (List ℕ)). map hands r ++ replicate (suc n - N G w) noneLeft) (sym (drop-cons (L G w) 0 [] l))
     where
       later : walked G w tree (replicate n nextCopy) 1 ≡ map hands (drop 1 (L G w)) ++ replicate (suc n - N G w) noneLeft

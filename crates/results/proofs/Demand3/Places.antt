@@ -1,4 +1,4 @@
--- Demand 3, second half, over the machine. Before any first the place is 0 and nothing is handed out. After one, the rows handed out since
+-- Demand 3, second half, over the machine. Before any first the place is 0 and nothing is handed out. After one, the derivations handed out since
 -- the last first, its own included, are the first p of L in their order, p being the place: the smaller of N and 1 plus how often next was
 -- since offered the copy.
 -- Assumes nothing.
@@ -14,7 +14,7 @@ use Rattle.cfg.specs.Grammar.{Cfg}
 use Rattle.cfg.specs.Tree.{HasTree}
 use Rattle.cfg.specs.Listing.{L}
 use Rattle.results.specs.Walk.{Call, first, nextCopy, nextOther, count, hands}
-use Rattle.results.specs.Walk.{move, N, row, walk, walked, placeAfter, handedOut, nexts, NoFirst}
+use Rattle.results.specs.Walk.{move, N, reading, walk, walked, placeAfter, handedOut, nexts, NoFirst}
 use Rattle.results.proofs.Demand3.Machine.{first-some, next-some}
 use Rattle.results.proofs.Demand3.Idle.{placeAfter-append, placeAfter-small, walked-since}
 use Rattle.results.proofs.Demand3.Idle.{Idle, idle-other, idle-count, idle-next-zero}
@@ -88,8 +88,8 @@ module _ (G : Cfg) (w : List ℕ) (tree : Dec (HasTree G w)) where
   since-first-at p h after n = dite (decLt 0 (N G w))
       (λ k. let f = from-place after n 1 (omega arith) k in
       let m = first-some G w tree p k in (
-        moves-place G w tree first after p 1 (row G w 1) m ∙ f .0,
-        moves-handed G w tree first after p 1 (row G w 1) m
+        moves-place G w tree first after p 1 (reading G w 1) m ∙ f .0,
+        moves-handed G w tree first after p 1 (reading G w 1) m
             ∙ ap (λ (l : List (List ℕ)). l ++ handedOut (walked G w tree after 1)) (sym (take-suc (L G w) 0 [] k))
             ∙ f .1,
       ))

@@ -1,4 +1,4 @@
--- The tests of rows of numbers: two rows are the same, a row is in a list, and the row after a row of a rising list.
+-- The tests of rows of numbers: two rows are the same, a reading is in a list, and the reading after a reading of a rising list.
 -- Assumes nothing.
 use Prim.Native.Nat.{ℕ, zero, suc, _<_}
 use native.Mathlib.Nat.{not-suc-le-zero}
@@ -46,7 +46,7 @@ same-false x y n = go (same x y) refl
     go true e = absurd (n (same-true x y e))
     go false e = refl
 
--- ---- a row is in a list
+-- ---- a reading is in a list
 
 pub listed-member : (e : List ℕ) (l : List (List ℕ)) → listed e l ≡ true → List·Memᴰ e l
 unfolding listed
@@ -101,7 +101,7 @@ pub after-later : (e d : List ℕ) (l : List (List ℕ)) → same e d ≡ false 
 unfolding afterIn
 after-later e d l h = rw (h, afterIn)
 
--- what comes after row i of a list without repetition
+-- what comes after reading i of a list without repetition
 after-at : {l : List (List ℕ)} → Pairs _≺_ l → (i : ℕ) → i < length l
     → (suc i < length l → afterIn (getD l i []) l ≡ some (getD l (suc i) [])) × (suc i ≡ length l → afterIn (getD l i []) l ≡ none)
 after-at pairs-none i h = absurd (not-suc-le-zero h)

@@ -1,4 +1,4 @@
--- What one allowed call says by the decided results is what the machine says, the copy being the row of the place.
+-- What one allowed call says by the decided results is what the machine says, the copy being the reading of the place.
 -- Assumes nothing.
 use Prim.Native.Nat.{_/_, ℕ, zero, suc, _≤_}
 use native.Mathlib.Decide.{decLt}
@@ -9,10 +9,11 @@ use mathlib.Core.Logic.{dite, ite}
 use mathlib.Core.Option.{Option, none, some}
 use mathlib.Core.Path.{_≡_, refl, sym, ap, _∙_}
 use lib.ListN.{length, getD}
+use Rattle.sizes.specs.Sizes.{cells}
 use Rattle.cfg.specs.Tree.{HasTree}
 use Rattle.cfg.specs.Derivation.{Derivation, limit}
 use Rattle.cfg.specs.Listing.{L}
-use Rattle.results.specs.Walk.{Said, Move, handsOut, hands, noDerivation, noneLeft, refuses, counts, N, row, walk}
+use Rattle.results.specs.Walk.{Said, Move, handsOut, hands, noDerivation, noneLeft, refuses, counts, N, reading, walk}
 use Rattle.results.specs.Walk as Walk
 use Rattle.chart.specs.Column.{filled}
 use Rattle.grammar.specs.declared.Grammar.{Grammar}
@@ -23,7 +24,7 @@ use Rattle.results.specs.Answer.{Answer, refused, answered, Handing, not
 use Rattle.results.specs.Enumerate.{Enumeration, treeIn, handingOut, headOf, afterIn, firstOf, nextOf, countOf}
 use Rattle.results.specs.History.{Made, first, nextCopy, nextOther, count, which, Allowed, saidOf, countSaid, says}
 use Rattle.results.proofs.Demand3.Rows.{at-member, head-some, head-none, after-next, after-last}
-use Rattle.results.proofs.Demand3.Listed.{L-rising, row-not-empty, row-back}
+use Rattle.results.proofs.Demand3.Listed.{L-rising, reading-not-empty, reading-back}
 use Rattle.results.proofs.Demand3.Machine.{first-some, first-none, next-zero, next-some, next-last, next-other}
 use Rattle.results.proofs.Demand3.Machine.{count-none, count-some}
 use Rattle.results.proofs.Demand3.Figures.{figure-said}
@@ -46,24 +47,24 @@ count-choice (yes t) = refl
 count-choice (no t) = refl
 
 module _ (g : Grammar) (valid : validGrammar g ≡ true) (w : List ℕ) (low : 1 ≤ length w) (high : length w ≤ 64) where
-  -- a row of L that is handed out is seen whole
+  -- a reading of L that is handed out is seen whole
   seen-some : (e : List ℕ) → List·Memᴰ e (L (grammarOf g) w) → (o : Option (List ℕ)) → o ≡ some e → (s : Said) (a : Answer Handing)
       (chart out : List ℕ) → seen s (handingOut o a chart out) ≡ hands e
   unfolding handingOut saidOf
-  seen-some e i o q s a chart out = rw q (ap (handsOut (length e / 2)) (row-back (grammarOf g) w e i out))
+  seen-some e i o q s a chart out = rw q (ap (handsOut (length e / 2)) (reading-back (grammarOf g) w e i out))
 
   seen-none : (o : Option (List ℕ)) → o ≡ none → (s : Said) (a : Answer Handing) (chart out : List ℕ)
       → seen s (handingOut o a chart out) ≡ saidOf s a out
   unfolding handingOut
   seen-none o q s a chart out = rw q
 
-  module _ (tree : Dec (HasTree (grammarOf g) w)) (chart : List ℕ) (c : 4225 ≤ length chart) where
+  module _ (tree : Dec (HasTree (grammarOf g) w)) (chart : List ℕ) (c : cells ≤ length chart) where
     module _ (out : List ℕ) (o : 1024 ≤ length out) where
       pub first-said : (p : ℕ) → seen noDerivation (firstOf g w chart out) ≡ walk (grammarOf g) w tree Walk.first p .said
       unfolding saidOf
       first-said p = dite (decLt 0 (N (grammarOf g) w))
           (λ h. ap (seen noDerivation) goes
-          ∙ seen-some (row (grammarOf g) w 1) (at-member (L (grammarOf g) w) 0 h) (headOf (L (grammarOf g) w)) (head-some _ h) _ _ _ out
+          ∙ seen-some (reading (grammarOf g) w 1) (at-member (L (grammarOf g) w) 0 h) (headOf (L (grammarOf g) w)) (head-some _ h) _ _ _ out
           ∙ sym (ap (λ (m : Move). m .said) (first-some (grammarOf g) w tree p h)))
           (λ h. ap (seen noDerivation) goes
           ∙ seen-none (headOf (L (grammarOf g) w)) (head-none _ (omega arith)) _ _ _ out
@@ -77,10 +78,10 @@ module _ (g : Grammar) (valid : validGrammar g ≡ true) (w : List ℕ) (low : 1
           goes = firstOf-goes g valid w low high chart c out o
 
       pub next-said : (p : ℕ) → p ≤ N (grammarOf g) w
-          → seen noneLeft (nextOf g w (row (grammarOf g) w p) chart out) ≡ walk (grammarOf g) w tree Walk.nextCopy p .said
+          → seen noneLeft (nextOf g w (reading (grammarOf g) w p) chart out) ≡ walk (grammarOf g) w tree Walk.nextCopy p .said
       unfolding saidOf
       next-said zero h =
-          ap (seen noneLeft) (nextOf-other g valid w low high chart c out o [] (row-not-empty (grammarOf g) w))
+          ap (seen noneLeft) (nextOf-other g valid w low high chart c out o [] (reading-not-empty (grammarOf g) w))
           ∙ sym (ap (λ (m : Move). m .said) (next-zero (grammarOf g) w tree))
       next-said (suc i) h = dite (decLt (suc i) (N (grammarOf g) w))
           (λ k. ap (seen noneLeft) goes
@@ -118,7 +119,7 @@ module _ (g : Grammar) (valid : validGrammar g ≡ true) (w : List ℕ) (low : 1
 
   -- one allowed call
   pub says-walk : (tree : Dec (HasTree (grammarOf g) w)) (m : Made) → Allowed g w m → (p : ℕ) → p ≤ N (grammarOf g) w
-      → says g w (row (grammarOf g) w p) m ≡ walk (grammarOf g) w tree (which m) p .said
+      → says g w (reading (grammarOf g) w p) m ≡ walk (grammarOf g) w tree (which m) p .said
   unfolding says
   says-walk tree (first chart out) a p h = first-said tree chart (a .0) out (a .1) p
   says-walk tree (nextCopy chart out) a p h = next-said tree chart (a .0) out (a .1) p h

@@ -1,0 +1,2 @@
+-- The sizes of document 01.
+pub mod Sizes

@@ -1,0 +1,79 @@
+// The sizes of document 01, for every crate. Each constant is tied to its twin in specs/ by the function of its name, since an edit of a
+// constant is checked in this crate only.
+ghost use mathlib.Core.Path.{_≡_};
+ghost use Rattle.sizes.specs.Sizes.{maxRules, maxPlaces, nonterminals, maxInput, side, cells, maxNodes, tooMany, outputSize};
+
+// Rules of a grammar (book), places of a rule, and nonterminals (kinds).
+pub const MAX_RULES: usize = 128;
+
+pub const MAX_PLACES: usize = 8;
+
+pub const NONTERMINALS: usize = 32;
+
+// Bytes of an input (marks of a plate); where a span may start or end; cells of a chart (words of a sheet).
+pub const MAX_INPUT: usize = 64;
+
+pub const SIDE: usize = MAX_INPUT + 1;
+
+pub const CELLS: usize = SIDE * SIDE;
+
+// Nodes of a derivation (parts of a reading); one more than any has, which stands for none; numbers of an output.
+pub const MAX_NODES: usize = 512;
+
+pub const TOO_MANY: usize = MAX_NODES + 1;
+
+pub const OUTPUT: usize = 2 * MAX_NODES;
+
+pub fn tied_rules() -> usize
+    ensures { λ n. ⌜ n ≡ maxRules ⌝ }
+{
+    MAX_RULES
+}
+
+pub fn tied_places() -> usize
+    ensures { λ n. ⌜ n ≡ maxPlaces ⌝ }
+{
+    MAX_PLACES
+}
+
+pub fn tied_nonterminals() -> usize
+    ensures { λ n. ⌜ n ≡ nonterminals ⌝ }
+{
+    NONTERMINALS
+}
+
+pub fn tied_input() -> usize
+    ensures { λ n. ⌜ n ≡ maxInput ⌝ }
+{
+    MAX_INPUT
+}
+
+pub fn tied_side() -> usize
+    ensures { λ n. ⌜ n ≡ side ⌝ }
+{
+    SIDE
+}
+
+pub fn tied_cells() -> usize
+    ensures { λ n. ⌜ n ≡ cells ⌝ }
+{
+    CELLS
+}
+
+pub fn tied_nodes() -> usize
+    ensures { λ n. ⌜ n ≡ maxNodes ⌝ }
+{
+    MAX_NODES
+}
+
+pub fn tied_too_many() -> usize
+    ensures { λ n. ⌜ n ≡ tooMany ⌝ }
+{
+    TOO_MANY
+}
+
+pub fn tied_output() -> usize
+    ensures { λ n. ⌜ n ≡ outputSize ⌝ }
+{
+    OUTPUT
+}
