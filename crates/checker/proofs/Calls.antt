@@ -25,9 +25,9 @@ use Rattle.packed.proofs.Laws.{cfg-in-bounded}
 use Rattle.results.specs.Answer.{Answer, refused, decide}
 use Rattle.results.specs.Recognize.{grammarCheck, chartCheck}
 use Rattle.results.specs.Check.{inputCheck, Checking, onInput}
-use Rattle.demands.specs.Ready.{Ready}
+use Rattle.results.specs.Ready.{Ready}
 use Rattle.results.proofs.Decide.{decide-first}
-use Rattle.demands.proofs.Passed.{input-fails, input-passes}
+use Rattle.results.proofs.Passed.{input-fails, input-passes}
 use Rattle.demands.proofs.Later.{onInput-passed}
 use Rattle.checker.specs.declared.Judged.{Judged}
 use Rattle.checker.specs.declared.Judged.the-variants as J

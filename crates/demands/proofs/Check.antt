@@ -12,15 +12,15 @@ use Rattle.grammar.specs.View.{grammarOf}
 use Rattle.grammar.proofs.All.{true-false}
 use Rattle.listing.proofs.Exact.{listed→derivation, derivation→listed}
 use Rattle.results.specs.Answer.{answered}
-use Rattle.results.specs.Check.{Checking, listed, checkOf}
-use Rattle.demands.specs.Ready.{Ready}
+use Rattle.results.specs.Check.{Checking, listed, checkIn, checkOf}
+use Rattle.results.specs.Ready.{Ready}
 use Rattle.results.proofs.Answers.{answered-inj}
-use Rattle.demands.proofs.Later.{onInput-passed}
+use Rattle.results.proofs.Goes.{onInput-passed}
 use Rattle.results.proofs.Demand3.Rows.{listed-member, member-listed}
 
 module _ (g : Grammar) (w chart : List ℕ) (ready : Ready g w chart) (offered : List ℕ) where
   said : checkOf g w offered chart .answer ≡ answered (listed offered (L (grammarOf g) w))
-  unfolding checkOf
+  unfolding checkOf checkIn
   said = ap (λ (x : Checking Bool). x .answer) (onInput-passed g w chart _ ready)
 
   derivation-listed : (listed offered (L (grammarOf g) w) ≡ true) ↔ Derivation (grammarOf g) limit w offered

@@ -66,7 +66,7 @@ first-demand g w chart out = record {
   output = Kept.first-kept g w chart out .1;
   order = Order.first-order g w chart out;
   untouched = λ n l. Untouched.first-untouched g w chart out n l;
-  chart-filled = λ r. Filled.first-filled g w chart out r .0;
+  chart-filled = λ r. Filled.first-filled g w chart out r;
 }
 
 pub next-demand : (g : Grammar) (w e chart out : List ℕ) → OutputDemand g w chart out (nextOf g w e chart out)
@@ -75,5 +75,5 @@ next-demand g w e chart out = record {
   output = Kept.next-kept g w chart out e .1;
   order = Order.next-order g w chart out e;
   untouched = λ n l. Untouched.next-untouched g w chart out n l e;
-  chart-filled = λ r. Filled.next-filled g w chart out r e .0;
+  chart-filled = λ r. Filled.next-filled g w chart out r e;
 }

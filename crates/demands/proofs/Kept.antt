@@ -4,12 +4,13 @@
 use Prim.Native.Nat.{ℕ, _*_, _/_, _≤_}
 use mathlib.Core.List.{List, [], _∷_, _++_, List·Memᴰ}
 use mathlib.Core.Option.{Option, none, some}
-use mathlib.Core.Path.{_≡_, refl, ap, _∙_}
+use mathlib.Core.Path.{_≡_, refl, sym, ap, _∙_}
 use native.Mathlib.Omega.{arith}
 use lib.ListN.{length, take, drop, length-append, length-drop, length-take}
 use lib.Seq.{drop-at}
 use borrow.Author.Tests.{ltb-false, eqb-false}
 use Rattle.sizes.specs.Sizes.{cells}
+use Rattle.cfg.specs.Grammar.{Cfg}
 use Rattle.cfg.specs.Listing.{L}
 use Rattle.chart.specs.Cell.{fitsAt}
 use Rattle.chart.specs.Column.{extended, filled}
@@ -18,16 +19,15 @@ use Rattle.chart.proofs.Filled.{extended-length, opened-length, opened-behind}
 use Rattle.chart.proofs.Truth.{filled-length, filled-behind}
 use Rattle.grammar.specs.declared.Grammar.{Grammar}
 use Rattle.grammar.specs.View.{grammarOf}
-use Rattle.results.specs.Answer.{Answer, refused, answered, Handing, handed}
-use Rattle.results.specs.Recognize.{State, Recognition, openOf, takeOf}
-use Rattle.results.specs.Check.{Checking, onInput, checkOf}
-use Rattle.results.specs.Measure.{lengthOf, sameBuildOf}
-use Rattle.results.specs.Enumerate.{Enumeration, handingOut, firstOf, nextOf, countOf}
-use Rattle.demands.specs.Kept.{ChartKept, OutputKept}
-use Rattle.demands.specs.Ready.{Ready, ReadyOut}
+use Rattle.results.specs.Answer.{Answer, refused, Handing}
+use Rattle.results.specs.Recognize.{State, Recognition, openIn, openOf, takeIn, takeOf}
+use Rattle.results.specs.Check.{Checking, onInput, checkIn, checkOf}
+use Rattle.results.specs.Measure.{lengthIn, lengthOf, sameBuildIn, sameBuildOf}
+use Rattle.results.specs.Enumerate.{Enumeration, handingOut, onOutput, firstIn, firstOf, nextIn, nextOf, countIn, countOf}
+use Rattle.demands.specs.Kept.{ChartKept, writes, OutputKept}
+use Rattle.results.specs.Ready.{Ready, ReadyOut}
 use Rattle.results.proofs.Decide.{decide-either}
-use Rattle.results.proofs.Answers.{answered-inj, handed-inj}
-use Rattle.demands.proofs.Passed.{pass→ready, pass→readyOut}
+use Rattle.results.proofs.Passed.{pass→ready, pass→readyOut}
 use Rattle.demands.proofs.Handed.{headOf-member, afterIn-member}
 use Rattle.results.proofs.Demand3.Listed.{reading-even, reading-short}
 
@@ -43,7 +43,7 @@ filled-kept g w chart r = record {
 }
 
 pub open-kept : (g : Grammar) (chart : List ℕ) → ChartKept chart (openOf g chart .chart)
-unfolding openOf
+unfolding openOf openIn
 open-kept g chart =
     decide-either _ _ (λ (r : Recognition). ChartKept chart (r .chart)) _ (λ n. chart-same chart) (λ p. record {
       same-length = opened-length (grammarOf g) chart (ltb-false (length chart) cells (p .1 .0));
@@ -51,7 +51,7 @@ open-kept g chart =
     })
 
 pub take-kept : (g : Grammar) (h : State) (m : ℕ) (chart : List ℕ) → ChartKept chart (takeOf g h m chart .chart)
-unfolding takeOf extended
+unfolding takeOf takeIn extended
 take-kept g h m chart =
     let w = take (h .count) (h .bytes) ++ (m ∷ []) in
     decide-either _ _ (λ (r : Recognition). ChartKept chart (r .chart)) _ (λ n. chart-same chart) (λ p.
@@ -65,41 +65,39 @@ take-kept g h m chart =
 
 -- the calls that write no output
 module _ (g : Grammar) (w chart : List ℕ) where
-  onInput-kept : {A : Type 0} (answer : Unit {0} → Answer A) → ChartKept chart (onInput g w chart answer .chart)
+  onInput-kept : {A : Type 0} (go : Cfg → Checking A) → go (grammarOf g) .chart ≡ filled (grammarOf g) w chart
+      → ChartKept chart (onInput g w chart go .chart)
   unfolding onInput
-  onInput-kept {A} answer =
+  onInput-kept {A} go e =
       decide-either _ _ (λ (r : Checking A). ChartKept chart (r .chart)) _ (λ n. chart-same chart)
-      (λ p. filled-kept g w chart (pass→ready g w chart p))
+      (λ p. rw e (filled-kept g w chart (pass→ready g w chart p)))
 
   pub check-kept : (offered : List ℕ) → ChartKept chart (checkOf g w offered chart .chart)
-  unfolding checkOf
-  check-kept offered = onInput-kept _
+  unfolding checkOf checkIn
+  check-kept offered = onInput-kept _ refl
 
   pub length-kept : (offered : List ℕ) → ChartKept chart (lengthOf g w offered chart .chart)
-  unfolding lengthOf
-  length-kept offered = onInput-kept _
+  unfolding lengthOf lengthIn
+  length-kept offered = onInput-kept _ refl
 
   pub same-build-kept : (a b : List ℕ) → ChartKept chart (sameBuildOf g w a b chart .chart)
-  unfolding sameBuildOf
-  same-build-kept a b = onInput-kept _
+  unfolding sameBuildOf sameBuildIn
+  same-build-kept a b = onInput-kept _ refl
 
   pub count-kept : ChartKept chart (countOf g w chart .chart)
-  unfolding countOf
-  count-kept = onInput-kept _
+  unfolding countOf countIn
+  count-kept = onInput-kept _ refl
 
 -- ---- the output
 
-output-same : (answer : Answer Handing) (out : List ℕ) → OutputKept answer out out
-output-same answer out = record { same-length = refl; rest = λ n e. refl; untouched = λ f. refl }
+output-same : (n : ℕ) (out : List ℕ) → OutputKept n out out
+output-same n out = record { same-length = refl; rest = refl }
 
 module _ (e out : List ℕ) (even : 2 * (length e / 2) ≡ length e) (fits : length e ≤ length out) where
-  output-handed : OutputKept (answered (handed (length e / 2))) out (e ++ drop (length e) out)
+  output-handed : OutputKept (2 * (length e / 2)) out (e ++ drop (length e) out)
   output-handed = record {
     same-length = omega (arith, length-append e (drop (length e) out), length-drop (length e) out);
-    rest = λ n p.
-        let q : length e ≡ 2 * n = omega (arith, handed-inj (answered-inj p)) in
-        drop-at e (drop (length e) out) (2 * n) q ∙ ap (λ (i : ℕ). drop i out) q;
-    untouched = λ f. absurd (f (length e / 2) refl);
+    rest = drop-at e (drop (length e) out) (2 * (length e / 2)) (sym even) ∙ ap (λ (i : ℕ). drop i out) (sym even);
   }
 
 pub handing-chart : (o : Option (List ℕ)) (answer : Answer Handing) (chart out : List ℕ) → handingOut o answer chart out .chart ≡ chart
@@ -110,16 +108,16 @@ handing-chart (some e) answer chart out = refl
 -- what is handed out of the list
 module _ (g : Grammar) (w chart out : List ℕ) (answer : Answer Handing) (space : 1024 ≤ length out) where
   handing-kept : (o : Option (List ℕ)) → ((e : List ℕ) → o ≡ some e → List·Memᴰ e (L (grammarOf g) w))
-      → OutputKept (handingOut o answer chart out .answer) out (handingOut o answer chart out .output)
+      → OutputKept (writes (handingOut o answer chart out .answer)) out (handingOut o answer chart out .output)
   unfolding handingOut
-  handing-kept none m = output-same answer out
+  handing-kept none m = output-same (writes answer) out
   handing-kept (some e) m =
       let i = m e refl in
       output-handed e out (reading-even (grammarOf g) w e i) (omega (arith, reading-short (grammarOf g) w e i))
 
 -- the chart and the output
 Both : (chart out : List ℕ) → Enumeration → Type 0
-Both chart out r = ChartKept chart (r .chart) × OutputKept (r .answer) out (r .output)
+Both chart out r = ChartKept chart (r .chart) × OutputKept (writes (r .answer)) out (r .output)
 
 module _ (g : Grammar) (w chart out : List ℕ) where
   handing-both : ReadyOut g w chart out → (answer : Answer Handing) (o : Option (List ℕ))
@@ -133,20 +131,20 @@ module _ (g : Grammar) (w chart out : List ℕ) where
 
   refused-both : (n : ℕ) → Both chart out (record { answer = refused n; chart = chart; output = out })
   unfolding Both
-  refused-both n = (chart-same chart, output-same (refused n) out)
+  refused-both n = (chart-same chart, output-same 0 out)
 
   pub first-kept : ChartKept chart (firstOf g w chart out .chart)
-      × OutputKept (firstOf g w chart out .answer) out (firstOf g w chart out .output)
-  unfolding firstOf Both
+      × OutputKept (writes (firstOf g w chart out .answer)) out (firstOf g w chart out .output)
+  unfolding firstOf onOutput firstIn Both
   first-kept =
       decide-either _ _ (Both chart out) _ refused-both
       (λ p. handing-both (pass→readyOut g w chart out p) _ _ (headOf-member (L (grammarOf g) w)))
 
   pub next-kept : (offered : List ℕ) → ChartKept chart (nextOf g w offered chart out .chart)
-      × OutputKept (nextOf g w offered chart out .answer) out (nextOf g w offered chart out .output)
-  unfolding nextOf Both
+      × OutputKept (writes (nextOf g w offered chart out .answer)) out (nextOf g w offered chart out .output)
+  unfolding nextOf onOutput nextIn Both
   next-kept offered =
       decide-either _ _ (Both chart out) _ refused-both
       (λ p. let r = pass→readyOut g w chart out p in
-      decide-either _ _ (Both chart out) _ (λ n. (filled-kept g w chart (r .input), output-same (refused n) out))
+      decide-either _ _ (Both chart out) _ (λ n. (filled-kept g w chart (r .input), output-same 0 out))
       (λ q. handing-both r _ _ (afterIn-member offered (L (grammarOf g) w))))

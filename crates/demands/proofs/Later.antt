@@ -1,72 +1,36 @@
--- What each call gives once its checks 8 to 11, 14 and 15 are passed, and which refusals may come after them: 12 and 13 only.
+-- Which refusals may come after the checks 8 to 11, 14 and 15: 12 and 13 only.
 -- Assumes nothing.
-use Prim.Native.Nat.{ℕ, _+_, _≤_, _<_}
-use mathlib.Core.Bool.{Bool, true, false, cond, not}
-use mathlib.Core.List.{List, [], _∷_, _++_}
+use Prim.Native.Nat.{ℕ, _≤_, _<_}
+use mathlib.Core.Bool.{Bool, true, false, cond}
+use mathlib.Core.List.{List, [], _∷_}
 use mathlib.Core.Option.{Option, none, some}
 use mathlib.Core.Path.{_≡_, sym, ap, _∙_}
-use native.Mathlib.Omega.{arith}
 use lib.Dec.{eqb}
-use lib.ListN.{length, take}
-use borrow.Author.Tests.{le-ltb, ne-eqb}
-use Rattle.sizes.specs.Sizes.{cells}
+use lib.ListN.{length}
+use Rattle.sizes.specs.Sizes.{maxInput, cells}
+use Rattle.cfg.specs.Grammar.{Cfg}
 use Rattle.cfg.specs.Listing.{L}
-use Rattle.chart.specs.Column.{opened, extended, filled, complete}
 use Rattle.grammar.specs.declared.Grammar.{Grammar}
 use Rattle.grammar.specs.Valid.{validGrammar}
 use Rattle.grammar.specs.View.{grammarOf}
 use Rattle.results.specs.Answer.{Answer, refused, answered, Handing, nothing, Figure, counted, check, decide}
-use Rattle.results.specs.Recognize.{State, stateOf, Recognition, openOf, takeOf}
-use Rattle.results.specs.Check.{Checking, onInput, checkOf}
-use Rattle.results.specs.Measure.{unlisted, lengthOf, sameBuildOf}
-use Rattle.results.specs.Enumerate.{Enumeration, handingOut, headOf, afterIn, treeIn, figure, firstOf, nextOf, countOf}
-use Rattle.demands.specs.Ready.{Ready, ReadyOut}
-use Rattle.results.proofs.Decide.{decide-passed, decide-cases}
+use Rattle.results.specs.Recognize.{State, Recognition, openIn, openOf, takeIn, takeOf}
+use Rattle.results.specs.Check.{Checking, onInput, checkIn, checkOf}
+use Rattle.results.specs.Measure.{lengthIn, lengthOf, sameBuildIn, sameBuildOf}
+use Rattle.results.specs.Enumerate.{Enumeration, handingOut, treeIn, figure, firstIn, firstOf, nextIn, nextOf, countIn, countOf}
+use Rattle.results.specs.Ready.{Ready, ReadyOut}
+use Rattle.results.proofs.Decide.{decide-cases}
 use Rattle.results.proofs.Answers.{refused-inj, answered-apart}
-use Rattle.demands.proofs.Passed.{ready→pass, readyOut→pass}
-
--- ---- what a call gives
-
-pub open-passed : (g : Grammar) (chart : List ℕ) → validGrammar g ≡ true → cells ≤ length chart
-    → let c = opened (grammarOf g) chart in
-    openOf g chart ≡ record { answer = answered (complete (grammarOf g) 0 c); state = stateOf []; chart = c }
-unfolding openOf
-open-passed g chart v r = decide-passed _ _ _ (ap not v, (le-ltb (length chart) cells r, tt))
-
-pub take-passed : (g : Grammar) (h : State) (m : ℕ) (chart : List ℕ) → validGrammar g ≡ true → h .count < 64 → cells ≤ length chart
-    → let w = take (h .count) (h .bytes) ++ (m ∷ []) in
-    let c = extended (grammarOf g) w chart in
-    takeOf g h m chart ≡ record { answer = answered (complete (grammarOf g) (h .count + 1) c); state = stateOf w; chart = c }
-unfolding takeOf
-take-passed g h m chart v l r =
-    decide-passed _ _ _
-    (ap not v, (le-ltb 64 (h .count) (omega arith), (le-ltb (length chart) cells r, (ne-eqb (h .count) 64 (λ e. omega arith), tt))))
-
-pub onInput-passed : (g : Grammar) (w chart : List ℕ) {A : Type 0} (answer : Unit {0} → Answer A) → Ready g w chart
-    → onInput g w chart answer ≡ record { answer = answer tt; chart = filled (grammarOf g) w chart }
-unfolding onInput
-onInput-passed g w chart answer r = decide-passed _ _ _ (ready→pass g w chart r)
-
-module _ (g : Grammar) (w chart out : List ℕ) (r : ReadyOut g w chart out) where
-  pub first-passed : firstOf g w chart out ≡ handingOut (headOf (L (grammarOf g) w)) (cond (treeIn g w chart) (refused 13) (answered nothing))
-      (filled (grammarOf g) w chart) out
-  unfolding firstOf
-  first-passed = decide-passed _ _ _ (readyOut→pass g w chart out r)
-
-  pub next-passed : (offered : List ℕ) → nextOf g w offered chart out ≡ decide (check (unlisted g w offered) 12 ∷ [])
-      (λ n. record { answer = refused n; chart = filled (grammarOf g) w chart; output = out })
-      (λ _. handingOut (afterIn offered (L (grammarOf g) w)) (answered nothing) (filled (grammarOf g) w chart) out)
-  unfolding nextOf
-  next-passed offered = decide-passed _ _ _ (readyOut→pass g w chart out r)
-
--- ---- which refusals come after these checks
+use Rattle.results.proofs.Goes.{open-passed, take-passed, onInput-passed, first-passed, next-passed}
 
 pub open-later : (g : Grammar) (chart : List ℕ) → validGrammar g ≡ true → cells ≤ length chart → (n : ℕ)
     → openOf g chart .answer ≡ refused n → ⊥
+unfolding openIn
 open-later g chart v r n e = answered-apart (sym (ap (λ (x : Recognition). x .answer) (open-passed g chart v r)) ∙ e)
 
-pub take-later : (g : Grammar) (h : State) (m : ℕ) (chart : List ℕ) → validGrammar g ≡ true → h .count < 64 → cells ≤ length chart
+pub take-later : (g : Grammar) (h : State) (m : ℕ) (chart : List ℕ) → validGrammar g ≡ true → h .count < maxInput → cells ≤ length chart
     → (n : ℕ) → takeOf g h m chart .answer ≡ refused n → ⊥
+unfolding takeIn
 take-later g h m chart v l r n e = answered-apart (sym (ap (λ (x : Recognition). x .answer) (take-passed g h m chart v l r)) ∙ e)
 
 -- 12 alone, for one offered derivation or two
@@ -98,34 +62,36 @@ handing-refused none answer chart out n e = e
 handing-refused (some d) answer chart out n e = absurd (answered-apart e)
 
 module _ (g : Grammar) (w chart : List ℕ) (r : Ready g w chart) (n : ℕ) where
-  answer-after : {A : Type 0} (answer : Unit {0} → Answer A) → onInput g w chart answer .answer ≡ refused n → answer tt ≡ refused n
-  answer-after {A} answer e = sym (ap (λ (x : Checking A). x .answer) (onInput-passed g w chart answer r)) ∙ e
+  answer-after : {A : Type 0} (go : Cfg → Checking A) → onInput g w chart go .answer ≡ refused n → go (grammarOf g) .answer ≡ refused n
+  answer-after {A} go e = sym (ap (λ (x : Checking A). x .answer) (onInput-passed g w chart go r)) ∙ e
 
   pub check-later : (offered : List ℕ) → checkOf g w offered chart .answer ≡ refused n → ⊥
-  unfolding checkOf
+  unfolding checkOf checkIn
   check-later offered e = answered-apart (answer-after _ e)
 
   pub length-later : (offered : List ℕ) → lengthOf g w offered chart .answer ≡ refused n → n ≡ 12
-  unfolding lengthOf
+  unfolding lengthOf lengthIn
   length-later offered e = offered-refused _ _ n (answer-after _ e)
 
   pub same-build-later : (a b : List ℕ) → sameBuildOf g w a b chart .answer ≡ refused n → n ≡ 12
-  unfolding sameBuildOf
+  unfolding sameBuildOf sameBuildIn
   same-build-later a b e = both-refused _ _ _ n (answer-after _ e)
 
   pub count-later : countOf g w chart .answer ≡ refused n → n ≡ 13
-  unfolding countOf
+  unfolding countOf countIn
   count-later e =
       let m = length (L (grammarOf g) w) in
-      count-refused (eqb m 0) (treeIn g w chart) (figure m) n (answer-after _ e)
+      count-refused (eqb m 0) (treeIn (grammarOf g) w chart) (figure m) n (answer-after _ e)
 
 module _ (g : Grammar) (w chart out : List ℕ) (r : ReadyOut g w chart out) (n : ℕ) where
   pub first-later : firstOf g w chart out .answer ≡ refused n → n ≡ 13
+  unfolding firstIn
   first-later e =
-      larger-refused (treeIn g w chart) nothing n
+      larger-refused (treeIn (grammarOf g) w chart) nothing n
       (handing-refused _ _ _ _ n (sym (ap (λ (x : Enumeration). x .answer) (first-passed g w chart out r)) ∙ e))
 
   pub next-later : (offered : List ℕ) → nextOf g w offered chart out .answer ≡ refused n → n ≡ 12
+  unfolding nextIn
   next-later offered e =
       decide-cases _ _ (λ (x : Enumeration). x .answer ≡ refused n → n ≡ 12) _ ((λ f q. sym (refused-inj q)), tt)
       (λ p q. absurd (answered-apart (handing-refused _ _ _ _ n q)))

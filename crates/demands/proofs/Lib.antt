@@ -1,5 +1,4 @@
 -- Theorems over the decided results, for all inputs.
-pub mod Passed
 pub mod Handed
 pub mod Kept
 pub mod Later

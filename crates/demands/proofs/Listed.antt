@@ -19,11 +19,11 @@ use Rattle.results.proofs.Demand3.Rows.{listed-member, member-listed}
 -- ---- offered derivations
 
 module _ (g : Grammar) (w e : List ℕ) where
-  pub derivation→offered : Derivation (grammarOf g) limit w e → unlisted g w e ≡ false
+  pub derivation→offered : Derivation (grammarOf g) limit w e → unlisted (grammarOf g) w e ≡ false
   unfolding unlisted
   derivation→offered d = ap not (member-listed e (derivation→listed (grammarOf g) limit w e d))
 
-  pub offered→derivation : unlisted g w e ≡ false → Derivation (grammarOf g) limit w e
+  pub offered→derivation : unlisted (grammarOf g) w e ≡ false → Derivation (grammarOf g) limit w e
   unfolding unlisted
   offered→derivation q = by (listed e (L (grammarOf g) w)) refl q
     where

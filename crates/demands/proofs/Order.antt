@@ -9,16 +9,17 @@ use lib.Dec.{eqb}
 use lib.ListN.{length}
 use borrow.Author.Tests.{lt-ltb, le-ltb, eq-eqb}
 use Rattle.sizes.specs.Sizes.{cells}
+use Rattle.cfg.specs.Grammar.{Cfg}
 use Rattle.grammar.specs.declared.Grammar.{Grammar}
-use Rattle.results.specs.Answer.{Answer, refused, check, decide}
+use Rattle.results.specs.Answer.{refused, check, decide}
 use Rattle.results.specs.Recognize.{State, Recognition, grammarCheck, stateCheck, chartCheck, openOf, takeOf}
 use Rattle.results.specs.Check.{inputCheck, inputChecks, Checking, onInput, checkOf}
 use Rattle.results.specs.Measure.{lengthOf, sameBuildOf}
-use Rattle.results.specs.Enumerate.{outputCheck, Enumeration, firstOf, nextOf, countOf}
-use Rattle.demands.specs.Ready.{Ready, ReadyOut}
+use Rattle.results.specs.Enumerate.{outputCheck, Enumeration, onOutput, firstOf, nextOf, countOf}
+use Rattle.results.specs.Ready.{Ready, ReadyOut}
 use Rattle.demands.specs.Order.{OpenOrder, TakeOrder, InputOrder, OutputOrder}
 use Rattle.results.proofs.Decide.{decide-first}
-use Rattle.demands.proofs.Passed.{input-fails, input-passes, ready→pass}
+use Rattle.results.proofs.Passed.{input-fails, input-passes, ready→pass}
 use Rattle.demands.proofs.Later.{open-later, take-later, check-later, length-later, same-build-later, count-later}
 use Rattle.demands.proofs.Later.{first-later, next-later}
 
@@ -49,11 +50,11 @@ take-order g h m chart = record {
 -- ---- the calls that write no output
 
 module _ (g : Grammar) (w chart : List ℕ) where
-  input-order : {A : Type 0} (answer : Unit {0} → Answer A)
-      → (Ready g w chart → (n : ℕ) → onInput g w chart answer .answer ≡ refused n → 11 < n)
-      → InputOrder g w chart (onInput g w chart answer .answer)
+  input-order : {A : Type 0} (go : Cfg → Checking A)
+      → (Ready g w chart → (n : ℕ) → onInput g w chart go .answer ≡ refused n → 11 < n)
+      → InputOrder g w chart (onInput g w chart go .answer)
   unfolding onInput
-  input-order {A} answer f = record {
+  input-order {A} go f = record {
     eight = λ v. ap (λ (x : Checking A). x .answer) (decide-first _ _ [] (grammarCheck g) _ tt (ap not v));
     nine = λ v l. ap (λ (x : Checking A). x .answer)
         (decide-first _ _ (grammarCheck g ∷ []) (inputCheck w) _ (ap not v, tt) (input-fails w l));
@@ -99,9 +100,9 @@ module _ (g : Grammar) (w chart out : List ℕ) where
   }
 
   pub first-order : OutputOrder g w chart out (firstOf g w chart out .answer)
-  unfolding firstOf
+  unfolding firstOf onOutput
   first-order = output-order _ (λ r n e. omega (arith, first-later g w chart out r n e))
 
   pub next-order : (offered : List ℕ) → OutputOrder g w chart out (nextOf g w offered chart out .answer)
-  unfolding nextOf
+  unfolding nextOf onOutput
   next-order offered = output-order _ (λ r n e. omega (arith, next-later g w chart out r n offered e))

@@ -10,30 +10,29 @@ use lib.ListN.{length}
 use Rattle.cfg.specs.Tree.{HasTree}
 use Rattle.cfg.specs.Derivation.{Derivation, limit}
 use Rattle.cfg.specs.Listing.{L}
-use Rattle.chart.proofs.Truth.{complete-tree}
+use Rattle.results.proofs.Demand3.Decided.{treeIn-exact}
 use Rattle.grammar.specs.declared.Grammar.{Grammar}
 use Rattle.grammar.specs.View.{grammarOf}
 use Rattle.grammar.proofs.Bounds.{valid-bounded}
 use Rattle.results.specs.Answer.{Answer, refused, answered, Handing, nothing, Figure, counted}
 use Rattle.results.specs.Check.{Checking}
-use Rattle.results.specs.Enumerate.{Enumeration, handingOut, headOf, treeIn, figure, firstOf, countOf}
-use Rattle.demands.specs.Ready.{Ready, ReadyOut}
+use Rattle.results.specs.Enumerate.{Enumeration, handingOut, headOf, treeIn, figure, firstIn, firstOf, countIn, countOf}
+use Rattle.results.specs.Ready.{Ready, ReadyOut}
 use Rattle.demands.specs.OrderAfter.{TreesOrder}
 use Rattle.results.proofs.Answers.{answered-apart}
-use Rattle.demands.proofs.Later.{onInput-passed, first-passed}
+use Rattle.results.proofs.Goes.{onInput-passed, first-passed}
 use Rattle.demands.proofs.Listed.{none→empty, empty→none}
 
 -- ---- the test of the chart
 
 module _ (g : Grammar) (w chart : List ℕ) (r : Ready g w chart) where
-  pub tree-test : (treeIn g w chart ≡ true) ↔ HasTree (grammarOf g) w
-  unfolding treeIn
-  tree-test = complete-tree (grammarOf g) (valid-bounded g (r .valid)) w chart (r .short) (r .room)
+  tree-test : (treeIn (grammarOf g) w chart ≡ true) ↔ HasTree (grammarOf g) w
+  tree-test = treeIn-exact (grammarOf g) (valid-bounded g (r .valid)) w (r .short) chart (r .room)
 
-  pub no-tree-test : (HasTree (grammarOf g) w → ⊥) → treeIn g w chart ≡ false
-  no-tree-test f = by (treeIn g w chart) refl
+  pub no-tree-test : (HasTree (grammarOf g) w → ⊥) → treeIn (grammarOf g) w chart ≡ false
+  no-tree-test f = by (treeIn (grammarOf g) w chart) refl
     where
-      by : (b : Bool) → treeIn g w chart ≡ b → b ≡ false
+      by : (b : Bool) → treeIn (grammarOf g) w chart ≡ b → b ≡ false
       by true p = absurd (f (tree-test .0 p))
       by false p = refl
 
@@ -77,24 +76,25 @@ count-passed-at (d ∷ l) b p n e = answered-apart (rw (eqb·suc-zero (length l)
 -- no tree, or a derivation, in terms of the tests
 tests : (g : Grammar) (w chart : List ℕ) → Ready g w chart
     → (HasTree (grammarOf g) w → ⊥) ⊎ ((e : List ℕ) × Derivation (grammarOf g) limit w e)
-    → (treeIn g w chart ≡ false) ⊎ (L (grammarOf g) w ≡ [] → ⊥)
+    → (treeIn (grammarOf g) w chart ≡ false) ⊎ (L (grammarOf g) w ≡ [] → ⊥)
 tests g w chart r (inl f) = inl (no-tree-test g w chart r f)
 tests g w chart r (inr d) = inr (λ p. empty→none (grammarOf g) w p (d .0) (d .1))
 
 pub first-thirteen : (g : Grammar) (w chart out : List ℕ)
     → TreesOrder (ReadyOut g w chart out) (grammarOf g) w (firstOf g w chart out .answer)
+unfolding firstIn
 first-thirteen g w chart out = record {
   thirteen = λ r t f. ap (λ (x : Enumeration). x .answer) (first-passed g w chart out r)
-      ∙ first-thirteen-at (L (grammarOf g) w) (treeIn g w chart) _ _ (none→empty (grammarOf g) w f) (tree-test g w chart (r .input) .1 t);
-  passed = λ r c n e. first-passed-at (L (grammarOf g) w) (treeIn g w chart) _ _ (tests g w chart (r .input) c) n
+      ∙ first-thirteen-at (L (grammarOf g) w) (treeIn (grammarOf g) w chart) _ _ (none→empty (grammarOf g) w f) (tree-test g w chart (r .input) .1 t);
+  passed = λ r c n e. first-passed-at (L (grammarOf g) w) (treeIn (grammarOf g) w chart) _ _ (tests g w chart (r .input) c) n
       (sym (ap (λ (x : Enumeration). x .answer) (first-passed g w chart out r)) ∙ e);
 }
 
 pub count-thirteen : (g : Grammar) (w chart : List ℕ) → TreesOrder (Ready g w chart) (grammarOf g) w (countOf g w chart .answer)
-unfolding countOf
+unfolding countOf countIn
 count-thirteen g w chart = record {
   thirteen = λ r t f. ap (λ (x : Checking Figure). x .answer) (onInput-passed g w chart _ r)
-      ∙ count-thirteen-at (L (grammarOf g) w) (treeIn g w chart) (none→empty (grammarOf g) w f) (tree-test g w chart r .1 t);
-  passed = λ r c n e. count-passed-at (L (grammarOf g) w) (treeIn g w chart) (tests g w chart r c) n
+      ∙ count-thirteen-at (L (grammarOf g) w) (treeIn (grammarOf g) w chart) (none→empty (grammarOf g) w f) (tree-test g w chart r .1 t);
+  passed = λ r c n e. count-passed-at (L (grammarOf g) w) (treeIn (grammarOf g) w chart) (tests g w chart r c) n
       (sym (ap (λ (x : Checking Figure). x .answer) (onInput-passed g w chart _ r)) ∙ e);
 }

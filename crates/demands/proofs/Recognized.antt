@@ -24,11 +24,11 @@ use Rattle.grammar.specs.View.{grammarOf}
 use Rattle.grammar.proofs.All.{true-false}
 use Rattle.grammar.proofs.Bounds.{valid-bounded}
 use Rattle.results.specs.Answer.{refused, answered, check}
-use Rattle.results.specs.Recognize.{stateOf, Recognition, grammarCheck, stateCheck, chartCheck, openOf, takeOf, fed}
+use Rattle.results.specs.Recognize.{stateOf, Recognition, grammarCheck, stateCheck, chartCheck, openIn, openOf, takeIn, takeOf, fed}
 use Rattle.demands.specs.Recognized.{Recognized}
 use Rattle.results.proofs.Decide.{decide-first}
 use Rattle.results.proofs.Answers.{answered-inj}
-use Rattle.demands.proofs.Later.{open-passed, take-passed}
+use Rattle.results.proofs.Goes.{open-passed, take-passed}
 
 -- taking two rows one after the other
 pub fed-append : (g : Grammar) (r : Recognition) (u v : List ℕ) → fed g r (u ++ v) ≡ fed g (fed g r u) v
@@ -56,12 +56,12 @@ module _ (g : Grammar) (found : List ℕ) where
 
   module _ (valid : validGrammar g ≡ true) (room : cells ≤ length found) where
     open-after : openOf g found ≡ after []
-    unfolding filled extendedBy
+    unfolding openIn filled extendedBy
     open-after = open-passed g found valid room
 
     -- one more byte
     take-after : (u : List ℕ) (m : ℕ) → length u < 64 → takeOf g (stateOf u) m (filled (grammarOf g) u found) ≡ after (u ++ (m ∷ []))
-    unfolding stateOf
+    unfolding takeIn stateOf
     take-after u m l =
         let c = filled (grammarOf g) u found in
         let v = u ++ (m ∷ []) in

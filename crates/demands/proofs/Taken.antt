@@ -19,9 +19,9 @@ use Rattle.grammar.specs.Valid.{validGrammar}
 use Rattle.grammar.specs.View.{grammarOf}
 use Rattle.grammar.proofs.Bounds.{valid-bounded}
 use Rattle.results.specs.Answer.{answered}
-use Rattle.results.specs.Recognize.{State, stateOf, Recognition, takeOf}
+use Rattle.results.specs.Recognize.{State, stateOf, Recognition, takeIn, takeOf}
 use Rattle.demands.specs.Taken.{input, Taken}
-use Rattle.demands.proofs.Later.{take-passed}
+use Rattle.results.proofs.Goes.{take-passed}
 
 module _ (g : Grammar) (h : State) (m : ℕ) (found : List ℕ) (valid : validGrammar g ≡ true) (bytes : length (h .bytes) ≡ 64)
     (small : h .count < 64) (room : cells ≤ length found) where
@@ -35,7 +35,7 @@ module _ (g : Grammar) (h : State) (m : ℕ) (found : List ℕ) (valid : validGr
       record { answer = answered (has (g .start) (cell c 0 (h .count + 1))); state = stateOf (input h m); chart = c }
 
   gives : takeOf g h m found ≡ left
-  unfolding extended complete left
+  unfolding takeIn extended complete left
   gives = take-passed g h m found valid small room ∙ ap (λ (n : ℕ).
       let c = written (grammarOf g) (fitsAt (input h m)) n found in
       record { answer = answered (has (g .start) (cell c 0 (h .count + 1))); state = stateOf (input h m); chart = c }) size

@@ -9,16 +9,17 @@ use native.Mathlib.Omega.{arith}
 use lib.ListN.{length}
 use borrow.Author.Tests.{ltb-false, eqb-false, not-false}
 use Rattle.sizes.specs.Sizes.{cells}
+use Rattle.cfg.specs.Grammar.{Cfg}
 use Rattle.grammar.specs.declared.Grammar.{Grammar}
 use Rattle.grammar.specs.Valid.{validGrammar}
-use Rattle.results.specs.Answer.{Answer, refused}
+use Rattle.results.specs.Answer.{refused}
 use Rattle.results.specs.Recognize.{State, stateOf, Recognition, openOf, takeOf}
 use Rattle.results.specs.Check.{Checking, onInput, checkOf}
 use Rattle.results.specs.Measure.{lengthOf, sameBuildOf}
-use Rattle.results.specs.Enumerate.{Enumeration, firstOf, nextOf, countOf}
-use Rattle.demands.specs.Ready.{Ready}
+use Rattle.results.specs.Enumerate.{Enumeration, onOutput, firstOf, nextOf, countOf}
+use Rattle.results.specs.Ready.{Ready}
 use Rattle.results.proofs.Decide.{decide-or}
-use Rattle.demands.proofs.Passed.{pass→ready, pass→readyOut}
+use Rattle.results.proofs.Passed.{pass→ready, pass→readyOut}
 use Rattle.demands.proofs.Later.{open-later, take-later, check-later, length-later, same-build-later, count-later}
 use Rattle.demands.proofs.Later.{first-later, next-later}
 
@@ -45,9 +46,9 @@ take-untouched g h m chart n e =
 -- ---- the calls that write no output
 
 module _ (g : Grammar) (w chart : List ℕ) (n : ℕ) where
-  onInput-untouched : {A : Type 0} (answer : Unit {0} → Answer A) → (Ready g w chart → ⊥) → onInput g w chart answer .chart ≡ chart
+  onInput-untouched : {A : Type 0} (go : Cfg → Checking A) → (Ready g w chart → ⊥) → onInput g w chart go .chart ≡ chart
   unfolding onInput
-  onInput-untouched {A} answer f =
+  onInput-untouched {A} go f =
       ⊎-elim (λ q. ap (λ (x : Checking A). x .chart) (q .1)) (λ p. absurd (f (pass→ready g w chart p))) (decide-or _ _ _)
 
   pub check-untouched : (offered : List ℕ) → checkOf g w offered chart .answer ≡ refused n → checkOf g w offered chart .chart ≡ chart
@@ -73,7 +74,7 @@ module _ (g : Grammar) (w chart : List ℕ) (n : ℕ) where
 module _ (g : Grammar) (w chart out : List ℕ) (n : ℕ) (low : n < 12) where
   pub first-untouched : firstOf g w chart out .answer ≡ refused n
       → (firstOf g w chart out .chart ≡ chart) × (firstOf g w chart out .output ≡ out)
-  unfolding firstOf
+  unfolding firstOf onOutput
   first-untouched e =
       ⊎-elim (λ q. (ap (λ (x : Enumeration). x .chart) (q .1), ap (λ (x : Enumeration). x .output) (q .1)))
       (λ p. let r : n ≡ 13 = first-later g w chart out (pass→readyOut g w chart out p) n e in absurd (omega arith))
@@ -81,7 +82,7 @@ module _ (g : Grammar) (w chart out : List ℕ) (n : ℕ) (low : n < 12) where
 
   pub next-untouched : (offered : List ℕ) → nextOf g w offered chart out .answer ≡ refused n
       → (nextOf g w offered chart out .chart ≡ chart) × (nextOf g w offered chart out .output ≡ out)
-  unfolding nextOf
+  unfolding nextOf onOutput
   next-untouched offered e =
       ⊎-elim (λ q. (ap (λ (x : Enumeration). x .chart) (q .1), ap (λ (x : Enumeration). x .output) (q .1)))
       (λ p. let r : n ≡ 12 = next-later g w chart out (pass→readyOut g w chart out p) n offered e in absurd (omega arith))

@@ -14,8 +14,8 @@ use Rattle.results.specs.Answer.{refused}
 use Rattle.results.specs.Recognize.{State, stateOf, Recognition}
 use Rattle.results.specs.Check.{Checking}
 use Rattle.results.specs.Enumerate.{Enumeration}
-use Rattle.demands.specs.Kept.{ChartKept, OutputKept}
-use Rattle.demands.specs.Ready.{Ready, ReadyOut}
+use Rattle.demands.specs.Kept.{ChartKept, writes, OutputKept}
+use Rattle.results.specs.Ready.{Ready, ReadyOut}
 use Rattle.demands.specs.Order.{OpenOrder, TakeOrder, InputOrder, OutputOrder}
 
 -- opening
@@ -46,7 +46,7 @@ pub record InputDemand {A : Type 0} (g : Grammar) (w chart : List ℕ) (r : Chec
 -- first and next
 pub record OutputDemand (g : Grammar) (w chart out : List ℕ) (r : Enumeration) : Type 0 where
   pub kept : ChartKept chart (r .chart)
-  pub output : OutputKept (r .answer) out (r .output)
+  pub output : OutputKept (writes (r .answer)) out (r .output)
   pub order : OutputOrder g w chart out (r .answer)
   -- refusals 8 to 11 leave chart and output as found
   pub untouched : (n : ℕ) → n < 12 → r .answer ≡ refused n → (r .chart ≡ chart) × (r .output ≡ out)

@@ -5,7 +5,7 @@ use mathlib.Core.List.{List}
 use mathlib.Core.Path.{_≡_}
 use lib.ListN.{length, drop}
 use Rattle.sizes.specs.Sizes.{cells}
-use Rattle.results.specs.Answer.{Answer, answered, Handing, handed}
+use Rattle.results.specs.Answer.{Answer, refused, answered, Handing, handed, nothing}
 
 -- a chart before and after a call: only its first 4,225 cells may differ
 pub record ChartKept (before after : List ℕ) : Type 0 where
@@ -14,11 +14,15 @@ pub record ChartKept (before after : List ℕ) : Type 0 where
   -- what lies behind the cells is as found
   pub behind : drop cells after ≡ drop cells before
 
--- an output before and after a call with this answer: it differs only in the derivation handed out, two numbers for each node
-pub record OutputKept (answer : Answer Handing) (before after : List ℕ) : Type 0 where
+-- how many numbers first and next write to the front of the output: two for each node of a derivation handed out, else none
+abbrev pub writes : Answer Handing → ℕ
+writes (refused n) = 0
+writes (answered (handed n)) = 2 * n
+writes (answered nothing) = 0
+
+-- an output before and after a call that writes n numbers to its front
+pub record OutputKept (n : ℕ) (before after : List ℕ) : Type 0 where
   -- the output is as long as found
   pub same-length : length after ≡ length before
-  -- what lies behind a derivation of n nodes is as found
-  pub rest : (n : ℕ) → answer ≡ answered (handed n) → drop (2 * n) after ≡ drop (2 * n) before
-  -- without a derivation the output is as found
-  pub untouched : ((n : ℕ) → answer ≡ answered (handed n) → ⊥) → after ≡ before
+  -- what lies behind the numbers written is as found, and the whole output where none are
+  pub rest : drop n after ≡ drop n before

@@ -1,6 +1,5 @@
 -- The statements that the theorems over the decided results share.
 pub mod Kept
-pub mod Ready
 pub mod Order
 pub mod LoadOrder
 pub mod LoadDemand

@@ -12,7 +12,7 @@ use Rattle.grammar.specs.declared.Grammar.{Grammar}
 use Rattle.grammar.specs.Valid.{validGrammar}
 use Rattle.results.specs.Answer.{Answer, refused, Handing}
 use Rattle.results.specs.Recognize.{State}
-use Rattle.demands.specs.Ready.{Ready, ReadyOut}
+use Rattle.results.specs.Ready.{Ready, ReadyOut}
 
 -- opening: 8, 10
 pub record OpenOrder (g : Grammar) (chart : List ℕ) (answer : Answer Bool) : Type 0 where

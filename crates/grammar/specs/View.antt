@@ -1,14 +1,17 @@
--- The abstract grammar that a declared one means.
+-- The abstract grammars that a declared one means, and its rule lengths by number.
 -- Assumes nothing.
 use mathlib.Core.List.{map}
 use mathlib.Core.Option.{Option, some}
-use lib.ListN.{take}
+use Prim.Native.Nat.{ℕ}
+use lib.IntN.{ℤ}
+use lib.ListN.{take, getD}
 use Rattle.cfg.specs.Grammar as Abstract
 use Rattle.grammar.specs.declared.Symbol.{Symbol}
 use Rattle.grammar.specs.declared.Symbol.the-variants.{Nonterminal, Terminal}
 use Rattle.grammar.specs.declared.Place.{Place}
 use Rattle.grammar.specs.declared.Rule.{Rule}
 use Rattle.grammar.specs.declared.Grammar.{Grammar}
+use Rattle.grammar.specs.Zero.{noRule}
 
 -- a symbol
 abbrev pub symbolOf : Symbol → Abstract.Symbol
@@ -23,6 +26,14 @@ placeOf p = symbolOf (p .symbol)
 abbrev pub ruleOf : Rule → Option Abstract.Rule
 ruleOf r = some (record { left = r .left; places = map placeOf (take (r .count) (r .places)) })
 
--- a grammar: its used rule records count, each under its own number
+-- the whole grammar (book): its used rule records count, each under its own number. Loading and the nullable depth speak of it
+abbrev pub wholeOf : Grammar → Abstract.Cfg
+wholeOf g = record { start = g .start; rules = map ruleOf (take (g .count) (g .rules)) }
+
+-- the grammar that reads an input: today the whole one. All calls on an input or a recognizer speak of it
 abbrev pub grammarOf : Grammar → Abstract.Cfg
-grammarOf g = record { start = g .start; rules = map ruleOf (take (g .count) (g .rules)) }
+grammarOf g = wholeOf g
+
+-- the length of the rule of a number, in hundredths of a millimetre
+abbrev pub lengthsOf : Grammar → ℕ → ℤ
+lengthsOf g r = getD (g .rules) r noRule .length

@@ -10,7 +10,7 @@ use Rattle.sets.specs.Set.{card}
 use Rattle.grammar.specs.declared.Grammar.{Grammar}
 use Rattle.grammar.specs.declared.Refusal.{Refusal}
 use Rattle.grammar.specs.Number.{numberOf}
-use Rattle.grammar.specs.View.{grammarOf}
+use Rattle.grammar.specs.View.{wholeOf}
 use Rattle.grammar.specs.Zero.{zeroGrammar}
 use Rattle.grammar.proofs.RuleAt.{rule-past}
 use Rattle.results.specs.Load.{acceptedLoad, refusedLoad}
@@ -20,10 +20,10 @@ use Rattle.loader.specs.declared.Outcome.the-variants.{Accepted, Refused
 use Rattle.loader.proofs.Depth.{exact-depth}
 
 -- a grammar of no rules has no nullable nonterminal
-zero-none : (k : ℕ) → Nullable (grammarOf zeroGrammar) k → ⊥
+zero-none : (k : ℕ) → Nullable (wholeOf zeroGrammar) k → ⊥
 zero-none k (t, (fits-node {r} o b s, e)) = Option·some-ne-none (o .the) (sym (o .here) ∙ rule-past zeroGrammar r zero-le)
 
-zero-depth : Depth (grammarOf zeroGrammar) 0
+zero-depth : Depth (wholeOf zeroGrammar) 0
 zero-depth = record { small = omega arith; zero = λ f. refl; reached = λ k n. absurd (zero-none k n) }
 
 pub refuses : (r : Refusal) (at : ℕ) (g : Grammar) → g ≡ zeroGrammar
@@ -36,4 +36,4 @@ refuses r at g e =
 pub accepts : (g : Grammar) (set d : ℕ) → Exact g set → d ≡ card set
     → Accepts g (record { outcome = Accepted; grammar = record { start = g .start; count = g .count; depth = d; rules = g .rules } })
 unfolding acceptedLoad
-accepts g set d E e = record { book = refl; depth = subst (Depth (grammarOf g)) (sym e) (exact-depth g set E) }
+accepts g set d E e = record { book = refl; depth = subst (Depth (wholeOf g)) (sym e) (exact-depth g set E) }

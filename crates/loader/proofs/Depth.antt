@@ -22,7 +22,7 @@ use Rattle.sets.specs.Set.{has, countBelow, card}
 use Rattle.sets.proofs.Laws.{has-high}
 use Rattle.sets.proofs.Card.{card-le}
 use Rattle.grammar.specs.declared.Grammar.{Grammar}
-use Rattle.grammar.specs.View.{grammarOf}
+use Rattle.grammar.specs.View.{wholeOf}
 use Rattle.grammar.proofs.All.{true-false}
 use Rattle.loader.specs.Nullable.{Exact}
 
@@ -95,22 +95,22 @@ node-nullable G f h =
     nothing [] e = refl
     nothing (a ∷ w) e = absurd (omega arith)
 
-pub exact-depth : (g : Grammar) (set : ℕ) → Exact g set → Depth (grammarOf g) (card set)
+pub exact-depth : (g : Grammar) (set : ℕ) → Exact g set → Depth (wholeOf g) (card set)
 unfolding card
 exact-depth g set E = record { small = card-le set; zero = none; reached = reached }
   where
-    none : ((k : ℕ) → Nullable (grammarOf g) k → ⊥) → countBelow 32 set ≡ 0
+    none : ((k : ℕ) → Nullable (wholeOf g) k → ⊥) → countBelow 32 set ≡ 0
     none f = count-none 32 set (λ k e. f k (E .sound k e))
 
-    member : (j : ℕ) → Nullable (grammarOf g) j → List·Memᴰ j (members 32 set)
+    member : (j : ℕ) → Nullable (wholeOf g) j → List·Memᴰ j (members 32 set)
     member j n = dite (decLt j 32)
         (λ l. members-mem 32 set j l (E .complete j n))
         (λ l. absurd (true-false (E .complete j n) (has-high j set (E .word) (omega arith))))
 
-    reached : (k : ℕ) → Nullable (grammarOf g) k → (t : Forest) × Parse (grammarOf g) k [] t × (height t ≤ countBelow 32 set)
+    reached : (k : ℕ) → Nullable (wholeOf g) k → (t : Forest) × Parse (wholeOf g) k [] t × (height t ≤ countBelow 32 set)
     reached k n =
-        let S = shrink (grammarOf g) (n .1 .0) in
+        let S = shrink (wholeOf g) (n .1 .0) in
         let e : yield (S .row) ≡ [] = S .same ∙ n .1 .1 in
-        let low = empty-low (grammarOf g) (members 32 set) (S .fitted) e (S .plain)
-        (λ j h. member j (node-nullable (grammarOf g) (S .fitted) h)) in
+        let low = empty-low (wholeOf g) (members 32 set) (S .fitted) e (S .plain)
+        (λ j h. member j (node-nullable (wholeOf g) (S .fitted) h)) in
         (S .row, (S .fitted, e), subst (λ (m : ℕ). height (S .row) ≤ m) (members-length 32 set) low)

@@ -23,7 +23,7 @@ use Rattle.grammar.specs.declared.Place.{Place}
 use Rattle.grammar.specs.declared.Rule.{Rule}
 use Rattle.grammar.specs.declared.Grammar.{Grammar}
 use Rattle.grammar.specs.Valid.{all, validGrammar}
-use Rattle.grammar.specs.View.{symbolOf, placeOf, grammarOf}
+use Rattle.grammar.specs.View.{symbolOf, placeOf, wholeOf}
 use Rattle.grammar.specs.Zero.{noRule}
 use Rattle.grammar.proofs.All.{true-false, and-parts, and-both}
 use Rattle.grammar.proofs.RuleAt.{rule-at, rule-past}
@@ -78,40 +78,40 @@ places-has set (p ∷ l) = ap₂ (λ (a b : Bool). a && b) (symbol-has set (p .s
 
 module _ (g : Grammar) (size : length (g .rules) ≡ 128) (valid : validGrammar g ≡ true) where
   -- the left side of a rule whose places hold members is nullable
-  rule-nullable : (set i : ℕ) → Sound (grammarOf g) set → i < g .count → ruleIn set (getD (g .rules) i noRule) ≡ true
-      → Nullable (grammarOf g) (getD (g .rules) i noRule .left)
+  rule-nullable : (set i : ℕ) → Sound (wholeOf g) set → i < g .count → ruleIn set (getD (g .rules) i noRule) ≡ true
+      → Nullable (wholeOf g) (getD (g .rules) i noRule .left)
   unfolding ruleIn yield
   rule-nullable set i sound h e =
       let r = getD (g .rules) i noRule in
-      let t = places-row (grammarOf g) set sound (take (r .count) (r .places)) e in
-      let o : Of (grammarOf g) i (r .left) = record {
+      let t = places-row (wholeOf g) set sound (take (r .count) (r .places)) e in
+      let o : Of (wholeOf g) i (r .left) = record {
         the = record { left = r .left; places = map placeOf (take (r .count) (r .places)) };
         here = rule-at g i size valid h;
         left = refl;
       } in
       (node i (t .0) end, (fits-node o (t .1) fits-end, append-nil (yield (t .0)) ∙ t .2))
 
-  pub widen-sound : (set i : ℕ) → Sound (grammarOf g) set → i < g .count → Sound (grammarOf g) (widen (getD (g .rules) i noRule) set)
+  pub widen-sound : (set i : ℕ) → Sound (wholeOf g) set → i < g .count → Sound (wholeOf g) (widen (getD (g .rules) i noRule) set)
   widen-sound set i sound h = go (ruleIn set r) refl
     where
       r : Rule
       r = getD (g .rules) i noRule
 
-      inserted : ruleIn set r ≡ true → (k : ℕ) → has k (insert (r .left) set) ≡ true → Nullable (grammarOf g) k
+      inserted : ruleIn set r ≡ true → (k : ℕ) → has k (insert (r .left) set) ≡ true → Nullable (wholeOf g) k
       inserted e k m = dite (ℕ-discrete k (r .left))
-          (λ p. subst (Nullable (grammarOf g)) (sym p) (rule-nullable set i sound h e))
+          (λ p. subst (Nullable (wholeOf g)) (sym p) (rule-nullable set i sound h e))
           (λ n. sound k (sym (has-insert-other k (r .left) set n) ∙ m))
 
-      go : (b : Bool) → ruleIn set r ≡ b → Sound (grammarOf g) (widen r set)
-      go true e = subst (Sound (grammarOf g)) (widen-in set r true (sym e) refl) (inserted e)
-      go false e = subst (Sound (grammarOf g)) (widen-out set r false (sym e) refl) sound
+      go : (b : Bool) → ruleIn set r ≡ b → Sound (wholeOf g) (widen r set)
+      go true e = subst (Sound (wholeOf g)) (widen-in set r true (sym e) refl) (inserted e)
+      go false e = subst (Sound (wholeOf g)) (widen-out set r false (sym e) refl) sound
 
   -- each rule whose places hold members has its left side in the set
   abbrev pub Closed : ℕ → Type 0
   Closed set = (i : ℕ) → i < g .count → ruleIn set (getD (g .rules) i noRule) ≡ true → has (getD (g .rules) i noRule .left) set ≡ true
 
   module _ (set : ℕ) (closed : Closed set) where
-    of-closed : {r k : ℕ} (o : Of (grammarOf g) r k) → all (symbolHas set) (o .the .places) ≡ true → has k set ≡ true
+    of-closed : {r k : ℕ} (o : Of (wholeOf g) r k) → all (symbolHas set) (o .the .places) ≡ true → has k set ≡ true
     unfolding ruleIn
     of-closed {r} {k} o e = dite (decLt r (g .count)) inside outside
       where
@@ -130,7 +130,7 @@ module _ (g : Grammar) (size : length (g .rules) ≡ 128) (valid : validGrammar 
         outside : ¬ (r < g .count) → has k set ≡ true
         outside n = absurd (Option·some-ne-none (o .the) (sym (o .here) ∙ rule-past g r (omega arith)))
 
-    row-closed : {places : List Abstract.Symbol} {t : Forest} → Fits (grammarOf g) places t → yield t ≡ [] → all (symbolHas set) places ≡ true
+    row-closed : {places : List Abstract.Symbol} {t : Forest} → Fits (wholeOf g) places t → yield t ≡ [] → all (symbolHas set) places ≡ true
     unfolding all yield symbolHas
     row-closed fits-end e = refl
     row-closed (fits-leaf {m} {rest} f s) e = absurd (cons-ne-nil m (yield rest) e)
@@ -139,6 +139,6 @@ module _ (g : Grammar) (size : length (g .rules) ≡ 128) (valid : validGrammar 
         let y = row-closed s (append-empty-right (yield below) (yield rest) e) in
         and-both (has k set) (all (symbolHas set) places) (of-closed o x) y
 
-    pub closed-complete : (k : ℕ) → Nullable (grammarOf g) k → has k set ≡ true
+    pub closed-complete : (k : ℕ) → Nullable (wholeOf g) k → has k set ≡ true
     unfolding all symbolHas
     closed-complete k n = and-parts (has k set) true (row-closed (n .1 .0) (n .1 .1)) .0

@@ -11,7 +11,7 @@ use lib.Seq.{getD-take}
 use Rattle.sets.proofs.Laws.{has-empty}
 use Rattle.grammar.specs.declared.Grammar.{Grammar}
 use Rattle.grammar.specs.Valid.{validGrammar}
-use Rattle.grammar.specs.View.{grammarOf}
+use Rattle.grammar.specs.View.{wholeOf}
 use Rattle.grammar.specs.Zero.{noRule}
 use Rattle.grammar.proofs.All.{true-false}
 use Rattle.grammar.proofs.Bounds.{valid-count, grammar-parts}
@@ -24,7 +24,7 @@ use Rattle.loader.proofs.Empty.{Sound, widen-sound, Closed, closed-comp
 -- after a number of passes: the set is a word of nullable nonterminals, and next is what a pass makes of it
 pub record Searched (g : Grammar) (set next : ℕ) : Type 0 where
   pub word : set < 2 ^ 32
-  pub sound : Sound (grammarOf g) set
+  pub sound : Sound (wholeOf g) set
   pub passed : next ≡ pass (take (g .count) (g .rules)) set
 
 pub searched-first : (g : Grammar) (next : ℕ) → next ≡ pass (take (g .count) (g .rules)) 0 → Searched g 0 next
@@ -35,21 +35,21 @@ searched-first g next e = record {
 }
 
 module _ (g : Grammar) (size : length (g .rules) ≡ 128) (valid : validGrammar g ≡ true) where
-  pass-sound : (set n : ℕ) → Sound (grammarOf g) set → n ≤ g .count → Sound (grammarOf g) (pass (take n (g .rules)) set)
+  pass-sound : (set n : ℕ) → Sound (wholeOf g) set → n ≤ g .count → Sound (wholeOf g) (pass (take n (g .rules)) set)
   unfolding pass
   pass-sound set zero sound h = sound
   pass-sound set (suc n) sound h =
       let l : n < length (g .rules) = omega (arith, valid-count g valid) in
       let e = rw add-one at (pass-next (g .rules) n set l) in
       let w = widen-sound g size valid (pass (take n (g .rules)) set) n (pass-sound set n sound (omega arith)) h in
-      subst (Sound (grammarOf g)) (sym e) w
+      subst (Sound (wholeOf g)) (sym e) w
 
   pub searched-next : (set next after : ℕ) → Searched g set next → after ≡ pass (take (g .count) (g .rules)) next → Searched g next after
   searched-next set next after S e =
       let p = S .passed in
       record {
         word = subst (λ (n : ℕ). n < 2 ^ 32) (sym p) (pass-word (take (g .count) (g .rules)) set (grammar-parts g valid .2) (S .word));
-        sound = subst (Sound (grammarOf g)) (sym p) (pass-sound set (g .count) (S .sound) (omega arith));
+        sound = subst (Sound (wholeOf g)) (sym p) (pass-sound set (g .count) (S .sound) (omega arith));
         passed = e;
       }
 

@@ -4,7 +4,7 @@ use mathlib.Core.Path.{_≡_}
 use Rattle.cfg.specs.Nullable.{Depth}
 use Rattle.grammar.specs.declared.Grammar.{Grammar}
 use Rattle.grammar.specs.Number.{numberOf}
-use Rattle.grammar.specs.View.{grammarOf}
+use Rattle.grammar.specs.View.{wholeOf}
 use Rattle.results.specs.Answer.{LoadAnswer, refusedAt, loaded}
 use Rattle.results.specs.Load.{Loading, Fault, refusedLoad, acceptedLoad}
 use Rattle.loader.specs.declared.Outcome.{Outcome}
@@ -21,9 +21,9 @@ loadingOf l = record { answer = answerOf (l .outcome); grammar = l .grammar }
 -- l is what a refused book leaves
 pub record Refuses (f : Fault) (l : Loaded) : Type 0 where
   pub book : loadingOf l ≡ refusedLoad f
-  pub depth : Depth (grammarOf (l .grammar)) (l .grammar .depth)
+  pub depth : Depth (wholeOf (l .grammar)) (l .grammar .depth)
 
 -- l is what a book leaves that was read to its end, as the grammar g
 pub record Accepts (g : Grammar) (l : Loaded) : Type 0 where
   pub book : loadingOf l ≡ acceptedLoad (l .grammar .depth) g
-  pub depth : Depth (grammarOf (l .grammar)) (l .grammar .depth)
+  pub depth : Depth (wholeOf (l .grammar)) (l .grammar .depth)

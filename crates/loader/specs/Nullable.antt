@@ -13,7 +13,7 @@ use Rattle.grammar.specs.declared.Place.{Place}
 use Rattle.grammar.specs.declared.Rule.{Rule}
 use Rattle.grammar.specs.declared.Grammar.{Grammar}
 use Rattle.grammar.specs.Valid.{all}
-use Rattle.grammar.specs.View.{grammarOf}
+use Rattle.grammar.specs.View.{wholeOf}
 
 abbrev pub symbolIn : ℕ → Symbol → Bool
 symbolIn set (Nonterminal k) = has k set
@@ -38,5 +38,5 @@ pass (r ∷ l) set = pass l (widen r set)
 -- a word whose members are nullable nonterminals of the grammar, and all of them
 pub record Exact (g : Grammar) (set : ℕ) : Type 0 where
   pub word : set < 2 ^ 32
-  pub sound : (k : ℕ) → has k set ≡ true → Nullable (grammarOf g) k
-  pub complete : (k : ℕ) → Nullable (grammarOf g) k → has k set ≡ true
+  pub sound : (k : ℕ) → has k set ≡ true → Nullable (wholeOf g) k
+  pub complete : (k : ℕ) → Nullable (wholeOf g) k → has k set ≡ true

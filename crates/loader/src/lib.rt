@@ -7,7 +7,7 @@ ghost use mathlib.Core.Path.{_≡_};
 ghost use Rattle.cfg.specs.Nullable.{Depth};
 ghost use Rattle.grammar.specs.Number.{numberOf};
 ghost use Rattle.grammar.specs.Valid.{validGrammar};
-ghost use Rattle.grammar.specs.View.{grammarOf};
+ghost use Rattle.grammar.specs.View.{wholeOf};
 ghost use Rattle.results.specs.Load.{loadOf};
 ghost use Rattle.loader.specs.Answer.{loadingOf, Refuses, Accepts};
 
@@ -54,7 +54,7 @@ fn accepted(g: Grammar) -> Loaded
 // Loads a book: one command a turn, each added to the grammar in place.
 pub fn load(bytes: &[u8]) -> Loaded
     ensures { λ r. ⌜ loadingOf r ≡ loadOf (now (bytes .entry)) (r .grammar .depth) ⌝ }
-    ensures depth { λ r. ⌜ Depth (grammarOf (r .grammar)) (r .grammar .depth) ⌝ }
+    ensures depth { λ r. ⌜ Depth (wholeOf (r .grammar)) (r .grammar .depth) ⌝ }
 {
     let mut g = grammar::zero_grammar();
     let mut at = 0;

@@ -9,7 +9,7 @@ use Rattle.grammar.specs.Valid.{all, validRule, validGrammar}
 use Rattle.results.specs.Answer.{most, decide}
 use Rattle.results.specs.Load as Load
 use Rattle.results.specs.Recognize as Recognize
-use Rattle.results.specs.Check.{same, listed, onInput, checkOf}
+use Rattle.results.specs.Check.{same, listed, onInput, checkIn, checkOf}
 use Rattle.results.specs.Measure as Measure
 use Rattle.results.specs.Enumerate as Enumerate
 use Rattle.results.specs.Starred.{outcome}
@@ -19,8 +19,8 @@ unfolding fits joined over when from among keep rulesFrom items upTo listing der
     Column.seen Column.times Column.least Column.column Column.putColumn Column.written Column.opened Column.extended
     Column.extendedBy Column.filled Column.complete all validRule validGrammar most decide Load.operands Load.signed Load.openRule
     Load.withStart Load.withRule Load.withPlace Load.after Load.unknown Load.outOfTurn Load.commandChecks Load.step Load.refusedLoad
-    Load.acceptedLoad Load.run Load.loadOf Recognize.stateOf Recognize.openOf Recognize.takeOf same listed onInput checkOf
-    Measure.sum Measure.rounded Measure.unlisted Measure.lengthOf Measure.rulesUsed Measure.occurrences Measure.sameBag
-    Measure.sameBuildOf Enumerate.treeIn Enumerate.handingOut Enumerate.headOf Enumerate.afterIn Enumerate.figure
-    Enumerate.firstOf Enumerate.nextOf Enumerate.countOf outcome
+    Load.acceptedLoad Load.run Load.loadOf Recognize.stateOf Recognize.openIn Recognize.openOf Recognize.takeIn Recognize.takeOf same listed onInput checkIn checkOf
+    Measure.sum Measure.rounded Measure.unlisted Measure.lengthIn Measure.lengthOf Measure.rulesUsed Measure.occurrences Measure.sameBag
+    Measure.sameBuildIn Measure.sameBuildOf Enumerate.treeIn Enumerate.handingOut Enumerate.headOf Enumerate.afterIn Enumerate.figure Enumerate.onOutput
+    Enumerate.firstIn Enumerate.firstOf Enumerate.nextIn Enumerate.nextOf Enumerate.countIn Enumerate.countOf outcome
 computing = tt

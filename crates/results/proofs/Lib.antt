@@ -1,6 +1,8 @@
 -- The tables of document 01, demand 3, and the laws of loading.
 pub mod Decide
 pub mod Answers
+pub mod Passed
+pub mod Goes
 pub mod Computing
 pub mod Table
 pub mod Faults

@@ -6,6 +6,7 @@ use mathlib.Core.List.{List, [], _∷_}
 use lib.Dec.{eqb, ltb}
 use lib.ListN.{length}
 use Rattle.sizes.specs.Sizes.{maxInput}
+use Rattle.cfg.specs.Grammar.{Cfg}
 use Rattle.cfg.specs.Listing.{L}
 use Rattle.chart.specs.Column.{filled}
 use Rattle.grammar.specs.declared.Grammar.{Grammar}
@@ -38,13 +39,15 @@ pub record Checking (A : Type 0) : Type 0 where
   pub answer : Answer A
   pub chart : List ℕ
 
--- such a call: refused, it leaves the chart as found; else the chart is filled for the input, whatever the answer
-unfoldable pub onInput : {A : Type 0} → Grammar → List ℕ → List ℕ → (Unit {0} → Answer A) → Checking A
-onInput g w chart answer =
-    decide (inputChecks g w chart)
-    (λ n. record { answer = refused n; chart = chart })
-    (λ _. record { answer = answer tt; chart = filled (grammarOf g) w chart })
+-- such a call: refused, it leaves the chart as found; else it goes on with the grammar
+unfoldable pub onInput : {A : Type 0} → Grammar → List ℕ → List ℕ → (Cfg → Checking A) → Checking A
+onInput g w chart go =
+    decide (inputChecks g w chart) (λ n. record { answer = refused n; chart = chart }) (λ _. go (grammarOf g))
 
--- check: yes exactly if the offered derivation is in L
+-- check, for the grammar G: yes exactly if the offered derivation is in L. The chart is filled for the input, whatever the answer
+unfoldable pub checkIn : Cfg → List ℕ → List ℕ → List ℕ → Checking Bool
+checkIn G w offered chart = record { answer = answered (listed offered (L G w)); chart = filled G w chart }
+
+-- check
 unfoldable pub checkOf : Grammar → List ℕ → List ℕ → List ℕ → Checking Bool
-checkOf g w offered chart = onInput g w chart (λ _. answered (listed offered (L (grammarOf g) w)))
+checkOf g w offered chart = onInput g w chart (λ G. checkIn G w offered chart)

@@ -7,6 +7,7 @@ use mathlib.Core.Option.{Option, none, some}
 use lib.Dec.{eqb, leb, ltb}
 use lib.ListN.{length, drop}
 use Rattle.sizes.specs.Sizes.{outputSize}
+use Rattle.cfg.specs.Grammar.{Cfg}
 use Rattle.cfg.specs.Listing.{L}
 use Rattle.chart.specs.Column.{filled, complete}
 use Rattle.grammar.specs.declared.Grammar.{Grammar}
@@ -26,8 +27,8 @@ abbrev pub outputCheck : List ℕ → Check ℕ
 outputCheck out = check (ltb (length out) outputSize) 11
 
 -- whether the input has a tree, of any size: the start symbol is in the cell of the whole input
-unfoldable pub treeIn : Grammar → List ℕ → List ℕ → Bool
-treeIn g w chart = complete (grammarOf g) (length w) (filled (grammarOf g) w chart)
+unfoldable pub treeIn : Cfg → List ℕ → List ℕ → Bool
+treeIn G w chart = complete G (length w) (filled G w chart)
 
 -- a derivation is written to the front of the output, and the rest stays; without one the output stays as found
 unfoldable pub handingOut : Option (List ℕ) → Answer Handing → List ℕ → List ℕ → Enumeration
@@ -44,28 +45,44 @@ unfoldable pub afterIn : List ℕ → List (List ℕ) → Option (List ℕ)
 afterIn e [] = none
 afterIn e (d ∷ l) = elim (same e d) [ true ↦ headOf l | false ↦ afterIn e l ]
 
--- first: the first of L; without one refusal 13 where the input has a tree, else "no reading"
-unfoldable pub firstOf : Grammar → List ℕ → List ℕ → List ℕ → Enumeration
-firstOf g w chart out =
+-- a call that writes an output: refused, it leaves chart and output as found; else it goes on with the grammar
+unfoldable pub onOutput : Grammar → List ℕ → List ℕ → List ℕ → (Cfg → Enumeration) → Enumeration
+onOutput g w chart out go =
     decide (inputChecks g w chart ++ (outputCheck out ∷ []))
     (λ n. record { answer = refused n; chart = chart; output = out })
-    (λ _. handingOut (headOf (L (grammarOf g) w)) (cond (treeIn g w chart) (refused 13) (answered nothing)) (filled (grammarOf g) w chart) out)
+    (λ _. go (grammarOf g))
 
--- next: the one after the offered derivation in L, or "none"; refusal 12 where the offered derivation is none
+-- first, for the grammar G: the first of L; without one refusal 13 where the input has a tree, else "no reading"
+unfoldable pub firstIn : Cfg → List ℕ → List ℕ → List ℕ → Enumeration
+firstIn G w chart out =
+    handingOut (headOf (L G w)) (cond (treeIn G w chart) (refused 13) (answered nothing)) (filled G w chart) out
+
+-- first
+unfoldable pub firstOf : Grammar → List ℕ → List ℕ → List ℕ → Enumeration
+firstOf g w chart out = onOutput g w chart out (λ G. firstIn G w chart out)
+
+-- next, for the grammar G: the one after the offered derivation in L, or "none"; refusal 12 where the offered derivation is none
+unfoldable pub nextIn : Cfg → List ℕ → List ℕ → List ℕ → List ℕ → Enumeration
+nextIn G w offered chart out =
+    decide (check (unlisted G w offered) 12 ∷ [])
+    (λ n. record { answer = refused n; chart = filled G w chart; output = out })
+    (λ _. handingOut (afterIn offered (L G w)) (answered nothing) (filled G w chart) out)
+
+-- next
 unfoldable pub nextOf : Grammar → List ℕ → List ℕ → List ℕ → List ℕ → Enumeration
-nextOf g w offered chart out =
-    decide (inputChecks g w chart ++ (outputCheck out ∷ []))
-    (λ n. record { answer = refused n; chart = chart; output = out })
-    (λ _. decide (check (unlisted g w offered) 12 ∷ [])
-    (λ n. record { answer = refused n; chart = filled (grammarOf g) w chart; output = out })
-    (λ _. handingOut (afterIn offered (L (grammarOf g) w)) (answered nothing) (filled (grammarOf g) w chart) out))
+nextOf g w offered chart out = onOutput g w chart out (λ G. nextIn G w offered chart out)
 
 -- what count says of N: N up to 4,096, "more" above
 unfoldable pub figure : ℕ → Figure
 figure n = cond (leb n most) (counted n) more
 
--- count: what it says of N; refusal 13 where N is 0 and the input has a tree
+-- count, for the grammar G: what it says of N; refusal 13 where N is 0 and the input has a tree
+unfoldable pub countIn : Cfg → List ℕ → List ℕ → Checking Figure
+countIn G w chart = let n = length (L G w) in record {
+  answer = elim (eqb n 0) [ true ↦ cond (treeIn G w chart) (refused 13) (answered (counted 0)) | false ↦ answered (figure n) ];
+  chart = filled G w chart;
+}
+
+-- count
 unfoldable pub countOf : Grammar → List ℕ → List ℕ → Checking Figure
-countOf g w chart = onInput g w chart (λ _.
-    let n = length (L (grammarOf g) w) in
-    elim (eqb n 0) [ true ↦ cond (treeIn g w chart) (refused 13) (answered (counted 0)) | false ↦ answered (figure n) ])
+countOf g w chart = onInput g w chart (λ G. countIn G w chart)

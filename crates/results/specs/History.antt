@@ -5,13 +5,13 @@ use Prim.Native.Nat.{ℕ, _*_, _≤_}
 use mathlib.Core.List.{List, [], _∷_}
 use lib.ListN.{length, take}
 use Rattle.sizes.specs.Sizes.{cells, outputSize}
+use Rattle.cfg.specs.Grammar.{Cfg}
 use Rattle.cfg.specs.Derivation.{Derivation, limit}
 use Rattle.results.specs.Walk.{Call, Said, handsOut, noDerivation, noneLeft, refuses, counts}
 use Rattle.results.specs.Walk as Walk
 use Rattle.grammar.specs.declared.Grammar.{Grammar}
-use Rattle.grammar.specs.View.{grammarOf}
 use Rattle.results.specs.Answer.{Answer, refused, answered, Handing, handed, nothing, Figure, counted, more}
-use Rattle.results.specs.Enumerate.{firstOf, nextOf, countOf}
+use Rattle.results.specs.Enumerate.{firstIn, nextIn, countIn, firstOf, nextOf, countOf}
 
 -- a call with what is lent to it: chart and output, and for a next that is not offered the copy what it is offered
 pub data Made : Type 0 where
@@ -28,17 +28,16 @@ which (nextOther e chart out) = Walk.nextOther
 which (count chart) = Walk.count
 
 -- chart and output are long enough, and may hold anything; what is offered and is not the copy is no derivation of the input
-abbrev pub Allowed : Grammar → List ℕ → Made → Type 0
-Allowed g w (first chart out) = (cells ≤ length chart) × (outputSize ≤ length out)
-Allowed g w (nextCopy chart out) = (cells ≤ length chart) × (outputSize ≤ length out)
-Allowed g w (nextOther e chart out) =
-    (cells ≤ length chart) × (outputSize ≤ length out) × (Derivation (grammarOf g) limit w e → ⊥)
-Allowed g w (count chart) = cells ≤ length chart
+abbrev pub Allowed : Cfg → List ℕ → Made → Type 0
+Allowed G w (first chart out) = (cells ≤ length chart) × (outputSize ≤ length out)
+Allowed G w (nextCopy chart out) = (cells ≤ length chart) × (outputSize ≤ length out)
+Allowed G w (nextOther e chart out) = (cells ≤ length chart) × (outputSize ≤ length out) × (Derivation G limit w e → ⊥)
+Allowed G w (count chart) = cells ≤ length chart
 
 -- every call of the list is allowed
-abbrev pub AllAllowed : Grammar → List ℕ → List Made → Type 0
-AllAllowed g w [] = Unit {0}
-AllAllowed g w (m ∷ calls) = Allowed g w m × AllAllowed g w calls
+abbrev pub AllAllowed : Cfg → List ℕ → List Made → Type 0
+AllAllowed G w [] = Unit {0}
+AllAllowed G w (m ∷ calls) = Allowed G w m × AllAllowed G w calls
 
 -- first and next, as the caller of the walk sees them: a derivation handed out is the front of the output, twice as many numbers as nodes
 -- are answered; `none` is what the call says where nothing is handed out
@@ -53,7 +52,14 @@ countSaid (refused n) = refuses n
 countSaid (answered (counted n)) = counts n
 countSaid (answered more) = Walk.more
 
--- what one call says, by the decided results, the copy being what was handed out last
+-- what one call says for the grammar G, the copy being what was handed out last
+unfoldable pub saysIn : Cfg → List ℕ → List ℕ → Made → Said
+saysIn G w copy (first chart out) = let r = firstIn G w chart out in saidOf noDerivation (r .answer) (r .output)
+saysIn G w copy (nextCopy chart out) = let r = nextIn G w copy chart out in saidOf noneLeft (r .answer) (r .output)
+saysIn G w copy (nextOther e chart out) = let r = nextIn G w e chart out in saidOf noneLeft (r .answer) (r .output)
+saysIn G w copy (count chart) = countSaid (countIn G w chart .answer)
+
+-- what one call says, its checks included
 unfoldable pub says : Grammar → List ℕ → List ℕ → Made → Said
 says g w copy (first chart out) = let r = firstOf g w chart out in saidOf noDerivation (r .answer) (r .output)
 says g w copy (nextCopy chart out) = let r = nextOf g w copy chart out in saidOf noneLeft (r .answer) (r .output)
@@ -68,6 +74,11 @@ copied noneLeft copy = copy
 copied (refuses n) copy = copy
 copied (counts n) copy = copy
 copied Walk.more copy = copy
+
+-- what a list of calls says for the grammar G
+unfoldable pub historyIn : Cfg → List ℕ → List ℕ → List Made → List Said
+historyIn G w copy [] = []
+historyIn G w copy (m ∷ calls) = saysIn G w copy m ∷ historyIn G w (copied (saysIn G w copy m) copy) calls
 
 -- what a list of calls says
 unfoldable pub history : Grammar → List ℕ → List ℕ → List Made → List Said

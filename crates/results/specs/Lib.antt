@@ -5,6 +5,7 @@ pub mod Recognize
 pub mod Check
 pub mod Measure
 pub mod Enumerate
+pub mod Ready
 pub mod Walk
 pub mod History
 pub mod Demand3

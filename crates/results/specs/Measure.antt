@@ -5,20 +5,20 @@ use mathlib.Core.Bool.{Bool, true, false, cond, not}
 use mathlib.Core.List.{List, [], _∷_, _++_}
 use lib.Dec.{eqb}
 use lib.IntN.{ℤ, pos, negsuc, negℤ, _+ℤ_}
-use lib.ListN.{getD}
+use Rattle.cfg.specs.Grammar.{Cfg}
 use Rattle.cfg.specs.Listing.{L}
+use Rattle.chart.specs.Column.{filled}
 use Rattle.grammar.specs.declared.Grammar.{Grammar}
 use Rattle.grammar.specs.Valid.{all}
-use Rattle.grammar.specs.View.{grammarOf}
-use Rattle.grammar.specs.Zero.{noRule}
+use Rattle.grammar.specs.View.{lengthsOf}
 use Rattle.results.specs.Answer.{refused, answered, check, decide}
 use Rattle.results.specs.Check.{listed, Checking, onInput}
 
 -- the rule lengths of all nodes of a derivation, empty ones too, added up: hundredths of a millimetre
-unfoldable pub sum : Grammar → List ℕ → ℤ
-sum g [] = pos 0
-sum g (cover ∷ []) = pos 0
-sum g (cover ∷ r ∷ e) = getD (g .rules) r noRule .length +ℤ sum g e
+unfoldable pub sum : (ℕ → ℤ) → List ℕ → ℤ
+sum lengths [] = pos 0
+sum lengths (cover ∷ []) = pos 0
+sum lengths (cover ∷ r ∷ e) = lengths r +ℤ sum lengths e
 
 -- hundredths rounded to tenths, halves away from zero
 unfoldable pub rounded : ℤ → ℤ
@@ -26,13 +26,19 @@ rounded (pos n) = pos ((n + 5) / 10)
 rounded (negsuc n) = negℤ (pos ((suc n + 5) / 10))
 
 -- 12: an offered derivation is none of the input
-unfoldable pub unlisted : Grammar → List ℕ → List ℕ → Bool
-unlisted g w e = not (listed e (L (grammarOf g) w))
+unfoldable pub unlisted : Cfg → List ℕ → List ℕ → Bool
+unlisted G w e = not (listed e (L G w))
 
--- length, in tenths of a millimetre
+-- length, in tenths of a millimetre, for the grammar G and the rule lengths by number
+unfoldable pub lengthIn : Cfg → (ℕ → ℤ) → List ℕ → List ℕ → List ℕ → Checking ℤ
+lengthIn G lengths w offered chart = record {
+  answer = decide (check (unlisted G w offered) 12 ∷ []) refused (λ _. answered (rounded (sum lengths offered)));
+  chart = filled G w chart;
+}
+
+-- length
 unfoldable pub lengthOf : Grammar → List ℕ → List ℕ → List ℕ → Checking ℤ
-lengthOf g w offered chart = onInput g w chart (λ _.
-    decide (check (unlisted g w offered) 12 ∷ []) refused (λ _. answered (rounded (sum g offered))))
+lengthOf g w offered chart = onInput g w chart (λ G. lengthIn G (lengthsOf g) w offered chart)
 
 -- the rules of the nodes that cover something, in preorder
 unfoldable pub rulesUsed : List ℕ → List ℕ
@@ -49,7 +55,14 @@ occurrences r (s ∷ l) = cond (eqb r s) (suc (occurrences r l)) (occurrences r 
 unfoldable pub sameBag : List ℕ → List ℕ → Bool
 sameBag x y = all (λ r. eqb (occurrences r x) (occurrences r y)) (x ++ y)
 
+-- same build, for the grammar G
+unfoldable pub sameBuildIn : Cfg → List ℕ → List ℕ → List ℕ → List ℕ → Checking Bool
+sameBuildIn G w a b chart = record {
+  answer = decide (check (unlisted G w a) 12 ∷ check (unlisted G w b) 12 ∷ []) refused
+      (λ _. answered (sameBag (rulesUsed a) (rulesUsed b)));
+  chart = filled G w chart;
+}
+
 -- same build
 unfoldable pub sameBuildOf : Grammar → List ℕ → List ℕ → List ℕ → List ℕ → Checking Bool
-sameBuildOf g w a b chart = onInput g w chart (λ _.
-    decide (check (unlisted g w a) 12 ∷ check (unlisted g w b) 12 ∷ []) refused (λ _. answered (sameBag (rulesUsed a) (rulesUsed b))))
+sameBuildOf g w a b chart = onInput g w chart (λ G. sameBuildIn G w a b chart)

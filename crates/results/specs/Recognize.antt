@@ -6,6 +6,7 @@ use mathlib.Core.Bool.{Bool, not}
 use mathlib.Core.List.{List, [], _∷_, _++_}
 use lib.Dec.{eqb, ltb}
 use lib.ListN.{length, take, replicate}
+use Rattle.cfg.specs.Grammar.{Cfg}
 use Rattle.grammar.specs.declared.Grammar.{Grammar}
 use Rattle.grammar.specs.Valid.{validGrammar}
 use Rattle.grammar.specs.View.{grammarOf}
@@ -40,22 +41,32 @@ chartCheck chart = check (ltb (length chart) cells) 10
 abbrev pub stateCheck : State → Check ℕ
 stateCheck h = check (ltb maxInput (h .count)) 14
 
+-- opening, for the grammar G
+unfoldable pub openIn : Cfg → List ℕ → Recognition
+openIn G chart =
+    let left = opened G chart in
+    record { answer = answered (complete G 0 left); state = stateOf []; chart = left }
+
 -- opening. Refused, it gives a state of zeros and leaves the chart as found
 unfoldable pub openOf : Grammar → List ℕ → Recognition
 openOf g chart =
     decide (grammarCheck g ∷ chartCheck chart ∷ [])
     (λ n. record { answer = refused n; state = stateOf []; chart = chart })
-    (λ _. let left = opened (grammarOf g) chart in
-    record { answer = answered (complete (grammarOf g) 0 left); state = stateOf []; chart = left })
+    (λ _. openIn (grammarOf g) chart)
+
+-- taking a byte, for the grammar G
+unfoldable pub takeIn : Cfg → State → ℕ → List ℕ → Recognition
+takeIn G h m chart =
+    let w = take (h .count) (h .bytes) ++ (m ∷ []) in
+    let left = extended G w chart in
+    record { answer = answered (complete G (h .count + 1) left); state = stateOf w; chart = left }
 
 -- taking a byte. Refused, it leaves the state and the chart as found
 unfoldable pub takeOf : Grammar → State → ℕ → List ℕ → Recognition
 takeOf g h m chart =
     decide (grammarCheck g ∷ stateCheck h ∷ chartCheck chart ∷ check (eqb (h .count) maxInput) 15 ∷ [])
     (λ n. record { answer = refused n; state = h; chart = chart })
-    (λ _. let w = take (h .count) (h .bytes) ++ (m ∷ []) in
-    let left = extended (grammarOf g) w chart in
-    record { answer = answered (complete (grammarOf g) (h .count + 1) left); state = stateOf w; chart = left })
+    (λ _. takeIn (grammarOf g) h m chart)
 
 -- taking bytes one after the other, each with the state and the chart that the call before it left
 unfoldable pub fed : Grammar → Recognition → List ℕ → Recognition

@@ -43,7 +43,7 @@ use Rattle.results.specs.History.{Made, first, AllAllowed, history}
 use Rattle.results.specs.Demand3.{Demand3, nextCalls, Larger}
 use Rattle.results.specs.Starred.{Starred}
 use Rattle.demands.specs.Demand1.{OpenDemand, TakeDemand, InputDemand, OutputDemand}
-use Rattle.demands.specs.Ready.{Ready, ReadyOut}
+use Rattle.results.specs.Ready.{Ready, ReadyOut}
 use Rattle.demands.specs.OrderAfter.{OfferedOrder, TreesOrder}
 use Rattle.demands.specs.LoadOrder.{CommandOrder}
 use Rattle.demands.specs.LoadDemand.{LoadDemand}
@@ -155,7 +155,7 @@ check-no = Check.check-no
 
 -- DEMAND 3, for every grammar that check 8 lets through, every input that check 9 lets through and every list of allowed calls
 module _ (g : Grammar) (valid : validGrammar g ≡ true) (w : List ℕ) (low : 1 ≤ length w) (high : length w ≤ 64) where
-  pub demand-3 : (tree : Dec (HasTree (grammarOf g) w)) (calls : List Made) → AllAllowed g w calls → Demand3 g w tree calls
+  pub demand-3 : (tree : Dec (HasTree (grammarOf g) w)) (calls : List Made) → AllAllowed (grammarOf g) w calls → Demand3 g w tree calls
   demand-3 = Handed.demand-3 g valid w low high
 
   -- whether the input has a tree is decided, so the claim is not empty
@@ -163,11 +163,11 @@ module _ (g : Grammar) (valid : validGrammar g ≡ true) (w : List ℕ) (low : 1
   tree-decided = Walk.tree-decided g valid w low high
 
   -- first, and then next with the copy at least N times, hand out exactly L, one row after the other, and then say "none"
-  pub first-then-next : (chart out : List ℕ) (lent : List (List ℕ × List ℕ)) → AllAllowed g w (first chart out ∷ nextCalls lent)
+  pub first-then-next : (chart out : List ℕ) (lent : List (List ℕ × List ℕ)) → AllAllowed (grammarOf g) w (first chart out ∷ nextCalls lent)
       → length (L (grammarOf g) w) ≤ length lent → handedOut (history g w [] (first chart out ∷ nextCalls lent)) ≡ L (grammarOf g) w
   first-then-next = Consequences.first-then-next g valid w low high
 
-  pub first-then-next-said : (chart out : List ℕ) (lent : List (List ℕ × List ℕ)) → AllAllowed g w (first chart out ∷ nextCalls lent)
+  pub first-then-next-said : (chart out : List ℕ) (lent : List (List ℕ × List ℕ)) → AllAllowed (grammarOf g) w (first chart out ∷ nextCalls lent)
       → 1 ≤ length (L (grammarOf g) w) → length (L (grammarOf g) w) ≤ suc (length lent)
       → history g w [] (first chart out ∷ nextCalls lent)
       ≡ map hands (L (grammarOf g) w) ++ replicate (suc (length lent) - length (L (grammarOf g) w)) noneLeft

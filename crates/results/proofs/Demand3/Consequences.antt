@@ -6,27 +6,31 @@ use native.Mathlib.Decide.{decLt, decLe}
 use native.Mathlib.Omega.{arith}
 use mathlib.Core.Bool.{true}
 use mathlib.Core.List.{List, [], _∷_, _++_, map}
-use mathlib.Core.Logic.{_↔_, _⊎_, inl, inr, dite}
+use mathlib.Core.Logic.{_↔_, _⊎_, inl, inr, dite, ite}
 use mathlib.Core.Path.{_≡_, refl, sym, ap, subst, _∙_}
 use lib.ListN.{length, take, replicate}
 use lib.Seq.{take-length}
-use Rattle.sizes.specs.Sizes.{cells}
+use Rattle.sizes.specs.Sizes.{cells, outputSize}
 use Rattle.cfg.specs.Tree.{HasTree}
 use Rattle.cfg.specs.Listing.{L}
+use Rattle.chart.proofs.Derived.{Bounded}
 use Rattle.grammar.specs.declared.Grammar.{Grammar}
 use Rattle.grammar.specs.Valid.{validGrammar}
 use Rattle.grammar.specs.View.{grammarOf}
+use Rattle.grammar.proofs.Bounds.{valid-bounded}
 use Rattle.results.specs.Answer.{Answer, refused, answered, Handing, handed, nothing, Figure, counted, more, most}
-use Rattle.results.specs.Enumerate.{firstOf, countOf}
+use Rattle.results.specs.Check.{Checking}
+use Rattle.results.specs.Enumerate.{Enumeration, figure, firstIn, countIn, firstOf, countOf}
 use Rattle.results.specs.Walk.{Call, hands, handedOut, nexts, NoFirst}
 use Rattle.results.specs.Walk as Walk
 use Rattle.results.specs.History.{Made, first, which, AllAllowed, history}
 use Rattle.results.specs.Demand3.{LastFirst, nextCalls, Larger}
+use Rattle.results.proofs.Goes.{first-passed, count-passed}
 use Rattle.results.proofs.Answers.{refused-apart, answered-apart, handed-apart, figures-apart}
 use Rattle.results.proofs.Demand3.Figures.{figure-counted, figure-more}
 use Rattle.results.proofs.Demand3.Listed.{L-none, L-some, L-no-tree}
-use Rattle.results.proofs.Demand3.Decided.{count-answer-none, countOf-some, first-answer-some, first-answer-none}
-use Rattle.results.proofs.Demand3.Walk.{tree-decided, walk-holds}
+use Rattle.results.proofs.Demand3.Decided.{countIn-none, countIn-some, firstIn-none, firstIn-some}
+use Rattle.results.proofs.Demand3.Walk.{ready, ready-out, tree-decided, walk-holds}
 use Rattle.results.proofs.Demand3.Nexts.{first-nexts}
 use Rattle.results.proofs.Demand3.Handed.{demand-3}
 
@@ -55,7 +59,7 @@ larger-none g w l = dite (decLt 0 (length (L (grammarOf g) w)))
 module _ (g : Grammar) (valid : validGrammar g ≡ true) (w : List ℕ) (low : 1 ≤ length w) (high : length w ≤ 64) where
   -- ---- a first and n nexts that are offered the copy
 
-  module _ (chart out : List ℕ) (lent : List (List ℕ × List ℕ)) (a : AllAllowed g w (first chart out ∷ nextCalls lent)) where
+  module _ (chart out : List ℕ) (lent : List (List ℕ × List ℕ)) (a : AllAllowed (grammarOf g) w (first chart out ∷ nextCalls lent)) where
     -- with n at least N - 1 the answers are the rows of L, one after the other, and then "none"
     pub first-then-next-said : 1 ≤ length (L (grammarOf g) w) → length (L (grammarOf g) w) ≤ suc (length lent)
         → history g w [] (first chart out ∷ nextCalls lent)
@@ -80,29 +84,41 @@ module _ (g : Grammar) (valid : validGrammar g ≡ true) (w : List ℕ) (low : 1
   -- ---- what count answers
 
   module _ (chart : List ℕ) (c : cells ≤ length chart) where
-    -- by how many rows L has, and whether the input has a tree
+    bounded : Bounded (grammarOf g)
+    bounded = valid-bounded g valid
+
+    count-in : countOf g w chart .answer ≡ countIn (grammarOf g) w chart .answer
+    count-in = ap (λ (k : Checking Figure). k .answer) (count-passed g w chart (ready g valid w low high chart c))
+
+    count-some : 0 < length (L (grammarOf g) w) → countOf g w chart .answer ≡ answered (figure (length (L (grammarOf g) w)))
+    count-some l = count-in ∙ countIn-some (grammarOf g) w chart l
+
+    count-none : length (L (grammarOf g) w) ≡ 0 → (tree : Dec (HasTree (grammarOf g) w))
+        → countOf g w chart .answer ≡ ite tree (refused 13) (answered (counted 0))
+    count-none h tree = count-in ∙ countIn-none (grammarOf g) bounded w high chart c h tree
+
+    -- by how many readings L has, and whether the input has a tree
     count-by : (P : Answer Figure → Type 0)
         → (0 < length (L (grammarOf g) w) → length (L (grammarOf g) w) ≤ most → P (answered (counted (length (L (grammarOf g) w)))))
         → (most < length (L (grammarOf g) w) → P (answered more))
         → (Larger g w → P (refused 13)) → ((HasTree (grammarOf g) w → ⊥) → P (answered (counted 0))) → P (countOf g w chart .answer)
     count-by P some above larger none = dite (decLt 0 (length (L (grammarOf g) w)))
-        (λ l. subst P (sym (countOf-some g valid w low high chart c l)) (dite (decLe (length (L (grammarOf g) w)) most)
+        (λ l. subst P (sym (count-some l)) (dite (decLe (length (L (grammarOf g) w)) most)
         (λ h. rw (figure-counted (length (L (grammarOf g) w)) h) (some l h))
         (λ h. let m : most < length (L (grammarOf g) w) = omega arith in rw (figure-more (length (L (grammarOf g) w)) m) (above m))))
         (λ l. let z : length (L (grammarOf g) w) ≡ 0 = omega arith in by z (tree-decided g valid w low high))
       where
         by : length (L (grammarOf g) w) ≡ 0 → Dec (HasTree (grammarOf g) w) → P (countOf g w chart .answer)
-        by z (yes t) =
-            subst P (sym (count-answer-none g valid w low high chart c z (yes t))) (larger (t, L-none (grammarOf g) w z))
-        by z (no n) = subst P (sym (count-answer-none g valid w low high chart c z (no n))) (none n)
+        by z (yes t) = subst P (sym (count-none z (yes t))) (larger (t, L-none (grammarOf g) w z))
+        by z (no n) = subst P (sym (count-none z (no n))) (none n)
 
     -- N where it is at most 4,096 and there is a reading, or no tree
     pub count-exact : length (L (grammarOf g) w) ≤ most → (1 ≤ length (L (grammarOf g) w)) ⊎ (HasTree (grammarOf g) w → ⊥)
         → countOf g w chart .answer ≡ answered (counted (length (L (grammarOf g) w)))
-    count-exact h (inl l) = countOf-some g valid w low high chart c l ∙ ap answered (figure-counted (length (L (grammarOf g) w)) h)
+    count-exact h (inl l) = count-some l ∙ ap answered (figure-counted (length (L (grammarOf g) w)) h)
     count-exact h (inr n) =
         let e = L-no-tree (grammarOf g) w n in
-        count-answer-none g valid w low high chart c e (no n) ∙ ap (λ (k : ℕ). answered (counted k)) (sym e)
+        count-none e (no n) ∙ ap (λ (k : ℕ). answered (counted k)) (sym e)
 
     pub count-more : (countOf g w chart .answer ≡ answered more) ↔ (most < length (L (grammarOf g) w))
     count-more = (
@@ -110,39 +126,45 @@ module _ (g : Grammar) (valid : validGrammar g ≡ true) (w : List ℕ) (low : 1
           (λ l h e. absurd (figures-apart (length (L (grammarOf g) w)) e)) (λ h e. h) (λ l e. absurd (refused-apart e))
           (λ n e. absurd (figures-apart 0 e)),
       λ h. let l : 0 < length (L (grammarOf g) w) = omega arith in
-          countOf-some g valid w low high chart c l ∙ ap answered (figure-more (length (L (grammarOf g) w)) h),
+          count-some l ∙ ap answered (figure-more (length (L (grammarOf g) w)) h),
     )
 
     pub count-larger : (countOf g w chart .answer ≡ refused 13) ↔ Larger g w
     count-larger = (
       count-by (λ a. a ≡ refused 13 → Larger g w) (λ l h e. absurd (answered-apart e)) (λ h e. absurd (answered-apart e)) (λ l e. l)
           (λ n e. absurd (answered-apart e)),
-      λ l. count-answer-none g valid w low high chart c (larger-none g w l) (yes (l .0)),
+      λ l. count-none (larger-none g w l) (yes (l .0)),
     )
 
     -- ---- what first answers
 
-    module _ (out : List ℕ) (o : 1024 ≤ length out) where
+    module _ (out : List ℕ) (o : outputSize ≤ length out) where
+      first-in : firstOf g w chart out .answer ≡ firstIn (grammarOf g) w chart out .answer
+      first-in = ap (λ (r : Enumeration). r .answer) (first-passed g w chart out (ready-out g valid w low high chart out c o))
+
+      first-none : length (L (grammarOf g) w) ≡ 0 → (tree : Dec (HasTree (grammarOf g) w))
+          → firstOf g w chart out .answer ≡ ite tree (refused 13) (answered nothing)
+      first-none h tree = first-in ∙ firstIn-none (grammarOf g) bounded w high chart c out h tree
+
       first-by : (P : Answer Handing → Type 0) → ((n : ℕ) → 0 < length (L (grammarOf g) w) → P (answered (handed n)))
           → (Larger g w → P (refused 13)) → ((HasTree (grammarOf g) w → ⊥) → P (answered nothing)) → P (firstOf g w chart out .answer)
       first-by P some larger none = dite (decLt 0 (length (L (grammarOf g) w)))
-          (λ l. subst P (sym (first-answer-some g valid w low high chart c out o l)) (some _ l))
+          (λ l. subst P (sym (first-in ∙ firstIn-some (grammarOf g) w chart out l)) (some _ l))
           (λ l. let z : length (L (grammarOf g) w) ≡ 0 = omega arith in by z (tree-decided g valid w low high))
         where
           by : length (L (grammarOf g) w) ≡ 0 → Dec (HasTree (grammarOf g) w) → P (firstOf g w chart out .answer)
-          by z (yes t) =
-              subst P (sym (first-answer-none g valid w low high chart c out o z (yes t))) (larger (t, L-none (grammarOf g) w z))
-          by z (no n) = subst P (sym (first-answer-none g valid w low high chart c out o z (no n))) (none n)
+          by z (yes t) = subst P (sym (first-none z (yes t))) (larger (t, L-none (grammarOf g) w z))
+          by z (no n) = subst P (sym (first-none z (no n))) (none n)
 
       pub no-derivation-exact : (firstOf g w chart out .answer ≡ answered nothing) ↔ (HasTree (grammarOf g) w → ⊥)
       no-derivation-exact = (
         first-by (λ a. a ≡ answered nothing → HasTree (grammarOf g) w → ⊥) (λ n l e. absurd (handed-apart e))
             (λ l e. absurd (refused-apart e)) (λ n e. n),
-        λ n. first-answer-none g valid w low high chart c out o (L-no-tree (grammarOf g) w n) (no n),
+        λ n. first-none (L-no-tree (grammarOf g) w n) (no n),
       )
 
       pub larger-exact : (firstOf g w chart out .answer ≡ refused 13) ↔ Larger g w
       larger-exact = (
         first-by (λ a. a ≡ refused 13 → Larger g w) (λ n l e. absurd (answered-apart e)) (λ l e. l) (λ n e. absurd (answered-apart e)),
-        λ l. first-answer-none g valid w low high chart c out o (larger-none g w l) (yes (l .0)),
+        λ l. first-none (larger-none g w l) (yes (l .0)),
       )

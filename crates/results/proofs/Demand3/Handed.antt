@@ -42,7 +42,7 @@ last-first (count chart ∷ calls) = elim (last-first calls) [ inl n ↦ inl n |
 
 module _ (g : Grammar) (valid : validGrammar g ≡ true) (w : List ℕ) (low : 1 ≤ length w) (high : length w ≤ 64)
     (tree : Dec (HasTree (grammarOf g) w)) where
-  pub demand-3 : (calls : List Made) → AllAllowed g w calls → Demand3 g w tree calls
+  pub demand-3 : (calls : List Made) → AllAllowed (grammarOf g) w calls → Demand3 g w tree calls
   demand-3 calls a = record {
     walks = same;
     splits = last-first calls;

@@ -12,10 +12,10 @@ use borrow.Author.Tests.{ltb-false, eqb-false, not-false, lt-ltb, le-ltb, eq-eqb
 use Rattle.sizes.specs.Sizes.{cells}
 use Rattle.grammar.specs.declared.Grammar.{Grammar}
 use Rattle.grammar.specs.Valid.{validGrammar}
 use Rattle.results.specs.Check.{inputCheck, inputChecks}
 use Rattle.results.specs.Enumerate.{outputCheck}
-use Rattle.demands.specs.Ready.{Ready, ReadyOut}
+use Rattle.results.specs.Ready.{Ready, ReadyOut}
 use Rattle.results.proofs.Decide.{Pass}
 
 -- neither of two tests
 or-false : (a b : Bool) → (a || b) ≡ false → (a ≡ false) × (b ≡ false)
