@@ -24,7 +24,7 @@ use mathlib.Core.List.{List, [], _∷_, _++_, List·Memᴰ, map}
 use mathlib.Core.Logic.{_↔_, _⊎_}
 use mathlib.Core.Path.{_≡_}
 use lib.ListN.{length, getD, replicate}
-use Rattle.sizes.specs.Sizes.{cells}
+use Rattle.sizes.specs.Sizes.{maxInput, cells, outputSize}
 use Rattle.cfg.specs.Grammar.{Cfg}
 use Rattle.cfg.specs.Tree.{HasTree}
 use Rattle.cfg.specs.Derivation.{Derivation, Rising, limit}
@@ -134,7 +134,7 @@ count-thirteen = Trees.count-thirteen
 
 -- TAKING over any chart and any state of 64 bytes: the state after it; of the chart only column n is written, the least one that is closed
 -- under the rules, earlier columns as found; "complete" is the start symbol's bit
-pub take-any : (g : Grammar) (h : State) (m : ℕ) (found : List ℕ) → validGrammar g ≡ true → length (h .bytes) ≡ 64 → h .count < 64
+pub take-any : (g : Grammar) (h : State) (m : ℕ) (found : List ℕ) → validGrammar g ≡ true → length (h .bytes) ≡ maxInput → h .count < maxInput
     → cells ≤ length found → Taken (grammarOf g) h m found (h .count + 1) (takeOf g h m found)
 take-any = Take.take-any
 
@@ -154,7 +154,7 @@ pub check-no : (g : Grammar) (w chart : List ℕ) → Ready g w chart → (e : L
 check-no = Check.check-no
 
 -- DEMAND 3, for every grammar that check 8 lets through, every input that check 9 lets through and every list of allowed calls
-module _ (g : Grammar) (valid : validGrammar g ≡ true) (w : List ℕ) (low : 1 ≤ length w) (high : length w ≤ 64) where
+module _ (g : Grammar) (valid : validGrammar g ≡ true) (w : List ℕ) (low : 1 ≤ length w) (high : length w ≤ maxInput) where
   pub demand-3 : (tree : Dec (HasTree (grammarOf g) w)) (calls : List Made) → AllAllowed (grammarOf g) w calls → Demand3 g w tree calls
   demand-3 = Handed.demand-3 g valid w low high
 
@@ -188,7 +188,7 @@ module _ (g : Grammar) (valid : validGrammar g ≡ true) (w : List ℕ) (low : 1
     pub count-larger : (countOf g w chart .answer ≡ refused 13) ↔ Larger g w
     count-larger = Consequences.count-larger g valid w low high chart room
 
-    module _ (out : List ℕ) (space : 1024 ≤ length out) where
+    module _ (out : List ℕ) (space : outputSize ≤ length out) where
       -- "no reading" exactly if the input has no tree of any size
       pub no-derivation-exact : (firstOf g w chart out .answer ≡ answered nothing) ↔ (HasTree (grammarOf g) w → ⊥)
       no-derivation-exact = Consequences.no-derivation-exact g valid w low high chart room out space
