@@ -13,31 +13,15 @@ use Rattle.grammar.specs.Valid.{validGrammar}
 use Rattle.results.specs.Answer.{Answer, refused, answered, check, decide}
 use Rattle.results.specs.Check.{listed, Checking}
 use Rattle.results.specs.Measure.{sum, rounded, rulesUsed, sameBag}
-use Rattle.checker.specs.declared.Checked.{Checked}
-use Rattle.checker.specs.declared.Checked.the-variants as C
 use Rattle.checker.specs.declared.Measured.{Measured}
 use Rattle.checker.specs.declared.Measured.the-variants as M
-use Rattle.checker.specs.declared.Compared.{Compared}
-use Rattle.checker.specs.declared.Compared.the-variants as S
 use Rattle.checker.specs.declared.Judged.{Judged}
 use Rattle.checker.specs.declared.Judged.the-variants as J
-
--- check: yes or no
-abbrev pub checkedOf : Checked → Answer Bool
-checkedOf C.Yes = answered true
-checkedOf C.No = answered false
-checkedOf (C.Refused r) = refused (numberOf r)
 
 -- length: tenths of a millimetre
 abbrev pub measuredOf : Measured → Answer ℤ
 measuredOf (M.Tenths z) = answered z
 measuredOf (M.Refused r) = refused (numberOf r)
-
--- same build: yes or no
-abbrev pub comparedOf : Compared → Answer Bool
-comparedOf S.Same = answered true
-comparedOf S.Different = answered false
-comparedOf (S.Refused r) = refused (numberOf r)
 
 -- what a call answered, and what it left in the chart
 abbrev pub checkingOf : {A : Type 0} → Answer A → List ℕ → Checking A

@@ -1,6 +1,7 @@
 // The checker of an offered derivation (document 01: reading), its length, and the same build.
 use grammar::Grammar;
 use grammar::Refusal;
+use grammar::Verdict;
 use packed::Packed;
 ghost use mathlib.Core.Bool.{true};
 ghost use mathlib.Core.Path.{_≡_};
@@ -12,32 +13,19 @@ ghost use Rattle.chart.specs.Column.{filled};
 ghost use Rattle.grammar.specs.Valid.{validGrammar};
 ghost use Rattle.grammar.specs.View.{grammarOf};
 ghost use Rattle.packed.specs.Packed.{cfgIn};
+ghost use Rattle.recognizer.specs.Verdict.{verdictOf};
 ghost use Rattle.results.specs.Check.{checkOf};
 ghost use Rattle.results.specs.Measure.{lengthOf, sameBuildOf, sum as sumOf, rounded as roundedOf};
-ghost use Rattle.checker.specs.Calls.{Judging, checkedOf, measuredOf, comparedOf, checkingOf, checkAnswer, lengthAnswer, buildAnswer};
+ghost use Rattle.checker.specs.Calls.{Judging, measuredOf, checkingOf, checkAnswer, lengthAnswer, buildAnswer};
 ghost use Rattle.sizes.specs.Sizes.{cells};
 
 mod build;
 pub mod measure;
 pub mod walk;
 
-// Whether the offered derivation is one, or why the call was refused.
-pub enum Checked {
-    Yes,
-    No,
-    Refused(Refusal),
-}
-
-// The length in tenths of a millimetre.
+// The length in tenths of a millimetre, or why the call was refused.
 pub enum Measured {
     Tenths(i32),
-    Refused(Refusal),
-}
-
-// Whether two derivations are the same build.
-pub enum Compared {
-    Same,
-    Different,
     Refused(Refusal),
 }
 
@@ -85,13 +73,13 @@ fn wide(x: u8) -> usize
 }
 
 // Whether the offered derivation is one.
-fn check_offered(p: &Packed, start: usize, input: &[u8], offered: &[u16]) -> Checked
-    ensures { λ r. ⌜ checkedOf r ≡ checkAnswer (L (cfgIn start (now (p .entry))) (now (input .entry))) (now (offered .entry)) ⌝ }
+fn check_offered(p: &Packed, start: usize, input: &[u8], offered: &[u16]) -> Verdict
+    ensures { λ r. ⌜ verdictOf r ≡ checkAnswer (L (cfgIn start (now (p .entry))) (now (input .entry))) (now (offered .entry)) ⌝ }
 {
     if walk::is_derivation(p, start, input, offered) {
-        Checked::Yes
+        Verdict::Yes // a derivation
     } else {
-        Checked::No
+        Verdict::No
     }
 }
 
@@ -115,32 +103,32 @@ fn measure_offered(g: Grammar, p: &Packed, start: usize, input: &[u8], offered: 
 }
 
 // Whether two offered derivations are the same build.
-fn compare_offered(p: &Packed, start: usize, input: &[u8], a: &[u16], b: &[u16]) -> Compared
-    ensures { λ r. ⌜ comparedOf r
+fn compare_offered(p: &Packed, start: usize, input: &[u8], a: &[u16], b: &[u16]) -> Verdict
+    ensures { λ r. ⌜ verdictOf r
         ≡ buildAnswer (L (cfgIn start (now (p .entry))) (now (input .entry))) (now (a .entry)) (now (b .entry)) ⌝ }
 {
     if !walk::is_derivation(p, start, input, a) {
-        return Compared::Refused(Refusal::NotADerivation);
+        return Verdict::Refused(Refusal::NotADerivation);
     }
     if !walk::is_derivation(p, start, input, b) {
-        return Compared::Refused(Refusal::NotADerivation);
+        return Verdict::Refused(Refusal::NotADerivation);
     }
     if build::same_rules(a, b) {
-        Compared::Same
+        Verdict::Yes
     } else {
-        Compared::Different
+        Verdict::No
     }
 }
 
 // ---- the exported calls
 
 // Whether the offered derivation is one of the input. Refusals 8, 9 and 10.
-pub fn check(g: Grammar, input: &[u8], offered: &[u16], chart: &mut [u32]) -> Checked
-    ensures { λ r. ⌜ checkingOf (checkedOf r) (now (chart .exit))
+pub fn check(g: Grammar, input: &[u8], offered: &[u16], chart: &mut [u32]) -> Verdict
+    ensures { λ r. ⌜ checkingOf (verdictOf r) (now (chart .exit))
         ≡ checkOf g (now (input .entry)) (now (offered .entry)) (now (chart .entry)) ⌝ }
 {
     match judge(g, input.len(), chart.len()) {
-        Judged::Refused(r) => Checked::Refused(r),
+        Judged::Refused(r) => Verdict::Refused(r),
         Judged::Passed => {
             let p = fill(g, input, chart);
             check_offered(&p, wide(g.start), input, offered)
@@ -163,12 +151,12 @@ pub fn length(g: Grammar, input: &[u8], offered: &[u16], chart: &mut [u32]) -> M
 }
 
 // Whether two offered derivations are the same build. Refusals 8, 9, 10 and 12.
-pub fn same_build(g: Grammar, input: &[u8], a: &[u16], b: &[u16], chart: &mut [u32]) -> Compared
-    ensures { λ r. ⌜ checkingOf (comparedOf r) (now (chart .exit))
+pub fn same_build(g: Grammar, input: &[u8], a: &[u16], b: &[u16], chart: &mut [u32]) -> Verdict
+    ensures { λ r. ⌜ checkingOf (verdictOf r) (now (chart .exit))
         ≡ sameBuildOf g (now (input .entry)) (now (a .entry)) (now (b .entry)) (now (chart .entry)) ⌝ }
 {
     match judge(g, input.len(), chart.len()) {
-        Judged::Refused(r) => Compared::Refused(r),
+        Judged::Refused(r) => Verdict::Refused(r),
         Judged::Passed => {
             let p = fill(g, input, chart);
             compare_offered(&p, wide(g.start), input, a, b)
