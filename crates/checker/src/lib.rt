@@ -3,21 +3,17 @@ use grammar::Grammar;
 use grammar::Refusal;
 use grammar::Verdict;
 use packed::Packed;
-ghost use mathlib.Core.Bool.{true};
+use prepare::Judged;
 ghost use mathlib.Core.Path.{_≡_};
-ghost use Prim.Native.Nat.{ℕ, _≤_};
+ghost use Prim.Native.Nat.{_≤_};
 ghost use lib.ListN.{length};
-ghost use Rattle.cfg.specs.Grammar.{rule as ruleOfNumber};
 ghost use Rattle.cfg.specs.Listing.{L};
-ghost use Rattle.chart.specs.Column.{filled};
-ghost use Rattle.grammar.specs.Valid.{validGrammar};
-ghost use Rattle.grammar.specs.View.{grammarOf};
 ghost use Rattle.packed.specs.Packed.{cfgIn};
+ghost use Rattle.prepare.specs.Given.{checkingOf};
 ghost use Rattle.recognizer.specs.Verdict.{verdictOf};
 ghost use Rattle.results.specs.Check.{checkOf};
 ghost use Rattle.results.specs.Measure.{lengthOf, sameBuildOf, sum as sumOf, rounded as roundedOf};
-ghost use Rattle.checker.specs.Calls.{Judging, measuredOf, checkingOf, checkAnswer, lengthAnswer, buildAnswer};
-ghost use Rattle.sizes.specs.Sizes.{cells};
+ghost use Rattle.checker.specs.Calls.{measuredOf, checkAnswer, lengthAnswer, buildAnswer};
 
 mod build;
 pub mod measure;
@@ -27,42 +23,6 @@ pub mod walk;
 pub enum Measured {
     Tenths(i32),
     Refused(Refusal),
-}
-
-// Whether checks 8, 9 and 10 are passed.
-pub enum Judged {
-    Passed,
-    Refused(Refusal),
-}
-
-// Checks 8, 9 and 10, for an input of n bytes and a chart of m cells.
-fn judge(g: Grammar, n: usize, m: usize) -> Judged
-    ensures { λ j. ⌜ Judging g n m j ⌝ }
-{
-    if !grammar::valid(g) {
-        return Judged::Refused(Refusal::InvalidGrammar);
-    }
-    if n == 0 {
-        return Judged::Refused(Refusal::InputLength); // none
-    }
-    if n > 64 {
-        return Judged::Refused(Refusal::InputLength); // too many
-    }
-    if m < sizes::CELLS {
-        return Judged::Refused(Refusal::ChartTooShort); // too short
-    }
-    Judged::Passed
-}
-
-// The packed grammar, with the chart filled for the input.
-fn fill(g: Grammar, input: &[u8], chart: &mut [u32]) -> Packed
-    requires { ⌜ (validGrammar g ≡ true) × (length (now input) ≤ 64) × (cells ≤ length (now chart)) ⌝ }
-    ensures { λ p. ⌜ (now (chart .exit) ≡ filled (grammarOf g) (now (input .entry)) (now (chart .entry)))
-        × ((r : ℕ) → ruleOfNumber (cfgIn (g .start) p) r ≡ ruleOfNumber (grammarOf g) r) ⌝ }
-{
-    let p = packed::pack(g);
-    recognizer::fill(&p, input, chart);
-    p
 }
 
 // A byte as a number.
@@ -127,10 +87,10 @@ pub fn check(g: Grammar, input: &[u8], offered: &[u16], chart: &mut [u32]) -> Ve
     ensures { λ r. ⌜ checkingOf (verdictOf r) (now (chart .exit))
         ≡ checkOf g (now (input .entry)) (now (offered .entry)) (now (chart .entry)) ⌝ }
 {
-    match judge(g, input.len(), chart.len()) {
+    match prepare::judge(g, input.len(), chart.len()) {
         Judged::Refused(r) => Verdict::Refused(r),
         Judged::Passed => {
-            let p = fill(g, input, chart);
+            let p = prepare::fill(g, input, chart);
             check_offered(&p, wide(g.start), input, offered)
         }
     }
@@ -141,10 +101,10 @@ pub fn length(g: Grammar, input: &[u8], offered: &[u16], chart: &mut [u32]) -> M
     ensures { λ r. ⌜ checkingOf (measuredOf r) (now (chart .exit))
         ≡ lengthOf g (now (input .entry)) (now (offered .entry)) (now (chart .entry)) ⌝ }
 {
-    match judge(g, input.len(), chart.len()) {
+    match prepare::judge(g, input.len(), chart.len()) {
         Judged::Refused(r) => Measured::Refused(r),
         Judged::Passed => {
-            let p = fill(g, input, chart);
+            let p = prepare::fill(g, input, chart);
             measure_offered(g, &p, wide(g.start), input, offered)
         }
     }
@@ -155,10 +115,10 @@ pub fn same_build(g: Grammar, input: &[u8], a: &[u16], b: &[u16], chart: &mut [u
     ensures { λ r. ⌜ checkingOf (verdictOf r) (now (chart .exit))
         ≡ sameBuildOf g (now (input .entry)) (now (a .entry)) (now (b .entry)) (now (chart .entry)) ⌝ }
 {
-    match judge(g, input.len(), chart.len()) {
+    match prepare::judge(g, input.len(), chart.len()) {
         Judged::Refused(r) => Verdict::Refused(r),
         Judged::Passed => {
-            let p = fill(g, input, chart);
+            let p = prepare::fill(g, input, chart);
             compare_offered(&p, wide(g.start), input, a, b)
         }
     }
