@@ -20,16 +20,19 @@ use Rattle.grammar.specs.declared.Refusal.{Refusal}
 use Rattle.grammar.specs.Number.{numberOf}
 use Rattle.grammar.specs.View.{grammarOf}
 use Rattle.packed.specs.Packed.{cfgIn}
+use Rattle.prepare.specs.declared.Judged.{Judged}
+use Rattle.prepare.specs.declared.Judged.the-variants.{Passed, Refused}
+use Rattle.prepare.specs.Given.{checkingOf}
+use Rattle.prepare.specs.Judging.{Judging}
+use Rattle.prepare.proofs.Deciding.{call-refused, call-passed}
+use Rattle.prepare.proofs.Packing.{list-packed}
 use Rattle.results.specs.Answer.{Answer, refused, answered, decide}
 use Rattle.results.specs.Check.{listed, checkOf}
 use Rattle.results.specs.Measure.{sum, rounded, unlisted, lengthOf, rulesUsed, sameBag, sameBuildOf}
-use Rattle.checker.specs.declared.Judged.{Judged}
-use Rattle.checker.specs.declared.Judged.the-variants as J
 use Rattle.checker.specs.Build.{Low}
-use Rattle.checker.specs.Calls.{checkingOf, checkAnswer, lengthAnswer, buildAnswer, Judging}
+use Rattle.checker.specs.Calls.{checkAnswer, lengthAnswer, buildAnswer}
 use Rattle.checker.proofs.Whole.{listed-derivation}
 use Rattle.checker.proofs.Bags.{derivation-low}
-use Rattle.checker.proofs.Calls.{list-packed, call-refused, call-passed}
 
 -- ---- a row that `is_derivation` affirms
 
@@ -89,7 +92,7 @@ module _ (l : List (List ℕ)) (d e : List ℕ) (a : Bool) (first : a ≡ listed
 -- ---- the calls
 
 module _ (g : Grammar) (w chart : List ℕ) (j : Judged) (judging : Judging g (length w) (length chart) j) where
-  module _ (r : Refusal) (is : j ≡ J.Refused r) where
+  module _ (r : Refusal) (is : j ≡ Refused r) where
     pub check-refused : (e : List ℕ) → checkingOf (refused (numberOf r)) chart ≡ checkOf g w e chart
     unfolding checkOf
     check-refused e = call-refused g w chart _ j judging r is
@@ -102,7 +105,7 @@ module _ (g : Grammar) (w chart : List ℕ) (j : Judged) (judging : Judging g (l
     unfolding sameBuildOf
     build-refused a b = call-refused g w chart _ j judging r is
 
-  module _ (is : j ≡ J.Passed) (p chart' : List ℕ) (s : ℕ) (start : s ≡ g .start)
+  module _ (is : j ≡ Passed) (p chart' : List ℕ) (s : ℕ) (start : s ≡ g .start)
       (filling : (chart' ≡ filled (grammarOf g) w chart) × ((r : ℕ) → rule (cfgIn (g .start) p) r ≡ rule (grammarOf g) r)) where
     same : L (cfgIn s p) w ≡ L (grammarOf g) w
     same = list-packed g p w (filling .1) s start

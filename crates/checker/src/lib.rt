@@ -1,80 +1,28 @@
 // The checker of an offered derivation (document 01: reading), its length, and the same build.
 use grammar::Grammar;
 use grammar::Refusal;
+use grammar::Verdict;
 use packed::Packed;
-ghost use mathlib.Core.Bool.{true};
+use prepare::Judged;
 ghost use mathlib.Core.Path.{_≡_};
-ghost use Prim.Native.Nat.{ℕ, _≤_};
+ghost use Prim.Native.Nat.{_≤_};
 ghost use lib.ListN.{length};
-ghost use Rattle.cfg.specs.Grammar.{rule as ruleOfNumber};
 ghost use Rattle.cfg.specs.Listing.{L};
-ghost use Rattle.chart.specs.Column.{filled};
-ghost use Rattle.grammar.specs.Valid.{validGrammar};
-ghost use Rattle.grammar.specs.View.{grammarOf};
 ghost use Rattle.packed.specs.Packed.{cfgIn};
+ghost use Rattle.prepare.specs.Given.{checkingOf};
+ghost use Rattle.recognizer.specs.Verdict.{verdictOf};
 ghost use Rattle.results.specs.Check.{checkOf};
 ghost use Rattle.results.specs.Measure.{lengthOf, sameBuildOf, sum as sumOf, rounded as roundedOf};
-ghost use Rattle.checker.specs.Calls.{Judging, checkedOf, measuredOf, comparedOf, checkingOf, checkAnswer, lengthAnswer, buildAnswer};
-ghost use Rattle.sizes.specs.Sizes.{cells};
+ghost use Rattle.checker.specs.Calls.{measuredOf, checkAnswer, lengthAnswer, buildAnswer};
 
 mod build;
 pub mod measure;
 pub mod walk;
 
-// Whether the offered derivation is one, or why the call was refused.
-pub enum Checked {
-    Yes,
-    No,
-    Refused(Refusal),
-}
-
-// The length in tenths of a millimetre.
+// The length in tenths of a millimetre, or why the call was refused.
 pub enum Measured {
     Tenths(i32),
     Refused(Refusal),
-}
-
-// Whether two derivations are the same build.
-pub enum Compared {
-    Same,
-    Different,
-    Refused(Refusal),
-}
-
-// Whether checks 8, 9 and 10 are passed.
-pub enum Judged {
-    Passed,
-    Refused(Refusal),
-}
-
-// Checks 8, 9 and 10, for an input of n bytes and a chart of m cells.
-fn judge(g: Grammar, n: usize, m: usize) -> Judged
-    ensures { λ j. ⌜ Judging g n m j ⌝ }
-{
-    if !grammar::valid(g) {
-        return Judged::Refused(Refusal::InvalidGrammar);
-    }
-    if n == 0 {
-        return Judged::Refused(Refusal::InputLength); // none
-    }
-    if n > 64 {
-        return Judged::Refused(Refusal::InputLength); // too many
-    }
-    if m < sizes::CELLS {
-        return Judged::Refused(Refusal::ChartTooShort); // too short
-    }
-    Judged::Passed
-}
-
-// The packed grammar, with the chart filled for the input.
-fn fill(g: Grammar, input: &[u8], chart: &mut [u32]) -> Packed
-    requires { ⌜ (validGrammar g ≡ true) × (length (now input) ≤ 64) × (cells ≤ length (now chart)) ⌝ }
-    ensures { λ p. ⌜ (now (chart .exit) ≡ filled (grammarOf g) (now (input .entry)) (now (chart .entry)))
-        × ((r : ℕ) → ruleOfNumber (cfgIn (g .start) p) r ≡ ruleOfNumber (grammarOf g) r) ⌝ }
-{
-    let p = packed::pack(g);
-    recognizer::fill(&p, input, chart);
-    p
 }
 
 // A byte as a number.
@@ -85,13 +33,13 @@ fn wide(x: u8) -> usize
 }
 
 // Whether the offered derivation is one.
-fn check_offered(p: &Packed, start: usize, input: &[u8], offered: &[u16]) -> Checked
-    ensures { λ r. ⌜ checkedOf r ≡ checkAnswer (L (cfgIn start (now (p .entry))) (now (input .entry))) (now (offered .entry)) ⌝ }
+fn check_offered(p: &Packed, start: usize, input: &[u8], offered: &[u16]) -> Verdict
+    ensures { λ r. ⌜ verdictOf r ≡ checkAnswer (L (cfgIn start (now (p .entry))) (now (input .entry))) (now (offered .entry)) ⌝ }
 {
     if walk::is_derivation(p, start, input, offered) {
-        Checked::Yes
+        Verdict::Yes // a derivation
     } else {
-        Checked::No
+        Verdict::No
     }
 }
 
@@ -115,34 +63,34 @@ fn measure_offered(g: Grammar, p: &Packed, start: usize, input: &[u8], offered: 
 }
 
 // Whether two offered derivations are the same build.
-fn compare_offered(p: &Packed, start: usize, input: &[u8], a: &[u16], b: &[u16]) -> Compared
-    ensures { λ r. ⌜ comparedOf r
+fn compare_offered(p: &Packed, start: usize, input: &[u8], a: &[u16], b: &[u16]) -> Verdict
+    ensures { λ r. ⌜ verdictOf r
         ≡ buildAnswer (L (cfgIn start (now (p .entry))) (now (input .entry))) (now (a .entry)) (now (b .entry)) ⌝ }
 {
     if !walk::is_derivation(p, start, input, a) {
-        return Compared::Refused(Refusal::NotADerivation);
+        return Verdict::Refused(Refusal::NotADerivation);
     }
     if !walk::is_derivation(p, start, input, b) {
-        return Compared::Refused(Refusal::NotADerivation);
+        return Verdict::Refused(Refusal::NotADerivation);
     }
     if build::same_rules(a, b) {
-        Compared::Same
+        Verdict::Yes
     } else {
-        Compared::Different
+        Verdict::No
     }
 }
 
 // ---- the exported calls
 
 // Whether the offered derivation is one of the input. Refusals 8, 9 and 10.
-pub fn check(g: Grammar, input: &[u8], offered: &[u16], chart: &mut [u32]) -> Checked
-    ensures { λ r. ⌜ checkingOf (checkedOf r) (now (chart .exit))
+pub fn check(g: Grammar, input: &[u8], offered: &[u16], chart: &mut [u32]) -> Verdict
+    ensures { λ r. ⌜ checkingOf (verdictOf r) (now (chart .exit))
         ≡ checkOf g (now (input .entry)) (now (offered .entry)) (now (chart .entry)) ⌝ }
 {
-    match judge(g, input.len(), chart.len()) {
-        Judged::Refused(r) => Checked::Refused(r),
+    match prepare::judge(g, input.len(), chart.len()) {
+        Judged::Refused(r) => Verdict::Refused(r),
         Judged::Passed => {
-            let p = fill(g, input, chart);
+            let p = prepare::fill(g, input, chart);
             check_offered(&p, wide(g.start), input, offered)
         }
     }
@@ -153,24 +101,24 @@ pub fn length(g: Grammar, input: &[u8], offered: &[u16], chart: &mut [u32]) -> M
     ensures { λ r. ⌜ checkingOf (measuredOf r) (now (chart .exit))
         ≡ lengthOf g (now (input .entry)) (now (offered .entry)) (now (chart .entry)) ⌝ }
 {
-    match judge(g, input.len(), chart.len()) {
+    match prepare::judge(g, input.len(), chart.len()) {
         Judged::Refused(r) => Measured::Refused(r),
         Judged::Passed => {
-            let p = fill(g, input, chart);
+            let p = prepare::fill(g, input, chart);
             measure_offered(g, &p, wide(g.start), input, offered)
         }
     }
 }
 
 // Whether two offered derivations are the same build. Refusals 8, 9, 10 and 12.
-pub fn same_build(g: Grammar, input: &[u8], a: &[u16], b: &[u16], chart: &mut [u32]) -> Compared
-    ensures { λ r. ⌜ checkingOf (comparedOf r) (now (chart .exit))
+pub fn same_build(g: Grammar, input: &[u8], a: &[u16], b: &[u16], chart: &mut [u32]) -> Verdict
+    ensures { λ r. ⌜ checkingOf (verdictOf r) (now (chart .exit))
         ≡ sameBuildOf g (now (input .entry)) (now (a .entry)) (now (b .entry)) (now (chart .entry)) ⌝ }
 {
-    match judge(g, input.len(), chart.len()) {
-        Judged::Refused(r) => Compared::Refused(r),
+    match prepare::judge(g, input.len(), chart.len()) {
+        Judged::Refused(r) => Verdict::Refused(r),
         Judged::Passed => {
-            let p = fill(g, input, chart);
+            let p = prepare::fill(g, input, chart);
             compare_offered(&p, wide(g.start), input, a, b)
         }
     }

@@ -8,52 +8,42 @@ use mir.Syntax.{w32}
 use mir.Val.{SFits, toZ, ofZ}
 use mir.Facts.{toZ-ofZ}
 use Rattle.grammar.specs.declared.Refusal.{Refusal}
+use Rattle.grammar.specs.declared.Verdict.{Verdict}
+use Rattle.grammar.specs.declared.Verdict.the-variants as C
 use Rattle.grammar.specs.Number.{numberOf}
-use Rattle.checker.specs.declared.Checked.{Checked}
-use Rattle.checker.specs.declared.Checked.the-variants as C
-use Rattle.checker.specs.declared.Compared.{Compared}
-use Rattle.checker.specs.declared.Compared.the-variants as S
 use Rattle.checker.specs.declared.Measured.{Measured}
 use Rattle.checker.specs.declared.Measured.the-variants as M
-use Rattle.checker.specs.Calls.{checkedOf, comparedOf, measuredOf}
+use Rattle.checker.specs.Calls.{measuredOf}
 use Rattle.hand.specs.Hand.{rowOf}
-use Rattle.recognizer.specs.declared.Accepted.{Accepted}
-use Rattle.recognizer.specs.declared.Accepted.the-variants as A
-use Rattle.recognizer.specs.Recognizer.{answerOf}
+use Rattle.recognizer.specs.Verdict.{verdictOf}
 use Rattle.results.specs.Recognize.{State}
 use Rattle.filbozseg.specs.Code.{verdictCode, rowLeft, lengthCode, tenthsLeft}
 
 module _ (r : Refusal) (c : ℕ) (code : c ≡ 256 + numberOf r) where
-  pub recognition-refused : (a : Accepted) → a ≡ A.Refused r → c ≡ verdictCode (answerOf a)
-  recognition-refused a e = code ∙ ap (λ (x : Accepted). verdictCode (answerOf x)) (sym e)
-
-  pub check-refused : (a : Checked) → a ≡ C.Refused r → c ≡ verdictCode (checkedOf a)
-  check-refused a e = code ∙ ap (λ (x : Checked). verdictCode (checkedOf x)) (sym e)
-
-  pub build-refused : (a : Compared) → a ≡ S.Refused r → c ≡ verdictCode (comparedOf a)
-  build-refused a e = code ∙ ap (λ (x : Compared). verdictCode (comparedOf x)) (sym e)
+  pub verdict-refused : (a : Verdict) → a ≡ C.Refused r → c ≡ verdictCode (verdictOf a)
+  verdict-refused a e = code ∙ ap (λ (x : Verdict). verdictCode (verdictOf x)) (sym e)
 
   pub length-refused : (a : Measured) → a ≡ M.Refused r → c ≡ lengthCode (measuredOf a)
   length-refused a e = code ∙ ap (λ (x : Measured). lengthCode (measuredOf x)) (sym e)
 
 -- ---- taking
 
-module _ (a : Accepted) (s : State) (found : List ℕ) where
-  pub row-refused : (r : Refusal) → a ≡ A.Refused r → found ≡ rowLeft (answerOf a) s found
-  row-refused r e = ap (λ (x : Accepted). rowLeft (answerOf x) s found) (sym e)
+module _ (a : Verdict) (s : State) (found : List ℕ) where
+  pub row-refused : (r : Refusal) → a ≡ C.Refused r → found ≡ rowLeft (verdictOf a) s found
+  row-refused r e = ap (λ (x : Verdict). rowLeft (verdictOf x) s found) (sym e)
 
-  pub row-yes : (row : List ℕ) → a ≡ A.Yes → row ≡ rowOf s → row ≡ rowLeft (answerOf a) s found
-  row-yes row e w = w ∙ ap (λ (x : Accepted). rowLeft (answerOf x) s found) (sym e)
+  pub row-yes : (row : List ℕ) → a ≡ C.Yes → row ≡ rowOf s → row ≡ rowLeft (verdictOf a) s found
+  row-yes row e w = w ∙ ap (λ (x : Verdict). rowLeft (verdictOf x) s found) (sym e)
 
-  pub row-no : (row : List ℕ) → a ≡ A.No → row ≡ rowOf s → row ≡ rowLeft (answerOf a) s found
-  row-no row e w = w ∙ ap (λ (x : Accepted). rowLeft (answerOf x) s found) (sym e)
+  pub row-no : (row : List ℕ) → a ≡ C.No → row ≡ rowOf s → row ≡ rowLeft (verdictOf a) s found
+  row-no row e w = w ∙ ap (λ (x : Verdict). rowLeft (verdictOf x) s found) (sym e)
 
-module _ (a : Accepted) where
-  pub code-yes : a ≡ A.Yes → 1 ≡ verdictCode (answerOf a)
-  code-yes e = ap (λ (x : Accepted). verdictCode (answerOf x)) (sym e)
+module _ (a : Verdict) where
+  pub code-yes : a ≡ C.Yes → 1 ≡ verdictCode (verdictOf a)
+  code-yes e = ap (λ (x : Verdict). verdictCode (verdictOf x)) (sym e)
 
-  pub code-no : a ≡ A.No → 0 ≡ verdictCode (answerOf a)
-  code-no e = ap (λ (x : Accepted). verdictCode (answerOf x)) (sym e)
+  pub code-no : a ≡ C.No → 0 ≡ verdictCode (verdictOf a)
+  code-no e = ap (λ (x : Verdict). verdictCode (verdictOf x)) (sym e)
 
 -- ---- length
 

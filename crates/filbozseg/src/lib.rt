@@ -5,8 +5,8 @@ mod code;
 
 use checker::Measured;
 use flat::Flat;
+use grammar::Verdict;
 use loader::Outcome;
-use recognizer::Accepted;
 ghost use mathlib.Core.Path.{_≡_};
 ghost use Rattle.flat.specs.Flat.{grammarIn};
 ghost use Rattle.hand.specs.Hand.{stateOfRow};
@@ -48,7 +48,7 @@ pub extern "C" fn filbozseg_open(
     let h = a.recognizer;
     let accepted = a.accepted;
     hand::write(h, hand);
-    code::of_accepted(accepted)
+    code::of_verdict(accepted)
 }
 
 // Takes a byte. The state left is that with the byte, or, where the call is refused, the row found.
@@ -68,12 +68,12 @@ pub extern "C" fn filbozseg_take(
     let next = a.recognizer;
     let accepted = a.accepted;
     match accepted {
-        Accepted::Refused(r) => code::of_refusal(r),
-        Accepted::Yes => {
+        Verdict::Refused(r) => code::of_refusal(r),
+        Verdict::Yes => {
             hand::write(next, hand); // complete
             1
         }
-        Accepted::No => {
+        Verdict::No => {
             hand::write(next, hand);
             0
         }
@@ -92,7 +92,7 @@ pub extern "C" fn filbozseg_check(
         (checkOf (grammarIn (now (grammar .entry))) (now (input .entry)) (now (offered .entry)) (now (chart .entry)))
         c (now (chart .exit)) ⌝ }
 {
-    code::of_checked(checker::check(flat::read(grammar), input, offered, chart))
+    code::of_verdict(checker::check(flat::read(grammar), input, offered, chart))
 }
 
 // The length of an offered derivation, in tenths of a millimetre; where the call is refused, the number found.
@@ -131,5 +131,5 @@ pub extern "C" fn filbozseg_same_build(
         (sameBuildOf (grammarIn (now (grammar .entry))) (now (input .entry)) (now (a .entry)) (now (b .entry)) (now (chart .entry)))
         c (now (chart .exit)) ⌝ }
 {
-    code::of_compared(checker::same_build(flat::read(grammar), input, a, b, chart))
+    code::of_verdict(checker::same_build(flat::read(grammar), input, a, b, chart))
 }

@@ -50,6 +50,13 @@ pub enum Refusal {
     RecognizerFull,
 }
 
+// What opening, taking, check and same build answer: yes, no, or why the call was refused.
+pub enum Verdict {
+    Yes,
+    No,
+    Refused(Refusal),
+}
+
 // The number that document 01 gives a refusal.
 pub fn number(r: Refusal) -> u8
     ensures { λ n. ⌜ n ≡ numberOf r ⌝ }

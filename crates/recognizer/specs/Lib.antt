@@ -2,4 +2,5 @@
 pub mod Flags
 pub mod Passes
 pub mod Columns
+pub mod Verdict
 pub mod Recognizer

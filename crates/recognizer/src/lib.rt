@@ -5,6 +5,7 @@ mod passes;
 use begins::inner_masks;
 use grammar::Grammar;
 use grammar::Refusal;
+use grammar::Verdict;
 use packed::Packed;
 use passes::closure;
 ghost use mathlib.Core.Bool.{true};
@@ -22,7 +23,8 @@ ghost use Rattle.results.specs.Answer.{answered, refused as refusedWith};
 ghost use Rattle.results.specs.Recognize.{stateOf, openOf, takeOf};
 ghost use Rattle.recognizer.specs.Passes.{Used};
 ghost use Rattle.recognizer.specs.Columns.{columnOf, CellWritten};
-ghost use Rattle.recognizer.specs.Recognizer.{stateIn, answerOf, recognitionOf};
+ghost use Rattle.recognizer.specs.Verdict.{verdictOf};
+ghost use Rattle.recognizer.specs.Recognizer.{stateIn, recognitionOf};
 ghost use Rattle.recognizer.specs.Flags.{flagsSize};
 ghost use Rattle.sizes.specs.Sizes.{cells};
 
@@ -43,15 +45,9 @@ pub struct Recognizer {
     pub count: usize,
 }
 
-// Whether the input so far is complete, or why the call was refused.
-pub enum Accepted {
-    Yes,
-    No,
-    Refused(Refusal),
-}
-
+// What a call gives: whether the input so far is complete, and the state.
 pub struct Advanced {
-    pub accepted: Accepted,
+    pub accepted: Verdict,
     pub recognizer: Recognizer,
 }
 
@@ -158,14 +154,14 @@ fn wide(x: u8) -> usize
 }
 
 // The answer "complete", after n bytes.
-fn says(start: u8, n: usize, chart: &[u32]) -> Accepted
+fn says(start: u8, n: usize, chart: &[u32]) -> Verdict
     requires { ⌜ (n ≤ 64) × (cells ≤ length (now chart)) ⌝ }
-    ensures { λ a. ⌜ answerOf a ≡ answered (inSet start (cell (now (chart .entry)) 0 n)) ⌝ }
+    ensures { λ a. ⌜ verdictOf a ≡ answered (inSet start (cell (now (chart .entry)) 0 n)) ⌝ }
 {
     if complete(wide(start), n, chart) {
-        Accepted::Yes
+        Verdict::Yes
     } else {
-        Accepted::No
+        Verdict::No
     }
 }
 
@@ -199,10 +195,10 @@ fn with_byte(h: Recognizer, byte: u8) -> Recognizer
 }
 
 fn refused(h: Recognizer, r: Refusal) -> Advanced
-    ensures { λ a. ⌜ (answerOf (a .accepted) ≡ refusedWith (numberOf r)) × (a .recognizer ≡ h) ⌝ }
+    ensures { λ a. ⌜ (verdictOf (a .accepted) ≡ refusedWith (numberOf r)) × (a .recognizer ≡ h) ⌝ }
 {
     Advanced {
-        accepted: Accepted::Refused(r),
+        accepted: Verdict::Refused(r),
         recognizer: h,
     }
 }

@@ -13,8 +13,8 @@ read-requires c κs = search needs
 check-requires : tie.Need-check-requires
 check-requires c κs = search needs
 
-of-checked-requires : tie.Need-of-checked-requires
-of-checked-requires c κs = search needs
+of-verdict-requires : tie.Need-of-verdict-requires
+of-verdict-requires c κs = search needs
 
 same-length : tie.Need-same-length
 same-length c = search needs
@@ -25,8 +25,8 @@ returns c =
     let a = after-check .before .before .before .before .before .before .args in
     checks-of (after-check .before .before .read .ensures)
     (λ (g : Grammar). checkOf g (a .input .now) (a .offered .now) (a .chart .now)) _ _
-    (after-check .check .ensures) (c .of-checked .ensures)
+    (after-check .check .ensures) (c .of-verdict .ensures)
 
 pub filbozseg-check-spec : {M : Type 1} → statement M
 filbozseg-check-spec =
-    tie.close (tie.spec read-requires check-requires of-checked-requires same-length returns)
+    tie.close (tie.spec read-requires check-requires of-verdict-requires same-length returns)

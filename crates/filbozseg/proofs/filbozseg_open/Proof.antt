@@ -16,8 +16,8 @@ open-requires c κs = search needs
 write-requires : tie.Need-write-requires
 write-requires c κs = search needs
 
-of-accepted-requires : tie.Need-of-accepted-requires
-of-accepted-requires c κs = search needs
+of-verdict-requires : tie.Need-of-verdict-requires
+of-verdict-requires c κs = search needs
 
 same-length : tie.Need-same-length
 same-length c = search needs
@@ -28,9 +28,9 @@ returns c =
     let after-open = after-write .before .before .before .before .before in
     let a = after-open .before .before .before .before .args in
     opens-of (after-open .before .before .read .ensures) (λ (g : Grammar). openOf g (a .chart .now)) _ _
-    (after-open .«open» .ensures) _ (after-write .write .ensures) (c .of-accepted .ensures)
+    (after-open .«open» .ensures) _ (after-write .write .ensures) (c .of-verdict .ensures)
 
 pub filbozseg-open-spec : {M : Type 1} → statement M
 filbozseg-open-spec =
     tie.close
-    (tie.spec read-requires open-requires write-requires of-accepted-requires same-length returns)
+    (tie.spec read-requires open-requires write-requires of-verdict-requires same-length returns)

@@ -13,8 +13,8 @@ read-requires c κs = search needs
 same-build-requires : tie.Need-same-build-requires
 same-build-requires c κs = search needs
 
-of-compared-requires : tie.Need-of-compared-requires
-of-compared-requires c κs = search needs
+of-verdict-requires : tie.Need-of-verdict-requires
+of-verdict-requires c κs = search needs
 
 same-length : tie.Need-same-length
 same-length c = search needs
@@ -25,9 +25,9 @@ returns c =
     let a = after-build .before .before .before .before .before .before .before .args in
     checks-of (after-build .before .before .read .ensures)
     (λ (g : Grammar). sameBuildOf g (a .input .now) (a .a .now) (a .b .now) (a .chart .now)) _ _
-    (after-build .same-build .ensures) (c .of-compared .ensures)
+    (after-build .same-build .ensures) (c .of-verdict .ensures)
 
 pub filbozseg-same-build-spec : {M : Type 1} → statement M
 filbozseg-same-build-spec =
     tie.close
-    (tie.spec read-requires same-build-requires of-compared-requires same-length returns)
+    (tie.spec read-requires same-build-requires of-verdict-requires same-length returns)

@@ -2,7 +2,7 @@
 -- Assumes nothing.
 use Rattle.grammar.specs.declared.Grammar.{Grammar}
 use Rattle.results.specs.Recognize.{State, takeOf}
-use Rattle.filbozseg.proofs.Codes.{recognition-refused, row-refused, row-yes, row-no, code-yes, code-no}
+use Rattle.filbozseg.proofs.Codes.{verdict-refused, row-refused, row-yes, row-no, code-yes, code-no}
 use Rattle.filbozseg.proofs.Given.{takes-of}
 use borrow.Author.Needs.{needs}
 use Rattle.filbozseg.proofs.filbozseg_take.Statement.{statement}
@@ -45,7 +45,7 @@ returns c =
     let a = after-read .before .before .before .args in
     takes-of (after-take .before .before .read2 .ensures) (after-read .read .ensures)
     (λ (g : Grammar) (s : State). takeOf g s (a .byte) (a .chart .now)) _ _ (after-take .take .ensures) _ _
-    (row-refused _ _ _ _ (c .before .before .accepted .given .1)) (search recognition-refused)
+    (row-refused _ _ _ _ (c .before .before .accepted .given .1)) (search verdict-refused)
 
 same-length-2 : tie.Need-same-length-2
 same-length-2 c = search needs

@@ -1,9 +1,9 @@
--- `checker::fill` meets its contract: the packed grammar has the rules of the grammar, so its charts are the same.
+-- `prepare::fill` meets its contract: the packed grammar has the rules of the grammar, so its charts are the same.
 -- Assumes nothing.
 use borrow.Author.Needs.{needs}
-use Rattle.checker.proofs.Calls.{filled-packed}
-use Rattle.checker.proofs.fill.Statement.{statement}
-use Rattle.checker.proofs.fill.Tie as tie
+use Rattle.prepare.proofs.Packing.{filled-packed}
+use Rattle.prepare.proofs.fill.Statement.{statement}
+use Rattle.prepare.proofs.fill.Tie as tie
 
 pack-requires : tie.Need-pack-requires
 pack-requires c κs = search needs

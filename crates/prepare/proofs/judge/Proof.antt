@@ -1,9 +1,9 @@
--- `checker::judge` meets its contract, one case for each check.
+-- `prepare::judge` meets its contract, one case for each check.
 -- Assumes nothing.
 use borrow.Author.Needs.{needs}
-use Rattle.checker.proofs.Calls.{judge-laws}
-use Rattle.checker.proofs.judge.Statement.{statement}
-use Rattle.checker.proofs.judge.Tie as tie
+use Rattle.prepare.proofs.Judging.{judge-laws}
+use Rattle.prepare.proofs.judge.Statement.{statement}
+use Rattle.prepare.proofs.judge.Tie as tie
 
 valid-requires : tie.Need-valid-requires
 valid-requires c κs = search needs

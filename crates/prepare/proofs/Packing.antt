@@ -1,0 +1,28 @@
+-- The packed grammar has the rules of the grammar, so its charts and its list L are the same.
+-- Assumes nothing.
+use Prim.Native.Nat.{ℕ}
+use mathlib.Core.List.{List}
+use mathlib.Core.Path.{_≡_, refl, ap, _∙_}
+use Rattle.cfg.specs.Grammar.{rule}
+use Rattle.cfg.specs.Derivation.{limit}
+use Rattle.cfg.specs.Listing.{L}
+use Rattle.chart.specs.Column.{filled}
+use Rattle.chart.proofs.SameRules.{SameRules, filled-same-rules}
+use Rattle.grammar.specs.declared.Grammar.{Grammar}
+use Rattle.grammar.specs.View.{grammarOf}
+use Rattle.packed.specs.Packed.{cfgIn}
+use Rattle.packed.proofs.Laws.{cfg-in-bounded}
+use Rattle.prepare.proofs.SameRules.{derivations-same-rules}
+
+module _ (g : Grammar) (p w : List ℕ) (same : (r : ℕ) → rule (cfgIn (g .start) p) r ≡ rule (grammarOf g) r) where
+  same-zero : SameRules (cfgIn 0 p) (grammarOf g)
+  unfolding cfgIn
+  same-zero r = same r
+
+  pub filled-packed : (chart chart' : List ℕ) → chart' ≡ filled (cfgIn 0 p) w chart → chart' ≡ filled (grammarOf g) w chart
+  filled-packed chart chart' e = e ∙ filled-same-rules (cfgIn 0 p) (grammarOf g) same-zero (cfg-in-bounded 0 p) w chart
+
+  pub list-packed : (s : ℕ) → s ≡ g .start → L (cfgIn s p) w ≡ L (grammarOf g) w
+  unfolding cfgIn
+  list-packed s h =
+      ap (λ (x : ℕ). L (cfgIn x p) w) h ∙ derivations-same-rules (cfgIn (g .start) p) (grammarOf g) same refl limit w

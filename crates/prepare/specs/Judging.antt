@@ -1,0 +1,26 @@
+-- The first of the checks 8 to 11 that fails.
+-- Assumes nothing.
+use Prim.Native.Nat.{ℕ, _≤_, _<_}
+use mathlib.Core.Bool.{true, false}
+use mathlib.Core.Path.{_≡_}
+use Rattle.sizes.specs.Sizes.{cells, outputSize}
+use Rattle.grammar.specs.declared.Grammar.{Grammar}
+use Rattle.grammar.specs.declared.Refusal.{Refusal}
+use Rattle.grammar.specs.declared.Refusal.the-variants.{InvalidGrammar, InputLength, ChartTooShort, OutputTooShort}
+use Rattle.grammar.specs.Valid.{validGrammar}
+use Rattle.prepare.specs.declared.Judged.{Judged}
+use Rattle.prepare.specs.declared.Judged.the-variants.{Passed, Refused}
+
+-- checks 8, 9 and 10, for an input of n bytes and a chart of m cells
+pub data Judging (g : Grammar) (n m : ℕ) : Judged → Type 0 where
+  passed : validGrammar g ≡ true → 0 < n → n ≤ 64 → cells ≤ m → Judging g n m Passed
+  invalid : validGrammar g ≡ false → Judging g n m (Refused InvalidGrammar)
+  no-input : validGrammar g ≡ true → n ≡ 0 → Judging g n m (Refused InputLength)
+  long-input : validGrammar g ≡ true → 64 < n → Judging g n m (Refused InputLength)
+  no-room : validGrammar g ≡ true → 0 < n → n ≤ 64 → m < cells → Judging g n m (Refused ChartTooShort)
+
+-- and then check 11, for an output of k numbers
+pub data JudgingOutput (g : Grammar) (n m k : ℕ) : Judged → Type 0 where
+  all-passed : Judging g n m Passed → outputSize ≤ k → JudgingOutput g n m k Passed
+  before : {r : Refusal} → Judging g n m (Refused r) → JudgingOutput g n m k (Refused r)
+  no-space : Judging g n m Passed → k < outputSize → JudgingOutput g n m k (Refused OutputTooShort)

@@ -1,0 +1,67 @@
+// What every call on an input does before its own work: checks 8 to 11, and then the packing of the grammar and the filling of the chart.
+use grammar::Grammar;
+use grammar::Refusal;
+use packed::Packed;
+ghost use mathlib.Core.Bool.{true};
+ghost use mathlib.Core.Path.{_≡_};
+ghost use Prim.Native.Nat.{ℕ, _≤_};
+ghost use lib.ListN.{length};
+ghost use Rattle.cfg.specs.Grammar.{rule as ruleOfNumber};
+ghost use Rattle.chart.specs.Column.{filled};
+ghost use Rattle.grammar.specs.Valid.{validGrammar};
+ghost use Rattle.grammar.specs.View.{grammarOf};
+ghost use Rattle.packed.specs.Packed.{cfgIn};
+ghost use Rattle.prepare.specs.Judging.{Judging, JudgingOutput};
+ghost use Rattle.sizes.specs.Sizes.{cells};
+
+// Whether the checks are passed.
+pub enum Judged {
+    Passed,
+    Refused(Refusal),
+}
+
+// Checks 8, 9 and 10, for an input of n bytes and a chart of m cells.
+pub fn judge(g: Grammar, n: usize, m: usize) -> Judged
+    ensures { λ j. ⌜ Judging g n m j ⌝ }
+{
+    if !grammar::valid(g) {
+        return Judged::Refused(Refusal::InvalidGrammar);
+    }
+    if n == 0 {
+        return Judged::Refused(Refusal::InputLength); // none
+    }
+    if n > 64 {
+        return Judged::Refused(Refusal::InputLength); // too many
+    }
+    if m < sizes::CELLS {
+        return Judged::Refused(Refusal::ChartTooShort); // too short
+    }
+    Judged::Passed
+}
+
+// Checks 8 to 11, for an input of n bytes, a chart of m cells and an output of k numbers.
+pub fn judge_output(g: Grammar, n: usize, m: usize, k: usize) -> Judged
+    ensures { λ j. ⌜ JudgingOutput g n m k j ⌝ }
+{
+    match judge(g, n, m) {
+        Judged::Refused(r) => Judged::Refused(r),
+        Judged::Passed => {
+            if k < sizes::OUTPUT {
+                Judged::Refused(Refusal::OutputTooShort)
+            } else {
+                Judged::Passed
+            }
+        }
+    }
+}
+
+// The packed grammar, with the chart filled for the input.
+pub fn fill(g: Grammar, input: &[u8], chart: &mut [u32]) -> Packed
+    requires { ⌜ (validGrammar g ≡ true) × (length (now input) ≤ 64) × (cells ≤ length (now chart)) ⌝ }
+    ensures { λ p. ⌜ (now (chart .exit) ≡ filled (grammarOf g) (now (input .entry)) (now (chart .entry)))
+        × ((r : ℕ) → ruleOfNumber (cfgIn (g .start) p) r ≡ ruleOfNumber (grammarOf g) r) ⌝ }
+{
+    let p = packed::pack(g);
+    recognizer::fill(&p, input, chart);
+    p
+}
