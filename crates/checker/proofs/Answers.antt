@@ -18,7 +18,7 @@ use Rattle.chart.specs.Column.{filled}
 use Rattle.grammar.specs.declared.Grammar.{Grammar}
 use Rattle.grammar.specs.declared.Refusal.{Refusal}
 use Rattle.grammar.specs.Number.{numberOf}
-use Rattle.grammar.specs.View.{grammarOf}
+use Rattle.grammar.specs.View.{grammarOf, lengthsOf}
 use Rattle.packed.specs.Packed.{cfgIn}
 use Rattle.prepare.specs.declared.Judged.{Judged}
 use Rattle.prepare.specs.declared.Judged.the-variants.{Passed, Refused}
@@ -27,8 +27,8 @@ use Rattle.prepare.specs.Judging.{Judging}
 use Rattle.prepare.proofs.Deciding.{call-refused, call-passed}
 use Rattle.prepare.proofs.Packing.{list-packed}
 use Rattle.results.specs.Answer.{Answer, refused, answered, decide}
-use Rattle.results.specs.Check.{listed, checkOf}
-use Rattle.results.specs.Measure.{sum, rounded, unlisted, lengthOf, rulesUsed, sameBag, sameBuildOf}
+use Rattle.results.specs.Check.{listed, checkIn, checkOf}
+use Rattle.results.specs.Measure.{sum, rounded, unlisted, lengthIn, lengthOf, rulesUsed, sameBag, sameBuildIn, sameBuildOf}
 use Rattle.checker.specs.Build.{Low}
 use Rattle.checker.specs.Calls.{checkAnswer, lengthAnswer, buildAnswer}
 use Rattle.checker.proofs.Whole.{listed-derivation}
@@ -61,14 +61,14 @@ module _ (l : List (List ℕ)) (e : List ℕ) (b : Bool) (told : b ≡ listed e 
   pub check-no : b ≡ false → answered false ≡ checkAnswer l e
   check-no h = ap answered (sym h ∙ told)
 
-  pub length-yes : (g : Grammar) (z : ℤ) → b ≡ true → SFits w32 z → z ≡ rounded (sum g e)
-      → answered (toZ w32 (ofZ w32 z)) ≡ lengthAnswer g l e
+  pub length-yes : (lengths : ℕ → ℤ) (z : ℤ) → b ≡ true → SFits w32 z → z ≡ rounded (sum lengths e)
+      → answered (toZ w32 (ofZ w32 z)) ≡ lengthAnswer lengths l e
   unfolding decide
-  length-yes g z h f d = rw (← told, h) (ap answered (toZ-ofZ f ∙ d))
+  length-yes lengths z h f d = rw (← told, h) (ap answered (toZ-ofZ f ∙ d))
 
-  pub length-no : (g : Grammar) → b ≡ false → refused 12 ≡ lengthAnswer g l e
+  pub length-no : (lengths : ℕ → ℤ) → b ≡ false → refused 12 ≡ lengthAnswer lengths l e
   unfolding decide
-  length-no g h = rw (← told, h)
+  length-no lengths h = rw (← told, h)
 
 module _ (l : List (List ℕ)) (d e : List ℕ) (a : Bool) (first : a ≡ listed d l) where
   pub build-first : not a ≡ true → refused 12 ≡ buildAnswer l d e
@@ -111,16 +111,16 @@ module _ (g : Grammar) (w chart : List ℕ) (j : Judged) (judging : Judging g (l
     same = list-packed g p w (filling .1) s start
 
     pub check-answered : (a : Answer Bool) (e : List ℕ) → a ≡ checkAnswer (L (cfgIn s p) w) e → checkingOf a chart' ≡ checkOf g w e chart
-    unfolding checkOf
+    unfolding checkOf checkIn
     check-answered a e d =
         call-passed g w chart _ j judging chart' a is (filling .0) (d ∙ ap (λ (l : List (List ℕ)). checkAnswer l e) same)
 
-    pub length-answered : (a : Answer ℤ) (e : List ℕ) → a ≡ lengthAnswer g (L (cfgIn s p) w) e → checkingOf a chart' ≡ lengthOf g w e chart
-    unfolding lengthOf unlisted
+    pub length-answered : (a : Answer ℤ) (e : List ℕ) → a ≡ lengthAnswer (lengthsOf g) (L (cfgIn s p) w) e → checkingOf a chart' ≡ lengthOf g w e chart
+    unfolding lengthOf lengthIn unlisted
     length-answered a e d =
-        call-passed g w chart _ j judging chart' a is (filling .0) (d ∙ ap (λ (l : List (List ℕ)). lengthAnswer g l e) same)
+        call-passed g w chart _ j judging chart' a is (filling .0) (d ∙ ap (λ (l : List (List ℕ)). lengthAnswer (lengthsOf g) l e) same)
 
     pub build-answered : (a : Answer Bool) (b c : List ℕ) → a ≡ buildAnswer (L (cfgIn s p) w) b c → checkingOf a chart' ≡ sameBuildOf g w b c chart
-    unfolding sameBuildOf unlisted
+    unfolding sameBuildOf sameBuildIn unlisted
     build-answered a b c d =
         call-passed g w chart _ j judging chart' a is (filling .0) (d ∙ ap (λ (l : List (List ℕ)). buildAnswer l b c) same)

@@ -12,6 +12,7 @@ use mir.Val.{SFits, toZ, ofZ}
 use mir.Facts.{toZ-ofZ, sfits-widen}
 use Rattle.grammar.specs.declared.Grammar.{Grammar}
 use Rattle.grammar.specs.declared.Rule.{Rule}
+use Rattle.grammar.specs.View.{lengthsOf}
 use Rattle.grammar.specs.Zero.{noRule}
 use Rattle.results.specs.Measure.{sum}
 use Rattle.checker.proofs.Nodes.{at-two}
@@ -55,39 +56,39 @@ module _ (z y : ℤ) (is : y ≡ z) (little : mag y < 32768) (s i : ℕ) (small 
 module _ (g : Grammar) (e : List ℕ) where
   -- the length of the rule of a number
   abbrev lengthAt : ℕ → ℤ
-  lengthAt r = getD (g .rules) r noRule .length
+  lengthAt = lengthsOf g
 
-  pub sum-start : pos 0 +ℤ sum g e ≡ sum g e
-  sum-start = +ℤ-idl (sum g e)
+  pub sum-start : pos 0 +ℤ sum (lengthsOf g) e ≡ sum (lengthsOf g) e
+  sum-start = +ℤ-idl (sum (lengthsOf g) e)
 
   sum-step : (i r : ℕ) → i < length e / 2 → r ≡ getD e (2 * i + 1) 0
-      → sum g (drop (2 * i) e) ≡ lengthAt r +ℤ sum g (drop (2 * (i + 1)) e)
+      → sum (lengthsOf g) (drop (2 * i) e) ≡ lengthAt r +ℤ sum (lengthsOf g) (drop (2 * (i + 1)) e)
   unfolding sum
   sum-step i r h q =
       let j : 2 * i + 2 ≡ 2 * (i + 1) = omega arith in
-      ap (sum g) (at-two e (2 * i) (getD e (2 * i) 0) r (omega arith) refl (sym q))
-      ∙ ap (λ (k : ℕ). lengthAt r +ℤ sum g (drop k e)) j
+      ap (sum (lengthsOf g)) (at-two e (2 * i) (getD e (2 * i) 0) r (omega arith) refl (sym q))
+      ∙ ap (λ (k : ℕ). lengthAt r +ℤ sum (lengthsOf g) (drop k e)) j
 
   -- at most one number is left, which is no node
-  sum-end : (i : ℕ) → length e / 2 ≤ i → sum g (drop (2 * i) e) ≡ pos 0
+  sum-end : (i : ℕ) → length e / 2 ≤ i → sum (lengthsOf g) (drop (2 * i) e) ≡ pos 0
   unfolding sum
   sum-end i h = go (drop (2 * i) e) (omega (arith, length-drop (2 * i) e))
     where
-      go : (l : List ℕ) → length l ≤ 1 → sum g l ≡ pos 0
+      go : (l : List ℕ) → length l ≤ 1 → sum (lengthsOf g) l ≡ pos 0
       go [] k = refl
       go (a ∷ []) k = refl
       go (a ∷ b ∷ l) k = absurd (omega arith)
 
   module _ (i s s' r : ℕ) (h : i < length e / 2) (short : length e ≤ 1024) (number : r ≡ min (getD e (2 * i + 1) 0) 128)
-      (so-far : toZ w32 s +ℤ sum g (drop (2 * i) e) ≡ sum g e) (small : mag (toZ w32 s) ≤ 32768 * i) where
+      (so-far : toZ w32 s +ℤ sum (lengthsOf g) (drop (2 * i) e) ≡ sum (lengthsOf g) e) (small : mag (toZ w32 s) ≤ 32768 * i) where
     -- what the invariant says after the node
     abbrev Next : Type 0
-    Next = (toZ w32 s' +ℤ sum g (drop (2 * (i + 1)) e) ≡ sum g e) × (mag (toZ w32 s') ≤ 32768 * (i + 1))
+    Next = (toZ w32 s' +ℤ sum (lengthsOf g) (drop (2 * (i + 1)) e) ≡ sum (lengthsOf g) e) × (mag (toZ w32 s') ≤ 32768 * (i + 1))
 
     next : (q : ℕ) → q ≡ getD e (2 * i + 1) 0 → toZ w32 s' ≡ toZ w32 s +ℤ lengthAt q → mag (toZ w32 s') ≤ 32768 * (i + 1) → Next
     next q k d l = (
-      ap (λ (x : ℤ). x +ℤ sum g (drop (2 * (i + 1)) e)) d
-          ∙ +ℤ-assoc (toZ w32 s) (lengthAt q) (sum g (drop (2 * (i + 1)) e))
+      ap (λ (x : ℤ). x +ℤ sum (lengthsOf g) (drop (2 * (i + 1)) e)) d
+          ∙ +ℤ-assoc (toZ w32 s) (lengthAt q) (sum (lengthsOf g) (drop (2 * (i + 1)) e))
           ∙ ap (λ (x : ℤ). toZ w32 s +ℤ x) (sym (sum-step i q h k))
           ∙ so-far,
       l,
@@ -106,5 +107,5 @@ module _ (g : Grammar) (e : List ℕ) where
         next q refl (ap (toZ w32) d ∙ sym (ap (λ (x : ℤ). toZ w32 s +ℤ x) none ∙ +ℤ-idr (toZ w32 s)))
         (subst (λ (x : ℕ). mag (toZ w32 x) ≤ 32768 * (i + 1)) (sym d) (omega arith))
 
-  pub sum-done : (i s : ℕ) → length e / 2 ≤ i → toZ w32 s +ℤ sum g (drop (2 * i) e) ≡ sum g e → toZ w32 s ≡ sum g e
+  pub sum-done : (i s : ℕ) → length e / 2 ≤ i → toZ w32 s +ℤ sum (lengthsOf g) (drop (2 * i) e) ≡ sum (lengthsOf g) e → toZ w32 s ≡ sum (lengthsOf g) e
   sum-done i s h d = sym (+ℤ-idr (toZ w32 s)) ∙ ap (λ (x : ℤ). toZ w32 s +ℤ x) (sym (sum-end i h)) ∙ d

@@ -4,7 +4,6 @@ use Prim.Native.Nat.{ℕ}
 use mathlib.Core.Bool.{Bool, not}
 use mathlib.Core.List.{List, [], _∷_}
 use lib.IntN.{ℤ}
-use Rattle.grammar.specs.declared.Grammar.{Grammar}
 use Rattle.grammar.specs.Number.{numberOf}
 use Rattle.results.specs.Answer.{Answer, refused, answered, check, decide}
 use Rattle.results.specs.Check.{listed}
@@ -21,8 +20,8 @@ measuredOf (Refused r) = refused (numberOf r)
 abbrev pub checkAnswer : List (List ℕ) → List ℕ → Answer Bool
 checkAnswer l e = answered (listed e l)
 
-abbrev pub lengthAnswer : Grammar → List (List ℕ) → List ℕ → Answer ℤ
-lengthAnswer g l e = decide (check (not (listed e l)) 12 ∷ []) refused (λ _. answered (rounded (sum g e)))
+abbrev pub lengthAnswer : (ℕ → ℤ) → List (List ℕ) → List ℕ → Answer ℤ
+lengthAnswer lengths l e = decide (check (not (listed e l)) 12 ∷ []) refused (λ _. answered (rounded (sum lengths e)))
 
 abbrev pub buildAnswer : List (List ℕ) → List ℕ → List ℕ → Answer Bool
 buildAnswer l d e =

@@ -4,6 +4,7 @@ use grammar::Refusal;
 use grammar::Verdict;
 use packed::Packed;
 use prepare::Judged;
+ghost use Rattle.grammar.specs.View.{lengthsOf};
 ghost use mathlib.Core.Path.{_≡_};
 ghost use Prim.Native.Nat.{_≤_};
 ghost use lib.ListN.{length};
@@ -46,14 +47,14 @@ fn check_offered(p: &Packed, start: usize, input: &[u8], offered: &[u16]) -> Ver
 // The total length of a derivation, in tenths.
 fn tenths(g: Grammar, e: &[u16]) -> i32
     requires { ⌜ length (now e) ≤ 1024 ⌝ }
-    ensures { λ r. ⌜ r ≡ roundedOf (sumOf g (now (e .entry))) ⌝ }
+    ensures { λ r. ⌜ r ≡ roundedOf (sumOf (lengthsOf g) (now (e .entry))) ⌝ }
 {
     measure::rounded(measure::total(g, e))
 }
 
 // The length of an offered derivation.
 fn measure_offered(g: Grammar, p: &Packed, start: usize, input: &[u8], offered: &[u16]) -> Measured
-    ensures { λ r. ⌜ measuredOf r ≡ lengthAnswer g (L (cfgIn start (now (p .entry))) (now (input .entry))) (now (offered .entry)) ⌝ }
+    ensures { λ r. ⌜ measuredOf r ≡ lengthAnswer (lengthsOf g) (L (cfgIn start (now (p .entry))) (now (input .entry))) (now (offered .entry)) ⌝ }
 {
     if walk::is_derivation(p, start, input, offered) {
         Measured::Tenths(tenths(g, offered))

@@ -2,6 +2,7 @@
 use crate::walk::rule_number;
 use grammar::Grammar;
 use grammar::Rule;
+ghost use Rattle.grammar.specs.View.{lengthsOf};
 ghost use mathlib.Core.Path.{_≡_};
 ghost use Prim.Native.Nat.{_<_, _≤_};
 ghost use lib.ListN.{length};
@@ -31,7 +32,7 @@ fn length_of(rule: Rule) -> i32
 // The rule lengths of all nodes of an offered derivation, empty ones too, added up.
 pub fn total(g: Grammar, e: &[u16]) -> i32
     requires { ⌜ length (now e) ≤ 1024 ⌝ }
-    ensures { λ r. ⌜ (r ≡ sumOf g (now (e .entry))) × (mag r ≤ 16777216) ⌝ }
+    ensures { λ r. ⌜ (r ≡ sumOf (lengthsOf g) (now (e .entry))) × (mag r ≤ 16777216) ⌝ }
 {
     let n = e.len() / 2;
     let mut sum: i32 = 0;

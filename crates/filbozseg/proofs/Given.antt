@@ -14,7 +14,7 @@ use Rattle.flat.proofs.Round.{read-write}
 use Rattle.grammar.specs.declared.Grammar.{Grammar}
 use Rattle.grammar.specs.declared.Refusal.{Refusal}
 use Rattle.grammar.specs.Number.{numberOf}
-use Rattle.grammar.specs.View.{grammarOf}
+use Rattle.grammar.specs.View.{wholeOf}
 use Rattle.hand.specs.Hand.{rowOf}
 use Rattle.loader.specs.declared.Loaded.{Loaded}
 use Rattle.loader.specs.declared.Outcome.{Outcome}
@@ -30,7 +30,7 @@ use Rattle.filbozseg.proofs.Fits.{load-fits}
 -- ---- loading
 
 module _ (book : List ℕ) (small : (i : ℕ) → getD book i 0 < 256) (l : Loaded) (loads : loadingOf l ≡ loadOf book (l .grammar .depth))
-    (D : Depth (grammarOf (l .grammar)) (l .grammar .depth)) where
+    (D : Depth (wholeOf (l .grammar)) (l .grammar .depth)) where
   read-back : grammarIn (flatOf (l .grammar)) ≡ l .grammar
   read-back =
       read-write (l .grammar)
@@ -45,7 +45,7 @@ module _ (book : List ℕ) (small : (i : ℕ) → getD book i 0 < 256) (l : Load
     grammar = ap (λ (x : Loading). flatOf (x .grammar)) loads;
     at = ap (λ (x : Loading). offsetLeft (x .answer) found) loads;
     read = read-back ∙ ap (λ (x : Loading). x .grammar) loads;
-    depth = subst (λ (g : Grammar). Depth (grammarOf g) (l .grammar .depth)) (sym read-back) D;
+    depth = subst (λ (g : Grammar). Depth (wholeOf g) (l .grammar .depth)) (sym read-back) D;
   }
 
   loads-of : (found code offset : ℕ) (row : List ℕ) → row ≡ flatOf (l .grammar) → code ≡ loadCode (answerOf (l .outcome))

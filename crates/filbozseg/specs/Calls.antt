@@ -9,7 +9,7 @@ use lib.IntN.{ℤ}
 use lib.ListN.{getD}
 use Rattle.cfg.specs.Nullable.{Depth}
 use Rattle.flat.specs.Flat.{grammarIn, flatOf}
-use Rattle.grammar.specs.View.{grammarOf}
+use Rattle.grammar.specs.View.{wholeOf}
 use Rattle.hand.specs.Hand.{rowOf}
 use Rattle.results.specs.Check.{Checking}
 use Rattle.results.specs.Load.{loadOf}
@@ -27,7 +27,7 @@ pub record Loads (book : List ℕ) (found : ℕ) (code : ℕ) (row : List ℕ) (
   pub grammar : row ≡ flatOf (loadOf book (depthIn row) .grammar)
   pub at : offset ≡ offsetLeft (loadOf book (depthIn row) .answer) found
   pub read : grammarIn row ≡ loadOf book (depthIn row) .grammar
-  pub depth : Depth (grammarOf (grammarIn row)) (depthIn row)
+  pub depth : Depth (wholeOf (grammarIn row)) (depthIn row)
 
 -- opening: what is returned, the row of the state left and the chart left
 pub record Opens (r : Recognition) (code : ℕ) (row : List ℕ) (chart : List ℕ) : Type 0 where

@@ -8,18 +8,18 @@ use mathlib.Core.Path.{_≡_, sym, ap, ap₂, subst, _∙_}
 use lib.ListN.{length}
 use borrow.Author.Tests.{lt-ltb}
 use Rattle.sizes.specs.Sizes.{cells, outputSize}
-use Rattle.chart.specs.Column.{filled}
+use Rattle.cfg.specs.Grammar.{Cfg}
 use Rattle.grammar.specs.declared.Grammar.{Grammar}
 use Rattle.grammar.specs.declared.Refusal.{Refusal}
 use Rattle.grammar.specs.Number.{numberOf}
 use Rattle.grammar.specs.View.{grammarOf}
 use Rattle.results.specs.Answer.{Answer, refused, Check, decide}
 use Rattle.results.specs.Recognize.{grammarCheck, chartCheck}
-use Rattle.results.specs.Check.{inputCheck, inputChecks, onInput}
+use Rattle.results.specs.Check.{inputCheck, inputChecks, Checking, onInput}
 use Rattle.results.specs.Enumerate.{outputCheck}
 use Rattle.results.proofs.Decide.{decide-first, decide-passed}
-use Rattle.demands.specs.Ready.{Ready}
-use Rattle.demands.proofs.Passed.{input-fails, input-passes, ready→pass, readyOut→pass}
+use Rattle.results.specs.Ready.{Ready}
+use Rattle.results.proofs.Passed.{input-fails, input-passes, ready→pass, readyOut→pass}
 use Rattle.prepare.specs.declared.Judged.{Judged}
 use Rattle.prepare.specs.declared.Judged.the-variants.{Passed, Refused}
 use Rattle.prepare.specs.Given.{checkingOf}
@@ -79,14 +79,14 @@ module _ (g : Grammar) (w chart : List ℕ) {B : Type 0} (refuse : ℕ → B) (g
 
 -- ---- a call that writes no output
 
-module _ (g : Grammar) (w chart : List ℕ) {A : Type 0} (answer : Unit {0} → Answer A) (j : Judged)
+module _ (g : Grammar) (w chart : List ℕ) {A : Type 0} (go : Cfg → Checking A) (j : Judged)
     (judging : Judging g (length w) (length chart) j) where
-  pub call-refused : (r : Refusal) → j ≡ Refused r → checkingOf (refused (numberOf r)) chart ≡ onInput g w chart answer
+  pub call-refused : (r : Refusal) → j ≡ Refused r → checkingOf (refused (numberOf r)) chart ≡ onInput g w chart go
   unfolding onInput
   call-refused r h = sym (input-refused g w chart _ _ j judging r h)
 
-  pub call-passed : (chart' : List ℕ) (a : Answer A) → j ≡ Passed → chart' ≡ filled (grammarOf g) w chart → a ≡ answer tt
-      → checkingOf a chart' ≡ onInput g w chart answer
+  pub call-passed : (chart' : List ℕ) (a : Answer A) → j ≡ Passed → chart' ≡ go (grammarOf g) .chart → a ≡ go (grammarOf g) .answer
+      → checkingOf a chart' ≡ onInput g w chart go
   unfolding onInput
   call-passed chart' a h c d =
       ap₂ (λ (x : Answer A) (y : List ℕ). checkingOf x y) d c ∙ sym (input-passed g w chart _ _ j judging h)

@@ -20,7 +20,7 @@ use Rattle.grammar.specs.View.{grammarOf}
 use Rattle.packed.specs.Packed.{cfgIn}
 use Rattle.packed.proofs.Laws.{cfg-in-bounded}
 use Rattle.results.specs.Answer.{Answer, refused, answered, decide}
-use Rattle.results.specs.Recognize.{State, Recognition, stateOf, openOf, takeOf}
+use Rattle.results.specs.Recognize.{State, Recognition, stateOf, openIn, openOf, takeIn, takeOf}
 use Rattle.recognizer.specs.Columns.{columnOf}
 
 -- the three parts of what a call gives
@@ -76,7 +76,7 @@ module _ (g : Grammar) (chart : List ℕ) where
     pub open-right : (p chart' : List ℕ) → validGrammar g ≡ true → cells ≤ length chart
         → ((r : ℕ) → rule (cfgIn (g .start) p) r ≡ rule (grammarOf g) r)
         → chart' ≡ opened (cfgIn 0 p) chart → a ≡ answered (has (g .start) (cell chart' 0 0)) → given a h chart' ≡ openOf g chart
-    unfolding openOf decide complete
+    unfolding openOf openIn decide complete
     open-right p chart' v l same e f =
         let c : chart' ≡ opened (grammarOf g) chart =
         e ∙ opened-same-rules (cfgIn 0 p) (grammarOf g) (same-rules g (g .start) p same) (cfg-in-bounded 0 p) chart in
@@ -127,7 +127,7 @@ module _ (g : Grammar) (chart : List ℕ) where
           → ((r : ℕ) → rule (cfgIn (g .start) p) r ≡ rule (grammarOf g) r)
           → chart' ≡ columnOf p (take (k .count) (k .bytes)) (k .count) chart
           → a ≡ answered (has (g .start) (cell chart' 0 (k .count))) → given a k chart' ≡ takeOf g h m chart
-      unfolding takeOf decide complete extended
+      unfolding takeOf takeIn decide complete extended
       take-right p chart' v o l same e f =
           let c : chart' ≡ extended (grammarOf g) input chart =
           e ∙ ap (λ (x : List ℕ). columnOf p x (k .count) chart) bytes ∙ ap (λ (x : ℕ). columnOf p input x chart) (sym size)

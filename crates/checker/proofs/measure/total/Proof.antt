@@ -11,6 +11,7 @@ use lib.Signed.{mag}
 use borrow.Author.Needs.{needs}
 use mir.Syntax.{w32}
 use mir.Val.{toZ}
+use Rattle.grammar.specs.View.{lengthsOf}
 use Rattle.results.specs.Measure.{sum as sumOf}
 use Rattle.checker.proofs.Lengths.{more-fits, sum-start, next-rule, next-none, sum-done}
 use Rattle.checker.proofs.measure.total.Statement.{statement}
@@ -18,7 +19,7 @@ use Rattle.checker.proofs.measure.total.Tie as tie
 
 abbrev Inv-loop : tie.InvT-loop
 Inv-loop e g n sum₀ i₀ sum i =
-    (i ≤ n) × (n ≡ length e / 2) × (toZ w32 sum +ℤ sumOf g (drop (2 * i) e) ≡ sumOf g e) × (mag (toZ w32 sum) ≤ 32768 * i)
+    (i ≤ n) × (n ≡ length e / 2) × (toZ w32 sum +ℤ sumOf (lengthsOf g) (drop (2 * i) e) ≡ sumOf (lengthsOf g) e) × (mag (toZ w32 sum) ≤ 32768 * i)
 
 abbrev μ-loop : tie.MeasureT-loop
 μ-loop e g n sum₀ i₀ sum i = n - i
