@@ -5,13 +5,12 @@ use mathlib.Core.Bool.{Bool, true, false, _&&_, true≢false}
 use mathlib.Core.List.{List}
 use mathlib.Core.Path.{_≡_, sym, ap, _∙_}
 use native.Mathlib.Omega.{arith}
-use lib.Dec.{eqb}
 use lib.ListN.{length, getD}
 use borrow.Author.Tests.{lt-ltb}
 use Rattle.sets.specs.Set.{has}
-use Rattle.cfg.specs.Grammar.{Symbol, nonterminal, terminal, byte, fits}
+use Rattle.cfg.specs.Grammar.{Symbol, nonterminal, terminal, fits}
 use Rattle.chart.specs.Cell.{fitsAt}
-use Rattle.packed.specs.Packed.{leftIn, countIn, tagIn, valueIn, symbolIn, fitsPlace}
+use Rattle.packed.specs.Packed.{leftIn, countIn, isNonterminalIn, valueIn, terminalIn, symbolIn, fitsPlace}
 use Rattle.packed.proofs.Fitting.{symbol-nonterminal, symbol-terminal}
 use Rattle.checker.specs.declared.walk.Step.the-variants.{No, End, Byte, Node}
 use Rattle.checker.specs.Walk.{Answers, Opens, Looked, at-end, not-end, at-byte, not-byte, at-node, not-node}
@@ -74,7 +73,7 @@ module _ (p w e : List ℕ) (n r q at from to count : ℕ) (counted : count ≡ 
   pub look-not-end : count ≤ q → (from ≡ to → ⊥) → Looked p w e n r q at from to No
   look-not-end h d = not-end (omega arith) d
 
-  module _ (b : Bool) (tag : b ≡ eqb (tagIn p r q) 0) (before : q < count) where
+  module _ (b : Bool) (tag : b ≡ isNonterminalIn p r q) (before : q < count) where
     pub look-node : (c k : ℕ) → b ≡ true → at < n → c ≡ getD e (2 * at) 0 → k ≡ valueIn p r q → from ≤ to → c ≤ to - from
         → Looked p w e n r q at from to (Node k c)
     look-node c k t h x y l m =
@@ -86,15 +85,15 @@ module _ (p w e : List ℕ) (n r q at from to count : ℕ) (counted : count ≡ 
     pub look-late : b ≡ true → n ≤ at → Looked p w e n r q at from to No
     look-late t h = not-node (omega arith) (symbol-nonterminal p r q (sym tag ∙ t)) (λ l _. omega arith)
 
-    terminal-here : b ≡ false → symbolIn p r q ≡ terminal (byte (valueIn p r q))
+    terminal-here : b ≡ false → symbolIn p r q ≡ terminal (terminalIn p r q)
     terminal-here t = symbol-terminal p r q (sym tag ∙ t)
 
     -- the test of a byte is that of the terminal
-    fits-here : b ≡ false → from < to → to ≤ length w → fitsPlace w (symbolIn p r q) from ≡ fits (byte (valueIn p r q)) (getD w from 0)
+    fits-here : b ≡ false → from < to → to ≤ length w → fitsPlace w (symbolIn p r q) from ≡ fits (terminalIn p r q) (getD w from 0)
     unfolding fitsPlace fitsAt
     fits-here t h l =
         ap (λ (s : Symbol). fitsPlace w s from) (terminal-here t)
-        ∙ ap (λ (z : Bool). z && fits (byte (valueIn p r q)) (getD w from 0)) (lt-ltb from (length w) (omega arith))
+        ∙ ap (λ (z : Bool). z && fits (terminalIn p r q) (getD w from 0)) (lt-ltb from (length w) (omega arith))
 
     pub look-byte : (f : Bool) → b ≡ false → from < to → to ≤ length w → f ≡ fitsPlace w (symbolIn p r q) from → f ≡ true
         → Looked p w e n r q at from to Byte

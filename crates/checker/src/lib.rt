@@ -3,6 +3,7 @@ use grammar::Grammar;
 use grammar::Refusal;
 use grammar::Verdict;
 use packed::Packed;
+use packed::wide;
 use prepare::Judged;
 ghost use Rattle.grammar.specs.View.{lengthsOf};
 ghost use mathlib.Core.Path.{_≡_};
@@ -24,13 +25,6 @@ pub mod walk;
 pub enum Measured {
     Tenths(i32),
     Refused(Refusal),
-}
-
-// A byte as a number.
-fn wide(x: u8) -> usize
-    ensures { λ n. ⌜ n ≡ x ⌝ }
-{
-    x as usize
 }
 
 // Whether the offered derivation is one.

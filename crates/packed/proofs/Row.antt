@@ -20,7 +20,8 @@ use Rattle.grammar.specs.Valid.{validRule}
 use Rattle.grammar.specs.View.{symbolOf, placeOf, ruleOf}
 use Rattle.grammar.specs.Zero.{zeroPlace}
 use Rattle.grammar.proofs.Bounds.{rule-parts}
-use Rattle.packed.specs.Packed.{leftIn, countIn, tagIn, valueIn, symbolIn, placesFrom, placesIn, ruleIn, packedSize, ruleBytes}
+use Rattle.packed.specs.Packed.{leftIn, countIn, isNonterminalIn, tagIn, terminalIn, valueIn, symbolIn}
+use Rattle.packed.specs.Packed.{placesFrom, placesIn, ruleIn, packedSize, ruleBytes}
 use Rattle.packed.specs.Place.{tagOf, valueOf, RulePut}
 use Rattle.packed.proofs.Laws.{count-used, count-le, rule-used}
 
@@ -81,13 +82,13 @@ module _ (ρ : Rule) (r : ℕ) (low : r < 128) where
     stays = two-other p (ruleBytes * r + 2 + 2 * q) t (ruleBytes * r + 3 + 2 * q) v
 
     place-same : symbolIn next r q ≡ placeOf (getD (ρ .places) q zeroPlace)
-    unfolding symbolIn tagIn valueIn
+    unfolding symbolIn isNonterminalIn tagIn terminalIn valueIn
     place-same = two-bytes (getD (ρ .places) q zeroPlace .symbol) (getD next (ruleBytes * r + 2 + 2 * q) 0) (getD next (ruleBytes * r + 3 + 2 * q) 0)
         (two-first p (ruleBytes * r + 2 + 2 * q) t (ruleBytes * r + 3 + 2 * q) v (omega arith) (omega (arith, row .long)) ∙ et)
         (two-second p (ruleBytes * r + 2 + 2 * q) t (ruleBytes * r + 3 + 2 * q) v (omega (arith, row .long)) ∙ ev)
 
     place-other : (k : ℕ) → k < q → symbolIn next r k ≡ symbolIn p r k
-    unfolding symbolIn tagIn valueIn
+    unfolding symbolIn isNonterminalIn tagIn terminalIn valueIn
     place-other k h =
         rw (stays (ruleBytes * r + 2 + 2 * k) (omega arith) (omega arith), stays (ruleBytes * r + 3 + 2 * k) (omega arith) (omega arith))
 
@@ -142,7 +143,7 @@ module _ (p p' : List ℕ) (s : ℕ) (same : (b : ℕ) → b < ruleBytes → get
       λ i. cond (ltb (e i) 32) (min (f i) 8) 0
 
   symbol-same : (q : ℕ) → q < 8 → symbolIn p s q ≡ symbolIn p' s q
-  unfolding symbolIn tagIn valueIn
+  unfolding symbolIn isNonterminalIn tagIn terminalIn valueIn
   symbol-same q h =
       let e = byte-same (ruleBytes * s + 2 + 2 * q) (2 + 2 * q) (omega arith) (omega arith) in
       let f = byte-same (ruleBytes * s + 3 + 2 * q) (3 + 2 * q) (omega arith) (omega arith) in

@@ -8,7 +8,7 @@ use mathlib.Core.Option.{Option, none, some}
 use lib.Dec.{eqb, ltb}
 use lib.ListN.{getD}
 use Rattle.sizes.specs.Sizes.{maxRules, maxPlaces}
-use Rattle.cfg.specs.Grammar.{Cfg, Rule, Symbol, nonterminal, terminal, byte}
+use Rattle.cfg.specs.Grammar.{Cfg, Rule, Symbol, nonterminal, terminal, Terminal, byte}
 use Rattle.chart.specs.Cell.{fitsAt}
 
 -- the bytes of a rule: its left side, its count, and two for each place
@@ -35,9 +35,17 @@ tagIn p r q = getD p (ruleBytes * r + 2 + 2 * q) 0
 unfoldable pub valueIn : List ℕ → ℕ → ℕ → ℕ
 valueIn p r q = getD p (ruleBytes * r + 3 + 2 * q) 0
 
+-- whether place q of rule r holds a nonterminal
+unfoldable pub isNonterminalIn : List ℕ → ℕ → ℕ → Bool
+isNonterminalIn p r q = eqb (tagIn p r q) 0
+
+-- the terminal in place q of rule r, where it holds one
+unfoldable pub terminalIn : List ℕ → ℕ → ℕ → Terminal
+terminalIn p r q = byte (valueIn p r q)
+
 -- the symbol in place q of rule r
 unfoldable pub symbolIn : List ℕ → ℕ → ℕ → Symbol
-symbolIn p r q = cond (eqb (tagIn p r q) 0) (nonterminal (valueIn p r q)) (terminal (byte (valueIn p r q)))
+symbolIn p r q = cond (isNonterminalIn p r q) (nonterminal (valueIn p r q)) (terminal (terminalIn p r q))
 
 -- the symbols of n places of rule r, from place q on
 unfoldable pub placesFrom : List ℕ → ℕ → ℕ → ℕ → List Symbol

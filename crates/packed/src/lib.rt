@@ -5,13 +5,12 @@ use grammar::Symbol;
 ghost use mathlib.Core.Bool.{true};
 ghost use mathlib.Core.Path.{_≡_};
 ghost use Prim.Native.Nat.{ℕ, _<_, _≤_};
-ghost use lib.Dec.{eqb};
 ghost use lib.ListN.{length};
 ghost use Rattle.sets.specs.Set.{has as inSet};
 ghost use Rattle.cfg.specs.Grammar.{rule as ruleOfNumber};
 ghost use Rattle.grammar.specs.Valid.{validRule, validGrammar};
 ghost use Rattle.grammar.specs.View.{grammarOf};
-ghost use Rattle.packed.specs.Packed.{leftIn, countIn, tagIn, valueIn, symbolIn, cfgIn, fitsPlace, packedSize};
+ghost use Rattle.packed.specs.Packed.{leftIn, countIn, isNonterminalIn, valueIn, symbolIn, cfgIn, fitsPlace, packedSize};
 ghost use Rattle.packed.specs.Place.{tagOf, valueOf, RulePut};
 
 // The bytes of a rule (its left side, its count, and two for each place), and of a packed grammar.
@@ -28,7 +27,7 @@ pub fn tied_size() -> usize
 }
 
 // A byte as a number.
-fn wide(x: u8) -> usize
+pub fn wide(x: u8) -> usize
     ensures { λ n. ⌜ (n ≡ x) × (n < 256) ⌝ }
 {
     x as usize
@@ -58,7 +57,7 @@ pub fn count(p: &Packed, r: usize) -> usize
 // Whether place q of rule r holds a nonterminal.
 pub fn is_nonterminal(p: &Packed, r: usize, q: usize) -> bool
     requires { ⌜ (r < 128) × (q < 8) ⌝ }
-    ensures { λ b. ⌜ b ≡ eqb (tagIn (now (p .entry)) r q) 0 ⌝ }
+    ensures { λ b. ⌜ b ≡ isNonterminalIn (now (p .entry)) r q ⌝ }
 {
     p[RULE_BYTES * r + 2 + 2 * q] == 0
 }

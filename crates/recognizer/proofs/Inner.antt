@@ -8,14 +8,13 @@ use mathlib.Core.Path.{_≡_, refl, sym, ap, _∙_, subst}
 use native.Mathlib.Decide.{ℕ-discrete}
 use native.Mathlib.Numerals.{add-one}
 use native.Mathlib.Omega.{arith}
-use lib.Dec.{eqb}
 use lib.ListN.{length, getD, set, length-set}
 use lib.Seq.{getD-set-same, getD-set-other}
 use Rattle.sets.specs.Set.{has, insert}
 use Rattle.sets.proofs.Laws.{has-empty}
-use Rattle.cfg.specs.Grammar.{Symbol, nonterminal, terminal, Terminal, byte}
+use Rattle.cfg.specs.Grammar.{Symbol, nonterminal, terminal, Terminal}
 use Rattle.chart.specs.Cell.{cell, cuts, fitsAt}
-use Rattle.packed.specs.Packed.{countIn, tagIn, valueIn, symbolIn, fitsPlace}
+use Rattle.packed.specs.Packed.{countIn, isNonterminalIn, valueIn, terminalIn, symbolIn, fitsPlace}
 use Rattle.packed.proofs.Fitting.{symbol-nonterminal, symbol-terminal}
 use Rattle.recognizer.specs.Flags.{Fit, Sets, tail, flag, inner-leaf, inner-node, InnerAt, Later}
 use Rattle.recognizer.specs.Flags.{Between, InnerPlace, InnerMask, InnerMasks}
@@ -57,7 +56,7 @@ module _ (p w : List ℕ) (r q i n : ℕ) (chart flags : List ℕ) (used : q < c
       → has (q + 1) (flag flags b r) ≡ cuts (fitsAt w) sets (tail p r (suc q)) b n
   rest-cuts sets later b l m = ap (λ (x : ℕ). has x (flag flags b r)) (add-one q) ∙ later .rests b l m (suc q) used
 
-  pub place-nonterminal : (t : Bool) (k : ℕ) (f : Bool) → t ≡ eqb (tagIn p r q) 0 → t ≡ true → k ≡ valueIn p r q
+  pub place-nonterminal : (t : Bool) (k : ℕ) (f : Bool) → t ≡ isNonterminalIn p r q → t ≡ true → k ≡ valueIn p r q
       → Between k r (q + 1) i n chart flags f → InnerPlace (fitsAt w) p r q i n chart flags f
   place-nonterminal t k f e g v between = record { exact = λ sets later. (to sets later, from sets later) }
     where
@@ -80,8 +79,8 @@ module _ (p w : List ℕ) (r q i n : ℕ) (chart flags : List ℕ) (used : q < c
           between .all b l m (ap (has k) (sym (later .cells b l m)) ∙ subst (λ (z : ℕ). has z (sets i b) ≡ true) c x)
           (rest-cuts sets later b l (omega arith) ∙ y)
 
-  module _ (tag : eqb (tagIn p r q) 0 ≡ false) where
-    leaf : symbolIn p r q ≡ terminal (byte (valueIn p r q))
+  module _ (tag : isNonterminalIn p r q ≡ false) where
+    leaf : symbolIn p r q ≡ terminal (terminalIn p r q)
     leaf = symbol-terminal p r q tag
 
     leaf-fits : (u : Terminal) → symbolIn p r q ≡ terminal u → fitsPlace w (symbolIn p r q) i ≡ fitsAt w i u
@@ -93,7 +92,7 @@ module _ (p w : List ℕ) (r q i n : ℕ) (chart flags : List ℕ) (used : q < c
         → (i < n) × (fitsPlace w (symbolIn p r q) i ≡ true) × (cuts (fitsAt w) sets (tail p r (suc q)) (suc i) n ≡ true)
     leaf-only sets (inner-leaf u d l x y) = (l, leaf-fits u d ∙ x, y)
     leaf-only sets (inner-node j b d l m x y) =
-        let e : symbolIn p r q ≡ terminal (byte (valueIn p r q)) = leaf in
+        let e : symbolIn p r q ≡ terminal (terminalIn p r q) = leaf in
         let z : _≡_ {A = ℕ} 0 1 = cc in
         absurd (omega arith)
 
@@ -106,7 +105,7 @@ module _ (p w : List ℕ) (r q i n : ℕ) (chart flags : List ℕ) (used : q < c
             ∙ ap (λ (x : ℕ). cuts (fitsAt w) sets (tail p r (suc q)) x n) (add-one i)
 
         to : (sets : Sets) → Later (fitsAt w) sets p r i n chart flags → f ≡ true → InnerAt (fitsAt w) sets p r i n q
-        to sets later h = inner-leaf (byte (valueIn p r q)) leaf l (sym (leaf-fits (byte (valueIn p r q)) leaf) ∙ sym e ∙ g)
+        to sets later h = inner-leaf (terminalIn p r q) leaf l (sym (leaf-fits (terminalIn p r q) leaf) ∙ sym e ∙ g)
             (sym (rest sets later) ∙ h)
 
         from : (sets : Sets) → Later (fitsAt w) sets p r i n chart flags → InnerAt (fitsAt w) sets p r i n q → f ≡ true

@@ -7,11 +7,10 @@ use mathlib.Core.Logic.{_≢_}
 use mathlib.Core.Path.{_≡_, sym, ap, _∙_, subst}
 use native.Mathlib.Decide.{ℕ-discrete}
 use native.Mathlib.Omega.{arith}
-use lib.Dec.{eqb}
 use borrow.Author.Tests.{lt-ltb, le-ltb}
 use Rattle.sets.specs.Set.{has, insert}
 use Rattle.cfg.specs.Grammar.{Symbol, nonterminal, terminal}
-use Rattle.packed.specs.Packed.{leftIn, tagIn, valueIn, symbolIn}
+use Rattle.packed.specs.Packed.{leftIn, isNonterminalIn, valueIn, symbolIn}
 use Rattle.packed.proofs.Fitting.{symbol-nonterminal, symbol-terminal}
 use Rattle.recognizer.specs.Passes.{placeCuts, addedIn, Used}
 
@@ -25,7 +24,7 @@ module _ (p : List ℕ) (r q empty own inner last v : ℕ) (b : Bool) (e : b ≡
   pub placed-inner : b ≡ true → true ≡ placeCuts (symbolIn p r q) q empty own inner last v
   placed-inner h = any-inner (symbolIn p r q) (sym e ∙ h)
 
-  module _ (f : b ≡ false) (t : Bool) (g : t ≡ eqb (tagIn p r q) 0) where
+  module _ (f : b ≡ false) (t : Bool) (g : t ≡ isNonterminalIn p r q) where
     node : (k : ℕ) → t ≡ true → k ≡ valueIn p r q → placeCuts (symbolIn p r q) q empty own inner last v
         ≡ ((has k empty && has (q + 1) v) || (has k own && has (q + 1) last))
     node k h d = ap (λ (s : Symbol). placeCuts s q empty own inner last v)

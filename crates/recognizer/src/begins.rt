@@ -5,11 +5,10 @@ ghost use mathlib.Core.Bool.{false, cond, _&&_};
 ghost use mathlib.Core.List.{List};
 ghost use mathlib.Core.Path.{_≡_};
 ghost use Prim.Native.Nat.{ℕ, _<_, _≤_};
-ghost use lib.Dec.{eqb};
 ghost use lib.ListN.{length};
 ghost use Rattle.sets.specs.Set.{has as inSet, insert};
 ghost use Rattle.chart.specs.Cell.{fitsAt};
-ghost use Rattle.packed.specs.Packed.{tagIn, countIn};
+ghost use Rattle.packed.specs.Packed.{isNonterminalIn, countIn};
 ghost use Rattle.recognizer.specs.Flags.{Between, InnerPlace, InnerMask, InnerMasks};
 ghost use Rattle.sizes.specs.Sizes.{cells};
 
@@ -65,7 +64,7 @@ fn inner_terminal(
     n: usize,
     flags: &Flags,
 ) -> bool
-    requires { ⌜ (r < 128) × (q < 8) × (n ≤ 64) × (q < countIn (now p) r) × (eqb (tagIn (now p) r q) 0 ≡ false) ⌝ }
+    requires { ⌜ (r < 128) × (q < 8) × (n ≤ 64) × (q < countIn (now p) r) × (isNonterminalIn (now p) r q ≡ false) ⌝ }
     ensures { λ f. ⌜ ((chart : List ℕ) → InnerPlace (fitsAt (now (w .entry))) (now (p .entry)) r q i n chart (now (flags .entry)) f) ⌝ }
 {
     if i < n {

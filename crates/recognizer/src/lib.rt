@@ -7,6 +7,7 @@ use grammar::Grammar;
 use grammar::Refusal;
 use grammar::Verdict;
 use packed::Packed;
+use packed::wide;
 use passes::closure;
 ghost use mathlib.Core.Bool.{true};
 ghost use mathlib.Core.List.{[], _∷_, _++_};
@@ -146,12 +147,6 @@ pub fn complete(start: usize, n: usize, chart: &[u32]) -> bool
 }
 
 // ---- the exported calls
-
-fn wide(x: u8) -> usize
-    ensures { λ n. ⌜ n ≡ x ⌝ }
-{
-    x as usize
-}
 
 // The answer "complete", after n bytes.
 fn says(start: u8, n: usize, chart: &[u32]) -> Verdict

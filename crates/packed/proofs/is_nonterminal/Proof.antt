@@ -1,7 +1,7 @@
 -- `packed::is_nonterminal` meets its contract: the byte read is the tag.
 -- Assumes nothing.
 use borrow.Author.Needs.{needs}
-use Rattle.packed.specs.Packed.{tagIn}
+use Rattle.packed.specs.Packed.{isNonterminalIn, tagIn}
 use Rattle.packed.proofs.is_nonterminal.Statement.{statement}
 use Rattle.packed.proofs.is_nonterminal.Tie as tie
 
@@ -21,7 +21,7 @@ element-copy-out-result : tie.Need-element-copy-out-result
 element-copy-out-result c = search needs
 
 returns : tie.Need-returns
-unfolding tagIn
+unfolding isNonterminalIn tagIn
 returns c = search needs
 
 pub is-nonterminal-spec : {M : Type 1} → statement M
