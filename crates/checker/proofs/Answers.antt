@@ -2,7 +2,7 @@
 -- Assumes nothing.
 use Prim.Native.Nat.{ℕ, _≤_}
 use mathlib.Core.Bool.{Bool, true, false, not}
-use mathlib.Core.List.{List}
+use mathlib.Core.List.{List, [], _∷_, map}
 use mathlib.Core.Path.{_≡_, sym, ap, _∙_}
 use lib.IntN.{ℤ}
 use lib.ListN.{length}
@@ -18,7 +18,7 @@ use Rattle.chart.specs.Column.{filled}
 use Rattle.grammar.specs.declared.Grammar.{Grammar}
 use Rattle.grammar.specs.declared.Refusal.{Refusal}
 use Rattle.grammar.specs.Number.{numberOf}
-use Rattle.grammar.specs.View.{grammarOf, lengthsOf}
+use Rattle.grammar.specs.View.{grammarOf}
 use Rattle.packed.specs.Packed.{cfgIn}
 use Rattle.prepare.specs.declared.Judged.{Judged}
 use Rattle.prepare.specs.declared.Judged.the-variants.{Passed, Refused}
@@ -26,13 +26,15 @@ use Rattle.prepare.specs.Given.{checkingOf}
 use Rattle.prepare.specs.Judging.{Judging}
 use Rattle.prepare.proofs.Deciding.{call-refused, call-passed}
 use Rattle.prepare.proofs.Packing.{list-packed}
-use Rattle.results.specs.Answer.{Answer, refused, answered, decide}
+use Rattle.results.specs.Answer.{Answer, refused, answered, check, decide}
 use Rattle.results.specs.Check.{listed, checkIn, checkOf}
 use Rattle.results.specs.Measure.{sum, rounded, unlisted, lengthIn, lengthOf, rulesUsed, sameBag, sameBuildIn, sameBuildOf}
 use Rattle.checker.specs.Build.{Low}
+use Rattle.checker.specs.Measure.{lengthOfRule, lengthsIn}
 use Rattle.checker.specs.Calls.{checkAnswer, lengthAnswer, buildAnswer}
 use Rattle.checker.proofs.Whole.{listed-derivation}
 use Rattle.checker.proofs.Bags.{derivation-low}
+use Rattle.checker.proofs.Lengths.{sum-row}
 
 -- ---- a row that `is_derivation` affirms
 
@@ -115,10 +117,13 @@ module _ (g : Grammar) (w chart : List ℕ) (j : Judged) (judging : Judging g (l
     check-answered a e d =
         call-passed g w chart _ j judging chart' a is (filling .0) (d ∙ ap (λ (l : List (List ℕ)). checkAnswer l e) same)
 
-    pub length-answered : (a : Answer ℤ) (e : List ℕ) → a ≡ lengthAnswer (lengthsOf g) (L (cfgIn s p) w) e → checkingOf a chart' ≡ lengthOf g w e chart
+    pub length-answered : (l : List ℤ) (a : Answer ℤ) (e : List ℕ) → l ≡ map lengthOfRule (g .rules)
+        → a ≡ lengthAnswer (lengthsIn l) (L (cfgIn s p) w) e → checkingOf a chart' ≡ lengthOf g w e chart
     unfolding lengthOf lengthIn unlisted
-    length-answered a e d =
-        call-passed g w chart _ j judging chart' a is (filling .0) (d ∙ ap (λ (l : List (List ℕ)). lengthAnswer (lengthsOf g) l e) same)
+    length-answered l a e m d =
+        call-passed g w chart _ j judging chart' a is (filling .0)
+        (d ∙ ap (λ (x : List (List ℕ)). lengthAnswer (lengthsIn l) x e) same
+        ∙ ap (λ (z : ℤ). decide (check (not (listed e (L (grammarOf g) w))) 12 ∷ []) refused (λ _. answered (rounded z))) (sum-row g l m e))
 
     pub build-answered : (a : Answer Bool) (b c : List ℕ) → a ≡ buildAnswer (L (cfgIn s p) w) b c → checkingOf a chart' ≡ sameBuildOf g w b c chart
     unfolding sameBuildOf sameBuildIn unlisted

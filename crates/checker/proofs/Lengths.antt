@@ -1,11 +1,12 @@
 -- The sum of the rule lengths, node by node, in signed numbers of 32 bits.
 -- Assumes nothing.
-use Prim.Native.Nat.{ℕ, _+_, _*_, _/_, _≤_, _<_, min}
-use mathlib.Core.List.{List, [], _∷_}
-use mathlib.Core.Path.{_≡_, refl, sym, ap, subst, _∙_}
+use Prim.Native.Nat.{ℕ, zero, suc, _+_, _*_, _/_, _≤_, _<_, min}
+use mathlib.Core.List.{List, [], _∷_, _++_, map}
+use mathlib.Core.Path.{_≡_, refl, sym, ap, ap₂, subst, _∙_}
 use native.Mathlib.Omega.{arith}
 use lib.IntN.{ℤ, pos, _+ℤ_, +ℤ-assoc, +ℤ-idl, +ℤ-idr}
-use lib.ListN.{length, getD, drop, length-drop, List·getD-eq-default}
+use lib.ListN.{length, getD, drop, take, set, length-drop, length-map, List·getD-eq-default}
+use lib.Seq.{take-all, take-suc, take-suc-set}
 use lib.Signed.{mag}
 use mir.Syntax.{w16, w32}
 use mir.Val.{SFits, toZ, ofZ}
@@ -15,6 +16,7 @@ use Rattle.grammar.specs.declared.Rule.{Rule}
 use Rattle.grammar.specs.View.{lengthsOf}
 use Rattle.grammar.specs.Zero.{noRule}
 use Rattle.results.specs.Measure.{sum}
+use Rattle.checker.specs.Measure.{lengthOfRule, lengthsIn}
 use Rattle.checker.proofs.Nodes.{at-two}
 use Rattle.checker.proofs.Signed.{sum-size, fits-32, through}
 
@@ -53,42 +55,38 @@ module _ (z y : ℤ) (is : y ≡ z) (little : mag y < 32768) (s i : ℕ) (small 
 
 -- ---- the sum
 
-module _ (g : Grammar) (e : List ℕ) where
-  -- the length of the rule of a number
-  abbrev lengthAt : ℕ → ℤ
-  lengthAt = lengthsOf g
-
-  pub sum-start : pos 0 +ℤ sum (lengthsOf g) e ≡ sum (lengthsOf g) e
-  sum-start = +ℤ-idl (sum (lengthsOf g) e)
+module _ (lengthAt : ℕ → ℤ) (e : List ℕ) where
+  pub sum-start : pos 0 +ℤ sum lengthAt e ≡ sum lengthAt e
+  sum-start = +ℤ-idl (sum lengthAt e)
 
   sum-step : (i r : ℕ) → i < length e / 2 → r ≡ getD e (2 * i + 1) 0
-      → sum (lengthsOf g) (drop (2 * i) e) ≡ lengthAt r +ℤ sum (lengthsOf g) (drop (2 * (i + 1)) e)
+      → sum lengthAt (drop (2 * i) e) ≡ lengthAt r +ℤ sum lengthAt (drop (2 * (i + 1)) e)
   unfolding sum
   sum-step i r h q =
       let j : 2 * i + 2 ≡ 2 * (i + 1) = omega arith in
-      ap (sum (lengthsOf g)) (at-two e (2 * i) (getD e (2 * i) 0) r (omega arith) refl (sym q))
-      ∙ ap (λ (k : ℕ). lengthAt r +ℤ sum (lengthsOf g) (drop k e)) j
+      ap (sum lengthAt) (at-two e (2 * i) (getD e (2 * i) 0) r (omega arith) refl (sym q))
+      ∙ ap (λ (k : ℕ). lengthAt r +ℤ sum lengthAt (drop k e)) j
 
   -- at most one number is left, which is no node
-  sum-end : (i : ℕ) → length e / 2 ≤ i → sum (lengthsOf g) (drop (2 * i) e) ≡ pos 0
+  sum-end : (i : ℕ) → length e / 2 ≤ i → sum lengthAt (drop (2 * i) e) ≡ pos 0
   unfolding sum
   sum-end i h = go (drop (2 * i) e) (omega (arith, length-drop (2 * i) e))
     where
-      go : (l : List ℕ) → length l ≤ 1 → sum (lengthsOf g) l ≡ pos 0
+      go : (l : List ℕ) → length l ≤ 1 → sum lengthAt l ≡ pos 0
       go [] k = refl
       go (a ∷ []) k = refl
       go (a ∷ b ∷ l) k = absurd (omega arith)
 
   module _ (i s s' r : ℕ) (h : i < length e / 2) (short : length e ≤ 1024) (number : r ≡ min (getD e (2 * i + 1) 0) 128)
-      (so-far : toZ w32 s +ℤ sum (lengthsOf g) (drop (2 * i) e) ≡ sum (lengthsOf g) e) (small : mag (toZ w32 s) ≤ 32768 * i) where
+      (so-far : toZ w32 s +ℤ sum lengthAt (drop (2 * i) e) ≡ sum lengthAt e) (small : mag (toZ w32 s) ≤ 32768 * i) where
     -- what the invariant says after the node
     abbrev Next : Type 0
-    Next = (toZ w32 s' +ℤ sum (lengthsOf g) (drop (2 * (i + 1)) e) ≡ sum (lengthsOf g) e) × (mag (toZ w32 s') ≤ 32768 * (i + 1))
+    Next = (toZ w32 s' +ℤ sum lengthAt (drop (2 * (i + 1)) e) ≡ sum lengthAt e) × (mag (toZ w32 s') ≤ 32768 * (i + 1))
 
     next : (q : ℕ) → q ≡ getD e (2 * i + 1) 0 → toZ w32 s' ≡ toZ w32 s +ℤ lengthAt q → mag (toZ w32 s') ≤ 32768 * (i + 1) → Next
     next q k d l = (
-      ap (λ (x : ℤ). x +ℤ sum (lengthsOf g) (drop (2 * (i + 1)) e)) d
-          ∙ +ℤ-assoc (toZ w32 s) (lengthAt q) (sum (lengthsOf g) (drop (2 * (i + 1)) e))
+      ap (λ (x : ℤ). x +ℤ sum lengthAt (drop (2 * (i + 1)) e)) d
+          ∙ +ℤ-assoc (toZ w32 s) (lengthAt q) (sum lengthAt (drop (2 * (i + 1)) e))
           ∙ ap (λ (x : ℤ). toZ w32 s +ℤ x) (sym (sum-step i q h k))
           ∙ so-far,
       l,
@@ -100,12 +98,47 @@ module _ (g : Grammar) (e : List ℕ) where
         next r (omega arith) x
         (subst (λ (z : ℤ). mag z ≤ 32768 * (i + 1)) (sym x) (more-size (lengthAt r) y (length .0) (length .1) s i small))
 
-    pub next-none : length (g .rules) ≡ 128 → 128 ≤ r → s' ≡ s → Next
-    next-none full high d =
+    pub next-none : ((q : ℕ) → 128 ≤ q → lengthAt q ≡ pos 0) → 128 ≤ r → s' ≡ s → Next
+    next-none beyond high d =
         let q = getD e (2 * i + 1) 0 in
-        let none : lengthAt q ≡ pos 0 = ap (λ (ρ : Rule). ρ .length) (List·getD-eq-default (g .rules) noRule {n = q} (omega arith)) in
+        let none : lengthAt q ≡ pos 0 = beyond q (omega arith) in
         next q refl (ap (toZ w32) d ∙ sym (ap (λ (x : ℤ). toZ w32 s +ℤ x) none ∙ +ℤ-idr (toZ w32 s)))
         (subst (λ (x : ℕ). mag (toZ w32 x) ≤ 32768 * (i + 1)) (sym d) (omega arith))
 
-  pub sum-done : (i s : ℕ) → length e / 2 ≤ i → toZ w32 s +ℤ sum (lengthsOf g) (drop (2 * i) e) ≡ sum (lengthsOf g) e → toZ w32 s ≡ sum (lengthsOf g) e
+  pub sum-done : (i s : ℕ) → length e / 2 ≤ i → toZ w32 s +ℤ sum lengthAt (drop (2 * i) e) ≡ sum lengthAt e → toZ w32 s ≡ sum lengthAt e
   sum-done i s h d = sym (+ℤ-idr (toZ w32 s)) ∙ ap (λ (x : ℤ). toZ w32 s +ℤ x) (sym (sum-end i h)) ∙ d
+
+-- ---- a row of lengths
+
+-- behind its end there is none
+pub lengths-beyond : (l : List ℤ) → length l ≡ 128 → (q : ℕ) → 128 ≤ q → lengthsIn l q ≡ pos 0
+lengths-beyond l full q h = List·getD-eq-default l (pos 0) {n = q} (omega arith)
+
+mapped : (rules : List Rule) (r : ℕ) → getD (map lengthOfRule rules) r (pos 0) ≡ getD rules r noRule .length
+mapped [] r = refl
+mapped (ρ ∷ rules) zero = refl
+mapped (ρ ∷ rules) (suc r) = mapped rules r
+
+-- one more written
+pub lengths-step : (l : List ℤ) (rules : List Rule) (r : ℕ) → r < length l → r < length rules
+    → take r l ≡ take r (map lengthOfRule rules)
+    → take (r + 1) (set l r (getD rules r noRule .length)) ≡ take (r + 1) (map lengthOfRule rules)
+lengths-step l rules r h k e =
+    let n : r + 1 ≡ suc r = omega arith in
+    let m : r < length (map lengthOfRule rules) = omega (arith, length-map rules lengthOfRule) in
+    rw n (take-suc-set l r (getD rules r noRule .length) h
+    ∙ ap (λ (x : List ℤ). x ++ (getD rules r noRule .length ∷ [])) e
+    ∙ ap (λ (z : ℤ). take r (map lengthOfRule rules) ++ (z ∷ [])) (sym (mapped rules r))
+    ∙ sym (take-suc (map lengthOfRule rules) r (pos 0) m))
+
+pub lengths-done : (l : List ℤ) (rules : List Rule) (r : ℕ) → length l ≡ 128 → length rules ≡ 128 → r ≤ 128 → 128 ≤ r
+    → take r l ≡ take r (map lengthOfRule rules) → l ≡ map lengthOfRule rules
+lengths-done l rules r n m h k e =
+    sym (take-all r l (omega arith)) ∙ e ∙ take-all r (map lengthOfRule rules) (omega (arith, length-map rules lengthOfRule))
+
+-- the lengths of a grammar, from their row
+pub sum-row : (g : Grammar) (l : List ℤ) → l ≡ map lengthOfRule (g .rules) → (e : List ℕ) → sum (lengthsIn l) e ≡ sum (lengthsOf g) e
+unfolding sum
+sum-row g l h [] = refl
+sum-row g l h (cover ∷ []) = refl
+sum-row g l h (cover ∷ r ∷ e) = ap₂ _+ℤ_ (ap (λ (x : List ℤ). lengthsIn x r) h ∙ mapped (g .rules) r) (sum-row g l h e)

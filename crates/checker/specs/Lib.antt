@@ -2,3 +2,4 @@
 pub mod Walk
 pub mod Build
 pub mod Calls
+pub mod Measure

@@ -5,7 +5,6 @@ use grammar::Verdict;
 use packed::Packed;
 use packed::wide;
 use prepare::Judged;
-ghost use Rattle.grammar.specs.View.{lengthsOf};
 ghost use mathlib.Core.Path.{_≡_};
 ghost use Prim.Native.Nat.{_≤_};
 ghost use lib.ListN.{length};
@@ -15,6 +14,7 @@ ghost use Rattle.prepare.specs.Given.{checkingOf};
 ghost use Rattle.recognizer.specs.Verdict.{verdictOf};
 ghost use Rattle.results.specs.Check.{checkOf};
 ghost use Rattle.results.specs.Measure.{lengthOf, sameBuildOf, sum as sumOf, rounded as roundedOf};
+ghost use Rattle.checker.specs.Measure.{lengthsIn};
 ghost use Rattle.checker.specs.Calls.{measuredOf, checkAnswer, lengthAnswer, buildAnswer};
 
 mod build;
@@ -39,19 +39,21 @@ fn check_offered(p: &Packed, start: usize, input: &[u8], offered: &[u16]) -> Ver
 }
 
 // The total length of a derivation, in tenths.
-fn tenths(g: Grammar, e: &[u16]) -> i32
-    requires { ⌜ length (now e) ≤ 1024 ⌝ }
-    ensures { λ r. ⌜ r ≡ roundedOf (sumOf (lengthsOf g) (now (e .entry))) ⌝ }
+fn tenths(l: &[i16], e: &[u16]) -> i32
+    requires { ⌜ (length (now e) ≤ 1024) × (length (now l) ≡ 128) ⌝ }
+    ensures { λ r. ⌜ r ≡ roundedOf (sumOf (lengthsIn (now (l .entry))) (now (e .entry))) ⌝ }
 {
-    measure::rounded(measure::total(g, e))
+    measure::rounded(measure::total(l, e))
 }
 
 // The length of an offered derivation.
-fn measure_offered(g: Grammar, p: &Packed, start: usize, input: &[u8], offered: &[u16]) -> Measured
-    ensures { λ r. ⌜ measuredOf r ≡ lengthAnswer (lengthsOf g) (L (cfgIn start (now (p .entry))) (now (input .entry))) (now (offered .entry)) ⌝ }
+fn measure_offered(l: &[i16], p: &Packed, start: usize, input: &[u8], offered: &[u16]) -> Measured
+    requires { ⌜ length (now l) ≡ 128 ⌝ }
+    ensures { λ r. ⌜ measuredOf r
+        ≡ lengthAnswer (lengthsIn (now (l .entry))) (L (cfgIn start (now (p .entry))) (now (input .entry))) (now (offered .entry)) ⌝ }
 {
     if walk::is_derivation(p, start, input, offered) {
-        Measured::Tenths(tenths(g, offered))
+        Measured::Tenths(tenths(l, offered))
     } else {
         Measured::Refused(Refusal::NotADerivation)
     }
@@ -100,7 +102,8 @@ pub fn length(g: Grammar, input: &[u8], offered: &[u16], chart: &mut [u32]) -> M
         Judged::Refused(r) => Measured::Refused(r),
         Judged::Passed => {
             let p = prepare::fill(g, input, chart);
-            measure_offered(g, &p, wide(g.start), input, offered)
+            let lengths = measure::lengths_of(g);
+            measure_offered(&lengths, &p, wide(g.start), input, offered)
         }
     }
 }

@@ -2,12 +2,16 @@
 use crate::walk::rule_number;
 use grammar::Grammar;
 use grammar::Rule;
-ghost use Rattle.grammar.specs.View.{lengthsOf};
+ghost use mathlib.Core.List.{map};
 ghost use mathlib.Core.Path.{_≡_};
 ghost use Prim.Native.Nat.{_<_, _≤_};
 ghost use lib.ListN.{length};
 ghost use lib.Signed.{mag};
 ghost use Rattle.results.specs.Measure.{sum as sumOf, rounded as roundedOf};
+ghost use Rattle.checker.specs.Measure.{lengthsIn, lengthOfRule};
+
+// The lengths of the rules, by their numbers.
+pub type Lengths = [i16; sizes::MAX_RULES];
 
 // Hundredths of a millimetre rounded to tenths, halves away from zero.
 pub fn rounded(sum: i32) -> i32
@@ -21,18 +25,39 @@ pub fn rounded(sum: i32) -> i32
     }
 }
 
-// The length of a rule, as a wider number.
-fn length_of(rule: Rule) -> i32
-    ensures { λ r. ⌜ (r ≡ rule .length) × (mag r < 32768) ⌝ }
+// The length of a rule.
+fn length_of(rule: Rule) -> i16
+    ensures { λ z. ⌜ z ≡ lengthOfRule rule ⌝ }
 {
     let z = rule.length;
+    z
+}
+
+// The lengths of a grammar's rules.
+pub fn lengths_of(g: Grammar) -> Lengths
+    ensures { λ l. ⌜ l ≡ map lengthOfRule (g .rules) ⌝ }
+{
+    let mut l = [0i16; sizes::MAX_RULES];
+    let mut r = 0;
+    while r < sizes::MAX_RULES {
+        let rule = g.rules[r];
+        l[r] = length_of(rule);
+        r += 1;
+    }
+    l
+}
+
+// A length, as a wider number.
+fn widened(z: i16) -> i32
+    ensures { λ y. ⌜ (y ≡ z) × (mag y < 32768) ⌝ }
+{
     z as i32
 }
 
 // The rule lengths of all nodes of an offered derivation, empty ones too, added up.
-pub fn total(g: Grammar, e: &[u16]) -> i32
-    requires { ⌜ length (now e) ≤ 1024 ⌝ }
-    ensures { λ r. ⌜ (r ≡ sumOf (lengthsOf g) (now (e .entry))) × (mag r ≤ 16777216) ⌝ }
+pub fn total(l: &[i16], e: &[u16]) -> i32
+    requires { ⌜ (length (now e) ≤ 1024) × (length (now l) ≡ 128) ⌝ }
+    ensures { λ r. ⌜ (r ≡ sumOf (lengthsIn (now (l .entry))) (now (e .entry))) × (mag r ≤ 16777216) ⌝ }
 {
     let n = e.len() / 2;
     let mut sum: i32 = 0;
@@ -40,8 +65,7 @@ pub fn total(g: Grammar, e: &[u16]) -> i32
     while i < n {
         let r = rule_number(e, i);
         if r < 128 {
-            let rule = g.rules[r];
-            sum += length_of(rule);
+            sum += widened(l[r]);
         }
         i += 1;
     }

@@ -18,6 +18,12 @@ enum-told c = search needs
 fill-requires : tie.Need-fill-requires
 fill-requires c κs = judged-ready _ _ _ _ (c .before .before .before .judge .ensures) (c .before .enum-told .given .1)
 
+lengths-of-requires : tie.Need-lengths-of-requires
+lengths-of-requires c κs = search needs
+
+slice-aggregate-measure-offered : tie.Need-slice-aggregate-measure-offered
+slice-aggregate-measure-offered c = search needs
+
 wide-requires : tie.Need-wide-requires
 wide-requires c κs = search needs
 
@@ -41,6 +47,8 @@ length-spec =
     enum-known-r
     enum-told
     fill-requires
+    lengths-of-requires
+    slice-aggregate-measure-offered
     wide-requires
     measure-offered-requires
     returns
