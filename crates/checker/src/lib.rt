@@ -17,7 +17,9 @@ ghost use Rattle.results.specs.Measure.{lengthOf, sameBuildOf, sum as sumOf, ro
 ghost use Rattle.checker.specs.Calls.{measuredOf, checkAnswer, lengthAnswer, buildAnswer};
 
 mod build;
+pub mod derivation;
 pub mod measure;
+mod numbers;
 pub mod walk;
 
 // The length in tenths of a millimetre, or why the call was refused.
@@ -30,7 +32,7 @@ pub enum Measured {
 fn check_offered(p: &Packed, start: usize, input: &[u8], offered: &[u16]) -> Verdict
     ensures { λ r. ⌜ verdictOf r ≡ checkAnswer (L (cfgIn start (now (p .entry))) (now (input .entry))) (now (offered .entry)) ⌝ }
 {
-    if walk::is_derivation(p, start, input, offered) {
+    if derivation::is_derivation(p, start, input, offered) {
         Verdict::Yes // a derivation
     } else {
         Verdict::No
@@ -49,7 +51,7 @@ fn tenths(g: Grammar, e: &[u16]) -> i32
 fn measure_offered(g: Grammar, p: &Packed, start: usize, input: &[u8], offered: &[u16]) -> Measured
     ensures { λ r. ⌜ measuredOf r ≡ lengthAnswer g (L (cfgIn start (now (p .entry))) (now (input .entry))) (now (offered .entry)) ⌝ }
 {
-    if walk::is_derivation(p, start, input, offered) {
+    if derivation::is_derivation(p, start, input, offered) {
         Measured::Tenths(tenths(g, offered))
     } else {
         Measured::Refused(Refusal::NotADerivation)
@@ -61,10 +63,10 @@ fn compare_offered(p: &Packed, start: usize, input: &[u8], a: &[u16], b: &[u16])
     ensures { λ r. ⌜ verdictOf r
         ≡ buildAnswer (L (cfgIn start (now (p .entry))) (now (input .entry))) (now (a .entry)) (now (b .entry)) ⌝ }
 {
-    if !walk::is_derivation(p, start, input, a) {
+    if !derivation::is_derivation(p, start, input, a) {
         return Verdict::Refused(Refusal::NotADerivation);
     }
-    if !walk::is_derivation(p, start, input, b) {
+    if !derivation::is_derivation(p, start, input, b) {
         return Verdict::Refused(Refusal::NotADerivation);
     }
     if build::same_rules(a, b) {

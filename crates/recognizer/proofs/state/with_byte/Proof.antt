@@ -1,4 +1,4 @@
--- `recognizer::with_byte` meets its contract. The loop's invariant: the bytes passed are copied, and zeros stand behind them.
+-- `recognizer::state::with_byte` meets its contract. The loop's invariant: the bytes passed are copied, and zeros stand behind them.
 -- The measure is what is left of the count. Assumes nothing.
 use Rattle.recognizer.proofs.Filling.{bytes-step, bytes-done}
 use lib.ListN.{take, drop, replicate, length-map}
@@ -6,8 +6,8 @@ use native.Mathlib.Omega.{arith}
 use mathlib.Core.Path.{_≡_, refl}
 use mathlib.Core.List.{_++_}
 use Prim.Native.Nat.{_≤_, _-_}
-use Rattle.recognizer.proofs.with_byte.Statement.{statement}
-use Rattle.recognizer.proofs.with_byte.Tie as tie
+use Rattle.recognizer.proofs.state.with_byte.Statement.{statement}
+use Rattle.recognizer.proofs.state.with_byte.Tie as tie
 
 abbrev Inv-loop : tie.InvT-loop
 Inv-loop byte h n bytes₀ i₀ bytes i = (i ≤ n) × (bytes ≡ take i (h .bytes) ++ drop i (replicate 64 0))

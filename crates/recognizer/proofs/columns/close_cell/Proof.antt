@@ -1,9 +1,9 @@
--- `recognizer::close_cell` meets its contract.
+-- `recognizer::columns::close_cell` meets its contract.
 -- Assumes nothing.
 use borrow.Author.Needs.{needs}
 use Rattle.recognizer.proofs.Column.{cell-written}
-use Rattle.recognizer.proofs.close_cell.Statement.{statement}
-use Rattle.recognizer.proofs.close_cell.Tie as tie
+use Rattle.recognizer.proofs.columns.close_cell.Statement.{statement}
+use Rattle.recognizer.proofs.columns.close_cell.Tie as tie
 
 inner-masks-requires : tie.Need-inner-masks-requires
 inner-masks-requires c κs = search needs

@@ -1,12 +1,12 @@
--- `checker::walk::is_derivation` meets its contract: too long and odd rows are no derivations, and the walk decides the others.
+-- `checker::derivation::is_derivation` meets its contract: too long and odd rows are no derivations, and the walk decides the others.
 -- Assumes nothing.
 use native.Mathlib.Omega.{arith}
 use borrow.Author.Needs.{needs}
 use Rattle.checker.proofs.Whole.{long-unlisted, odd-unlisted, whole-listed}
-use Rattle.checker.proofs.walk.is_derivation.Statement.{statement}
-use Rattle.checker.proofs.walk.is_derivation.Tie as tie
+use Rattle.checker.proofs.derivation.is_derivation.Statement.{statement}
+use Rattle.checker.proofs.derivation.is_derivation.Tie as tie
 
--- `checker::walk::is_derivation` meets its contract: too long and odd rows are no derivations, and the walk decides the others.
+-- `checker::derivation::is_derivation` meets its contract: too long and odd rows are no derivations, and the walk decides the others.
 -- Assumes nothing.
 
 returns : tie.Need-returns

@@ -1,12 +1,12 @@
--- `recognizer::write_column` meets its contract. The loop's invariant: the cells of the starts from i on are written.
+-- `recognizer::columns::write_column` meets its contract. The loop's invariant: the cells of the starts from i on are written.
 -- The measure is i. Assumes nothing.
 use borrow.Author.Needs.{needs}
 use Rattle.recognizer.proofs.Column.{column-start-zero, column-done}
 use Rattle.recognizer.specs.Columns.{WrittenFrom}
 use native.Mathlib.Omega.{arith}
 use Prim.Native.Nat.{_≤_, _+_}
-use Rattle.recognizer.proofs.write_column.Statement.{statement}
-use Rattle.recognizer.proofs.write_column.Tie as tie
+use Rattle.recognizer.proofs.columns.write_column.Statement.{statement}
+use Rattle.recognizer.proofs.columns.write_column.Tie as tie
 
 abbrev Inv-loop : tie.InvT-loop
 Inv-loop p w n chart₀ rules flags₀ i₀ chart flags i = (i ≤ n + 1) × WrittenFrom p w chart₀ rules n i chart flags

@@ -1,11 +1,11 @@
--- `recognizer::complete` meets its contract.
+-- `recognizer::columns::complete` meets its contract.
 -- Assumes nothing.
 use borrow.Author.Needs.{needs}
 use Rattle.recognizer.proofs.Column.{cell-first-row}
 use Rattle.sets.specs.Set.{has}
 use mathlib.Core.Path.{ap, _∙_}
-use Rattle.recognizer.proofs.complete.Statement.{statement}
-use Rattle.recognizer.proofs.complete.Tie as tie
+use Rattle.recognizer.proofs.columns.complete.Statement.{statement}
+use Rattle.recognizer.proofs.columns.complete.Tie as tie
 
 mul-contains : tie.Need-mul-contains
 mul-contains c = search needs

@@ -1,4 +1,4 @@
--- `recognizer::fill` meets its contract. The loop's invariant: the bytes passed are taken.
+-- `recognizer::columns::fill` meets its contract. The loop's invariant: the bytes passed are taken.
 -- The measure is what is left of the input. Assumes nothing.
 use borrow.Author.Needs.{needs}
 use Rattle.recognizer.proofs.Filling.{fill-start}
@@ -12,8 +12,8 @@ use native.Mathlib.Omega.{arith}
 use mathlib.Core.Path.{_≡_, refl}
 use mathlib.Core.List.{[]}
 use Prim.Native.Nat.{_≤_, _-_}
-use Rattle.recognizer.proofs.fill.Statement.{statement}
-use Rattle.recognizer.proofs.fill.Tie as tie
+use Rattle.recognizer.proofs.columns.fill.Statement.{statement}
+use Rattle.recognizer.proofs.columns.fill.Tie as tie
 
 abbrev Inv-loop : tie.InvT-loop
 Inv-loop p w chart₀ m₀ chart m = (m ≤ length w) × (length chart ≡ length chart₀) × (chart ≡ extendedBy (cfgIn 0 p) [] (take m w) chart₀)

@@ -1,12 +1,12 @@
--- `recognizer::rule_count` meets its contract. The loop's invariant: no used rule has a number from m on.
+-- `recognizer::columns::rule_count` meets its contract. The loop's invariant: no used rule has a number from m on.
 -- The measure is m. Assumes nothing.
 use borrow.Author.Needs.{needs}
 use Rattle.recognizer.proofs.Rule.{used-all, used-fewer}
 use Rattle.recognizer.specs.Passes.{Used}
 use native.Mathlib.Omega.{arith}
 use Prim.Native.Nat.{_≤_}
-use Rattle.recognizer.proofs.rule_count.Statement.{statement}
-use Rattle.recognizer.proofs.rule_count.Tie as tie
+use Rattle.recognizer.proofs.columns.rule_count.Statement.{statement}
+use Rattle.recognizer.proofs.columns.rule_count.Tie as tie
 
 abbrev Inv-loop : tie.InvT-loop
 Inv-loop p m₀ m = (m ≤ 128) × Used p m

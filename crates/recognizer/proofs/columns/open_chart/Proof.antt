@@ -1,9 +1,9 @@
--- `recognizer::open_chart` meets its contract.
+-- `recognizer::columns::open_chart` meets its contract.
 -- Assumes nothing.
 use borrow.Author.Needs.{needs}
 use Rattle.recognizer.proofs.Filling.{opened-is}
-use Rattle.recognizer.proofs.open_chart.Statement.{statement}
-use Rattle.recognizer.proofs.open_chart.Tie as tie
+use Rattle.recognizer.proofs.columns.open_chart.Statement.{statement}
+use Rattle.recognizer.proofs.columns.open_chart.Tie as tie
 
 clear-requires : tie.Need-clear-requires
 clear-requires c κs = search needs

@@ -1,9 +1,9 @@
--- `recognizer::blank` meets its contract.
+-- `recognizer::state::blank` meets its contract.
 -- Assumes nothing.
 use Rattle.results.specs.Recognize.{stateOf}
 use mathlib.Core.Path.{refl}
-use Rattle.recognizer.proofs.blank.Statement.{statement}
-use Rattle.recognizer.proofs.blank.Tie as tie
+use Rattle.recognizer.proofs.state.blank.Statement.{statement}
+use Rattle.recognizer.proofs.state.blank.Tie as tie
 
 returns : tie.Need-returns
 unfolding stateOf

@@ -1,4 +1,4 @@
--- `recognizer::clear` meets its contract. The loop's invariant: the cells passed are zero, and the others as found.
+-- `recognizer::columns::clear` meets its contract. The loop's invariant: the cells passed are zero, and the others as found.
 -- The measure is what is left of the cells. Assumes nothing.
 use Rattle.sizes.specs.Sizes.{cells}
 use Rattle.recognizer.proofs.Filling.{clear-step, clear-done}
@@ -7,8 +7,8 @@ use native.Mathlib.Omega.{arith}
 use mathlib.Core.Path.{_≡_, refl}
 use mathlib.Core.List.{_++_}
 use Prim.Native.Nat.{_≤_, _-_}
-use Rattle.recognizer.proofs.clear.Statement.{statement}
-use Rattle.recognizer.proofs.clear.Tie as tie
+use Rattle.recognizer.proofs.columns.clear.Statement.{statement}
+use Rattle.recognizer.proofs.columns.clear.Tie as tie
 
 abbrev Inv-loop : tie.InvT-loop
 Inv-loop chart₀ i₀ chart i = (i ≤ cells) × (length chart ≡ length chart₀) × (chart ≡ replicate i 0 ++ drop i chart₀)
