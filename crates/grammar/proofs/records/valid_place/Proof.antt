@@ -1,9 +1,9 @@
--- `grammar::valid_place` meets its contract. At a nonterminal the test is the one of `validSymbol` there.
+-- `grammar::records::valid_place` meets its contract. At a nonterminal the test is the one of `validSymbol` there.
 -- Assumes nothing.
 use borrow.Author.Needs.{needs}
 use Rattle.grammar.proofs.Laws.{place-nonterminal}
-use Rattle.grammar.proofs.valid_place.Statement.{statement}
-use Rattle.grammar.proofs.valid_place.Tie as tie
+use Rattle.grammar.proofs.records.valid_place.Statement.{statement}
+use Rattle.grammar.proofs.records.valid_place.Tie as tie
 
 enum-known-s : tie.Need-enum-known-s
 enum-known-s c = search needs

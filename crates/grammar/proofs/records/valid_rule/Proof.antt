@@ -1,4 +1,4 @@
--- `grammar::valid_rule` meets its contract. The loop's invariant: the left side and the count are small, and the places passed are valid.
+-- `grammar::records::valid_rule` meets its contract. The loop's invariant: the left side and the count are small, and the places passed are valid.
 -- The measure is what is left of the count. Assumes nothing.
 use Prim.Native.Nat.{_≤_, _-_}
 use mathlib.Core.Bool.{true}
@@ -10,8 +10,8 @@ use native.Mathlib.Omega.{arith}
 use lib.ListN.{take}
 use Rattle.grammar.specs.Valid.{all, validPlace}
 use Rattle.grammar.proofs.Laws.{all-next, rule-left, rule-count, rule-place, rule-passes}
-use Rattle.grammar.proofs.valid_rule.Statement.{statement}
-use Rattle.grammar.proofs.valid_rule.Tie as tie
+use Rattle.grammar.proofs.records.valid_rule.Statement.{statement}
+use Rattle.grammar.proofs.records.valid_rule.Tie as tie
 
 abbrev Inv-loop : tie.InvT-loop
 Inv-loop rule n q₀ q = (q ≤ n) × (n ≤ 8) × (rule .left ≤ 31) × (all validPlace (take q (rule .places)) ≡ true)
