@@ -18,7 +18,9 @@ ghost use Rattle.checker.specs.Measure.{lengthsIn};
 ghost use Rattle.checker.specs.Calls.{measuredOf, checkAnswer, lengthAnswer, buildAnswer};
 
 mod build;
+pub mod derivation;
 pub mod measure;
+mod numbers;
 pub mod walk;
 
 // The length in tenths of a millimetre, or why the call was refused.
@@ -31,7 +33,7 @@ pub enum Measured {
 fn check_offered(p: &Packed, start: usize, input: &[u8], offered: &[u16]) -> Verdict
     ensures { λ r. ⌜ verdictOf r ≡ checkAnswer (L (cfgIn start (now (p .entry))) (now (input .entry))) (now (offered .entry)) ⌝ }
 {
-    if walk::is_derivation(p, start, input, offered) {
+    if derivation::is_derivation(p, start, input, offered) {
         Verdict::Yes // a derivation
     } else {
         Verdict::No
@@ -52,7 +54,7 @@ fn measure_offered(l: &[i16], p: &Packed, start: usize, input: &[u8], offered: &
     ensures { λ r. ⌜ measuredOf r
         ≡ lengthAnswer (lengthsIn (now (l .entry))) (L (cfgIn start (now (p .entry))) (now (input .entry))) (now (offered .entry)) ⌝ }
 {
-    if walk::is_derivation(p, start, input, offered) {
+    if derivation::is_derivation(p, start, input, offered) {
         Measured::Tenths(tenths(l, offered))
     } else {
         Measured::Refused(Refusal::NotADerivation)
@@ -64,10 +66,10 @@ fn compare_offered(p: &Packed, start: usize, input: &[u8], a: &[u16], b: &[u16])
     ensures { λ r. ⌜ verdictOf r
         ≡ buildAnswer (L (cfgIn start (now (p .entry))) (now (input .entry))) (now (a .entry)) (now (b .entry)) ⌝ }
 {
-    if !walk::is_derivation(p, start, input, a) {
+    if !derivation::is_derivation(p, start, input, a) {
         return Verdict::Refused(Refusal::NotADerivation);
     }
-    if !walk::is_derivation(p, start, input, b) {
+    if !derivation::is_derivation(p, start, input, b) {
         return Verdict::Refused(Refusal::NotADerivation);
     }
     if build::same_rules(a, b) {

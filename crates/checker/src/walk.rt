@@ -1,14 +1,11 @@
 // The checker proper: the checker of a node calls the walker of a row of places, which calls the checker of a node.
-// Node i of an offered derivation e is the two numbers at 2 i (how many bytes it covers) and 2 i + 1 (its rule).
+use crate::numbers::number;
 use packed::Packed;
-ghost use mathlib.Core.Path.{_≡_};
 ghost use mathlib.Core.List.{[], _∷_};
-ghost use Prim.Native.Nat.{_*_, _+_, _-_, _<_, _≤_, min};
-ghost use lib.ListN.{length, getD};
+ghost use Prim.Native.Nat.{_*_, _+_, _-_, _<_, _≤_};
+ghost use lib.ListN.{length};
 ghost use Rattle.cfg.specs.Grammar.{nonterminal};
-ghost use Rattle.cfg.specs.Listing.{L};
 ghost use Rattle.packed.specs.Packed.{placesFrom, countIn, cfgIn};
-ghost use Rattle.results.specs.Check.{listed};
 ghost use Rattle.checker.specs.Walk.{Walked, Answers, Room, SameSpan, Opens, Looked};
 ghost use Rattle.sizes.specs.Sizes.{tooMany};
 
@@ -18,23 +15,6 @@ pub enum Step {
     End,
     Byte,
     Node(usize, usize),
-}
-
-// A number of an offered derivation.
-pub fn number(e: &[u16], i: usize) -> usize
-    requires { ⌜ i < length (now e) ⌝ }
-    ensures { λ r. ⌜ (r ≡ getD (now (e .entry)) i 0) × (r < 65536) ⌝ }
-{
-    e[i] as usize
-}
-
-// The rule of node i, or 128 if that is less.
-pub fn rule_number(e: &[u16], i: usize) -> usize
-    requires { ⌜ (2 * i + 1 < length (now e)) × (i < 512) ⌝ }
-    ensures { λ r. ⌜ r ≡ min (getD (now (e .entry)) (2 * i + 1) 0) 128 ⌝ }
-{
-    let r = number(e, 2 * i + 1);
-    if r < 128 { r } else { 128 }
 }
 
 // Of the set `above` over `cover` bytes, what matters for a node over c bytes: all of it, or nothing.
@@ -163,20 +143,4 @@ pub fn row(
             row(p, w, e, n, cover, above, r, q + 1, next, from + c, to)
         }
     }
-}
-
-// Whether the offered derivation is one of w.
-pub fn is_derivation(p: &Packed, start: usize, w: &[u8], e: &[u16]) -> bool
-    ensures { λ b. ⌜ b ≡ listed (now (e .entry)) (L (cfgIn start (now (p .entry))) (now (w .entry))) ⌝ }
-{
-    let m = e.len();
-    if m > 1024 {
-        return false;
-    }
-    if m % 2 == 1 {
-        return false;
-    }
-    let n = m / 2;
-    let cover = w.len();
-    node(p, w, e, n, cover, 0, start, 0, 0, cover) == n
 }

@@ -1,7 +1,10 @@
 // The declared types of a grammar (document 01: a loaded book), check 8 over any struct handed in, and the refusals.
+mod records;
+
+use records::valid_rule;
 ghost use mathlib.Core.Path.{_≡_};
 ghost use Rattle.grammar.specs.Zero.{zeroPlace, zeroRule, zeroGrammar};
-ghost use Rattle.grammar.specs.Valid.{validPlace, validRule, validGrammar};
+ghost use Rattle.grammar.specs.Valid.{validGrammar};
 ghost use Rattle.grammar.specs.Number.{numberOf};
 
 // What a place holds: a nonterminal (kind) or a terminal (mark).
@@ -109,36 +112,6 @@ pub fn zero_grammar() -> Grammar
         depth: 0,
         rules: [zero_rule(); 128],
     }
-}
-
-// Check 8 for one place.
-pub fn valid_place(p: Place) -> bool
-    ensures { λ r. ⌜ r ≡ validPlace p ⌝ }
-{
-    let s = p.symbol;
-    match s {
-        Symbol::Nonterminal(k) => k <= 31,
-        Symbol::Terminal(_) => true,
-    }
-}
-
-// Check 8 for one rule record.
-pub fn valid_rule(rule: Rule) -> bool
-    ensures { λ r. ⌜ r ≡ validRule rule ⌝ }
-{
-    let n = rule.count;
-    if rule.left > 31 || n > 8 {
-        return false;
-    }
-    let mut q = 0;
-    while q < n {
-        let p = rule.places[q];
-        if !valid_place(p) {
-            return false;
-        }
-        q += 1;
-    }
-    true
 }
 
 // Check 8: over any struct, and looking only at what the counts say is used.

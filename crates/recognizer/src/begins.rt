@@ -1,5 +1,5 @@
 // Where cuts of a span begin whose first piece lies inside the span: for each rule, the set of the places at which one begins.
-use super::Flags;
+use super::columns::Flags;
 use packed::Packed;
 ghost use mathlib.Core.Bool.{false, cond, _&&_};
 ghost use mathlib.Core.List.{List};

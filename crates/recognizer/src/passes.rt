@@ -1,7 +1,7 @@
 // Passes of the rules over one cell of a column, until nothing is added.
-use super::Flags;
 use super::begins::both;
 use super::begins::with_if;
+use super::columns::Flags;
 use packed::Packed;
 ghost use mathlib.Core.Path.{_≡_};
 ghost use Prim.Native.Nat.{_<_, _≤_};

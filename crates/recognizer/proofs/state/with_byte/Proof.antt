@@ -1,0 +1,66 @@
+-- `recognizer::state::with_byte` meets its contract. The loop's invariant: the bytes passed are copied, and zeros stand behind them.
+-- The measure is what is left of the count. Assumes nothing.
+use Rattle.recognizer.proofs.Filling.{bytes-step, bytes-done}
+use lib.ListN.{take, drop, replicate, length-map}
+use native.Mathlib.Omega.{arith}
+use mathlib.Core.Path.{_≡_, refl}
+use mathlib.Core.List.{_++_}
+use Prim.Native.Nat.{_≤_, _-_}
+use Rattle.recognizer.proofs.state.with_byte.Statement.{statement}
+use Rattle.recognizer.proofs.state.with_byte.Tie as tie
+
+abbrev Inv-loop : tie.InvT-loop
+Inv-loop byte h n bytes₀ i₀ bytes i = (i ≤ n) × (bytes ≡ take i (h .bytes) ++ drop i (replicate 64 0))
+
+abbrev μ-loop : tie.MeasureT-loop
+μ-loop byte h n bytes₀ i₀ bytes i = n - i
+
+loop-holds : tie.Need-loop-holds Inv-loop μ-loop
+loop-holds c = (omega arith, refl)
+
+element-copy-out-bytes : tie.Need-element-copy-out-bytes Inv-loop μ-loop
+element-copy-out-bytes c = omega arith
+
+array-write-bytes : tie.Need-array-write-bytes Inv-loop μ-loop
+array-write-bytes c = omega arith
+
+add-i : tie.Need-add-i Inv-loop μ-loop
+add-i c = omega arith
+
+loop-less : tie.Need-loop-less Inv-loop μ-loop
+loop-less c = omega arith
+
+loop-again : tie.Need-loop-again Inv-loop μ-loop
+loop-again c =
+    let l = c .before .before in
+    (omega arith, bytes-step _ (simp length-map at (l .before .good .0 .1 .1 .0 .1 .0 .1)) _ _ (omega arith) (l .loop .inv .1))
+
+array-write-bytes-2 : tie.Need-array-write-bytes-2 Inv-loop μ-loop
+array-write-bytes-2 c = omega arith
+
+add-t16 : tie.Need-add-t16 Inv-loop μ-loop
+add-t16 c = omega arith
+
+returns : tie.Need-returns Inv-loop μ-loop
+returns c =
+    let l = c .before in (
+      bytes-done _ (simp length-map at (l .before .good .0 .1 .1 .0 .1 .0 .1)) (l .loop .i) (l .before .args .t1 .count) _ _
+          (omega arith) (omega arith) (omega arith) (l .loop .inv .1),
+      refl,
+    )
+
+pub with-byte-spec : {M : Type 1} → statement M
+with-byte-spec =
+    tie.close
+    (tie.spec
+    Inv-loop
+    μ-loop
+    loop-holds
+    element-copy-out-bytes
+    array-write-bytes
+    add-i
+    loop-less
+    loop-again
+    array-write-bytes-2
+    add-t16
+    returns)

@@ -1,0 +1,37 @@
+// The state of the recognizer: that of no bytes, and that with one byte more.
+use super::Recognizer;
+ghost use mathlib.Core.List.{[], _∷_, _++_};
+ghost use mathlib.Core.Path.{_≡_};
+ghost use Prim.Native.Nat.{_+_, _<_};
+ghost use lib.ListN.{take as takeFirst};
+ghost use Rattle.results.specs.Recognize.{stateOf};
+ghost use Rattle.recognizer.specs.Recognizer.{stateIn};
+
+// The state of zeros.
+pub fn blank() -> Recognizer
+    ensures { λ h. ⌜ stateIn h ≡ stateOf [] ⌝ }
+{
+    Recognizer {
+        bytes: [0u8; 64],
+        count: 0,
+    }
+}
+
+// The state with one byte more, and zeros behind it.
+pub fn with_byte(h: Recognizer, byte: u8) -> Recognizer
+    requires { ⌜ h .count < 64 ⌝ }
+    ensures { λ r. ⌜ (stateIn r ≡ stateOf (takeFirst (h .count) (h .bytes) ++ (byte ∷ []))) × (r .count ≡ h .count + 1) ⌝ }
+{
+    let n = h.count;
+    let mut bytes = [0u8; 64];
+    let mut i = 0;
+    while i < n {
+        bytes[i] = h.bytes[i];
+        i += 1;
+    }
+    bytes[n] = byte;
+    Recognizer {
+        bytes,
+        count: n + 1,
+    }
+}
