@@ -15,7 +15,8 @@ use Rattle.grammar.specs.declared.Symbol.the-variants.{Nonterminal, Terminal}
 use Rattle.grammar.specs.declared.Rule.{Rule}
 use Rattle.grammar.specs.declared.Grammar.{Grammar}
 use Rattle.grammar.specs.Valid.{all, validSymbol, validPlace, validRule, validGrammar}
-use Rattle.flat.specs.Flat.{byteIn, symbolIn, recordsFrom, placeIn, placesIn, ruleIn, rulesIn, grammarIn, countOf, flatOf}
+use Rattle.numbers.specs.Numbers.{byteIn, countOf}
+use Rattle.flat.specs.Flat.{symbolIn, recordsFrom, placeIn, placesIn, ruleIn, rulesIn, grammarIn, flatOf}
 use Rattle.flat.specs.Fits.{Declared}
 use Rattle.flat.specs.Valid.{each, validTagged, validPlaceAt, validRuleAt, validRow}
 use Rattle.flat.proofs.Records.{records-more}

@@ -6,25 +6,7 @@ ghost use mathlib.Core.List.{_++_};
 ghost use mathlib.Core.Path.{_≡_};
 ghost use Prim.Native.Nat.{_+_, _≤_};
 ghost use lib.ListN.{length, take};
-ghost use Rattle.flat.specs.Flat.{countOf, unsignedOf, tagOf, valueOf, flatRule, flatSize, ruleNumbers};
-
-// A count, or 65535 if that is less: a count that check 8 refuses stays one.
-pub fn count_of(n: usize) -> u16
-    ensures { λ r. ⌜ r ≡ countOf n ⌝ }
-{
-    if n < 65535 { n as u16 } else { 65535 }
-}
-
-// The two's complement of a signed number of 16 bits.
-fn unsigned(z: i16) -> u16
-    ensures { λ n. ⌜ n ≡ unsignedOf z ⌝ }
-{
-    if z < 0 {
-        65535 - ((-1 - z) as u16)
-    } else {
-        z as u16
-    }
-}
+ghost use Rattle.flat.specs.Flat.{tagOf, valueOf, flatRule, flatSize, ruleNumbers};
 
 fn tag_of(s: Symbol) -> u16
     ensures { λ t. ⌜ t ≡ tagOf s ⌝ }
@@ -52,8 +34,8 @@ pub fn write_rule(rule: Rule, at: usize, f: &mut Flat)
 {
     f[at] = rule.left as u16;
     let z = rule.length;
-    f[at + 1] = unsigned(z);
-    f[at + 2] = count_of(rule.count);
+    f[at + 1] = numbers::unsigned(z);
+    f[at + 2] = numbers::count_of(rule.count);
     let mut q = 0;
     while q < 8 {
         let place = rule.places[q];

@@ -8,7 +8,8 @@ use mathlib.Core.Path.{_≡_, refl, sym, _∙_}
 use lib.ListN.{length, getD, take, set, length-set, length-map, List·getD-map}
 use lib.Seq.{take-suc, take-suc-set, take-all}
 use Rattle.results.specs.Recognize.{State}
-use Rattle.hand.specs.Hand.{byteIn, bytesIn, countIn, stateOfRow, countOf, rowOf}
+use Rattle.numbers.specs.Numbers.{byteIn, countOf}
+use Rattle.hand.specs.Hand.{bytesIn, countIn, stateOfRow, rowOf}
 
 -- l has n elements, and its first i are those of x
 pub record Copied (x : List ℕ) (n i : ℕ) (l : List ℕ) : Type 0 where

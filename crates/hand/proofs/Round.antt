@@ -14,7 +14,8 @@ use borrow.Author.Tests.{lt-ltb, le-leb}
 use Rattle.grammar.specs.Valid.{all}
 use Rattle.results.specs.Recognize.{State, stateOf, stateCheck}
 use Rattle.hand.specs.Declared.{Declared}
-use Rattle.hand.specs.Hand.{isByte, byteIn, bytesIn, countIn, stateOfRow, validHand, countOf, rowOf}
+use Rattle.numbers.specs.Numbers.{byteIn, countOf}
+use Rattle.hand.specs.Hand.{isByte, bytesIn, countIn, stateOfRow, validHand, rowOf}
 use Rattle.hand.proofs.Judged.{judged-whole}
 
 -- ---- bytes

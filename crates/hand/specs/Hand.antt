@@ -1,12 +1,13 @@
 -- A row is 65 numbers of 16 bits: the 64 bytes of a state of the recognizer (document 01: the marks of a plate in hand), then the count of
 -- those that have been taken. The state of a row, and the row of a state. Each number of a row is judged whole: a row with a used number
--- that is no byte is read as a state that check 14 refuses.
+-- that is no byte is read as a state that check 14 refuses, and a count too large for a row is written as one that it refuses.
 -- Assumes nothing.
-use Prim.Native.Nat.{ℕ, min}
+use Prim.Native.Nat.{ℕ}
 use mathlib.Core.Bool.{Bool, cond, _&&_}
 use mathlib.Core.List.{List, [], _∷_, _++_, map}
 use lib.Dec.{leb}
 use lib.ListN.{getD, take}
+use Rattle.numbers.specs.Numbers.{byteIn, countOf}
 use Rattle.grammar.specs.Valid.{all}
 use Rattle.results.specs.Recognize.{State}
 
@@ -15,10 +16,6 @@ use Rattle.results.specs.Recognize.{State}
 -- a number that a byte holds
 abbrev pub isByte : ℕ → Bool
 isByte n = leb n 255
-
--- the number in a byte's place: one over 255 is read as 255
-abbrev pub byteIn : ℕ → ℕ
-byteIn n = min n 255
 
 -- the 64 bytes
 unfoldable pub bytesIn : List ℕ → List ℕ
@@ -37,10 +34,6 @@ unfoldable pub validHand : List ℕ → Bool
 validHand h = leb (getD h 64 0) 64 && all isByte (take (getD h 64 0) h)
 
 -- ---- the row of a state
-
--- a count: one over 65535 is written as 65535, which check 14 refuses too
-abbrev pub countOf : ℕ → ℕ
-countOf n = min n 65535
 
 -- the row of a state
 unfoldable pub rowOf : State → List ℕ

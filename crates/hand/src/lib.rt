@@ -5,17 +5,10 @@ use recognizer::Recognizer;
 ghost use mathlib.Core.Path.{_≡_};
 ghost use Prim.Native.Nat.{min};
 ghost use Rattle.recognizer.specs.Recognizer.{stateIn};
-ghost use Rattle.hand.specs.Hand.{byteIn, countOf, bytesIn, countIn, stateOfRow, rowOf};
+ghost use Rattle.hand.specs.Hand.{bytesIn, countIn, stateOfRow, rowOf};
 
 // How many numbers the row has.
 pub const HAND: usize = sizes::MAX_INPUT + 1;
-
-// A number in a byte's place, or 255 if that is less.
-fn byte(n: u16) -> u8
-    ensures { λ b. ⌜ b ≡ byteIn n ⌝ }
-{
-    if n < 255 { n as u8 } else { 255 }
-}
 
 // The row goes in by value, so that its length is known.
 fn read_bytes(h: [u16; HAND]) -> [u8; 64]
@@ -24,16 +17,10 @@ fn read_bytes(h: [u16; HAND]) -> [u8; 64]
     let mut bytes = [0u8; 64];
     let mut i = 0;
     while i < 64 {
-        bytes[i] = byte(h[i]);
+        bytes[i] = numbers::byte(h[i]);
         i += 1;
     }
     bytes
-}
-
-fn wide(n: u16) -> usize
-    ensures { λ r. ⌜ r ≡ n ⌝ }
-{
-    n as usize
 }
 
 // How many of the 64 numbers a count says are used.
@@ -47,7 +34,7 @@ fn used(n: usize) -> usize
 fn read_count(h: &[u16; HAND]) -> usize
     ensures { λ n. ⌜ n ≡ countIn (now (h .entry)) ⌝ }
 {
-    let n = wide(h[64]);
+    let n = numbers::wide(h[64]);
     let m = used(n);
     let mut i = 0;
     while i < m {
@@ -68,13 +55,6 @@ pub fn read(h: &[u16; HAND]) -> Recognizer
     Recognizer { bytes, count }
 }
 
-// A count, or 65535 if that is less: a count that check 14 refuses stays one.
-fn count_of(n: usize) -> u16
-    ensures { λ r. ⌜ r ≡ countOf n ⌝ }
-{
-    if n < 65535 { n as u16 } else { 65535 }
-}
-
 // Writes the row of the state. The row is cleared first, so that its length is known whatever it held.
 pub fn write(r: Recognizer, h: &mut [u16; HAND])
     ensures { λ _. ⌜ now (h .exit) ≡ rowOf (stateIn r) ⌝ }
@@ -85,5 +65,5 @@ pub fn write(r: Recognizer, h: &mut [u16; HAND])
         h[k] = r.bytes[k] as u16;
         k += 1;
     }
-    h[64] = count_of(r.count);
+    h[64] = numbers::count_of(r.count);
 }

@@ -5,7 +5,7 @@ use native.Mathlib.Omega.{arith}
 use mathlib.Core.List.{map}
 use mathlib.Core.Path.{refl}
 use borrow.Author.Needs.{needs}
-use Rattle.hand.specs.Hand.{byteIn}
+use Rattle.numbers.specs.Numbers.{byteIn}
 use Rattle.hand.proofs.Copies.{Copied, copied-start, read-step, read-done}
 use Rattle.hand.proofs.read_bytes.Statement.{statement}
 use Rattle.hand.proofs.read_bytes.Tie as tie
