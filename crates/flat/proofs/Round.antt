@@ -13,17 +13,18 @@ use Rattle.grammar.specs.declared.Symbol.the-variants.{Nonterminal, Terminal}
 use Rattle.grammar.specs.declared.Place.{Place}
 use Rattle.grammar.specs.declared.Rule.{Rule}
 use Rattle.grammar.specs.declared.Grammar.{Grammar}
+use Rattle.grammar.specs.Tagged.{tagOf, valueOf}
 use Rattle.grammar.specs.Zero.{zeroPlace, noRule}
 use Rattle.numbers.specs.Numbers.{byteIn, countOf, signedIn, unsignedOf}
 use Rattle.numbers.proofs.Complement.{signed-round}
 use Rattle.flat.specs.Flat.{symbolIn, recordsFrom, placeIn, placesIn, ruleIn, rulesIn, grammarIn}
-use Rattle.flat.specs.Flat.{tagOf, valueOf, flatPlace, flatRule, flatOf}
+use Rattle.flat.specs.Flat.{flatPlace, flatRule, flatOf}
 use Rattle.flat.specs.Fits.{DeclaredRule, Declared, Fits16}
 
 -- ---- one place
 
 symbol-round : (s : Symbol) (t v : ℕ) → t ≡ tagOf s → v ≡ valueOf s → valueOf s < 256 → symbolIn t v ≡ s
-unfolding symbolIn tagOf valueOf
+unfolding symbolIn
 symbol-round (Nonterminal k) t v e f h =
     let d : byteIn k ≡ k = omega arith in
     rw (e, f, d)

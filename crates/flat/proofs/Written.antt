@@ -11,9 +11,10 @@ use mir.Val.{SFits, toZ, ofZ}
 use mir.Facts.{toZ-ofZ}
 use Rattle.grammar.specs.declared.Rule.{Rule}
 use Rattle.grammar.specs.declared.Grammar.{Grammar}
+use Rattle.grammar.specs.Tagged.{tagOf, valueOf}
 use Rattle.grammar.specs.Zero.{zeroPlace}
 use Rattle.numbers.specs.Numbers.{countOf, unsignedOf}
-use Rattle.flat.specs.Flat.{tagOf, valueOf, flatPlace, flatRule, flatOf, flatSize}
+use Rattle.flat.specs.Flat.{flatPlace, flatRule, flatOf, flatSize}
 use Rattle.flat.proofs.Records.{put-two, put-three, flat-step}
 
 -- in f, what stands before b is as in f₀, and the first q elements of l follow, w numbers each

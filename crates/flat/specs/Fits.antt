@@ -8,8 +8,8 @@ use lib.ListN as ListN
 use lib.Signed.{mag}
 use Rattle.grammar.specs.declared.Rule.{Rule}
 use Rattle.grammar.specs.declared.Grammar.{Grammar}
+use Rattle.grammar.specs.Tagged.{valueOf}
 use Rattle.grammar.specs.Zero.{zeroPlace, noRule}
-use Rattle.flat.specs.Flat.{valueOf}
 
 -- `mag (ρ .length) < 32768` says that the length is at least -32768 and below 32768
 pub record DeclaredRule (ρ : Rule) : Type 0 where

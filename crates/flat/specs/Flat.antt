@@ -15,6 +15,7 @@ use Rattle.grammar.specs.declared.Symbol.the-variants.{Nonterminal, Terminal}
 use Rattle.grammar.specs.declared.Place.{Place}
 use Rattle.grammar.specs.declared.Rule.{Rule}
 use Rattle.grammar.specs.declared.Grammar.{Grammar}
+use Rattle.grammar.specs.Tagged.{tagOf, valueOf}
 
 -- the numbers of a rule, and of a row
 abbrev pub ruleNumbers : ℕ
@@ -61,16 +62,6 @@ unfoldable pub grammarIn : List ℕ → Grammar
 grammarIn f = record { start = byteIn (getD f 0 0); count = getD f 1 0; depth = byteIn (getD f 2 0); rules = rulesIn f }
 
 -- ---- the row of a grammar
-
--- 0 for a nonterminal, 1 for a terminal
-unfoldable pub tagOf : Symbol → ℕ
-tagOf (Nonterminal k) = 0
-tagOf (Terminal m) = 1
-
--- the number that a symbol holds
-unfoldable pub valueOf : Symbol → ℕ
-valueOf (Nonterminal k) = k
-valueOf (Terminal m) = m
 
 -- the two numbers of a place
 unfoldable pub flatPlace : Place → List ℕ

@@ -1,30 +1,12 @@
-// The parts of a grammar, written to a row.
+// A rule, written to a row.
 use super::Flat;
 use grammar::Rule;
-use grammar::Symbol;
+use grammar::tagged;
 ghost use mathlib.Core.List.{_++_};
 ghost use mathlib.Core.Path.{_≡_};
 ghost use Prim.Native.Nat.{_+_, _≤_};
 ghost use lib.ListN.{length, take};
-ghost use Rattle.flat.specs.Flat.{tagOf, valueOf, flatRule, flatSize, ruleNumbers};
-
-fn tag_of(s: Symbol) -> u16
-    ensures { λ t. ⌜ t ≡ tagOf s ⌝ }
-{
-    match s {
-        Symbol::Nonterminal(_) => 0,
-        Symbol::Terminal(_) => 1,
-    }
-}
-
-fn value_of(s: Symbol) -> u16
-    ensures { λ v. ⌜ v ≡ valueOf s ⌝ }
-{
-    match s {
-        Symbol::Nonterminal(k) => k as u16,
-        Symbol::Terminal(m) => m as u16,
-    }
-}
+ghost use Rattle.flat.specs.Flat.{flatRule, flatSize, ruleNumbers};
 
 // Writes the rule behind the numbers before at.
 pub fn write_rule(rule: Rule, at: usize, f: &mut Flat)
@@ -40,8 +22,8 @@ pub fn write_rule(rule: Rule, at: usize, f: &mut Flat)
     while q < 8 {
         let place = rule.places[q];
         let s = place.symbol;
-        f[at + 3 + 2 * q] = tag_of(s);
-        f[at + 4 + 2 * q] = value_of(s);
+        f[at + 3 + 2 * q] = tagged::tag_of(s) as u16;
+        f[at + 4 + 2 * q] = tagged::value_of(s) as u16;
         q += 1;
     }
 }

@@ -1,4 +1,6 @@
 // The declared types of a grammar (document 01: a loaded book), check 8 over any struct handed in, and the refusals.
+pub mod tagged;
+
 ghost use mathlib.Core.Path.{_≡_};
 ghost use Rattle.grammar.specs.Zero.{zeroPlace, zeroRule, zeroGrammar};
 ghost use Rattle.grammar.specs.Valid.{validPlace, validRule, validGrammar};

@@ -1,7 +1,7 @@
 // The flat copy of a grammar for inner loops, which loops and recursion take by reference.
 use grammar::Grammar;
 use grammar::Rule;
-use grammar::Symbol;
+use grammar::tagged;
 ghost use mathlib.Core.Bool.{true};
 ghost use mathlib.Core.Path.{_≡_};
 ghost use Prim.Native.Nat.{ℕ, _<_, _≤_};
@@ -12,7 +12,7 @@ ghost use Rattle.cfg.specs.Grammar.{rule as ruleOfNumber};
 ghost use Rattle.grammar.specs.Valid.{validRule, validGrammar};
 ghost use Rattle.grammar.specs.View.{grammarOf};
 ghost use Rattle.packed.specs.Packed.{leftIn, countIn, tagIn, valueIn, symbolIn, cfgIn, fitsPlace, packedSize};
-ghost use Rattle.packed.specs.Place.{tagOf, valueOf, RulePut};
+ghost use Rattle.packed.specs.Place.{RulePut};
 
 // The bytes of a rule (its left side, its count, and two for each place), and of a packed grammar.
 pub const RULE_BYTES: usize = 2 + 2 * sizes::MAX_PLACES;
@@ -92,24 +92,6 @@ pub fn fits_at(p: &Packed, r: usize, q: usize, w: &[u8], i: usize) -> bool
     false
 }
 
-fn tag_of(s: Symbol) -> u8
-    ensures { λ t. ⌜ t ≡ tagOf s ⌝ }
-{
-    match s {
-        Symbol::Nonterminal(_) => 0,
-        Symbol::Terminal(_) => 1,
-    }
-}
-
-fn value_of(s: Symbol) -> u8
-    ensures { λ v. ⌜ v ≡ valueOf s ⌝ }
-{
-    match s {
-        Symbol::Nonterminal(k) => k,
-        Symbol::Terminal(m) => m,
-    }
-}
-
 // Writes the rule into row r.
 fn pack_rule(rule: Rule, r: usize, p: &mut Packed)
     requires { ⌜ (r < 128) × (validRule rule ≡ true) × (length (now p) ≡ packedSize) ⌝ }
@@ -122,8 +104,8 @@ fn pack_rule(rule: Rule, r: usize, p: &mut Packed)
     while q < n {
         let place = rule.places[q];
         let s = place.symbol;
-        p[RULE_BYTES * r + 2 + 2 * q] = tag_of(s);
-        p[RULE_BYTES * r + 3 + 2 * q] = value_of(s);
+        p[RULE_BYTES * r + 2 + 2 * q] = tagged::tag_of(s);
+        p[RULE_BYTES * r + 3 + 2 * q] = tagged::value_of(s);
         q += 1;
     }
 }
