@@ -17,7 +17,7 @@ use Rattle.grammar.specs.Tagged.{tagOf, valueOf}
 use Rattle.grammar.specs.Zero.{zeroPlace, noRule}
 use Rattle.numbers.specs.Numbers.{byteIn, countOf, signedIn, unsignedOf}
 use Rattle.numbers.proofs.Complement.{signed-round}
-use Rattle.flat.specs.Flat.{symbolIn, recordsFrom, placeIn, placesIn, ruleIn, rulesIn, grammarIn}
+use Rattle.flat.specs.Flat.{symbolIn, recordsFrom, placeIn, placesIn, ruleIn, rulesIn, grammarIn, ruleNumbers}
 use Rattle.flat.specs.Flat.{flatPlace, flatRule, flatOf}
 use Rattle.flat.specs.Fits.{DeclaredRule, Declared, Fits16}
 
@@ -78,7 +78,7 @@ unfolding flatMap flatPlace
 places-size [] = refl
 places-size (p ∷ l) = omega (arith, places-size l)
 
-rule-size : (ρ : Rule) → DeclaredRule ρ → length (flatRule ρ) ≡ 19
+rule-size : (ρ : Rule) → DeclaredRule ρ → length (flatRule ρ) ≡ ruleNumbers
 unfolding flatRule
 rule-size ρ d = omega (arith, places-size (ρ .places), d .places)
 
@@ -117,8 +117,8 @@ module _ (g : Grammar) (d : Declared g) where
   rules-back : rulesIn (flatOf g) ≡ map keptRule (g .rules)
   unfolding rulesIn flatOf
   rules-back =
-      records-back noRule flatRule keptRule (ruleIn (flatOf g)) 19 (flatOf g) DeclaredRule rule-size (rule-back (flatOf g)) (g .rules) 3
-      128 [] (d .rules) (d .each) (sym (append-nil (flatMap flatRule (g .rules))))
+      records-back noRule flatRule keptRule (ruleIn (flatOf g)) ruleNumbers (flatOf g) DeclaredRule rule-size (rule-back (flatOf g))
+      (g .rules) 3 128 [] (d .rules) (d .each) (sym (append-nil (flatMap flatRule (g .rules))))
 
   pub read-kept : grammarIn (flatOf g) ≡ kept g
   unfolding grammarIn flatOf

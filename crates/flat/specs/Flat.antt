@@ -1,4 +1,4 @@
--- A flat row is a row of numbers of 16 bits: the start symbol, the number of rules used, the nullable depth, and 19 numbers for each of 128
+-- A flat row is a row of numbers of 16 bits: the start symbol, the number of rules used, the nullable depth, and the numbers of each of 128
 -- rules: the left side, the length (two's complement), the number of places used, and for each of 8 places a tag (0 a nonterminal, 1 a
 -- terminal) and a value. The grammar of a row, and the row of a grammar. Each number of a row is judged whole: one that is too large for
 -- its place is read as a value that check 8 refuses where it is used, and a count too large for a row is written as one that it refuses.
@@ -42,7 +42,7 @@ placeIn f at = record { symbol = symbolIn (getD f at 0) (getD f (at + 1) 0) }
 
 -- the 8 places from an index on
 unfoldable pub placesIn : List ℕ → ℕ → List Place
-placesIn f at = recordsFrom (placeIn f) 2 at 8
+placesIn f at = recordsFrom (placeIn f) 2 at maxPlaces
 
 -- the rule at an index
 unfoldable pub ruleIn : List ℕ → ℕ → Rule
@@ -55,7 +55,7 @@ ruleIn f at = record {
 
 -- the 128 rules
 unfoldable pub rulesIn : List ℕ → List Rule
-rulesIn f = recordsFrom (ruleIn f) 19 3 128
+rulesIn f = recordsFrom (ruleIn f) ruleNumbers 3 maxRules
 
 -- the grammar of a row
 unfoldable pub grammarIn : List ℕ → Grammar

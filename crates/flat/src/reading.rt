@@ -6,7 +6,8 @@ use grammar::Place;
 use grammar::Rule;
 use grammar::Symbol;
 ghost use mathlib.Core.Path.{_≡_};
-ghost use Prim.Native.Nat.{_+_, _≤_};
+ghost use Prim.Native.Nat.{_+_, _*_, _≤_};
+ghost use Rattle.sizes.specs.Sizes.{maxPlaces};
 ghost use Rattle.flat.specs.Flat.{symbolIn, placeIn, placesIn, ruleIn, rulesIn, flatSize, ruleNumbers};
 
 // The symbol of a tag and a value. What is neither a nonterminal nor a terminal is the nonterminal 255.
@@ -37,7 +38,7 @@ fn read_place(f: &Flat, at: usize) -> Place
 }
 
 fn read_places(f: &Flat, at: usize) -> [Place; 8]
-    requires { ⌜ at + 16 ≤ flatSize ⌝ }
+    requires { ⌜ at + 2 * maxPlaces ≤ flatSize ⌝ }
     ensures { λ l. ⌜ l ≡ placesIn (now (f .entry)) at ⌝ }
 {
     let mut places = [grammar::zero_place(); 8];
