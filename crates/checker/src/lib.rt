@@ -2,8 +2,8 @@
 use grammar::Grammar;
 use grammar::Refusal;
 use grammar::Verdict;
+use numbers::wide_byte;
 use packed::Packed;
-use packed::wide;
 use prepare::Judged;
 ghost use mathlib.Core.Path.{_≡_};
 ghost use Prim.Native.Nat.{_≤_};
@@ -20,7 +20,7 @@ ghost use Rattle.checker.specs.Calls.{measuredOf, checkAnswer, lengthAns
 mod build;
 pub mod derivation;
 pub mod measure;
-mod numbers;
+mod offered;
 pub mod walk;
 
 // The length in tenths of a millimetre, or why the call was refused.
@@ -90,7 +90,7 @@ pub fn check(g: Grammar, input: &[u8], offered: &[u16], chart: &mut [u32]) -> Ve
         Judged::Refused(r) => Verdict::Refused(r),
         Judged::Passed => {
             let p = prepare::fill(g, input, chart);
-            check_offered(&p, wide(g.start), input, offered)
+            check_offered(&p, wide_byte(g.start), input, offered)
         }
     }
 }
@@ -105,7 +105,7 @@ pub fn length(g: Grammar, input: &[u8], offered: &[u16], chart: &mut [u32]) -> M
         Judged::Passed => {
             let p = prepare::fill(g, input, chart);
             let lengths = measure::lengths_of(g);
-            measure_offered(&lengths, &p, wide(g.start), input, offered)
+            measure_offered(&lengths, &p, wide_byte(g.start), input, offered)
         }
     }
 }
@@ -119,7 +119,7 @@ pub fn same_build(g: Grammar, input: &[u8], a: &[u16], b: &[u16], chart: &mut [u
         Judged::Refused(r) => Verdict::Refused(r),
         Judged::Passed => {
             let p = prepare::fill(g, input, chart);
-            compare_offered(&p, wide(g.start), input, a, b)
+            compare_offered(&p, wide_byte(g.start), input, a, b)
         }
     }
 }

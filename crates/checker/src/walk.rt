@@ -1,5 +1,5 @@
 // The checker proper: the checker of a node calls the walker of a row of places, which calls the checker of a node.
-use crate::numbers::number;
+use crate::offered::number;
 use packed::Packed;
 ghost use mathlib.Core.List.{[], _∷_};
 ghost use Prim.Native.Nat.{_*_, _+_, _-_, _<_, _≤_};

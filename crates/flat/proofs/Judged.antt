@@ -15,7 +15,8 @@ use Rattle.grammar.specs.declared.Symbol.the-variants.{Nonterminal, Terminal}
 use Rattle.grammar.specs.declared.Rule.{Rule}
 use Rattle.grammar.specs.declared.Grammar.{Grammar}
 use Rattle.grammar.specs.Valid.{all, validSymbol, validPlace, validRule, validGrammar}
-use Rattle.flat.specs.Flat.{byteIn, symbolIn, recordsFrom, placeIn, placesIn, ruleIn, rulesIn, grammarIn, countOf, flatOf}
+use Rattle.numbers.specs.Numbers.{byteIn, countOf}
+use Rattle.flat.specs.Flat.{symbolIn, recordsFrom, placeIn, placesIn, ruleIn, rulesIn, grammarIn, flatOf, ruleNumbers}
 use Rattle.flat.specs.Fits.{Declared}
 use Rattle.flat.specs.Valid.{each, validTagged, validPlaceAt, validRuleAt, validRow}
 use Rattle.flat.proofs.Records.{records-more}
@@ -102,7 +103,7 @@ pub judged-whole : (f : List ℕ) → validGrammar (grammarIn f) ≡ validRow f
 unfolding validGrammar grammarIn rulesIn validRow
 judged-whole f =
     within (leb (byteIn (getD f 0 0)) 31) (leb (getD f 0 0) 31) _ _ (getD f 1 0) 128 (byte-limit (getD f 0 0))
-    (records-judged validRule (ruleIn f) (validRuleAt f) (rule-judged f) 19 3 (getD f 1 0) 128)
+    (records-judged validRule (ruleIn f) (validRuleAt f) (rule-judged f) ruleNumbers 3 (getD f 1 0) 128)
 
 -- ---- a grammar that is written
 

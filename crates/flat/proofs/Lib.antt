@@ -1,5 +1,4 @@
 -- The laws of flat rows. What others cite: Judged, Round.
-pub mod Complement
 pub mod Records
 pub mod Parts
 pub mod Written

@@ -15,7 +15,8 @@ use Rattle.grammar.specs.declared.Symbol.the-variants.{Nonterminal, Terminal}
 use Rattle.grammar.specs.declared.Place.{Place}
 use Rattle.grammar.specs.declared.Rule.{Rule}
 use Rattle.grammar.specs.declared.Grammar.{Grammar}
-use Rattle.flat.specs.Flat.{byteIn, signedIn, symbolIn, placeIn, placesIn, ruleIn, rulesIn, grammarIn}
+use Rattle.numbers.specs.Numbers.{byteIn, signedIn}
+use Rattle.flat.specs.Flat.{symbolIn, placeIn, placesIn, ruleIn, rulesIn, grammarIn}
 
 module _ (tag value v : ℕ) (e : v ≡ byteIn value) where
   pub symbol-nonterminal : tag ≡ 0 → Nonterminal v ≡ symbolIn tag value

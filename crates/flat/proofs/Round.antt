@@ -1,39 +1,30 @@
 -- A grammar that is written to a flat row is read back, with counts of at most 65535. So one that a flat row holds whole is read back as
 -- it was written.
 -- Assumes nothing.
-use Prim.Native.Nat.{ℕ, zero, suc, _+_, _*_, _-_, _%_, _<_}
+use Prim.Native.Nat.{ℕ, zero, suc, _+_, _*_, _<_}
 use native.Mathlib.Omega.{arith}
 use mathlib.Core.List.{List, [], _∷_, _++_, map, map-id, flatMap, append-assoc, append-nil}
 use mathlib.Core.Path.{_≡_, refl, sym, ap, _∙_}
-use lib.IntN.{ℤ, pos, negsuc}
 use lib.ListN.{length, getD, drop}
 use lib.Seq.{getD-drop, drop-drop, drop-at}
-use lib.Signed.{mag}
-use borrow.Author.Tests.{lt-ltb, le-ltb, le-leb}
+use borrow.Author.Tests.{le-leb}
 use Rattle.grammar.specs.declared.Symbol.{Symbol}
 use Rattle.grammar.specs.declared.Symbol.the-variants.{Nonterminal, Terminal}
 use Rattle.grammar.specs.declared.Place.{Place}
 use Rattle.grammar.specs.declared.Rule.{Rule}
 use Rattle.grammar.specs.declared.Grammar.{Grammar}
+use Rattle.grammar.specs.Tagged.{tagOf, valueOf}
 use Rattle.grammar.specs.Zero.{zeroPlace, noRule}
-use Rattle.flat.specs.Flat.{byteIn, signedIn, symbolIn, recordsFrom, placeIn, placesIn, ruleIn, rulesIn, grammarIn}
-use Rattle.flat.specs.Flat.{countOf, unsignedOf, tagOf, valueOf, flatPlace, flatRule, flatOf}
+use Rattle.numbers.specs.Numbers.{byteIn, countOf, signedIn, unsignedOf}
+use Rattle.numbers.proofs.Complement.{signed-round}
+use Rattle.flat.specs.Flat.{symbolIn, recordsFrom, placeIn, placesIn, ruleIn, rulesIn, grammarIn, ruleNumbers}
+use Rattle.flat.specs.Flat.{flatPlace, flatRule, flatOf}
 use Rattle.flat.specs.Fits.{DeclaredRule, Declared, Fits16}
 
--- ---- one number and one place
-
-pub signed-round : (z : ℤ) → mag z < 32768 → signedIn (unsignedOf z) ≡ z
-unfolding signedIn unsignedOf
-signed-round (pos n) h =
-    let e : n % 65536 ≡ n = omega arith in
-    rw (e, lt-ltb n 32768 h)
-signed-round (negsuc n) h =
-    let e : 65535 - n % 65536 ≡ 65535 - n = omega arith in
-    let d : 65536 - (65535 - n) ≡ suc n = omega arith in
-    rw (e, le-ltb (65535 - n) 32768 (omega arith), d)
+-- ---- one place
 
 symbol-round : (s : Symbol) (t v : ℕ) → t ≡ tagOf s → v ≡ valueOf s → valueOf s < 256 → symbolIn t v ≡ s
-unfolding symbolIn tagOf valueOf
+unfolding symbolIn
 symbol-round (Nonterminal k) t v e f h =
     let d : byteIn k ≡ k = omega arith in
     rw (e, f, d)
@@ -87,7 +78,7 @@ unfolding flatMap flatPlace
 places-size [] = refl
 places-size (p ∷ l) = omega (arith, places-size l)
 
-rule-size : (ρ : Rule) → DeclaredRule ρ → length (flatRule ρ) ≡ 19
+rule-size : (ρ : Rule) → DeclaredRule ρ → length (flatRule ρ) ≡ ruleNumbers
 unfolding flatRule
 rule-size ρ d = omega (arith, places-size (ρ .places), d .places)
 
@@ -126,8 +117,8 @@ module _ (g : Grammar) (d : Declared g) where
   rules-back : rulesIn (flatOf g) ≡ map keptRule (g .rules)
   unfolding rulesIn flatOf
   rules-back =
-      records-back noRule flatRule keptRule (ruleIn (flatOf g)) 19 (flatOf g) DeclaredRule rule-size (rule-back (flatOf g)) (g .rules) 3
-      128 [] (d .rules) (d .each) (sym (append-nil (flatMap flatRule (g .rules))))
+      records-back noRule flatRule keptRule (ruleIn (flatOf g)) ruleNumbers (flatOf g) DeclaredRule rule-size (rule-back (flatOf g))
+      (g .rules) 3 128 [] (d .rules) (d .each) (sym (append-nil (flatMap flatRule (g .rules))))
 
   pub read-kept : grammarIn (flatOf g) ≡ kept g
   unfolding grammarIn flatOf

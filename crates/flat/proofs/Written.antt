@@ -11,8 +11,10 @@ use mir.Val.{SFits, toZ, ofZ}
 use mir.Facts.{toZ-ofZ}
 use Rattle.grammar.specs.declared.Rule.{Rule}
 use Rattle.grammar.specs.declared.Grammar.{Grammar}
+use Rattle.grammar.specs.Tagged.{tagOf, valueOf}
 use Rattle.grammar.specs.Zero.{zeroPlace}
-use Rattle.flat.specs.Flat.{countOf, unsignedOf, tagOf, valueOf, flatPlace, flatRule, flatOf, flatSize}
+use Rattle.numbers.specs.Numbers.{countOf, unsignedOf}
+use Rattle.flat.specs.Flat.{flatPlace, flatRule, flatOf, flatSize, ruleNumbers}
 use Rattle.flat.proofs.Records.{put-two, put-three, flat-step}
 
 -- in f, what stands before b is as in f₀, and the first q elements of l follow, w numbers each
@@ -46,7 +48,7 @@ module _ {A : Type 0} (flat : A → List ℕ) (w b : ℕ) (l : List A) where
 
 -- ---- a rule
 
-module _ (ρ : Rule) (at : ℕ) (low : at + 19 ≤ flatSize) where
+module _ (ρ : Rule) (at : ℕ) (low : at + ruleNumbers ≤ flatSize) where
   -- one more place
   pub place-step : (f₀ f : List ℕ) (q t v : ℕ) → length (ρ .places) ≡ 8 → q < 8
       → t ≡ tagOf (getD (ρ .places) q zeroPlace .symbol) → v ≡ valueOf (getD (ρ .places) q zeroPlace .symbol)
@@ -64,11 +66,11 @@ module _ (ρ : Rule) (at : ℕ) (low : at + 19 ≤ flatSize) where
   pub rule-done : (f₀ f : List ℕ) (u k q : ℕ) → length f₀ ≡ flatSize → length (ρ .places) ≡ 8 → SFits w16 (ρ .length) → q ≤ 8 → 8 ≤ q
       → u ≡ unsignedOf (toZ w16 (ofZ w16 (ρ .length))) → k ≡ countOf (ρ .count)
       → Written flatPlace 2 (at + 3) (ρ .places) (set (set (set f₀ at (ρ .left)) (at + 1) u) (at + 2) k) q f
-      → take (at + 19) f ≡ take at f₀ ++ flatRule ρ
+      → take (at + ruleNumbers) f ≡ take at f₀ ++ flatRule ρ
   unfolding flatRule
   rule-done f₀ f u k q n m s h j eu ek r =
       let e : u ≡ unsignedOf (ρ .length) = eu ∙ ap unsignedOf (toZ-ofZ s) in
-      written-all flatPlace 2 (at + 3) (ρ .places) q (at + 19) _ f (omega arith) (omega arith) r
+      written-all flatPlace 2 (at + 3) (ρ .places) q (at + ruleNumbers) _ f (omega arith) (omega arith) r
       ∙ ap (λ (x : List ℕ). x ++ flatMap flatPlace (ρ .places))
       (put-three f₀ at (at + 1) (at + 2) (at + 3) (ρ .left) u k (omega arith) (omega arith) (omega arith) (omega arith)
       ∙ λ i. take at f₀ ++ (ρ .left ∷ e i ∷ ek i ∷ []))
@@ -78,12 +80,12 @@ module _ (ρ : Rule) (at : ℕ) (low : at + 19 ≤ flatSize) where
 
 pub grammar-done : (g : Grammar) (f₀ f : List ℕ) (k r : ℕ) → length f₀ ≡ flatSize → length (g .rules) ≡ 128 → r ≤ 128 → 128 ≤ r
     → k ≡ countOf (g .count)
-    → Written flatRule 19 3 (g .rules) (set (set (set f₀ 0 (g .start)) 1 k) 2 (g .depth)) r f
+    → Written flatRule ruleNumbers 3 (g .rules) (set (set (set f₀ 0 (g .start)) 1 k) 2 (g .depth)) r f
     → f ≡ flatOf g
 unfolding flatOf
 grammar-done g f₀ f k r n m h j ek w =
     sym (take-all flatSize f (omega (arith, w .long)))
-    ∙ written-all flatRule 19 3 (g .rules) r flatSize _ f (omega arith) (omega arith) w
+    ∙ written-all flatRule ruleNumbers 3 (g .rules) r flatSize _ f (omega arith) (omega arith) w
     ∙ ap (λ (x : List ℕ). x ++ flatMap flatRule (g .rules))
     (put-three f₀ 0 1 2 3 (g .start) k (g .depth) (omega arith) (omega arith) (omega arith) (omega arith)
     ∙ λ i. g .start ∷ ek i ∷ g .depth ∷ [])

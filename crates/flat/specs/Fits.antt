@@ -6,25 +6,26 @@ use mathlib.Core.Path.{_≡_}
 use lib.ListN.{getD}
 use lib.ListN as ListN
 use lib.Signed.{mag}
+use Rattle.sizes.specs.Sizes.{maxRules, maxPlaces}
 use Rattle.grammar.specs.declared.Rule.{Rule}
 use Rattle.grammar.specs.declared.Grammar.{Grammar}
+use Rattle.grammar.specs.Tagged.{valueOf}
 use Rattle.grammar.specs.Zero.{zeroPlace, noRule}
-use Rattle.flat.specs.Flat.{valueOf}
 
 -- `mag (ρ .length) < 32768` says that the length is at least -32768 and below 32768
 pub record DeclaredRule (ρ : Rule) : Type 0 where
   pub left : ρ .left < 256
   pub length : mag (ρ .length) < 32768
-  pub places : ListN.length (ρ .places) ≡ 8
-  pub values : (q : ℕ) → q < 8 → valueOf (getD (ρ .places) q zeroPlace .symbol) < 256
+  pub places : ListN.length (ρ .places) ≡ maxPlaces
+  pub values : (q : ℕ) → q < maxPlaces → valueOf (getD (ρ .places) q zeroPlace .symbol) < 256
 
 pub record Declared (g : Grammar) : Type 0 where
   pub start : g .start < 256
   pub depth : g .depth < 256
-  pub rules : ListN.length (g .rules) ≡ 128
-  pub each : (r : ℕ) → r < 128 → DeclaredRule (getD (g .rules) r noRule)
+  pub rules : ListN.length (g .rules) ≡ maxRules
+  pub each : (r : ℕ) → r < maxRules → DeclaredRule (getD (g .rules) r noRule)
 
 pub record Fits16 (g : Grammar) : Type 0 where
   pub declared : Declared g
   pub count : g .count < 65536
-  pub counts : (r : ℕ) → r < 128 → getD (g .rules) r noRule .count < 65536
+  pub counts : (r : ℕ) → r < maxRules → getD (g .rules) r noRule .count < 65536

@@ -1,20 +1,21 @@
--- A flat row is a row of numbers of 16 bits: the start symbol, the number of rules used, the nullable depth, and 19 numbers for each of 128
+-- A flat row is a row of numbers of 16 bits: the start symbol, the number of rules used, the nullable depth, and the numbers of each of 128
 -- rules: the left side, the length (two's complement), the number of places used, and for each of 8 places a tag (0 a nonterminal, 1 a
 -- terminal) and a value. The grammar of a row, and the row of a grammar. Each number of a row is judged whole: one that is too large for
--- its place is read as a value that check 8 refuses where it is used.
+-- its place is read as a value that check 8 refuses where it is used, and a count too large for a row is written as one that it refuses.
 -- Assumes nothing.
-use Prim.Native.Nat.{ℕ, zero, suc, _+_, _*_, _-_, _%_, min}
+use Prim.Native.Nat.{ℕ, zero, suc, _+_, _*_}
 use mathlib.Core.Bool.{cond, _&&_}
 use mathlib.Core.List.{List, [], _∷_, flatMap}
-use lib.Dec.{eqb, ltb, leb}
-use lib.IntN.{ℤ, pos, negsuc, negℤ}
+use lib.Dec.{eqb, leb}
 use lib.ListN.{getD}
 use Rattle.sizes.specs.Sizes.{maxRules, maxPlaces}
+use Rattle.numbers.specs.Numbers.{byteIn, countOf, signedIn, unsignedOf}
 use Rattle.grammar.specs.declared.Symbol.{Symbol}
 use Rattle.grammar.specs.declared.Symbol.the-variants.{Nonterminal, Terminal}
 use Rattle.grammar.specs.declared.Place.{Place}
 use Rattle.grammar.specs.declared.Rule.{Rule}
 use Rattle.grammar.specs.declared.Grammar.{Grammar}
+use Rattle.grammar.specs.Tagged.{tagOf, valueOf}
 
 -- the numbers of a rule, and of a row
 abbrev pub ruleNumbers : ℕ
@@ -24,14 +25,6 @@ abbrev pub flatSize : ℕ
 flatSize = 3 + maxRules * ruleNumbers
 
 -- ---- the grammar of a row
-
--- the number in a byte's place: one over 255 is read as 255, which is no nonterminal
-abbrev pub byteIn : ℕ → ℕ
-byteIn n = min n 255
-
--- the signed number of 16 bits
-unfoldable pub signedIn : ℕ → ℤ
-signedIn n = cond (ltb n 32768) (pos n) (negℤ (pos (65536 - n)))
 
 -- n records of w numbers each, from an index on
 unfoldable pub recordsFrom : {A : Type 0} → (ℕ → A) → ℕ → ℕ → ℕ → List A
@@ -49,7 +42,7 @@ placeIn f at = record { symbol = symbolIn (getD f at 0) (getD f (at + 1) 0) }
 
 -- the 8 places from an index on
 unfoldable pub placesIn : List ℕ → ℕ → List Place
-placesIn f at = recordsFrom (placeIn f) 2 at 8
+placesIn f at = recordsFrom (placeIn f) 2 at maxPlaces
 
 -- the rule at an index
 unfoldable pub ruleIn : List ℕ → ℕ → Rule
@@ -62,32 +55,13 @@ ruleIn f at = record {
 
 -- the 128 rules
 unfoldable pub rulesIn : List ℕ → List Rule
-rulesIn f = recordsFrom (ruleIn f) 19 3 128
+rulesIn f = recordsFrom (ruleIn f) ruleNumbers 3 maxRules
 
 -- the grammar of a row
 unfoldable pub grammarIn : List ℕ → Grammar
 grammarIn f = record { start = byteIn (getD f 0 0); count = getD f 1 0; depth = byteIn (getD f 2 0); rules = rulesIn f }
 
 -- ---- the row of a grammar
-
--- a count: one over 65535 is written as 65535, which check 8 refuses too
-abbrev pub countOf : ℕ → ℕ
-countOf n = min n 65535
-
--- the two's complement of 16 bits
-unfoldable pub unsignedOf : ℤ → ℕ
-unsignedOf (pos n) = n % 65536
-unsignedOf (negsuc n) = 65535 - n % 65536
-
--- 0 for a nonterminal, 1 for a terminal
-unfoldable pub tagOf : Symbol → ℕ
-tagOf (Nonterminal k) = 0
-tagOf (Terminal m) = 1
-
--- the number that a symbol holds
-unfoldable pub valueOf : Symbol → ℕ
-valueOf (Nonterminal k) = k
-valueOf (Terminal m) = m
 
 -- the two numbers of a place
 unfoldable pub flatPlace : Place → List ℕ

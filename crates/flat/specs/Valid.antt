@@ -6,6 +6,8 @@ use mathlib.Core.Bool.{Bool, true, _&&_, _||_}
 use mathlib.Core.List.{List}
 use lib.Dec.{eqb, leb}
 use lib.ListN.{getD}
+use Rattle.sizes.specs.Sizes.{maxRules, maxPlaces}
+use Rattle.flat.specs.Flat.{ruleNumbers}
 
 -- the test holds of each number below n
 unfoldable pub each : ℕ → (ℕ → Bool) → Bool
@@ -23,8 +25,8 @@ validPlaceAt f at = validTagged (getD f at 0) (getD f (at + 1) 0)
 -- per rule, from the index of its left side: its left side, its count, and its used places
 unfoldable pub validRuleAt : List ℕ → ℕ → Bool
 validRuleAt f at =
-    leb (getD f at 0) 31 && leb (getD f (at + 2) 0) 8 && each (getD f (at + 2) 0) (λ q. validPlaceAt f (at + 3 + 2 * q))
+    leb (getD f at 0) 31 && leb (getD f (at + 2) 0) maxPlaces && each (getD f (at + 2) 0) (λ q. validPlaceAt f (at + 3 + 2 * q))
 
 -- per row: its start symbol, its count, and its used rules
 unfoldable pub validRow : List ℕ → Bool
-validRow f = leb (getD f 0 0) 31 && leb (getD f 1 0) 128 && each (getD f 1 0) (λ r. validRuleAt f (3 + 19 * r))
+validRow f = leb (getD f 0 0) 31 && leb (getD f 1 0) maxRules && each (getD f 1 0) (λ r. validRuleAt f (3 + ruleNumbers * r))

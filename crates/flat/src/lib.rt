@@ -24,9 +24,9 @@ pub fn tied_size() -> usize
 pub fn read(f: &Flat) -> Grammar
     ensures { λ g. ⌜ g ≡ grammarIn (now (f .entry)) ⌝ }
 {
-    let start = reading::byte(f[0]);
-    let count = reading::wide(f[1]);
-    let depth = reading::byte(f[2]);
+    let start = numbers::byte(f[0]);
+    let count = numbers::wide(f[1]);
+    let depth = numbers::byte(f[2]);
     let rules = reading::read_rules(f);
     Grammar {
         start: start,
@@ -42,7 +42,7 @@ pub fn write(g: Grammar, f: &mut Flat)
 {
     *f = [0u16; FLAT_SIZE];
     f[0] = g.start as u16;
-    f[1] = writing::count_of(g.count);
+    f[1] = numbers::count_of(g.count);
     f[2] = g.depth as u16;
     let mut r = 0;
     while r < sizes::MAX_RULES {

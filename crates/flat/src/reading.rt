@@ -6,39 +6,15 @@ use grammar::Place;
 use grammar::Rule;
 use grammar::Symbol;
 ghost use mathlib.Core.Path.{_≡_};
-ghost use Prim.Native.Nat.{_+_, _≤_};
-ghost use Rattle.flat.specs.Flat.{byteIn, signedIn, symbolIn, placeIn, placesIn, ruleIn, rulesIn, flatSize, ruleNumbers};
-
-// A number in a byte's place, or 255 if that is less.
-pub fn byte(n: u16) -> u8
-    ensures { λ b. ⌜ b ≡ byteIn n ⌝ }
-{
-    if n < 255 { n as u8 } else { 255 }
-}
-
-// A count, as it is.
-pub fn wide(n: u16) -> usize
-    ensures { λ r. ⌜ r ≡ n ⌝ }
-{
-    n as usize
-}
-
-// The signed number of 16 bits, in two's complement.
-fn signed(n: u16) -> i16
-    ensures { λ z. ⌜ z ≡ signedIn n ⌝ }
-{
-    if n < 32768 {
-        n as i16
-    } else {
-        -1 - ((65535 - n) as i16)
-    }
-}
+ghost use Prim.Native.Nat.{_+_, _*_, _≤_};
+ghost use Rattle.sizes.specs.Sizes.{maxPlaces};
+ghost use Rattle.flat.specs.Flat.{symbolIn, placeIn, placesIn, ruleIn, rulesIn, flatSize, ruleNumbers};
 
 // The symbol of a tag and a value. What is neither a nonterminal nor a terminal is the nonterminal 255.
 fn symbol(tag: u16, value: u16) -> Symbol
     ensures { λ s. ⌜ s ≡ symbolIn tag value ⌝ }
 {
-    let v = byte(value);
+    let v = numbers::byte(value);
     match tag {
         0 => Symbol::Nonterminal(v),
         1 => {
@@ -62,7 +38,7 @@ fn read_place(f: &Flat, at: usize) -> Place
 }
 
 fn read_places(f: &Flat, at: usize) -> [Place; 8]
-    requires { ⌜ at + 16 ≤ flatSize ⌝ }
+    requires { ⌜ at + 2 * maxPlaces ≤ flatSize ⌝ }
     ensures { λ l. ⌜ l ≡ placesIn (now (f .entry)) at ⌝ }
 {
     let mut places = [grammar::zero_place(); 8];
@@ -78,9 +54,9 @@ fn read_rule(f: &Flat, at: usize) -> Rule
     requires { ⌜ at + ruleNumbers ≤ flatSize ⌝ }
     ensures { λ r. ⌜ r ≡ ruleIn (now (f .entry)) at ⌝ }
 {
-    let left = byte(f[at]);
-    let length = signed(f[at + 1]);
-    let count = wide(f[at + 2]);
+    let left = numbers::byte(f[at]);
+    let length = numbers::signed(f[at + 1]);
+    let count = numbers::wide(f[at + 2]);
     let places = read_places(f, at + 3);
     Rule {
         left: left,

@@ -1,48 +1,12 @@
-// The parts of a grammar, written to a row.
+// A rule, written to a row.
 use super::Flat;
 use grammar::Rule;
-use grammar::Symbol;
+use grammar::tagged;
 ghost use mathlib.Core.List.{_++_};
 ghost use mathlib.Core.Path.{_≡_};
 ghost use Prim.Native.Nat.{_+_, _≤_};
 ghost use lib.ListN.{length, take};
-ghost use Rattle.flat.specs.Flat.{countOf, unsignedOf, tagOf, valueOf, flatRule, flatSize, ruleNumbers};
-
-// A count, or 65535 if that is less: a count that check 8 refuses stays one.
-pub fn count_of(n: usize) -> u16
-    ensures { λ r. ⌜ r ≡ countOf n ⌝ }
-{
-    if n < 65535 { n as u16 } else { 65535 }
-}
-
-// The two's complement of a signed number of 16 bits.
-fn unsigned(z: i16) -> u16
-    ensures { λ n. ⌜ n ≡ unsignedOf z ⌝ }
-{
-    if z < 0 {
-        65535 - ((-1 - z) as u16)
-    } else {
-        z as u16
-    }
-}
-
-fn tag_of(s: Symbol) -> u16
-    ensures { λ t. ⌜ t ≡ tagOf s ⌝ }
-{
-    match s {
-        Symbol::Nonterminal(_) => 0,
-        Symbol::Terminal(_) => 1,
-    }
-}
-
-fn value_of(s: Symbol) -> u16
-    ensures { λ v. ⌜ v ≡ valueOf s ⌝ }
-{
-    match s {
-        Symbol::Nonterminal(k) => k as u16,
-        Symbol::Terminal(m) => m as u16,
-    }
-}
+ghost use Rattle.flat.specs.Flat.{flatRule, flatSize, ruleNumbers};
 
 // Writes the rule behind the numbers before at.
 pub fn write_rule(rule: Rule, at: usize, f: &mut Flat)
@@ -52,14 +16,14 @@ pub fn write_rule(rule: Rule, at: usize, f: &mut Flat)
 {
     f[at] = rule.left as u16;
     let z = rule.length;
-    f[at + 1] = unsigned(z);
-    f[at + 2] = count_of(rule.count);
+    f[at + 1] = numbers::unsigned(z);
+    f[at + 2] = numbers::count_of(rule.count);
     let mut q = 0;
     while q < 8 {
         let place = rule.places[q];
         let s = place.symbol;
-        f[at + 3 + 2 * q] = tag_of(s);
-        f[at + 4 + 2 * q] = value_of(s);
+        f[at + 3 + 2 * q] = tagged::tag_of(s) as u16;
+        f[at + 4 + 2 * q] = tagged::value_of(s) as u16;
         q += 1;
     }
 }

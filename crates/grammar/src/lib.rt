@@ -1,5 +1,6 @@
 // The declared types of a grammar (document 01: a loaded book), check 8 over any struct handed in, and the refusals.
 mod records;
+pub mod tagged;
 
 use records::valid_rule;
 ghost use mathlib.Core.Path.{_≡_};

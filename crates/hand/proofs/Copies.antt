@@ -7,12 +7,14 @@ use mathlib.Core.List.{List, [], _∷_, _++_, map}
 use mathlib.Core.Path.{_≡_, refl, sym, _∙_}
 use lib.ListN.{length, getD, take, set, length-set, length-map, List·getD-map}
 use lib.Seq.{take-suc, take-suc-set, take-all}
+use Rattle.sizes.specs.Sizes.{maxInput}
 use Rattle.results.specs.Recognize.{State}
-use Rattle.hand.specs.Hand.{byteIn, bytesIn, countIn, stateOfRow, countOf, rowOf}
+use Rattle.numbers.specs.Numbers.{byteIn, countOf}
+use Rattle.hand.specs.Hand.{handSize, bytesIn, countIn, stateOfRow, rowOf}
 
 -- l has n elements, and its first i are those of x
 pub record Copied (x : List ℕ) (n i : ℕ) (l : List ℕ) : Type 0 where
-  pub low : i ≤ 64
+  pub low : i ≤ maxInput
   pub long : length l ≡ n
   pub front : take i l ≡ take i x
 
@@ -21,7 +23,7 @@ module _ (x : List ℕ) (n : ℕ) where
   copied-start l h = record { low = omega arith; long = h; front = refl }
 
   -- one more element
-  pub copied-step : (i : ℕ) (l : List ℕ) (a : ℕ) → Copied x n i l → 64 ≤ length x → 64 ≤ n → i < 64 → a ≡ getD x i 0
+  pub copied-step : (i : ℕ) (l : List ℕ) (a : ℕ) → Copied x n i l → maxInput ≤ length x → maxInput ≤ n → i < maxInput → a ≡ getD x i 0
       → Copied x n (i + 1) (set l i a)
   copied-step i l a c h k m e =
       let t : take (suc i) (set l i a) ≡ take (suc i) x =
@@ -29,30 +31,30 @@ module _ (x : List ℕ) (n : ℕ) where
       in
       record { low = omega arith; long = length-set l i a ∙ c .long; front = rw add-one t }
 
-  copied-all : (i : ℕ) (l : List ℕ) → Copied x n i l → 64 ≤ i → take 64 l ≡ take 64 x
+  copied-all : (i : ℕ) (l : List ℕ) → Copied x n i l → maxInput ≤ i → take maxInput l ≡ take maxInput x
   copied-all i l c h =
-      let e : i ≡ 64 = omega (arith, c .low) in
+      let e : i ≡ maxInput = omega (arith, c .low) in
       rw e at (c .front)
 
 -- one more byte read
-pub read-step : (h : List ℕ) (i : ℕ) (l : List ℕ) (a : ℕ) → Copied (map byteIn h) 64 i l → length h ≡ 65 → i < 64
-    → a ≡ byteIn (getD h i 0) → Copied (map byteIn h) 64 (i + 1) (set l i a)
+pub read-step : (h : List ℕ) (i : ℕ) (l : List ℕ) (a : ℕ) → Copied (map byteIn h) maxInput i l → length h ≡ handSize → i < maxInput
+    → a ≡ byteIn (getD h i 0) → Copied (map byteIn h) maxInput (i + 1) (set l i a)
 read-step h i l a c n k e =
-    copied-step (map byteIn h) 64 i l a c (omega (arith, length-map h byteIn)) (omega arith) k (e ∙ sym (List·getD-map byteIn h i 0))
+    copied-step (map byteIn h) maxInput i l a c (omega (arith, length-map h byteIn)) (omega arith) k (e ∙ sym (List·getD-map byteIn h i 0))
 
 -- all bytes are read
-pub read-done : (h : List ℕ) (i : ℕ) (l : List ℕ) → Copied (map byteIn h) 64 i l → 64 ≤ i → l ≡ bytesIn h
+pub read-done : (h : List ℕ) (i : ℕ) (l : List ℕ) → Copied (map byteIn h) maxInput i l → maxInput ≤ i → l ≡ bytesIn h
 unfolding bytesIn
-read-done h i l c k = sym (take-all 64 l (omega (arith, c .long))) ∙ copied-all (map byteIn h) 64 i l c k
+read-done h i l c k = sym (take-all maxInput l (omega (arith, c .long))) ∙ copied-all (map byteIn h) maxInput i l c k
 
 -- all bytes are written, and then the count
-pub write-done : (s : State) (i : ℕ) (l : List ℕ) (k : ℕ) → Copied (s .bytes) 65 i l → length (s .bytes) ≡ 64 → 64 ≤ i
-    → k ≡ countOf (s .count) → set l 64 k ≡ rowOf s
+pub write-done : (s : State) (i : ℕ) (l : List ℕ) (k : ℕ) → Copied (s .bytes) handSize i l → length (s .bytes) ≡ maxInput → maxInput ≤ i
+    → k ≡ countOf (s .count) → set l maxInput k ≡ rowOf s
 unfolding rowOf
 write-done s i l k c n h e =
-    let t : take 64 l ≡ s .bytes = copied-all (s .bytes) 65 i l c h ∙ take-all 64 (s .bytes) (omega arith) in
-    sym (take-all 65 (set l 64 k) (omega (arith, length-set l 64 k, c .long)))
-    ∙ take-suc-set l 64 k (omega (arith, c .long))
+    let t : take maxInput l ≡ s .bytes = copied-all (s .bytes) handSize i l c h ∙ take-all maxInput (s .bytes) (omega arith) in
+    sym (take-all handSize (set l maxInput k) (omega (arith, length-set l maxInput k, c .long)))
+    ∙ take-suc-set l maxInput k (omega (arith, c .long))
     ∙ (λ j. t j ++ (e j ∷ []))
 
 -- the state of what was read

@@ -14,7 +14,9 @@ use borrow.Author.Tests.{lt-ltb, le-leb}
 use Rattle.grammar.specs.Valid.{all}
 use Rattle.results.specs.Recognize.{State, stateOf, stateCheck}
 use Rattle.hand.specs.Declared.{Declared}
-use Rattle.hand.specs.Hand.{isByte, byteIn, bytesIn, countIn, stateOfRow, validHand, countOf, rowOf}
+use Rattle.sizes.specs.Sizes.{maxInput}
+use Rattle.numbers.specs.Numbers.{byteIn, countOf}
+use Rattle.hand.specs.Hand.{isByte, bytesIn, countIn, stateOfRow, validHand, rowOf}
 use Rattle.hand.proofs.Judged.{judged-whole}
 
 -- ---- bytes
@@ -53,8 +55,8 @@ module _ (s : State) (d : Declared s) where
   unfolding countIn rowOf
   count-back =
       rw (
-        getD-at (s .bytes) (countOf (s .count)) [] 0 64 (d .long),
-        take-at (s .bytes) (countOf (s .count) ∷ []) 64 (d .long),
+        getD-at (s .bytes) (countOf (s .count)) [] 0 maxInput (d .long),
+        take-at (s .bytes) (countOf (s .count) ∷ []) maxInput (d .long),
         bytes-all (s .bytes) (countOf (s .count)) (d .each),
       )
 
@@ -72,13 +74,13 @@ module _ (s : State) (d : Declared s) where
   pub write-judged : stateCheck (stateOfRow (rowOf s)) .fails ≡ stateCheck s .fails
   write-judged = ap (λ (x : State). stateCheck x .fails) read-kept ∙ dite (decLt (s .count) 65536) small large
     where
-      small : s .count < 65536 → ltb 64 (countOf (s .count)) ≡ ltb 64 (s .count)
+      small : s .count < 65536 → ltb maxInput (countOf (s .count)) ≡ ltb maxInput (s .count)
       small h =
           let e : countOf (s .count) ≡ s .count = omega arith in
-          ap (ltb 64) e
+          ap (ltb maxInput) e
 
-      large : (s .count < 65536 → ⊥) → ltb 64 (countOf (s .count)) ≡ ltb 64 (s .count)
-      large h = lt-ltb 64 (countOf (s .count)) (omega arith) ∙ sym (lt-ltb 64 (s .count) (omega arith))
+      large : (s .count < 65536 → ⊥) → ltb maxInput (countOf (s .count)) ≡ ltb maxInput (s .count)
+      large h = lt-ltb maxInput (countOf (s .count)) (omega arith) ∙ sym (lt-ltb maxInput (s .count) (omega arith))
 
   pub write-valid : not (validHand (rowOf s)) ≡ stateCheck s .fails
   write-valid = sym (judged-whole (rowOf s)) ∙ write-judged
@@ -95,12 +97,12 @@ padded-small [] n b i = zeros-small n i
 padded-small (a ∷ w) n b zero = b 0
 padded-small (a ∷ w) n b (suc i) = padded-small w n (λ j. b (suc j)) i
 
-module _ (w : List ℕ) (few : length w ≤ 64) (bytes : (i : ℕ) → getD w i 0 < 256) where
+module _ (w : List ℕ) (few : length w ≤ maxInput) (bytes : (i : ℕ) → getD w i 0 < 256) where
   pub state-declared : Declared (stateOf w)
   unfolding stateOf
   state-declared = record {
-    long = length-append w (replicate (64 - length w) 0) ∙ omega (arith, length-replicate {A = ℕ} (64 - length w) 0);
-    each = padded-small w (64 - length w) bytes;
+    long = length-append w (replicate (maxInput - length w) 0) ∙ omega (arith, length-replicate {A = ℕ} (maxInput - length w) 0);
+    each = padded-small w (maxInput - length w) bytes;
   }
 
   pub read-write-input : stateOfRow (rowOf (stateOf w)) ≡ stateOf w

@@ -3,8 +3,9 @@
 use Prim.Native.Nat.{ℕ, _<_}
 use mathlib.Core.Path.{_≡_}
 use lib.ListN.{length, getD}
+use Rattle.sizes.specs.Sizes.{maxInput}
 use Rattle.results.specs.Recognize.{State}
 
 pub record Declared (s : State) : Type 0 where
-  pub long : length (s .bytes) ≡ 64
+  pub long : length (s .bytes) ≡ maxInput
   pub each : (i : ℕ) → getD (s .bytes) i 0 < 256

@@ -7,7 +7,6 @@ use grammar::Rule;
 ghost use Prim.Native.Nat.{ℕ, _-_, _<_};
 ghost use mathlib.Core.Path.{_≡_};
 ghost use lib.ListN.{length, getD};
-ghost use Rattle.results.specs.Load.{signed as signedOf};
 ghost use Rattle.loader.specs.Command.{Reads};
 ghost use Rattle.loader.specs.Rule.{openedRule};
 
@@ -39,23 +38,11 @@ pub fn rule_at(bytes: &[u8], at: usize, rules: usize) -> Command
     Command::Rule(left, low, high)
 }
 
-// The signed number of 16 bits, in two's complement, of a low and a high byte.
-pub fn signed(low: u8, high: u8) -> i16
-    ensures { λ r. ⌜ r ≡ signedOf low high ⌝ }
-{
-    let n = (low as u16) + 256 * (high as u16);
-    if n < 32768 {
-        n as i16
-    } else {
-        -1 - ((65535 - n) as i16)
-    }
-}
-
-// A rule with no places yet.
+// A rule with no places yet; its length is the signed number of a low and a high byte.
 pub fn opened(left: u8, low: u8, high: u8) -> Rule
     ensures { λ r. ⌜ r ≡ openedRule left low high ⌝ }
 {
-    let length = signed(low, high);
+    let length = numbers::signed((low as u16) + 256 * (high as u16));
     Rule {
         left: left,
         length: length,

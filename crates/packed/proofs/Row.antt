@@ -16,13 +16,14 @@ use Rattle.grammar.specs.declared.Symbol.{Symbol}
 use Rattle.grammar.specs.declared.Symbol.the-variants.{Nonterminal, Terminal}
 use Rattle.grammar.specs.declared.Place.{Place}
 use Rattle.grammar.specs.declared.Rule.{Rule}
+use Rattle.grammar.specs.Tagged.{tagOf, valueOf}
 use Rattle.grammar.specs.Valid.{validRule}
 use Rattle.grammar.specs.View.{symbolOf, placeOf, ruleOf}
 use Rattle.grammar.specs.Zero.{zeroPlace}
 use Rattle.grammar.proofs.Bounds.{rule-parts}
 use Rattle.packed.specs.Packed.{leftIn, countIn, isNonterminalIn, tagIn, terminalIn, valueIn, symbolIn}
 use Rattle.packed.specs.Packed.{placesFrom, placesIn, ruleIn, packedSize, ruleBytes}
-use Rattle.packed.specs.Place.{tagOf, valueOf, RulePut}
+use Rattle.packed.specs.Place.{RulePut}
 use Rattle.packed.proofs.Laws.{count-used, count-le, rule-used}
 
 -- the two bytes of a symbol

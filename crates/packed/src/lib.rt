@@ -1,7 +1,8 @@
 // The flat copy of a grammar for inner loops, which loops and recursion take by reference.
 use grammar::Grammar;
 use grammar::Rule;
-use grammar::Symbol;
+use grammar::tagged;
+use numbers::wide_byte;
 ghost use mathlib.Core.Bool.{true};
 ghost use mathlib.Core.Path.{_≡_};
 ghost use Prim.Native.Nat.{ℕ, _<_, _≤_};
@@ -11,7 +12,7 @@ ghost use Rattle.cfg.specs.Grammar.{rule as ruleOfNumber};
 ghost use Rattle.grammar.specs.Valid.{validRule, validGrammar};
 ghost use Rattle.grammar.specs.View.{grammarOf};
 ghost use Rattle.packed.specs.Packed.{leftIn, countIn, isNonterminalIn, valueIn, symbolIn, cfgIn, fitsPlace, packedSize};
-ghost use Rattle.packed.specs.Place.{tagOf, valueOf, RulePut};
+ghost use Rattle.packed.specs.Place.{RulePut};
 
 // The bytes of a rule (its left side, its count, and two for each place), and of a packed grammar.
 pub const RULE_BYTES: usize = 2 + 2 * sizes::MAX_PLACES;
@@ -26,19 +27,12 @@ pub fn tied_size() -> usize
     PACKED_SIZE
 }
 
-// A byte as a number.
-pub fn wide(x: u8) -> usize
-    ensures { λ n. ⌜ (n ≡ x) × (n < 256) ⌝ }
-{
-    x as usize
-}
-
 // The left side of rule r: 32 or more where there is no such rule.
 pub fn left(p: &Packed, r: usize) -> usize
     requires { ⌜ r < 128 ⌝ }
     ensures { λ k. ⌜ k ≡ leftIn (now (p .entry)) r ⌝ }
 {
-    wide(p[RULE_BYTES * r])
+    wide_byte(p[RULE_BYTES * r])
 }
 
 // How many places rule r has: none where there is no such rule, so that loops pass it over.
@@ -47,7 +41,7 @@ pub fn count(p: &Packed, r: usize) -> usize
     ensures { λ n. ⌜ (n ≡ countIn (now (p .entry)) r) × (n ≤ 8) ⌝ }
 {
     if left(p, r) < 32 {
-        let n = wide(p[RULE_BYTES * r + 1]);
+        let n = wide_byte(p[RULE_BYTES * r + 1]);
         if n < 8 { n } else { 8 }
     } else {
         0
@@ -67,7 +61,7 @@ pub fn value(p: &Packed, r: usize, q: usize) -> usize
     requires { ⌜ (r < 128) × (q < 8) ⌝ }
     ensures { λ v. ⌜ (v ≡ valueIn (now (p .entry)) r q) × (v < 256) ⌝ }
 {
-    wide(p[RULE_BYTES * r + 3 + 2 * q])
+    wide_byte(p[RULE_BYTES * r + 3 + 2 * q])
 }
 
 // Whether k is in the set, for every k.
@@ -86,27 +80,9 @@ pub fn fits_at(p: &Packed, r: usize, q: usize, w: &[u8], i: usize) -> bool
         return false;
     }
     if i < w.len() {
-        return value(p, r, q) == wide(w[i]);
+        return value(p, r, q) == wide_byte(w[i]);
     }
     false
-}
-
-fn tag_of(s: Symbol) -> u8
-    ensures { λ t. ⌜ t ≡ tagOf s ⌝ }
-{
-    match s {
-        Symbol::Nonterminal(_) => 0,
-        Symbol::Terminal(_) => 1,
-    }
-}
-
-fn value_of(s: Symbol) -> u8
-    ensures { λ v. ⌜ v ≡ valueOf s ⌝ }
-{
-    match s {
-        Symbol::Nonterminal(k) => k,
-        Symbol::Terminal(m) => m,
-    }
 }
 
 // Writes the rule into row r.
@@ -121,8 +97,8 @@ fn pack_rule(rule: Rule, r: usize, p: &mut Packed)
     while q < n {
         let place = rule.places[q];
         let s = place.symbol;
-        p[RULE_BYTES * r + 2 + 2 * q] = tag_of(s);
-        p[RULE_BYTES * r + 3 + 2 * q] = value_of(s);
+        p[RULE_BYTES * r + 2 + 2 * q] = tagged::tag_of(s);
+        p[RULE_BYTES * r + 3 + 2 * q] = tagged::value_of(s);
         q += 1;
     }
 }

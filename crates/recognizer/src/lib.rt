@@ -10,7 +10,7 @@ use columns::write_column;
 use grammar::Grammar;
 use grammar::Refusal;
 use grammar::Verdict;
-use packed::wide;
+use numbers::wide_byte;
 use state::blank;
 use state::with_byte;
 ghost use mathlib.Core.Bool.{true};
@@ -44,7 +44,7 @@ fn says(start: u8, n: usize, chart: &[u32]) -> Verdict
     requires { ⌜ (n ≤ 64) × (cells ≤ length (now chart)) ⌝ }
     ensures { λ a. ⌜ verdictOf a ≡ answered (inSet start (cell (now (chart .entry)) 0 n)) ⌝ }
 {
-    if complete(wide(start), n, chart) {
+    if complete(wide_byte(start), n, chart) {
         Verdict::Yes
     } else {
         Verdict::No

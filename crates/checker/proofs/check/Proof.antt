@@ -18,8 +18,8 @@ enum-told c = search needs
 fill-requires : tie.Need-fill-requires
 fill-requires c κs = judged-ready _ _ _ _ (c .before .before .before .judge .ensures) (c .before .enum-told .given .1)
 
-wide-requires : tie.Need-wide-requires
-wide-requires c κs = search needs
+wide-byte-requires : tie.Need-wide-byte-requires
+wide-byte-requires c κs = search needs
 
 check-offered-requires : tie.Need-check-offered-requires
 check-offered-requires c κs = search needs
@@ -41,7 +41,7 @@ check-spec =
     enum-known-r
     enum-told
     fill-requires
-    wide-requires
+    wide-byte-requires
     check-offered-requires
     returns
     same-length

@@ -24,8 +24,8 @@ lengths-of-requires c κs = search needs
 slice-aggregate-measure-offered : tie.Need-slice-aggregate-measure-offered
 slice-aggregate-measure-offered c = search needs
 
-wide-requires : tie.Need-wide-requires
-wide-requires c κs = search needs
+wide-byte-requires : tie.Need-wide-byte-requires
+wide-byte-requires c κs = search needs
 
 measure-offered-requires : tie.Need-measure-offered-requires
 measure-offered-requires c κs = search needs
@@ -49,7 +49,7 @@ length-spec =
     fill-requires
     lengths-of-requires
     slice-aggregate-measure-offered
-    wide-requires
+    wide-byte-requires
     measure-offered-requires
     returns
     same-length

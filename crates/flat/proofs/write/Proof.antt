@@ -6,13 +6,13 @@ use mathlib.Core.Path.{refl}
 use lib.ListN.{length-set, length-map, length-replicate, replicate}
 use borrow.Author.Needs.{needs}
 use Rattle.grammar.specs.Zero.{noRule}
-use Rattle.flat.specs.Flat.{flatRule, flatSize}
+use Rattle.flat.specs.Flat.{flatRule, flatSize, ruleNumbers}
 use Rattle.flat.proofs.Written.{Written, written-start, written-step, grammar-done}
 use Rattle.flat.proofs.write.Statement.{statement}
 use Rattle.flat.proofs.write.Tie as tie
 
 abbrev Inv-loop : tie.InvT-loop
-Inv-loop f₀ g r₀ f r = (r ≤ 128) × Written flatRule 19 3 (g .rules) f₀ r f
+Inv-loop f₀ g r₀ f r = (r ≤ 128) × Written flatRule ruleNumbers 3 (g .rules) f₀ r f
 
 abbrev μ-loop : tie.MeasureT-loop
 μ-loop f₀ g r₀ f r = 128 - r

@@ -5,16 +5,17 @@ use native.Mathlib.Omega.{arith}
 use mathlib.Core.List.{map}
 use mathlib.Core.Path.{refl}
 use borrow.Author.Needs.{needs}
-use Rattle.hand.specs.Hand.{byteIn}
+use Rattle.sizes.specs.Sizes.{maxInput}
+use Rattle.numbers.specs.Numbers.{byteIn}
 use Rattle.hand.proofs.Copies.{Copied, copied-start, read-step, read-done}
 use Rattle.hand.proofs.read_bytes.Statement.{statement}
 use Rattle.hand.proofs.read_bytes.Tie as tie
 
 abbrev Inv-loop : tie.InvT-loop
-Inv-loop h bytes₀ i₀ bytes i = Copied (map byteIn h) 64 i bytes
+Inv-loop h bytes₀ i₀ bytes i = Copied (map byteIn h) maxInput i bytes
 
 abbrev μ-loop : tie.MeasureT-loop
-μ-loop h bytes₀ i₀ bytes i = 64 - i
+μ-loop h bytes₀ i₀ bytes i = maxInput - i
 
 loop-holds : tie.Need-loop-holds Inv-loop μ-loop
 loop-holds c = copied-start _ _ _ refl

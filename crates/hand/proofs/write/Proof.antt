@@ -5,15 +5,17 @@ use native.Mathlib.Omega.{arith}
 use mathlib.Core.Path.{refl}
 use lib.ListN.{length-map}
 use borrow.Author.Needs.{needs}
+use Rattle.sizes.specs.Sizes.{maxInput}
+use Rattle.hand.specs.Hand.{handSize}
 use Rattle.hand.proofs.Copies.{Copied, copied-start, copied-step, write-done}
 use Rattle.hand.proofs.write.Statement.{statement}
 use Rattle.hand.proofs.write.Tie as tie
 
 abbrev Inv-loop : tie.InvT-loop
-Inv-loop h₀ r k₀ h k = Copied (r .bytes) 65 k h
+Inv-loop h₀ r k₀ h k = Copied (r .bytes) handSize k h
 
 abbrev μ-loop : tie.MeasureT-loop
-μ-loop h₀ r k₀ h k = 64 - k
+μ-loop h₀ r k₀ h k = maxInput - k
 
 loop-holds : tie.Need-loop-holds Inv-loop μ-loop
 loop-holds c = copied-start _ _ _ refl

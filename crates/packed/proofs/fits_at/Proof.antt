@@ -14,11 +14,11 @@ returns c = search fits-nonterminal
 value-requires : tie.Need-value-requires
 value-requires c κs = search needs
 
-shared-slice-read-wide : tie.Need-shared-slice-read-wide
-shared-slice-read-wide c = search needs
+shared-slice-read-wide-byte : tie.Need-shared-slice-read-wide-byte
+shared-slice-read-wide-byte c = search needs
 
-wide-requires : tie.Need-wide-requires
-wide-requires c κs = search needs
+wide-byte-requires : tie.Need-wide-byte-requires
+wide-byte-requires c κs = search needs
 
 returns-2 : tie.Need-returns-2
 returns-2 c = search fits-byte
@@ -33,7 +33,7 @@ fits-at-spec =
     is-nonterminal-requires
     returns
     value-requires
-    shared-slice-read-wide
-    wide-requires
+    shared-slice-read-wide-byte
+    wide-byte-requires
     returns-2
     returns-3)

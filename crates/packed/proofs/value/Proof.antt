@@ -5,23 +5,23 @@ use Rattle.packed.specs.Packed.{valueIn}
 use Rattle.packed.proofs.value.Statement.{statement}
 use Rattle.packed.proofs.value.Tie as tie
 
-mul-wide : tie.Need-mul-wide
-mul-wide c = search needs
+mul-wide-byte : tie.Need-mul-wide-byte
+mul-wide-byte c = search needs
 
-add-wide : tie.Need-add-wide
-add-wide c = search needs
+add-wide-byte : tie.Need-add-wide-byte
+add-wide-byte c = search needs
 
-mul-wide-2 : tie.Need-mul-wide-2
-mul-wide-2 c = search needs
+mul-wide-byte-2 : tie.Need-mul-wide-byte-2
+mul-wide-byte-2 c = search needs
 
-add-wide-2 : tie.Need-add-wide-2
-add-wide-2 c = search needs
+add-wide-byte-2 : tie.Need-add-wide-byte-2
+add-wide-byte-2 c = search needs
 
-element-copy-out-wide : tie.Need-element-copy-out-wide
-element-copy-out-wide c = search needs
+element-copy-out-wide-byte : tie.Need-element-copy-out-wide-byte
+element-copy-out-wide-byte c = search needs
 
-wide-requires : tie.Need-wide-requires
-wide-requires c κs = search needs
+wide-byte-requires : tie.Need-wide-byte-requires
+wide-byte-requires c κs = search needs
 
 returns : tie.Need-returns
 unfolding valueIn
@@ -30,4 +30,4 @@ returns c = search needs
 pub value-spec : {M : Type 1} → statement M
 value-spec =
     tie.close
-    (tie.spec mul-wide add-wide mul-wide-2 add-wide-2 element-copy-out-wide wide-requires returns)
+    (tie.spec mul-wide-byte add-wide-byte mul-wide-byte-2 add-wide-byte-2 element-copy-out-wide-byte wide-byte-requires returns)

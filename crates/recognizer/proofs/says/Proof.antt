@@ -5,8 +5,8 @@ use Rattle.recognizer.proofs.Calls.{says-yes, says-no}
 use Rattle.recognizer.proofs.says.Statement.{statement}
 use Rattle.recognizer.proofs.says.Tie as tie
 
-wide-requires : tie.Need-wide-requires
-wide-requires c κs = search needs
+wide-byte-requires : tie.Need-wide-byte-requires
+wide-byte-requires c κs = search needs
 
 complete-requires : tie.Need-complete-requires
 complete-requires c κs = search needs
@@ -18,4 +18,4 @@ returns-2 : tie.Need-returns-2
 returns-2 c = search says-no
 
 pub says-spec : {M : Type 1} → statement M
-says-spec = tie.close (tie.spec wide-requires complete-requires returns returns-2)
+says-spec = tie.close (tie.spec wide-byte-requires complete-requires returns returns-2)

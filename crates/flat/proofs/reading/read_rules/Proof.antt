@@ -5,13 +5,13 @@ use native.Mathlib.Omega.{arith}
 use mathlib.Core.Path.{_≡_, refl}
 use lib.ListN.{length, take, length-set}
 use borrow.Author.Needs.{needs}
-use Rattle.flat.specs.Flat.{recordsFrom, ruleIn, rulesIn}
+use Rattle.flat.specs.Flat.{recordsFrom, ruleIn, rulesIn, ruleNumbers}
 use Rattle.flat.proofs.Records.{records-step, records-done}
 use Rattle.flat.proofs.reading.read_rules.Statement.{statement}
 use Rattle.flat.proofs.reading.read_rules.Tie as tie
 
 abbrev Inv-loop : tie.InvT-loop
-Inv-loop f rules₀ r₀ rules r = (r ≤ 128) × (length rules ≡ 128) × (take r rules ≡ recordsFrom (ruleIn f) 19 3 r)
+Inv-loop f rules₀ r₀ rules r = (r ≤ 128) × (length rules ≡ 128) × (take r rules ≡ recordsFrom (ruleIn f) ruleNumbers 3 r)
 
 abbrev μ-loop : tie.MeasureT-loop
 μ-loop f rules₀ r₀ rules r = 128 - r

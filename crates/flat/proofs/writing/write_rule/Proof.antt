@@ -60,6 +60,9 @@ element-copy-out-place c = search needs
 tag-of-requires : tie.Need-tag-of-requires Inv-loop μ-loop
 tag-of-requires c κs = search needs
 
+cast-f-2 : tie.Need-cast-f-2 Inv-loop μ-loop
+cast-f-2 c = search needs
+
 add-f-3 : tie.Need-add-f-3 Inv-loop μ-loop
 add-f-3 c = search needs
 
@@ -77,6 +80,9 @@ element-write-f-4 c = search needs
 
 value-of-requires : tie.Need-value-of-requires Inv-loop μ-loop
 value-of-requires c κs = search needs
+
+cast-f-3 : tie.Need-cast-f-3 Inv-loop μ-loop
+cast-f-3 c = search needs
 
 add-f-5 : tie.Need-add-f-5 Inv-loop μ-loop
 add-f-5 c = search needs
@@ -138,12 +144,14 @@ write-rule-spec =
     mul-place
     element-copy-out-place
     tag-of-requires
+    cast-f-2
     add-f-3
     mul-f-4
     add-f-4
     mul-f-5
     element-write-f-4
     value-of-requires
+    cast-f-3
     add-f-5
     mul-f-6
     add-f-6

@@ -1,10 +1,10 @@
--- `flat::reading::signed` meets its contract.
+-- `numbers::signed` meets its contract.
 -- Assumes nothing.
 use native.Mathlib.Omega.{arith}
 use borrow.Author.Needs.{needs}
-use Rattle.flat.proofs.Complement.{signed-small, negative-fits, signed-large}
-use Rattle.flat.proofs.reading.signed.Statement.{statement}
-use Rattle.flat.proofs.reading.signed.Tie as tie
+use Rattle.numbers.proofs.Complement.{signed-small, negative-fits, signed-large}
+use Rattle.numbers.proofs.signed.Statement.{statement}
+use Rattle.numbers.proofs.signed.Tie as tie
 
 cast-result : tie.Need-cast-result
 cast-result c = search needs

@@ -1,18 +1,18 @@
 -- The signed number of 16 bits, read and written: what the machine computes is what the specification says.
 -- Assumes nothing.
-use Prim.Native.Nat.{ℕ, zero, suc, _-_, _≤_, _<_}
+use Prim.Native.Nat.{ℕ, zero, suc, _-_, _%_, _≤_, _<_}
 use native.Mathlib.Nat.{zero-add}
 use native.Mathlib.Omega.{arith}
 use mathlib.Core.Bool.{true, false}
 use mathlib.Core.Path.{_≡_, refl, sym, ap, _∙_, subst}
 use lib.Dec.{T}
 use lib.IntN.{ℤ, pos, negsuc, natAbs, _-ℤ_}
-use lib.Signed.{ltZ, nonNeg}
+use lib.Signed.{ltZ, nonNeg, mag}
 use borrow.Author.Tests.{lt-ltb, le-ltb, ltb-true}
 use mir.Syntax.{w16}
 use mir.Val.{Fits, SFits, toZ, ofZ}
 use mir.Facts.{toZ-pos, toZ-ofZ}
-use Rattle.flat.specs.Flat.{signedIn, unsignedOf}
+use Rattle.numbers.specs.Numbers.{signedIn, unsignedOf}
 
 -- ---- reading
 
@@ -104,3 +104,15 @@ natural-casts =
 pub unsigned-natural : (z : ℤ) → SFits w16 z → ltZ (toZ w16 (ofZ w16 z)) (pos 0) ≡ false → natAbs (toZ w16 (ofZ w16 z)) ≡ unsignedOf z
 unfolding unsignedOf
 unsigned-natural = natural (λ z. natAbs (toZ w16 (ofZ w16 z)) ≡ unsignedOf z) (λ n h. rw (same-is n h) (omega arith))
+
+-- ---- written and read
+
+pub signed-round : (z : ℤ) → mag z < 32768 → signedIn (unsignedOf z) ≡ z
+unfolding signedIn unsignedOf
+signed-round (pos n) h =
+    let e : n % 65536 ≡ n = omega arith in
+    rw (e, lt-ltb n 32768 h)
+signed-round (negsuc n) h =
+    let e : 65535 - n % 65536 ≡ 65535 - n = omega arith in
+    let d : 65536 - (65535 - n) ≡ suc n = omega arith in
+    rw (e, le-ltb (65535 - n) 32768 (omega arith), d)

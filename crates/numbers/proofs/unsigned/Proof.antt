@@ -1,9 +1,9 @@
--- `flat::writing::unsigned` meets its contract.
+-- `numbers::unsigned` meets its contract.
 -- Assumes nothing.
 use native.Mathlib.Omega.{arith}
-use Rattle.flat.proofs.Complement.{flip-fits, flip-casts, flip-below, unsigned-negative, natural-casts, unsigned-natural}
-use Rattle.flat.proofs.writing.unsigned.Statement.{statement}
-use Rattle.flat.proofs.writing.unsigned.Tie as tie
+use Rattle.numbers.proofs.Complement.{flip-fits, flip-casts, flip-below, unsigned-negative, natural-casts, unsigned-natural}
+use Rattle.numbers.proofs.unsigned.Statement.{statement}
+use Rattle.numbers.proofs.unsigned.Tie as tie
 
 sub-result : tie.Need-sub-result
 sub-result c = flip-fits _ (c .before .fits .z) (c .if1 .taken)

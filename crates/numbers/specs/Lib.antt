@@ -1,0 +1,2 @@
+-- Numbers of one width as numbers of another.
+pub mod Numbers
