@@ -1,0 +1,3 @@
+-- The first, the next and the last code of rows and nodes, from those of their parts; at the root they are the list L.
+pub mod Listed
+pub mod Root

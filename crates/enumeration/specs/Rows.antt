@@ -1,0 +1,55 @@
+-- The forests among which the enumerator looks for the first and the next one. A span is the positions `from` to `to` of one input w; sets of
+-- nonterminals are words of crate sets.
+-- Assumes nothing.
+use Prim.Native.Nat.{ℕ, _+_, _-_, _≤_}
+use mathlib.Core.Bool.{true}
+use mathlib.Core.List.{List, [], _∷_}
+use mathlib.Core.Path.{_≡_}
+use lib.ListN.{length}
+use lib.Seq.{slice}
+use Rattle.sets.specs.Set.{has, empty}
+use Rattle.cfg.specs.Grammar.{Cfg, Symbol, nonterminal}
+use Rattle.cfg.specs.Tree.{Forest, end, leaf, node, yield, nodes, Fits}
+use Rattle.cfg.specs.Derivation.{Has, Superfluous}
+
+-- no node of the forest has a nonterminal of the set over that many bytes
+abbrev pub Free : Cfg → ℕ → ℕ → Forest → Type 0
+Free G cover set t = (k : ℕ) → has k set ≡ true → Has G k cover t → ⊥
+
+-- t fits the places over the span, has no superfluous recursion and at most `budget` nodes, and is free of the set over `cover` bytes
+pub record Row (G : Cfg) (w : List ℕ) (cover set : ℕ) (places : List Symbol) (from to budget : ℕ) (t : Forest) : Type 0 where
+  pub fit : Fits G places t
+  pub covers : yield t ≡ slice from to w
+  pub plain : ¬ Superfluous G t
+  pub free : Free G cover set t
+  pub small : nodes t ≤ budget
+
+-- the same for one node of the nonterminal k
+abbrev pub Tree : Cfg → List ℕ → ℕ → ℕ → ℕ → ℕ → ℕ → ℕ → Forest → Type 0
+Tree G w cover set k from to budget = Row G w cover set (nonterminal k ∷ []) from to budget
+
+-- the trees of the derivations of w
+abbrev pub Root : Cfg → ℕ → List ℕ → Forest → Type 0
+Root G budget w = Tree G w (length w) empty (G .start) 0 (length w) budget
+
+-- how many bytes the first node covers, and its rule, in a forest that begins with a node
+unfoldable pub firstCover : Forest → ℕ
+firstCover end = 0
+firstCover (leaf m rest) = 0
+firstCover (node r below rest) = length (yield below)
+
+unfoldable pub firstRule : Forest → ℕ
+firstRule end = 0
+firstRule (leaf m rest) = 0
+firstRule (node r below rest) = r
+
+-- no row of k and the places within the budget begins with a node over c bytes
+abbrev pub Skipped : Cfg → List ℕ → ℕ → ℕ → ℕ → List Symbol → ℕ → ℕ → ℕ → ℕ → Type 0
+Skipped G w cover set k places from to budget c = (x y : Forest) → Tree G w cover set k from (from + c) budget x
+    → Row G w cover set places (from + c) to (budget - nodes x) y → ⊥
+
+-- what the first node over c bytes may cost: `own` is within the budget, and each node that some rest completes within the budget keeps it
+pub record Budget (G : Cfg) (w : List ℕ) (cover set k : ℕ) (places : List Symbol) (from to budget c own : ℕ) : Type 0 where
+  pub within : own ≤ budget
+  pub enough : (x y : Forest) → Tree G w cover set k from (from + c) budget x → Row G w cover set places (from + c) to (budget - nodes x) y
+      → nodes x ≤ own
