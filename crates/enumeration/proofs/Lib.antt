@@ -5,3 +5,9 @@ pub mod Compare
 pub mod Prefixed
 pub mod Layered
 pub mod Joined
+pub mod Free
+pub mod Rows
+pub mod Cuts
+pub mod Nodes
+pub mod Budgets
+pub mod First

@@ -1,25 +1,20 @@
 -- At the root the enumerator's forests are the derivations, so first, next and last among them are first, next and last in the list L.
 -- Assumes nothing.
 use Prim.Native.Nat.{ℕ}
-use mathlib.Core.Bool.{true≢false}
 use mathlib.Core.List.{List, [], _∷_, _++_, List·Memᴰ}
 use mathlib.Core.Path.{_≡_, refl, sym, _∙_}
 use lib.ListN.{length}
 use lib.Seq.{slice, take-length}
-use Rattle.sets.proofs.Laws.{has-empty}
 use Rattle.cfg.specs.Grammar.{Cfg}
 use Rattle.cfg.specs.Tree.{Forest, code}
 use Rattle.cfg.specs.Derivation.{Derivation, limit}
 use Rattle.cfg.specs.Listing.{derivations, L}
 use Rattle.listing.proofs.Exact.{listed→derivation, derivation→listed, derivations-rising}
 use Rattle.listing.proofs.Rising.{rising→pairs}
-use Rattle.enumeration.specs.Rows.{Free, Root}
+use Rattle.enumeration.specs.Rows.{Root}
 use Rattle.enumeration.specs.Order.{Coded, None, Min, After, Last}
+use Rattle.enumeration.proofs.Free.{free-empty}
 use Rattle.enumeration.proofs.Listed.{Lists, lists-first, lists-none, lists-next, lists-last}
-
--- every forest is free of the empty set
-pub free-empty : (G : Cfg) (cover : ℕ) (t : Forest) → Free G cover 0 t
-free-empty G cover t k h = absurd (true≢false (sym h ∙ has-empty k))
 
 module _ (G : Cfg) (w : List ℕ) where
   slice-whole : slice 0 (length w) w ≡ w

@@ -4,11 +4,12 @@
 use Prim.Native.Nat.{ℕ, _+_, _-_, _≤_}
 use mathlib.Core.Bool.{true}
 use mathlib.Core.List.{List, [], _∷_}
+use mathlib.Core.Logic.{_≢_}
 use mathlib.Core.Path.{_≡_}
 use lib.ListN.{length}
 use lib.Seq.{slice}
-use Rattle.sets.specs.Set.{has, empty}
-use Rattle.cfg.specs.Grammar.{Cfg, Symbol, nonterminal}
+use Rattle.sets.specs.Set.{has, insert, empty}
+use Rattle.cfg.specs.Grammar.{Cfg, Symbol, nonterminal, Of}
 use Rattle.cfg.specs.Tree.{Forest, end, leaf, node, yield, nodes, Fits}
 use Rattle.cfg.specs.Derivation.{Has, Superfluous}
 
@@ -27,6 +28,10 @@ pub record Row (G : Cfg) (w : List ℕ) (cover set : ℕ) (places : List Symbol)
 -- the same for one node of the nonterminal k
 abbrev pub Tree : Cfg → List ℕ → ℕ → ℕ → ℕ → ℕ → ℕ → ℕ → Forest → Type 0
 Tree G w cover set k from to budget = Row G w cover set (nonterminal k ∷ []) from to budget
+
+-- the rows below a node of rule r, a rule of k, over c bytes: one node less may be spent, and k is one more that may not stand over c bytes
+abbrev pub Below : (G : Cfg) → List ℕ → ℕ → ℕ → (k : ℕ) → ℕ → ℕ → ℕ → {r : ℕ} → Of G r k → Forest → Type 0
+Below G w c set k from to budget o = Row G w c (insert k set) (o .the .places) from to (budget - 1)
 
 -- the trees of the derivations of w
 abbrev pub Root : Cfg → ℕ → List ℕ → Forest → Type 0
@@ -53,3 +58,8 @@ pub record Budget (G : Cfg) (w : List ℕ) (cover set k : ℕ) (places : List Sy
   pub within : own ≤ budget
   pub enough : (x y : Forest) → Tree G w cover set k from (from + c) budget x → Row G w cover set places (from + c) to (budget - nodes x) y
       → nodes x ≤ own
+
+-- own is what matters of the set over `cover` bytes for a node over c bytes: all of it where the bytes are the same, else nothing
+pub record SameSpan (cover set c own : ℕ) : Type 0 where
+  pub same : c ≡ cover → own ≡ set
+  pub other : c ≢ cover → own ≡ empty

@@ -1,0 +1,44 @@
+-- From the fewest nodes that a first node and a rest can have: which covers are skipped, what the first node may cost, and that whatever
+-- keeps this can be completed.
+-- Assumes nothing.
+use Prim.Native.Nat.{ℕ, _+_, _-_, _≤_, _<_}
+use mathlib.Core.List.{List}
+use native.Mathlib.Omega.{arith}
+use Rattle.cfg.specs.Grammar.{Cfg, Symbol}
+use Rattle.cfg.specs.Tree.{Forest, nodes}
+use Rattle.enumeration.specs.Rows.{Row, Tree, Skipped, Budget}
+use Rattle.enumeration.specs.Order.{AtLeast}
+use Rattle.enumeration.proofs.Rows.{row-budget}
+
+module _ (G : Cfg) (w : List ℕ) (cover set k : ℕ) (places : List Symbol) (from to budget c : ℕ) where
+  -- a rest within what a first node leaves is one within the budget
+  rest-wider : (x y : Forest) → Row G w cover set places (from + c) to (budget - nodes x) y → Row G w cover set places (from + c) to budget y
+  rest-wider x y q =
+      let l = q .small in
+      row-budget G w q (omega arith)
+
+  pub least-skipped : (a b : ℕ) → AtLeast (Tree G w cover set k from (from + c) budget) a → AtLeast (Row G w cover set places (from + c) to budget) b → budget < a + b → Skipped G w cover set k places from to budget c
+  least-skipped a b f g l x y p q =
+      let i = f x p in
+      let j = g y (rest-wider x y q) in
+      let m = p .small in
+      let n = q .small in
+      omega arith
+
+  pub least-budget : (b : ℕ) → AtLeast (Row G w cover set places (from + c) to budget) b → Budget G w cover set k places from to budget c (budget - b)
+  least-budget b g = record { within = omega arith; enough = enough }
+    where
+      enough : (x y : Forest) → Tree G w cover set k from (from + c) budget x → Row G w cover set places (from + c) to (budget - nodes x) y
+          → nodes x ≤ budget - b
+      enough x y p q =
+          let j = g y (rest-wider x y q) in
+          let m = p .small in
+          let n = q .small in
+          omega arith
+
+  pub least-completes : (b : ℕ) → b ≤ budget → (x y : Forest) → Tree G w cover set k from (from + c) (budget - b) x
+      → Row G w cover set places (from + c) to b y → Row G w cover set places (from + c) to (budget - nodes x) y
+  least-completes b l x y p q =
+      let m = p .small in
+      let n = q .small in
+      row-budget G w q (omega arith)
