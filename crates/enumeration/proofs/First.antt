@@ -59,7 +59,7 @@ module _ (G : Cfg) (w : List ℕ) (cover set from to budget : ℕ) (known : to �
         → None (Row G w cover set (terminal t ∷ places) from to budget)
     leaf-none t n v r =
         let x = leaf-row G w cover set from to budget places rising known t v r in
-        n (x .1) (x .2) (x .0) (x .3)
+        n (x .more) (x .fit) (x .rest) (x .row)
 
     -- ---- a nonterminal and the rest
 

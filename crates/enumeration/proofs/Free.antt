@@ -3,7 +3,6 @@
 -- Assumes nothing.
 use Prim.Native.Nat.{ℕ, _≤_, _<_}
 use mathlib.Core.Bool.{Bool, true, false, true≢false}
-use mathlib.Core.Logic.{_≢_}
 use mathlib.Core.Path.{_≡_, refl, sym, ap, subst, _∙_}
 use native.Mathlib.Decide.{ℕ-discrete}
 use native.Mathlib.Omega.{arith}
@@ -110,5 +109,7 @@ module _ (G : Cfg) (c set k r : ℕ) (o : Of G r k) (below : Forest) (size : len
   below-free s f j h i = go (ℕ-discrete j k)
     where
       go : Dec (j ≡ k) → ⊥
-      go (yes e) = s (super-here o (subst (λ (x : ℕ). Has G x (length (yield below)) below) e (subst (λ (x : ℕ). Has G j x below) (sym size) i)))
+      go (yes e) =
+          let h : Has G j (length (yield below)) below = subst (λ (x : ℕ). Has G j x below) (sym size) i in
+          s (super-here o (subst (λ (x : ℕ). Has G x (length (yield below)) below) e h))
       go (no d) = f j (sym (has-insert-other j k set d) ∙ h) (has-below i)

@@ -53,7 +53,10 @@ module _ {P : Forest → Type 0} {layer : ℕ → Forest → Type 0} (s : Layere
     earlier-before c j t l q = subst (λ x. code t ≺ x) (c .coded) (s .sorted j i t (c .forest) l q (c .member))
 
     pub layered-first : {e : List ℕ} → ((j : ℕ) → j < i → None (layer j)) → Min (layer i) e → Min P e
-    layered-first {e} n m = record { found = layered-coded (m .found); least = λ t p h. go t h (s .out t p .0) (s .out t p .1) (numbers (s .out t p .0) i) }
+    layered-first {e} n m = record {
+      found = layered-coded (m .found);
+      least = λ t p h. go t h (s .out t p .0) (s .out t p .1) (numbers (s .out t p .0) i);
+    }
       where
         go : (t : Forest) → code t ≺ e → (j : ℕ) → layer j t → Numbers j i → ⊥
         go t h j q (below l) = n j l t q

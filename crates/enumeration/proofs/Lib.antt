@@ -11,3 +11,4 @@ pub mod Cuts
 pub mod Nodes
 pub mod Budgets
 pub mod First
+pub mod Next

@@ -1,8 +1,9 @@
--- A rising list that has exactly the codes of a set of forests: the first code of the set is its head, the code after d follows d, and where
--- there is none d stands at the end.
+-- A rising list that has exactly the codes of a set of forests: the first code of the set is its head, the code after d follows d, and
+-- where there is none d stands at the end.
 -- Assumes nothing.
 use Prim.Native.Nat.{ℕ}
 use mathlib.Core.List.{List, [], _∷_, _++_, List·Memᴰ, List·Memᴰ·head, List·Memᴰ·tail, List·Memᴰ·not-nil, List·Memᴰ·cases-cons, Memᴰ·cast}
+use mathlib.Core.List.{Memᴰ·append-right}
 use mathlib.Core.Logic.{_⊎_, inl, inr}
 use mathlib.Core.Path.{_≡_, refl, sym, ap, subst, _∙_}
 use Rattle.cfg.specs.Tree.{Forest, code}
@@ -63,6 +64,15 @@ sorted-last {d = d} (pairs-more {a} {l} h p) i n = go l h n (List·Memᴰ·cases
     go m k o (inr u) later =
         let r = later u in
         (a ∷ r .0, ap (λ (x : List (List ℕ)). a ∷ x) (r .1))
+
+-- what stands in front of a member is before it
+pub sorted-before : (x y : List (List ℕ)) {d : List ℕ} → Pairs _≺_ (x ++ d ∷ y) → (f : List ℕ) → List·Memᴰ f x → f ≺ d
+sorted-before [] y p f i = absurd (List·Memᴰ·not-nil i)
+sorted-before (a ∷ x) y {d} (pairs-more h p) f i = go (List·Memᴰ·cases-cons i) (λ j. sorted-before x y p f j)
+  where
+    go : (f ≡ a) ⊎ List·Memᴰ f x → (List·Memᴰ f x → f ≺ d) → f ≺ d
+    go (inl q) later = subst (λ (z : List ℕ). z ≺ d) (sym q) (h d (Memᴰ·append-right x (List·Memᴰ·head refl)))
+    go (inr j) later = later j
 
 -- ---- lists of the codes of a set
 

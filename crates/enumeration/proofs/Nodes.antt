@@ -11,7 +11,7 @@ use lib.Seq.{slice, length-slice}
 use Rattle.sets.specs.Set.{has, insert}
 use Rattle.cfg.specs.Grammar.{Cfg, nonterminal, Of}
 use Rattle.cfg.specs.Tree.{Forest, end, node, yield, nodes, code, Fits, fits-end, fits-node}
-use Rattle.cfg.specs.Derivation.{Superfluous, _≺_}
+use Rattle.cfg.specs.Derivation.{Superfluous}
 use Rattle.listing.proofs.Rules.{of-same-rule}
 use Rattle.listing.proofs.Sorted.{numbers-sorted}
 use Rattle.enumeration.specs.Rows.{Free, Row, Tree, Below, firstRule}
@@ -95,7 +95,8 @@ module _ (G : Cfg) (w : List ℕ) (c set k from to budget : ℕ) where
       sorted = λ r s t u l a b. numbers-sorted l (rule-opened r t a .coded) (rule-opened s u b .coded);
     }
 
-    pub rule-prefixed : {r : ℕ} (o : Of G r k) → has k set ≡ false → 0 < budget → Prefixed (c ∷ r ∷ []) (Below G w c set k from to budget o) (ByRule r)
+    pub rule-prefixed : {r : ℕ} (o : Of G r k) → has k set ≡ false → 0 < budget
+        → Prefixed (c ∷ r ∷ []) (Below G w c set k from to budget o) (ByRule r)
     rule-prefixed {r} o fresh room = record { up = node-closed o fresh room; down = down }
       where
         down : (t : Forest) → ByRule r t → (u : Forest) × Below G w c set k from to budget o u × (code t ≡ c ∷ r ∷ code u)

@@ -2,7 +2,7 @@
 -- Assumes nothing.
 use Prim.Native.Nat.{ℕ}
 use mathlib.Core.List.{List, _++_}
-use mathlib.Core.Path.{_≡_, ap, subst, _∙_}
+use mathlib.Core.Path.{_≡_, ap, _∙_}
 use Rattle.cfg.specs.Tree.{Forest, code}
 use Rattle.cfg.specs.Derivation.{_≺_}
 use Rattle.listing.proofs.Order.{≺-after}

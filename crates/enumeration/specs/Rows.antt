@@ -1,5 +1,5 @@
--- The forests among which the enumerator looks for the first and the next one. A span is the positions `from` to `to` of one input w; sets of
--- nonterminals are words of crate sets.
+-- The forests among which the enumerator looks for the first and the next one. A span is the positions `from` to `to` of one input w; sets
+-- of nonterminals are words of crate sets.
 -- Assumes nothing.
 use Prim.Native.Nat.{ℕ, _+_, _-_, _≤_}
 use mathlib.Core.Bool.{true}
@@ -29,7 +29,7 @@ pub record Row (G : Cfg) (w : List ℕ) (cover set : ℕ) (places : List Symbol)
 abbrev pub Tree : Cfg → List ℕ → ℕ → ℕ → ℕ → ℕ → ℕ → ℕ → Forest → Type 0
 Tree G w cover set k from to budget = Row G w cover set (nonterminal k ∷ []) from to budget
 
--- the rows below a node of rule r, a rule of k, over c bytes: one node less may be spent, and k is one more that may not stand over c bytes
+-- the rows below a node of rule r, a rule of k, over c bytes: one node less may be spent, and k too may not stand over c bytes
 abbrev pub Below : (G : Cfg) → List ℕ → ℕ → ℕ → (k : ℕ) → ℕ → ℕ → ℕ → {r : ℕ} → Of G r k → Forest → Type 0
 Below G w c set k from to budget o = Row G w c (insert k set) (o .the .places) from to (budget - 1)
 
