@@ -8,7 +8,7 @@ use native.Mathlib.Omega.{arith}
 use lib.ListN.{length}
 use Rattle.cfg.specs.Grammar.{Cfg, Symbol}
 use Rattle.cfg.specs.Tree.{Forest, nodes}
-use Rattle.enumeration.specs.Rows.{Row, Tree, Skipped, Budget, SameSpan}
+use Rattle.enumeration.specs.Rows.{Row, Tree, Skipped, Share, SameSpan}
 use Rattle.enumeration.specs.Order.{None, AtLeast}
 use Rattle.enumeration.proofs.Rows.{row-budget, row-narrower}
 
@@ -43,9 +43,9 @@ module _ (G : Cfg) (w : List ℕ) (cover set k : ℕ) (places : List Symbol) (fr
       let n = q .small in
       omega arith
 
-  pub least-budget : (b : ℕ) → AtLeast (Row G w cover set places (from + c) to budget) b
-      → Budget G w cover set k places from to budget c (budget - b)
-  least-budget b g = record { within = omega arith; enough = enough }
+  pub least-share : (b : ℕ) → AtLeast (Row G w cover set places (from + c) to budget) b
+      → Share G w cover set k places from to budget c (budget - b)
+  least-share b g = record { within = omega arith; enough = enough }
     where
       enough : (x y : Forest) → Tree G w cover set k from (from + c) budget x → Row G w cover set places (from + c) to (budget - nodes x) y
           → nodes x ≤ budget - b

@@ -10,7 +10,7 @@ use Rattle.cfg.specs.Grammar.{Cfg, Symbol, nonterminal}
 use Rattle.cfg.specs.Tree.{Forest, end, node, yield, nodes, code, Fits, fits-end, fits-node}
 use Rattle.cfg.specs.Derivation.{Superfluous, _≺_, first-less}
 use Rattle.chart.proofs.Slices.{slice-append, slice-split}
-use Rattle.enumeration.specs.Rows.{Free, Row, Tree, firstCover, Skipped, Budget}
+use Rattle.enumeration.specs.Rows.{Free, Row, Tree, firstCover, Skipped, Share}
 use Rattle.enumeration.specs.Order.{Coded, None}
 use Rattle.enumeration.proofs.Compare.{Ordered, forests-compared}
 use Rattle.enumeration.proofs.Layered.{Layered}
@@ -109,12 +109,12 @@ module _ (G : Cfg) (w : List ℕ) (cover set k : ℕ) (places : List Symbol) (fr
               let z : length (yield below) < length (yield below') = omega arith in
               first-less z
 
-    -- `own` is what the first node may cost
-    pub row-joined : (rising : from ≤ to) (c own : ℕ) → from + c ≤ to → Budget G w cover set k places from to budget c own
-        → Joined (Tree G w cover set k from (from + c) own) (λ n. Row G w cover set places (from + c) to (budget - n)) (Covering c)
-    row-joined rising c own l b = record { join = join; split = split; ordered = ordered }
+    -- `share` is what the first node may cost
+    pub row-joined : (rising : from ≤ to) (c share : ℕ) → from + c ≤ to → Share G w cover set k places from to budget c share
+        → Joined (Tree G w cover set k from (from + c) share) (λ n. Row G w cover set places (from + c) to (budget - n)) (Covering c)
+    row-joined rising c share l b = record { join = join; split = split; ordered = ordered }
       where
-        join : (x y : Forest) → Tree G w cover set k from (from + c) own x → Row G w cover set places (from + c) to (budget - nodes x) y
+        join : (x y : Forest) → Tree G w cover set k from (from + c) share x → Row G w cover set places (from + c) to (budget - nodes x) y
             → Coded (Covering c) (code x ++ code y)
         join x y p q =
             let i = b .within in
@@ -122,7 +122,7 @@ module _ (G : Cfg) (w : List ℕ) (cover set k : ℕ) (places : List Symbol) (fr
             row-join c l x y (row-budget G w p (omega arith)) q
 
         split : (t : Forest) → Covering c t
-            → Split (Tree G w cover set k from (from + c) own) (λ n. Row G w cover set places (from + c) to (budget - n)) (code t)
+            → Split (Tree G w cover set k from (from + c) share) (λ n. Row G w cover set places (from + c) to (budget - n)) (code t)
         split t a =
             let x = covering-cut rising c t a in
             record {
@@ -133,5 +133,6 @@ module _ (G : Cfg) (w : List ℕ) (cover set k : ℕ) (places : List Symbol) (fr
               coded = x .coded;
             }
 
-        ordered : (x u : Forest) → Tree G w cover set k from (from + c) own x → Tree G w cover set k from (from + c) own u → Ordered x u
+        ordered : (x u : Forest) → Tree G w cover set k from (from + c) share x
+            → Tree G w cover set k from (from + c) share u → Ordered x u
         ordered x u p q = forests-compared G (p .fit) (q .fit) (p .covers ∙ sym (q .covers))

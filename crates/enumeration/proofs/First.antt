@@ -8,9 +8,9 @@ use mathlib.Core.Path.{_≡_, refl}
 use lib.ListN.{length, getD}
 use Rattle.sets.specs.Set.{has}
 use Rattle.cfg.specs.Grammar.{Cfg, Symbol, nonterminal, terminal, Terminal, fits, Of}
-use Rattle.cfg.specs.Tree.{Forest, end, code}
+use Rattle.cfg.specs.Tree.{end, code}
 use Rattle.cfg.specs.Derivation.{_≺_}
-use Rattle.enumeration.specs.Rows.{Row, Tree, Below, Skipped, Budget, SameSpan}
+use Rattle.enumeration.specs.Rows.{Row, Tree, Below, Skipped, Share, SameSpan}
 use Rattle.enumeration.specs.Order.{None, Min}
 use Rattle.enumeration.proofs.Prefixed.{prefixed-first, prefixed-none}
 use Rattle.enumeration.proofs.Layered.{layered-first, layered-none}
@@ -18,6 +18,10 @@ use Rattle.enumeration.proofs.Joined.{joined-first}
 use Rattle.enumeration.proofs.Rows.{row-own, row-end, end-row, leaf-row, leaf-prefixed}
 use Rattle.enumeration.proofs.Cuts.{row-layered, row-joined, skipped-none}
 use Rattle.enumeration.proofs.Nodes.{node-layered, rule-prefixed, rule-none}
+
+-- nothing is before the empty code
+before-none : (x : List ℕ) → x ≺ [] → ⊥
+before-none x = elim [ ]
 
 module _ (G : Cfg) (w : List ℕ) (cover set from to budget : ℕ) (known : to ≤ length w) where
   -- ---- what matters of the set, for a row over c bytes
@@ -32,17 +36,11 @@ module _ (G : Cfg) (w : List ℕ) (cover set from to budget : ℕ) (known : to �
 
   -- ---- no places
 
-  no-smaller : (t : Forest) → code t ≺ [] → ⊥
-  no-smaller t h = go (code t) h
-    where
-      go : (x : List ℕ) → x ≺ [] → ⊥
-      go x = elim [ ]
-
   pub end-first : from ≡ to → Min (Row G w cover set [] from to budget) []
   unfolding code
   end-first q = record {
     found = record { forest = end; member = row-end G w cover set from to budget q; coded = refl };
-    least = λ t r h. no-smaller t h;
+    least = λ t r h. before-none (code t) h;
   }
 
   pub end-none : from ≤ to → from ≢ to → None (Row G w cover set [] from to budget)
@@ -63,16 +61,16 @@ module _ (G : Cfg) (w : List ℕ) (cover set from to budget : ℕ) (known : to �
 
     -- ---- a nonterminal and the rest
 
-    pub row-first : (k c own n : ℕ) {e f : List ℕ} → from + c ≤ to
+    pub row-first : (k c share n : ℕ) {e f : List ℕ} → from + c ≤ to
         → ((d : ℕ) → d < c → Skipped G w cover set k places from to budget d)
-        → Budget G w cover set k places from to budget c own
-        → Min (Tree G w cover set k from (from + c) own) e → length e ≡ 2 * n
+        → Share G w cover set k places from to budget c share
+        → Min (Tree G w cover set k from (from + c) share) e → length e ≡ 2 * n
         → Min (Row G w cover set places (from + c) to (budget - n)) f
         → Min (Row G w cover set (nonterminal k ∷ places) from to budget) (e ++ f)
-    row-first k c own n l s b m size r =
+    row-first k c share n l s b m size r =
         layered-first (row-layered G w cover set k places from to budget known rising) c
         (λ d h. skipped-none G w cover set k places from to budget known rising d (λ _. s d h))
-        (joined-first (row-joined G w cover set k places from to budget known rising c own l b) m size r)
+        (joined-first (row-joined G w cover set k places from to budget known rising c share l b) m size r)
 
     pub row-none : (k : ℕ) → ((d : ℕ) → from + d ≤ to → Skipped G w cover set k places from to budget d)
         → None (Row G w cover set (nonterminal k ∷ places) from to budget)

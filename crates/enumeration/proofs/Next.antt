@@ -10,7 +10,7 @@ use Rattle.sets.specs.Set.{has}
 use Rattle.cfg.specs.Grammar.{Cfg, Symbol, nonterminal, terminal, Terminal, fits, Of}
 use Rattle.cfg.specs.Tree.{Forest, code}
 use Rattle.cfg.specs.Derivation.{_≺_}
-use Rattle.enumeration.specs.Rows.{Row, Tree, Below, Skipped, Budget, SameSpan}
+use Rattle.enumeration.specs.Rows.{Row, Tree, Below, Skipped, Share, SameSpan}
 use Rattle.enumeration.specs.Order.{Coded, None, Min, After, Last}
 use Rattle.enumeration.proofs.Prefixed.{prefixed-coded, prefixed-first, prefixed-next, prefixed-last}
 use Rattle.enumeration.proofs.Layered.{layered-next, layered-later, layered-last}
@@ -18,6 +18,14 @@ use Rattle.enumeration.proofs.Joined.{joined-coded, joined-first, joine
 use Rattle.enumeration.proofs.Rows.{row-own, leaf-prefixed}
 use Rattle.enumeration.proofs.Cuts.{Covering, row-layered, row-joined, skipped-none}
 use Rattle.enumeration.proofs.Nodes.{ByRule, node-layered, rule-prefixed, rule-none}
+
+-- ---- no places: nothing is beyond the empty code
+
+pub end-last : (P : Forest → Type 0) → Last P []
+end-last P t p h = go (code t) h
+  where
+    go : (x : List ℕ) → [] ≺ x → ⊥
+    go x = elim [ ]
 
 module _ (G : Cfg) (w : List ℕ) (cover set from to budget : ℕ) (known : to ≤ length w) where
   -- ---- what matters of the set, for a row over c bytes
@@ -28,14 +36,6 @@ module _ (G : Cfg) (w : List ℕ) (cover set from to budget : ℕ) (known : to �
 
     pub own-last : {d : List ℕ} → Last (Row G w c own places from to budget) d → Last (Row G w cover set places from to budget) d
     own-last = prefixed-last (row-own G w s narrow size known)
-
-  -- ---- no places: nothing is beyond the empty code
-
-  pub end-last : (P : Forest → Type 0) → Last P []
-  end-last P t p h = go (code t) h
-    where
-      go : (x : List ℕ) → [] ≺ x → ⊥
-      go x = elim [ ]
 
   module _ (places : List Symbol) (rising : from ≤ to) where
     -- ---- a terminal and the rest
@@ -51,46 +51,46 @@ module _ (G : Cfg) (w : List ℕ) (cover set from to budget : ℕ) (known : to �
 
     -- ---- a nonterminal and the rest: a first node over c bytes, of n nodes, with the code d, and a rest with the code a stand
 
-    module _ (k c own n : ℕ) {d a : List ℕ} (inside : from + c ≤ to) (b : Budget G w cover set k places from to budget c own)
-        (x : Coded (Tree G w cover set k from (from + c) own) d) (count : length d ≡ 2 * n)
+    module _ (k c share n : ℕ) {d a : List ℕ} (inside : from + c ≤ to) (b : Share G w cover set k places from to budget c share)
+        (x : Coded (Tree G w cover set k from (from + c) share) d) (count : length d ≡ 2 * n)
         (y : Coded (Row G w cover set places (from + c) to (budget - n)) a) where
       -- what stands is one of the forests whose first node covers c bytes
       pub row-coded : Coded (Covering G w cover set k places from to budget c) (d ++ a)
-      row-coded = joined-coded (row-joined G w cover set k places from to budget known rising c own inside b) x count y
+      row-coded = joined-coded (row-joined G w cover set k places from to budget known rising c share inside b) x count y
 
       -- the rest moves
       pub row-next-rest : {e : List ℕ} → After (Row G w cover set places (from + c) to (budget - n)) a e
           → After (Row G w cover set (nonterminal k ∷ places) from to budget) (d ++ a) (d ++ e)
       row-next-rest r =
           layered-next (row-layered G w cover set k places from to budget known rising) c row-coded
-          (joined-rest (row-joined G w cover set k places from to budget known rising c own inside b) x count r)
+          (joined-rest (row-joined G w cover set k places from to budget known rising c share inside b) x count r)
 
       module _ (rest-last : Last (Row G w cover set places (from + c) to (budget - n)) a) where
         -- the rest is last, and the first node moves
-        pub row-next-child : (m : ℕ) {e f : List ℕ} → After (Tree G w cover set k from (from + c) own) d e → length e ≡ 2 * m
+        pub row-next-child : (m : ℕ) {e f : List ℕ} → After (Tree G w cover set k from (from + c) share) d e → length e ≡ 2 * m
             → Min (Row G w cover set places (from + c) to (budget - m)) f
             → After (Row G w cover set (nonterminal k ∷ places) from to budget) (d ++ a) (e ++ f)
         row-next-child m z count' r =
             layered-next (row-layered G w cover set k places from to budget known rising) c row-coded
-            (joined-child (row-joined G w cover set k places from to budget known rising c own inside b) x count rest-last z count' r)
+            (joined-child (row-joined G w cover set k places from to budget known rising c share inside b) x count rest-last z count' r)
 
-        module _ (child-last : Last (Tree G w cover set k from (from + c) own) d) where
+        module _ (child-last : Last (Tree G w cover set k from (from + c) share) d) where
           -- the forests whose first node covers c bytes have none beyond
           covering-last : Last (Covering G w cover set k places from to budget c) (d ++ a)
           covering-last =
-              joined-last (row-joined G w cover set k places from to budget known rising c own inside b) x count rest-last child-last
+              joined-last (row-joined G w cover set k places from to budget known rising c share inside b) x count rest-last child-last
 
           -- both are last, and the next wider cover that is possible is j
-          pub row-next-cover : (j own' m : ℕ) {e f : List ℕ} → c < j → from + j ≤ to
+          pub row-next-cover : (j share' m : ℕ) {e f : List ℕ} → c < j → from + j ≤ to
               → ((i : ℕ) → c < i → i < j → Skipped G w cover set k places from to budget i)
-              → Budget G w cover set k places from to budget j own'
-              → Min (Tree G w cover set k from (from + j) own') e → length e ≡ 2 * m
+              → Share G w cover set k places from to budget j share'
+              → Min (Tree G w cover set k from (from + j) share') e → length e ≡ 2 * m
               → Min (Row G w cover set places (from + j) to (budget - m)) f
               → After (Row G w cover set (nonterminal k ∷ places) from to budget) (d ++ a) (e ++ f)
-          row-next-cover j own' m wider inside' s b' z count' r =
+          row-next-cover j share' m wider inside' s b' z count' r =
               layered-later (row-layered G w cover set k places from to budget known rising) c j row-coded covering-last wider
               (λ i h l. skipped-none G w cover set k places from to budget known rising i (λ _. s i h l))
-              (joined-first (row-joined G w cover set k places from to budget known rising j own' inside' b') z count' r)
+              (joined-first (row-joined G w cover set k places from to budget known rising j share' inside' b') z count' r)
 
           -- both are last, and no wider cover is possible
           pub row-last : ((i : ℕ) → c < i → from + i ≤ to → Skipped G w cover set k places from to budget i)

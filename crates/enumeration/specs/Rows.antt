@@ -37,12 +37,13 @@ Below G w c set k from to budget o = Row G w c (insert k set) (o .the .places) f
 abbrev pub Root : Cfg → ℕ → List ℕ → Forest → Type 0
 Root G budget w = Tree G w (length w) empty (G .start) 0 (length w) budget
 
--- how many bytes the first node covers, and its rule, in a forest that begins with a node
+-- how many bytes the first node covers, in a forest that begins with a node
 unfoldable pub firstCover : Forest → ℕ
 firstCover end = 0
 firstCover (leaf m rest) = 0
 firstCover (node r below rest) = length (yield below)
 
+-- the rule of the first node, in a forest that begins with a node
 unfoldable pub firstRule : Forest → ℕ
 firstRule end = 0
 firstRule (leaf m rest) = 0
@@ -53,11 +54,11 @@ abbrev pub Skipped : Cfg → List ℕ → ℕ → ℕ → ℕ → List Symbol �
 Skipped G w cover set k places from to budget c = (x y : Forest) → Tree G w cover set k from (from + c) budget x
     → Row G w cover set places (from + c) to (budget - nodes x) y → ⊥
 
--- what the first node over c bytes may cost: `own` is within the budget, and each node that some rest completes within the budget keeps it
-pub record Budget (G : Cfg) (w : List ℕ) (cover set k : ℕ) (places : List Symbol) (from to budget c own : ℕ) : Type 0 where
-  pub within : own ≤ budget
+-- what the first node over c bytes may cost: the share is within the budget, and each node that some rest completes keeps it
+pub record Share (G : Cfg) (w : List ℕ) (cover set k : ℕ) (places : List Symbol) (from to budget c share : ℕ) : Type 0 where
+  pub within : share ≤ budget
   pub enough : (x y : Forest) → Tree G w cover set k from (from + c) budget x → Row G w cover set places (from + c) to (budget - nodes x) y
-      → nodes x ≤ own
+      → nodes x ≤ share
 
 -- own is what matters of the set over `cover` bytes for a node over c bytes: all of it where the bytes are the same, else nothing
 pub record SameSpan (cover set c own : ℕ) : Type 0 where
