@@ -1,0 +1,3 @@
+-- Least numbers of nodes: theorems.
+pub mod Lowest
+pub mod Cut
