@@ -4,3 +4,5 @@ pub mod Cut
 pub mod Span
 pub mod Within
 pub mod Rows
+pub mod Whole
+pub mod Rule

@@ -1,12 +1,12 @@
 -- The lowest number of a set: there is only one, the same numbers below the cap have the same lowest, and how a loop comes by it.
 -- Assumes nothing.
-use Prim.Native.Nat.{ℕ, suc, _+_, _≤_, _<_, min}
+use Prim.Native.Nat.{ℕ, suc, _≤_, _<_, min}
 use mathlib.Core.Logic.{_⊎_, inl, inr, ⊎-elim}
-use mathlib.Core.Path.{_≡_, refl, subst}
+use mathlib.Core.Path.{_≡_, subst}
 use native.Mathlib.Decide.{decLt, ℕ-discrete}
 use native.Mathlib.Omega.{arith}
 use Rattle.sizes.specs.Sizes.{tooMany}
-use Rattle.costs.specs.Lowest.{Lowest, None, Above, Seen, seen-first, seen-at}
+use Rattle.costs.specs.Lowest.{Lowest, None, Seen, seen-first, seen-at}
 
 pub lowest-unique : {P : ℕ → Type 0} {u v : ℕ} → Lowest P u → Lowest P v → u ≡ v
 lowest-unique {P} {u} {v} L M = go (decLt u v) (decLt v u)
@@ -40,12 +40,6 @@ lowest-capped {P} {x} f g = record {
   reached = λ l. let e : x ≡ min x tooMany = omega arith in subst P e (f (omega arith));
   below = λ u p. let h = g u p in omega arith;
 }
-
--- with a node above
-pub lowest-above : {P : ℕ → Type 0} {v : ℕ} → Lowest P v → Lowest (Above P) (min (suc v) tooMany)
-lowest-above {P} {v} L = lowest-capped
-    (λ l. (v, L .reached (omega arith), refl))
-    (λ u p. let h = L .below (p .0) (p .1) in let e = p .2 in omega arith)
 
 -- ---- a loop's running minimum
 

@@ -17,6 +17,7 @@ use Rattle.chart.specs.Cell.{fitsAt}
 use Rattle.chart.proofs.Slices.{slice-nil, slice-head}
 use Rattle.chart.proofs.Trees.{fits-at, at-fits}
 use Rattle.costs.specs.Lowest.{Lowest}
+use Rattle.costs.proofs.Lowest.{lowest-unique}
 use Rattle.costs.specs.Span.{bytesOf, Tells, Reads, reads-end, reads-byte, Row, Tree, Least}
 
 module _ {bytes : ℕ → ℕ → Type 0} where
@@ -108,3 +109,15 @@ least-same {P} {Q} {v} to from L = least-by (L .capped) reached below
 
     below : (f : Forest) → Q f → v ≤ nodes f
     below f q = let (g, p, m) = from f q in let h = least-below L g p in omega arith
+
+-- the empty trees are the same wherever they stand
+pub tree-empty : {G : Cfg} {bytes : ℕ → ℕ → Type 0} {k a : ℕ} {t : Forest} (b : ℕ) → Tree G bytes k a a t → Tree G bytes k b b t
+tree-empty {bytes = bytes} b T = record {
+  fitted = T .fitted;
+  reads = subst (Reads bytes b b) (sym (reads-nil (T .reads))) (reads-end refl);
+}
+
+pub least-empty : {G : Cfg} {bytes : ℕ → ℕ → Type 0} {k a b u v : ℕ} → Least (Tree G bytes k a a) u → Least (Tree G bytes k b b) v
+    → u ≡ v
+least-empty {a = a} {b} L M =
+    lowest-unique (least-same (λ t T. (t, tree-empty b T, omega arith)) (λ t T. (t, tree-empty a T, omega arith)) L) M

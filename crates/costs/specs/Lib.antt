@@ -2,3 +2,4 @@
 pub mod Lowest
 pub mod Cut
 pub mod Span
+pub mod Rule

@@ -14,10 +14,6 @@ pub record Lowest (P : ℕ → Type 0) (v : ℕ) : Type 0 where
 abbrev pub None : ℕ → Type 0
 None u = ⊥
 
--- the numbers of P, each with one added: the node above
-abbrev pub Above : (ℕ → Type 0) → ℕ → Type 0
-Above P u = (v : ℕ) × P v × (u ≡ suc v)
-
 -- the numbers of B, and those of P at each index from a on and before m: what a loop has seen
 pub data Seen (B : ℕ → Type 0) (P : ℕ → ℕ → Type 0) (a m u : ℕ) : Type 0 where
   seen-first : B u → Seen B P a m u
