@@ -6,3 +6,5 @@ pub mod Within
 pub mod Rows
 pub mod Whole
 pub mod Rule
+pub mod Solve
+pub mod Plain

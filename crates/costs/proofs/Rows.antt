@@ -10,11 +10,13 @@ use mathlib.Core.Path.{_≡_, refl, sym, ap, _∙_, subst}
 use native.Mathlib.Omega.{arith}
 use lib.ListN.{length}
 use Rattle.sizes.specs.Sizes.{tooMany}
+use Rattle.sets.specs.Set.{has}
 use Rattle.cfg.specs.Grammar.{Cfg, Symbol, nonterminal, Terminal, Of}
 use Rattle.cfg.specs.Tree.{Forest, end, leaf, node, yield, nodes, Fits, fits-end, fits-leaf, fits-node}
 use Rattle.cfg.specs.Derivation.{Has, has-here, has-below, has-beside, has-after}
 use Rattle.costs.specs.Cut.{Cut, cut-end, cut-leaf, cut-node, LeastCut, within}
 use Rattle.costs.specs.Span.{Tells, Reads, reads-end, reads-byte, Free, Row, Tree, FreeRow, FreeTree, Least, Inside, Full}
+use Rattle.costs.specs.Solve.{Sound}
 use Rattle.costs.proofs.Span.{reads-length, reads-append, reads-split, has-small, least-by, least-reached, least-below}
 use Rattle.costs.proofs.Within.{within-cases}
 
@@ -45,35 +47,41 @@ join G {g = g} (fits-node {r = r} {below = below} o f fits-end) s = record {
     from l n (has-beside h) = inr h
 
 pub free-end : (G : Cfg) (M n : ℕ) → Free G M n end
-free-end G M n k m h = elim h [ ]
+free-end G M n = record { none = λ k e h. elim h [ ] }
 
 pub free-leaf : (G : Cfg) (M n m : ℕ) (f : Forest) → Free G M n f → Free G M n (leaf m f)
-free-leaf G M n m f F k e (has-after h) = F k e h
+free-leaf G M n m f F = record { none = none }
+  where
+    none : (k : ℕ) → has k M ≡ true → Has G k n (leaf m f) → ⊥
+    none k e (has-after h) = F .none k e h
 
 -- the first tree of a forest
 pub free-first : (G : Cfg) (M n r : ℕ) (below rest : Forest) → Free G M n (node r below rest) → Free G M n (node r below end)
-free-first G M n r below rest F k e (has-here p q) = F k e (has-here p q)
-free-first G M n r below rest F k e (has-below h) = F k e (has-below h)
-free-first G M n r below rest F k e (has-beside h) = elim h [ ]
+free-first G M n r below rest F = record { none = none }
+  where
+    none : (k : ℕ) → has k M ≡ true → Has G k n (node r below end) → ⊥
+    none k e (has-here p q) = F .none k e (has-here p q)
+    none k e (has-below h) = F .none k e (has-below h)
+    none k e (has-beside h) = elim h [ ]
 
 -- a forest over less than n bytes has no node over n bytes
 pub free-short : {G : Cfg} {bytes : ℕ → ℕ → Type 0} {places : List Symbol} {a b : ℕ} (M n : ℕ) (f : Forest)
     → Row G bytes places a b f → b < a + n → Free G M n f
-free-short M n f R l k e h = omega (arith, has-small h, reads-length (R .reads))
+free-short M n f R l = record { none = λ k e h. omega (arith, has-small h, reads-length (R .reads)) }
 
 module _ (G : Cfg) {fit : ℕ → Terminal → Bool} {bytes : ℕ → ℕ → Type 0} (tells : Tells fit bytes) (M i j : ℕ) (full : ℕ → ℕ)
     (least : ℕ → ℕ → ℕ → ℕ) (inside : Inside G bytes i j least) where
   -- ---- a forest for each cut
 
-  module _ (sound : (k : ℕ) → full k < tooMany → (t : Forest) × FreeTree G bytes M (j - i) k i j t × (nodes t ≤ full k)) where
+  module _ (sound : Sound G bytes M i j full) where
     piece→tree : (k a c : ℕ) → i ≤ a → a ≤ c → c ≤ j → within i j full least k a c < tooMany
         → (t : Forest) × FreeTree G bytes M (j - i) k a c t × (nodes t ≤ within i j full least k a c)
     piece→tree k a c h l m = within-cases i j full least k
         (λ (x : ℕ). x < tooMany → (t : Forest) × FreeTree G bytes M (j - i) k a c t × (nodes t ≤ x)) a c h l m
         (λ e d q. subst (λ (y : ℕ). (t : Forest) × FreeTree G bytes M (j - i) k y c t × (nodes t ≤ full k)) (sym e)
-        (subst (λ (y : ℕ). (t : Forest) × FreeTree G bytes M (j - i) k i y t × (nodes t ≤ full k)) (sym d) (sound k q)))
+        (subst (λ (y : ℕ). (t : Forest) × FreeTree G bytes M (j - i) k i y t × (nodes t ≤ full k)) (sym d) (sound k .reached q)))
         (λ n q.
-        let (t, T, s) = least-reached (inside k a c h l m n) q in
+        let (t, T, s) = least-reached (inside .at k a c h l m n) q in
         (t, (T, free-short M (j - i) t T (omega arith)), s))
 
     pub cut→row : {places : List Symbol} {a u : ℕ} → Cut fit (within i j full least) j places a u → i ≤ a → u < tooMany
@@ -92,7 +100,7 @@ module _ (G : Cfg) {fit : ℕ → Terminal → Bool} {bytes : ℕ → ℕ → Ty
           J .row,
           (
             record { fitted = J .fitted; reads = subst (Reads bytes j a) (sym (J .yields)) (reads-append (T .reads) (R .reads)) },
-            λ x y z. ⊎-elim (E x y) (F x y) (J .from x (j - i) z),
+            record { none = λ x y z. ⊎-elim (E .none x y) (F .none x y) (J .from x (j - i) z) },
           ),
           omega arith,
         )
@@ -105,14 +113,14 @@ module _ (G : Cfg) {fit : ℕ → Terminal → Bool} {bytes : ℕ → ℕ → Ty
     tree→piece k a c t h l m T s = within-cases i j full least k (λ (x : ℕ). x ≤ nodes t) a c h l m
         (λ e d. lower k t
         (subst (λ (y : ℕ). FreeTree G bytes M (j - i) k y j t) e (subst (λ (y : ℕ). FreeTree G bytes M (j - i) k a y t) d T)) s)
-        (λ q. least-below (inside k a c h l m q) t (T .0))
+        (λ q. least-below (inside .at k a c h l m q) t (T .0))
 
     pub row→cut : {places : List Symbol} {f : Forest} → Fits G places f → (a : ℕ) → Reads bytes j a (yield f) → Free G M (j - i) f
         → i ≤ a → nodes f ≤ N → (u : ℕ) × Cut fit (within i j full least) j places a u × (u ≤ nodes f)
     unfolding yield nodes
     row→cut fits-end a (reads-end e) F h s = (0, cut-end e, omega arith)
     row→cut (fits-leaf {t} q f) a (reads-byte {m = m} p r) F h s =
-        let (u, c, l) = row→cut f (suc a) r (λ k e z. F k e (has-after z)) (omega arith) s in
+        let (u, c, l) = row→cut f (suc a) r (record { none = λ k e z. F .none k e (has-after z) }) (omega arith) s in
         let b : a < j = omega (arith, reads-length r) in
         (u, cut-leaf b (tells a t .1 (m, p, q)) c, l)
     row→cut (fits-node {k} {r = n} {below = below} {rest = rest} o g f) a r F h s =
@@ -121,7 +129,7 @@ module _ (G : Cfg) {fit : ℕ → Terminal → Bool} {bytes : ℕ → ℕ → Ty
         let l : c ≤ j = omega (arith, reads-length y) in
         let T : Tree G bytes k a c (node n below end) =
         record { fitted = fits-node o g fits-end; reads = subst (Reads bytes c a) (sym (append-nil (yield below))) x } in
-        let (u, d, m) = row→cut f c y (λ k e z. F k e (has-beside z)) (omega arith) (omega arith) in
+        let (u, d, m) = row→cut f c y (record { none = λ k e z. F .none k e (has-beside z) }) (omega arith) (omega arith) in
         let b = tree→piece k a c (node n below end) h (omega arith) l (T, free-first G M (j - i) n below rest F) (omega arith) in
         (within i j full least k a c + u, cut-node {a = a} c (omega arith) l d refl, omega arith)
 
@@ -130,8 +138,8 @@ module _ (G : Cfg) {fit : ℕ → Terminal → Bool} {bytes : ℕ → ℕ → Ty
   pub leastcut-least : Full G bytes M i j full → {places : List Symbol} {a v : ℕ} → i ≤ a
       → LeastCut fit (within i j full least) places a j v → Least (FreeRow G bytes M (j - i) places a j) v
   leastcut-least exact {places} {a} {v} h L = least-by (L .capped)
-      (λ l. cut→row (λ k. least-reached (exact k)) (L .reached l) h l)
+      (λ l. cut→row (λ k. record { reached = least-reached (exact .at k) }) (L .reached l) h l)
       (λ f R.
-      let (u, c, m) = row→cut (nodes f) (λ k t T _. least-below (exact k) t T) (R .0 .fitted) a (R .0 .reads) (R .1) h (omega arith) in
+      let (u, c, m) = row→cut (nodes f) (λ k t T _. least-below (exact .at k) t T) (R .0 .fitted) a (R .0 .reads) (R .1) h (omega arith) in
       let b = L .below u c in
       omega arith)

@@ -3,3 +3,4 @@ pub mod Lowest
 pub mod Cut
 pub mod Span
 pub mod Rule
+pub mod Solve

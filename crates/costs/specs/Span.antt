@@ -28,8 +28,8 @@ pub data Reads (bytes : ℕ → ℕ → Type 0) (b : ℕ) : ℕ → List ℕ →
   reads-byte : {a m : ℕ} {u : List ℕ} → bytes a m → Reads bytes b (suc a) u → Reads bytes b a (m ∷ u)
 
 -- no node over n bytes is of a nonterminal of the set M
-abbrev pub Free : Cfg → ℕ → ℕ → Forest → Type 0
-Free G M n f = (k : ℕ) → has k M ≡ true → Has G k n f → ⊥
+pub record Free (G : Cfg) (M n : ℕ) (f : Forest) : Type 0 where
+  pub none : (k : ℕ) → has k M ≡ true → Has G k n f → ⊥
 
 -- a forest for these places over the span from a to b
 pub record Row (G : Cfg) (bytes : ℕ → ℕ → Type 0) (places : List Symbol) (a b : ℕ) (f : Forest) : Type 0 where
@@ -52,10 +52,9 @@ abbrev pub Least : (Forest → Type 0) → ℕ → Type 0
 Least P v = Lowest (λ (n : ℕ). (f : Forest) × P f × (nodes f ≡ n)) v
 
 -- `least` has the least numbers of nodes over every span inside i to j but the whole of it
-abbrev pub Inside : Cfg → (ℕ → ℕ → Type 0) → ℕ → ℕ → (ℕ → ℕ → ℕ → ℕ) → Type 0
-Inside G bytes i j least =
-    (k a b : ℕ) → i ≤ a → a ≤ b → b ≤ j → b - a < j - i → Least (Tree G bytes k a b) (least k a b)
+pub record Inside (G : Cfg) (bytes : ℕ → ℕ → Type 0) (i j : ℕ) (least : ℕ → ℕ → ℕ → ℕ) : Type 0 where
+  pub at : (k a b : ℕ) → i ≤ a → a ≤ b → b ≤ j → b - a < j - i → Least (Tree G bytes k a b) (least k a b)
 
 -- `full` has the least numbers of nodes over the whole of i to j, where no nonterminal of M may stand over the whole
-abbrev pub Full : Cfg → (ℕ → ℕ → Type 0) → ℕ → ℕ → ℕ → (ℕ → ℕ) → Type 0
-Full G bytes M i j full = (k : ℕ) → Least (FreeTree G bytes M (j - i) k i j) (full k)
+pub record Full (G : Cfg) (bytes : ℕ → ℕ → Type 0) (M i j : ℕ) (full : ℕ → ℕ) : Type 0 where
+  pub at : (k : ℕ) → Least (FreeTree G bytes M (j - i) k i j) (full k)
