@@ -35,8 +35,10 @@ module _ {G : Cfg} {bytes : ℕ → ℕ → Type 0} {M n : ℕ} {places : List S
       let S = shrink G (R .fitted) in (
         S .row,
         (
-          (record { fitted = S .fitted; reads = subst (Reads bytes b a) (sym (S .same)) (R .reads) },
-          record { none = λ k e h. F .none k e (S .from k n h) }),
+          (
+            record { fitted = S .fitted; reads = subst (Reads bytes b a) (sym (S .same)) (R .reads) },
+            record { none = λ k e h. F .none k e (S .from k n h) },
+          ),
           S .plain,
         ),
         S .fewer,

@@ -68,11 +68,13 @@ module _ (G : Cfg) {fit : ℕ → Terminal → Bool} {bytes : ℕ → ℕ → Ty
   pub rule-sound : {r k v : ℕ} (o : Of G r k) → has k M ≡ false → Lowest (NodeCost fit full least (o .the .places) i j) v
       → SoundAt G bytes M i j k v
   unfolding nodes
-  rule-sound {r} {k} {v} o e L = record { reached = λ l.
-      let p = L .reached l in
-      let s = p .sum in
-      let (f, (R, F), m) = cut→row G tells M i j full least inside sound (p .cut) (omega arith) (omega arith) in
-      (node r f end, (row→tree G o R, free-node G M (j - i) f o e F), omega arith) }
+  rule-sound {r} {k} {v} o e L = record {
+    reached = λ l.
+        let p = L .reached l in
+        let s = p .sum in
+        let (f, (R, F), m) = cut→row G tells M i j full least inside sound (p .cut) (omega arith) (omega arith) in
+        (node r f end, (row→tree G o R, free-node G M (j - i) f o e F), omega arith);
+  }
 
   module _ (stable : Stable G fit M i j full least) where
     -- a tree of at most N nodes has no fewer than the number says
@@ -91,5 +93,7 @@ module _ (G : Cfg) {fit : ℕ → Terminal → Bool} {bytes : ℕ → ℕ → Ty
         go false e (u, c, m) = let h = stable .settled n k o e (suc u) (record { under = u; cut = c; sum = refl }) in omega arith
 
     pub solved : Full G bytes M i j full
-    solved = record { at = λ k. least-by (stable .capped k) (sound k .reached)
-        (λ t T. lower (nodes t) k t (T .0 .fitted) (T .0 .reads) (T .1) (omega arith)) }
+    solved = record {
+      at = λ k. least-by (stable .capped k) (sound k .reached)
+          (λ t T. lower (nodes t) k t (T .0 .fitted) (T .0 .reads) (T .1) (omega arith));
+    }
