@@ -8,3 +8,4 @@ pub mod Whole
 pub mod Rule
 pub mod Solve
 pub mod Plain
+pub mod Nodes

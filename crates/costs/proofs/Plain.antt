@@ -1,30 +1,18 @@
 -- Least numbers of nodes are those of trees without superfluous recursion; below a node of such a tree its own nonterminal joins the mask.
 -- Assumes nothing.
-use Prim.Native.Nat.{ℕ, suc, _+_, _-_, _≤_, _<_}
-use mathlib.Core.Bool.{Bool, true, false, true≢false, false≢true}
-use mathlib.Core.List.{List, [], _∷_, append-nil}
-use mathlib.Core.Logic.{_↔_}
-use mathlib.Core.Path.{_≡_, refl, sym, ap, _∙_, subst}
-use native.Mathlib.Decide.{ℕ-discrete}
+use Prim.Native.Nat.{ℕ, _-_, _≤_}
+use mathlib.Core.Bool.{true≢false}
+use mathlib.Core.List.{List}
+use mathlib.Core.Path.{sym, _∙_, subst}
 use native.Mathlib.Omega.{arith}
-use lib.ListN.{length}
-use Rattle.sizes.specs.Sizes.{tooMany}
-use Rattle.sets.specs.Set.{has, insert, empty}
-use Rattle.sets.proofs.Laws.{has-empty, has-insert, has-insert-same, has-insert-other}
-use Rattle.cfg.specs.Grammar.{Cfg, Symbol, nonterminal, Terminal, Of}
-use Rattle.cfg.specs.Tree.{Forest, end, node, yield, nodes, Fits, fits-end, fits-node}
-use Rattle.cfg.specs.Derivation.{Has, has-here, has-below, has-beside}
-use Rattle.cfg.specs.Derivation.{Superfluous, super-here, super-below, super-beside}
-use Rattle.shrinking.proofs.Decide.{of-unique}
+use Rattle.sets.specs.Set.{empty}
+use Rattle.sets.proofs.Laws.{has-empty}
+use Rattle.cfg.specs.Grammar.{Cfg, Symbol}
+use Rattle.cfg.specs.Tree.{Forest, nodes}
 use Rattle.shrinking.proofs.Shrink.{shrink}
-use Rattle.costs.specs.Lowest.{Lowest}
-use Rattle.costs.specs.Cut.{Cut, within}
-use Rattle.costs.specs.Span.{Tells, Reads, Free, Row, Tree, FreeRow, FreeTree, Least, Inside, Full}
-use Rattle.costs.specs.Rule.{NodeCost}
-use Rattle.costs.specs.Solve.{PlainRow, PlainTree}
-use Rattle.costs.proofs.Span.{reads-length, least-by, least-same}
-use Rattle.costs.proofs.Rows.{cut→row, row→cut}
-use Rattle.costs.proofs.Solve.{free-node, row→tree}
+use Rattle.costs.specs.Span.{Reads, Free, Row, FreeRow, Least}
+use Rattle.costs.specs.Solve.{PlainRow}
+use Rattle.costs.proofs.Span.{least-same}
 
 -- ---- without superfluous recursion
 

@@ -5,16 +5,16 @@ use Prim.Native.Nat.{ℕ, zero, suc, _+_, _≤_, _<_, min}
 use mathlib.Core.Bool.{Bool}
 use mathlib.Core.List.{List, [], _∷_}
 use mathlib.Core.Logic.{_⊎_, inl, inr}
-use mathlib.Core.Option.{Option, some, none}
-use mathlib.Core.Path.{_≡_, refl, sym, ap, _∙_, subst}
+use mathlib.Core.Option.{some}
+use mathlib.Core.Path.{_≡_, refl, sym, ap, _∙_}
 use native.Mathlib.Omega.{arith}
 use lib.ListN.{length, getElem?}
 use Rattle.sizes.specs.Sizes.{tooMany}
 use Rattle.cfg.specs.Grammar.{Symbol, nonterminal, terminal, Terminal}
-use Rattle.costs.specs.Lowest.{Lowest, Seen, seen-first, seen-at}
+use Rattle.costs.specs.Lowest.{Lowest, seen-first, seen-at}
 use Rattle.costs.specs.Cut.{Cut, LeastCut, within}
 use Rattle.costs.specs.Rule.{NodeCost, BareCost, single, together, others, alone, Through, Costs}
-use Rattle.costs.proofs.Lowest.{lowest-same, lowest-capped, seen-start, seen-take, seen-skip}
+use Rattle.costs.proofs.Lowest.{lowest-same, lowest-capped, seen-take, seen-skip}
 use Rattle.costs.proofs.Within.{within-whole}
 use Rattle.costs.proofs.Whole.{cut-nothing, nothing-cut, bare→cut, ByWhole, whole-or-bare, whole→cut}
 

@@ -3,7 +3,7 @@
 -- Assumes nothing.
 use Prim.Native.Nat.{ℕ, zero, suc, _+_, _-_, _≤_, _<_}
 use mathlib.Core.Bool.{Bool, true, false, true≢false}
-use mathlib.Core.List.{List, [], _∷_, _++_, append-nil}
+use mathlib.Core.List.{List, [], _∷_, append-nil}
 use mathlib.Core.Path.{_≡_, refl, sym, ap, _∙_, subst}
 use native.Mathlib.Decide.{decLt}
 use native.Mathlib.Omega.{arith}
@@ -16,7 +16,7 @@ use Rattle.cfg.specs.Derivation.{Has, has-here, has-below, has-beside}
 use Rattle.shrinking.proofs.Decide.{of-unique}
 use Rattle.costs.specs.Lowest.{Lowest}
 use Rattle.costs.specs.Cut.{Cut, within}
-use Rattle.costs.specs.Span.{Tells, Reads, Free, Row, FreeRow, FreeTree, Inside, Full}
+use Rattle.costs.specs.Span.{Tells, Reads, Free, Row, Inside, Full}
 use Rattle.costs.specs.Rule.{NodeCost}
 use Rattle.costs.specs.Solve.{SoundAt, Sound, Stable}
 use Rattle.costs.proofs.Span.{reads-length, least-by}

@@ -2,7 +2,7 @@
 -- parse trees; and the least number of nodes of a set of forests.
 -- Assumes nothing.
 use Prim.Native.Nat.{ℕ, suc, _+_, _≤_, _<_}
-use mathlib.Core.Bool.{Bool, true}
+use mathlib.Core.Bool.{true}
 use mathlib.Core.List.{List, [], _∷_, _++_}
 use mathlib.Core.Logic.{_↔_}
 use mathlib.Core.Path.{_≡_, refl, sym, ap, _∙_, subst}
@@ -10,15 +10,14 @@ use native.Mathlib.Omega.{arith}
 use lib.ListN.{length, getD, length-append}
 use lib.Seq.{slice, slice-empty, slice-cons}
 use Rattle.sizes.specs.Sizes.{tooMany}
-use Rattle.cfg.specs.Grammar.{Cfg, Symbol, nonterminal, Terminal, fits}
-use Rattle.cfg.specs.Tree.{Forest, yield, nodes, Fits, Parse}
+use Rattle.cfg.specs.Grammar.{Cfg, fits}
+use Rattle.cfg.specs.Tree.{Forest, yield, nodes, Parse}
 use Rattle.cfg.specs.Derivation.{Has, has-here, has-below, has-beside, has-after}
 use Rattle.chart.specs.Cell.{fitsAt}
 use Rattle.chart.proofs.Slices.{slice-nil, slice-head}
 use Rattle.chart.proofs.Trees.{fits-at, at-fits}
-use Rattle.costs.specs.Lowest.{Lowest}
 use Rattle.costs.proofs.Lowest.{lowest-unique}
-use Rattle.costs.specs.Span.{bytesOf, Tells, Reads, reads-end, reads-byte, Row, Tree, Least}
+use Rattle.costs.specs.Span.{bytesOf, Tells, Reads, reads-end, reads-byte, Tree, Least}
 
 module _ {bytes : ℕ → ℕ → Type 0} where
   pub reads-length : {a b : ℕ} {u : List ℕ} → Reads bytes b a u → a + length u ≡ b

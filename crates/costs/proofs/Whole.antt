@@ -5,15 +5,15 @@ use mathlib.Core.Bool.{Bool}
 use mathlib.Core.List.{List, [], _∷_}
 use mathlib.Core.Logic.{_⊎_, inl, inr}
 use mathlib.Core.Option.{some}
-use mathlib.Core.Path.{_≡_, refl, sym, ap, _∙_, subst}
-use native.Mathlib.Decide.{decLt, ℕ-discrete}
+use mathlib.Core.Path.{_≡_, refl, sym, ap, _∙_}
+use native.Mathlib.Decide.{ℕ-discrete}
 use native.Mathlib.Omega.{arith}
-use lib.ListN.{length, getElem?}
+use lib.ListN.{getElem?}
 use Rattle.sizes.specs.Sizes.{tooMany}
 use Rattle.cfg.specs.Grammar.{Symbol, nonterminal, terminal, Terminal}
 use Rattle.costs.specs.Cut.{Cut, cut-end, cut-leaf, cut-node, within}
 use Rattle.costs.specs.Rule.{single, together, others}
-use Rattle.costs.proofs.Cut.{cut-forward, cut-map}
+use Rattle.costs.proofs.Cut.{cut-map}
 use Rattle.costs.proofs.Within.{within-whole, within-part, within-cases}
 
 -- ---- an empty span

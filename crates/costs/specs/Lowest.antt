@@ -1,7 +1,6 @@
 -- The lowest number of a set of numbers, capped at `tooMany`, and sets of numbers that a loop goes through.
 -- Assumes nothing.
-use Prim.Native.Nat.{ℕ, suc, _≤_, _<_}
-use mathlib.Core.Path.{_≡_}
+use Prim.Native.Nat.{ℕ, _≤_, _<_}
 use Rattle.sizes.specs.Sizes.{tooMany}
 
 -- v is the lowest number of P, or `tooMany` where P has none below that

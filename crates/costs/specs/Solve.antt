@@ -1,7 +1,7 @@
 -- When numbers for one span are right: each is reached by a tree, and no rule gives a lower one.
 -- Assumes nothing.
 use Prim.Native.Nat.{ℕ, _-_, _≤_, _<_}
-use mathlib.Core.Bool.{Bool, true, false}
+use mathlib.Core.Bool.{Bool, false}
 use mathlib.Core.List.{List, [], _∷_}
 use mathlib.Core.Path.{_≡_}
 use Rattle.sizes.specs.Sizes.{tooMany}
