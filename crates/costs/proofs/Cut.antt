@@ -3,7 +3,7 @@
 -- Assumes nothing.
 use Prim.Native.Nat.{ℕ, suc, _+_, _≤_, _<_}
 use mathlib.Core.Bool.{Bool, true, false, true≢false}
-use mathlib.Core.List.{List, [], _∷_}
+use mathlib.Core.List.{List, [], _∷_, List·Memᴰ, List·Memᴰ·head, List·Memᴰ·tail}
 use mathlib.Core.Path.{_≡_, refl, sym, ap, _∙_}
 use native.Mathlib.Omega.{arith}
 use Rattle.sizes.specs.Sizes.{tooMany}
@@ -101,3 +101,19 @@ pub leastcut-same : {fit : ℕ → Terminal → Bool} {cost cost' : ℕ → ℕ 
 leastcut-same a b p = lowest-same
     (λ u _ c. cut-map a b u (λ _ _ _ _ q. q) (λ k c d l m h _. p k c d l m h) (omega arith) (omega arith) c)
     (λ u _ c. (u, omega arith, cut-map a b u (λ _ _ _ _ q. q) (λ k c d l m h _. sym (p k c d l m h)) (omega arith) (omega arith) c))
+
+-- ---- only the costs of the nonterminals of the places count
+
+pub cut-places : {fit : ℕ → Terminal → Bool} {cost cost' : ℕ → ℕ → ℕ → ℕ} {b : ℕ} {places : List Symbol}
+    → ((k a c : ℕ) → List·Memᴰ (nonterminal k) places → cost k a c ≡ cost' k a c)
+    → {a u : ℕ} → Cut fit cost b places a u → Cut fit cost' b places a u
+cut-places p (cut-end e) = cut-end e
+cut-places p (cut-leaf m q c) = cut-leaf m q (cut-places (λ k a c i. p k a c (List·Memᴰ·tail i)) c)
+cut-places p {a} (cut-node {k} {v = v} c m m' d e) =
+    cut-node c m m' (cut-places (λ l x y i. p l x y (List·Memᴰ·tail i)) d)
+    (e ∙ ap (λ (x : ℕ). x + v) (p k a c (List·Memᴰ·head refl)))
+
+pub leastcut-places : {fit : ℕ → Terminal → Bool} {cost cost' : ℕ → ℕ → ℕ → ℕ} {places : List Symbol} {a b v : ℕ}
+    → ((k a c : ℕ) → List·Memᴰ (nonterminal k) places → cost k a c ≡ cost' k a c)
+    → LeastCut fit cost places a b v → LeastCut fit cost' places a b v
+leastcut-places p = lowest-same (λ u _ c. cut-places p c) (λ u _ c. (u, omega arith, cut-places (λ k a c i. sym (p k a c i)) c))

@@ -16,7 +16,7 @@ use Rattle.cfg.specs.Derivation.{Has, has-here, has-below, has-beside}
 use Rattle.shrinking.proofs.Decide.{of-unique}
 use Rattle.costs.specs.Lowest.{Lowest}
 use Rattle.costs.specs.Cut.{Cut, within}
-use Rattle.costs.specs.Span.{Tells, Reads, Free, Row, Inside, Full}
+use Rattle.costs.specs.Span.{Tells, Reads, Free, Row, Tree, Inside, Full}
 use Rattle.costs.specs.Rule.{NodeCost}
 use Rattle.costs.specs.Solve.{SoundAt, Sound, Stable}
 use Rattle.costs.proofs.Span.{reads-length, least-by}
@@ -75,6 +75,18 @@ module _ (G : Cfg) {fit : ℕ → Terminal → Bool} {bytes : ℕ → ℕ → Ty
         let (f, (R, F), m) = cut→row G tells M i j full least inside sound (p .cut) (omega arith) (omega arith) in
         (node r f end, (row→tree G o R, free-node G M (j - i) f o e F), omega arith);
   }
+
+  -- the rules of a nonterminal without a tree cost too many
+  pub rule-barren : {r k u : ℕ} (o : Of G r k) → ((t : Forest) → Tree G bytes k i j t → ⊥) → NodeCost fit full least (o .the .places) i j u
+      → tooMany ≤ u
+  rule-barren {r} {u = u} o n p = go (decLt u tooMany)
+    where
+      go : Dec (u < tooMany) → tooMany ≤ u
+      go (yes l) =
+          let s = p .sum in
+          let (f, F, m) = cut→row G tells M i j full least inside sound (p .cut) (omega arith) (omega arith) in
+          absurd (n (node r f end) (row→tree G o (F .0)))
+      go (no l) = omega arith
 
   module _ (stable : Stable G fit M i j full least) where
     -- a tree of at most N nodes has no fewer than the number says

@@ -1,11 +1,15 @@
 -- The cost of a piece inside a span: of the whole of it, or of a smaller piece.
 -- Assumes nothing.
 use Prim.Native.Nat.{ℕ, _-_, _≤_, _<_}
+use mathlib.Core.Bool.{Bool}
+use mathlib.Core.List.{List}
 use mathlib.Core.Path.{_≡_, refl, sym, ap, _∙_, subst}
 use native.Mathlib.Decide.{ℕ-discrete, decLt}
 use native.Mathlib.Omega.{arith}
 use borrow.Author.Tests.{eq-eqb, ne-eqb}
-use Rattle.costs.specs.Cut.{within}
+use Rattle.cfg.specs.Grammar.{Symbol, Terminal}
+use Rattle.costs.specs.Cut.{LeastCut, within}
+use Rattle.costs.proofs.Cut.{leastcut-same}
 
 module _ (i j : ℕ) (full : ℕ → ℕ) (least : ℕ → ℕ → ℕ → ℕ) (k : ℕ) where
   pub within-whole : within i j full least k i j ≡ full k
@@ -32,3 +36,9 @@ module _ (i j : ℕ) (full : ℕ → ℕ) (least : ℕ → ℕ → ℕ → ℕ) 
           let e : a ≡ i = omega arith in
           let d : b ≡ j = omega arith in
           subst P (sym (ap (λ (x : ℕ). within i j full least k x b) e ∙ ap (within i j full least k i) d ∙ within-whole)) (f e d)
+
+-- from a later start on no piece is the whole span, so that the least costs there serve every span that starts before and ends at j
+pub leastcut-later : {fit : ℕ → Terminal → Bool} (full : ℕ → ℕ) {least : ℕ → ℕ → ℕ → ℕ} {places : List Symbol} (i : ℕ) {a j v : ℕ} → i < a
+    → LeastCut fit least places a j v → LeastCut fit (within i j full least) places a j v
+leastcut-later full {least} i {a} {j} l =
+    leastcut-same a j (λ k c d m n o. sym (within-part i j full least k c d (omega arith)))
