@@ -1,7 +1,7 @@
 -- The least cost of cutting a span: without places, of a terminal and the rest, of a nonterminal and the rest as a minimum over its ends;
 -- and it depends only on the costs of the spans inside.
 -- Assumes nothing.
-use Prim.Native.Nat.{ℕ, suc, _+_, _≤_, _<_}
+use Prim.Native.Nat.{ℕ, suc, _+_, _≤_, _<_, min}
 use mathlib.Core.Bool.{Bool, true, false, true≢false}
 use mathlib.Core.List.{List, [], _∷_, List·Memᴰ, List·Memᴰ·head, List·Memᴰ·tail}
 use mathlib.Core.Path.{_≡_, refl, sym, ap, _∙_}
@@ -10,7 +10,7 @@ use Rattle.sizes.specs.Sizes.{tooMany}
 use Rattle.cfg.specs.Grammar.{Symbol, nonterminal, terminal, Terminal}
 use Rattle.costs.specs.Lowest.{Lowest, None, Seen, seen-first, seen-at}
 use Rattle.costs.specs.Cut.{Cut, cut-end, cut-leaf, cut-node, First, LeastCut}
-use Rattle.costs.proofs.Lowest.{lowest-none, lowest-at, lowest-same, seen-take, seen-skip}
+use Rattle.costs.proofs.Lowest.{lowest-none, lowest-at, lowest-same, seen-step}
 
 -- a cut goes forward
 pub cut-forward : {fit : ℕ → Terminal → Bool} {cost : ℕ → ℕ → ℕ → ℕ} {b : ℕ} {places : List Symbol} {a v : ℕ}
@@ -75,13 +75,8 @@ module _ {fit : ℕ → Terminal → Bool} {cost : ℕ → ℕ → ℕ → ℕ} 
       below : (u : ℕ) → First fit cost k places a b c u → x ≤ u
       below u p = let m = R .below (p .later) (p .cut) in let q = p .sum in omega arith
 
-      -- the end c is cheaper
-      pub first-take : x < v → Lowest (Seen None (First fit cost k places a b) a (suc c)) x
-      first-take = seen-take h L reached below
-
-      -- the end c is not cheaper
-      pub first-skip : v ≤ x → Lowest (Seen None (First fit cost k places a b) a (suc c)) v
-      first-skip = seen-skip h L reached below
+      pub first-step : {z : ℕ} → z ≡ min v x → Lowest (Seen None (First fit cost k places a b) a (suc c)) z
+      first-step = seen-step h L reached below
 
 -- ---- only the costs of the spans from i on count, and only those that are at most the total
 

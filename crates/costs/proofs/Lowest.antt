@@ -83,3 +83,11 @@ module _ {B : ℕ → Type 0} {P : ℕ → ℕ → Type 0} {a m v x : ℕ} (h : 
     reached = λ n. seen-later (L .reached n);
     below = λ u s. ⊎-elim (L .below u) (λ p. let q = below u p in omega arith) (seen-cases s);
   }
+
+  -- the smaller of the two
+  pub seen-step : {y : ℕ} → y ≡ min v x → Lowest (Seen B P a (suc m)) y
+  seen-step {y} e = go (decLt x v)
+    where
+      go : Dec (x < v) → Lowest (Seen B P a (suc m)) y
+      go (yes l) = let q : x ≡ y = omega arith in subst (Lowest (Seen B P a (suc m))) q (seen-take l)
+      go (no l) = let q : v ≡ y = omega arith in subst (Lowest (Seen B P a (suc m))) q (seen-skip (omega arith))

@@ -14,7 +14,7 @@ use Rattle.cfg.specs.Grammar.{Symbol, nonterminal, terminal, Terminal}
 use Rattle.costs.specs.Lowest.{Lowest, seen-first, seen-at}
 use Rattle.costs.specs.Cut.{Cut, LeastCut, within}
 use Rattle.costs.specs.Rule.{NodeCost, BareCost, single, together, others, alone, Through, Costs}
-use Rattle.costs.proofs.Lowest.{lowest-same, lowest-capped, seen-take, seen-skip}
+use Rattle.costs.proofs.Lowest.{lowest-same, lowest-capped, seen-skip, seen-step}
 use Rattle.costs.proofs.Within.{within-whole}
 use Rattle.costs.proofs.Whole.{cut-nothing, nothing-cut, bare→cut, ByWhole, whole-or-bare, whole→cut}
 
@@ -119,13 +119,8 @@ module _ {fit : ℕ → Terminal → Bool} {empty full : ℕ → ℕ} {least : �
         let t = p .sum in
         omega arith
 
-    -- the child at place m is cheaper
-    pub costs-take : x < v → Lowest (Costs fit empty full least places i j (suc m)) x
-    costs-take = seen-take (omega arith) L reached below
-
-    -- the child at place m is not cheaper
-    pub costs-skip : v ≤ x → Lowest (Costs fit empty full least places i j (suc m)) v
-    costs-skip = seen-skip (omega arith) L reached below
+    pub costs-step : {z : ℕ} → z ≡ min v x → Lowest (Costs fit empty full least places i j (suc m)) z
+    costs-step = seen-step (omega arith) L reached below
 
   -- a terminal is no child
   pub costs-terminal : {t : Terminal} → getElem? places m ≡ some (terminal t) → Lowest (Costs fit empty full least places i j (suc m)) v
