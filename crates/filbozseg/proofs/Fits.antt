@@ -12,12 +12,12 @@ use lib.ListN as ListN
 use lib.Signed.{mag}
 use borrow.Author.Tests.{ltb-true, ltb-false}
 use Rattle.flat.specs.Fits.{DeclaredRule, Fits16}
-use Rattle.flat.specs.Flat.{valueOf}
 use Rattle.grammar.specs.declared.Symbol.{Symbol}
 use Rattle.grammar.specs.declared.Symbol.the-variants.{Nonterminal, Terminal}
 use Rattle.grammar.specs.declared.Place.{Place}
 use Rattle.grammar.specs.declared.Rule.{Rule}
 use Rattle.grammar.specs.declared.Grammar.{Grammar}
+use Rattle.grammar.specs.Tagged.{valueOf}
 use Rattle.grammar.specs.Zero.{zeroPlace, zeroRule, zeroGrammar, noRule}
 use Rattle.results.specs.Load.{signed, openRule, withStart, withRule, withPlace, after, Fault, commandChecks, Step, stop, next, done, step}
 use Rattle.results.proofs.Decide.{decide-either}
@@ -47,7 +47,6 @@ small-fits g d S h = record {
 -- a rule of no places
 opened-small : (k : ℕ) (z : ℤ) → k < 256 → mag z < 32768
     → SmallRule (record { left = k; length = z; count = 0; places = replicate 8 zeroPlace })
-unfolding valueOf
 opened-small k z h m = record {
   declared = record {
     left = h;
@@ -126,7 +125,7 @@ module _ (g : Grammar) (S : Small g) where
   -- one command, which its checks let through
   after-small : (c a b d : ℕ) → a < 256 → b < 256 → d < 256 → (eqb c 0x20 && ltb 127 (g .count)) ≡ false
       → ((eqb c 0x30 || eqb c 0x40) && ltb 7 (openRule g .count)) ≡ false → Small (after c a b d g)
-  unfolding after valueOf
+  unfolding after
   after-small c a b d ha hb hd = go (eqb c 0x10) (eqb c 0x20) (eqb c 0x30) (eqb c 0x40)
     where
       placed : (s : Symbol) → valueOf s < 256 → ltb 7 (openRule g .count) ≡ false → Small (withPlace g s)
