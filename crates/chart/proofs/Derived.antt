@@ -4,7 +4,7 @@
 use Prim.Native.Nat.{ℕ, zero, suc, _^_, _<_}
 use mathlib.Core.Bool.{Bool, true, false, false≢true}
 use mathlib.Core.List.{List, [], _∷_}
-use mathlib.Core.Option.{Option, none, some}
+use mathlib.Core.Option.{Option, none, some, Option·some-injective, Option·none-ne-some}
 use mathlib.Core.Path.{_≡_, refl, sym, _∙_, subst}
 use native.Mathlib.Decide.{ℕ-discrete}
 use native.Mathlib.Omega.{arith}
@@ -24,14 +24,6 @@ At rules r ρ = joined (getElem? rules r) ≡ some ρ
 
 pub bounded-at : (G : Cfg) → Bounded G → (r : ℕ) (ρ : Rule) → At (G .rules) r ρ → ρ .left < 32
 bounded-at G h r ρ e = h r (ρ .left) (record { the = ρ; here = e; left = refl })
-
-some-inj : {A : Type 0} {a b : A} → _≡_ {A = Option A} (some a) (some b) → a ≡ b
-some-inj e = cc
-
-none-some : {A : Type 0} {a : A} → _≡_ {A = Option A} none (some a) → ⊥
-none-some e =
-    let z : _≡_ {A = ℕ} 0 1 = cc in
-    omega arith
 
 module _ (fit : ℕ → Terminal → Bool) (sets : ℕ → ℕ → ℕ) (a n : ℕ) where
   -- a rule of k that cuts the span from a to n
@@ -75,13 +67,13 @@ module _ (fit : ℕ → Terminal → Bool) (sets : ℕ → ℕ → ℕ) (a n : �
   pub by-derived : (rules : List (Option Rule)) (r : ℕ) (ρ : Rule) → At rules r ρ → cuts fit sets (ρ .places) a n ≡ true
       → has (ρ .left) (derived fit sets rules a n) ≡ true
   unfolding derived front joined
-  by-derived [] r ρ e c = absurd (none-some e)
-  by-derived (none ∷ rules) zero ρ e c = absurd (none-some e)
+  by-derived [] r ρ e c = absurd (Option·none-ne-some ρ e)
+  by-derived (none ∷ rules) zero ρ e c = absurd (Option·none-ne-some ρ e)
   by-derived (none ∷ rules) (suc r) ρ e c = by-derived rules r ρ e c
   by-derived (some σ ∷ rules) zero ρ e c =
-      subst (λ (τ : Rule). has (τ .left) (front σ rules (cuts fit sets (σ .places) a n)) ≡ true) (some-inj e)
+      subst (λ (τ : Rule). has (τ .left) (front σ rules (cuts fit sets (σ .places) a n)) ≡ true) (Option·some-injective σ ρ e)
       (front-has σ rules (cuts fit sets (σ .places) a n)
-      (subst (λ (τ : Rule). cuts fit sets (τ .places) a n ≡ true) (sym (some-inj e)) c))
+      (subst (λ (τ : Rule). cuts fit sets (τ .places) a n ≡ true) (sym (Option·some-injective σ ρ e)) c))
   by-derived (some σ ∷ rules) (suc r) ρ e c =
       front-keeps σ rules (ρ .left) (cuts fit sets (σ .places) a n) (by-derived rules r ρ e c)
 

@@ -4,7 +4,7 @@
 use Prim.Native.Nat.{ℕ, zero, suc, _+_, _*_, _≤_, _<_}
 use native.Mathlib.Decide.{decLe, ℕ-discrete}
 use native.Mathlib.Omega.{arith}
-use mathlib.Core.Bool.{Bool, true, false, cond, _&&_, and-true, and-false, or-false}
+use mathlib.Core.Bool.{Bool, true, false, cond, _&&_, and-true, and-false, and-assoc, or-false}
 use mathlib.Core.List.{List, [], _∷_, _++_, map}
 use mathlib.Core.Logic.{dite}
 use mathlib.Core.Path.{_≡_, refl, sym, ap, _∙_}
@@ -35,10 +35,6 @@ within : (a b x y : Bool) (n m : ℕ) → a ≡ b → (n ≤ m → x ≡ y) → 
 within a b x y n m e f =
     dite (decLe n m) (λ k. λ i. e i && leb n m && f k i)
     (λ k. let t : leb n m ≡ false = lt-leb n m (omega arith) in rw (t, and-false a, and-false b))
-
-and-assoc : (a b c : Bool) → (a && b && c) ≡ (a && (b && c))
-and-assoc true b c = refl
-and-assoc false b c = refl
 
 -- ---- records
 
@@ -140,6 +136,3 @@ write-judged g d =
     ap validGrammar (read-kept g d)
     ∙ counts-kept (leb (g .start) 31) (g .count) 128 (λ n. all validRule (take n (map keptRule (g .rules)))) (omega arith)
     ∙ λ i. leb (g .start) 31 && leb (g .count) 128 && rules-kept-valid (g .count) (g .rules) i
-
-pub row-judged : (g : Grammar) → Declared g → validRow (flatOf g) ≡ validGrammar g
-row-judged g d = sym (judged-whole (flatOf g)) ∙ write-judged g d

@@ -50,12 +50,6 @@ module _ (g : Grammar) (valid : validGrammar g ≡ true) where
     pub valid-each : validRule (getD (g .rules) i noRule) ≡ true
     valid-each = all-at validRule noRule noRule-valid (g .rules) (g .count) i used (grammar-parts g valid .2)
 
-    pub valid-each-left : getD (g .rules) i noRule .left ≤ 31
-    valid-each-left = rule-parts (getD (g .rules) i noRule) valid-each .0
-
-    pub valid-each-count : getD (g .rules) i noRule .count ≤ 8
-    valid-each-count = rule-parts (getD (g .rules) i noRule) valid-each .1
-
 -- ---- the abstract grammar
 
 -- the abstract rule that a declared one means

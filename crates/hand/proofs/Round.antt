@@ -1,23 +1,22 @@
 -- A state that is written to a row is read back, with a count of at most 65535; check 14 judges the row as it judges the state.
 -- Assumes nothing.
-use Prim.Native.Nat.{ℕ, zero, suc, _-_, _≤_, _<_}
+use Prim.Native.Nat.{ℕ, zero, suc, _<_}
 use native.Mathlib.Decide.{decLt}
 use native.Mathlib.Omega.{arith}
-use mathlib.Core.Bool.{true, not}
+use mathlib.Core.Bool.{true}
 use mathlib.Core.List.{List, [], _∷_, _++_, map}
 use mathlib.Core.Logic.{dite}
 use mathlib.Core.Path.{_≡_, refl, sym, ap, _∙_}
 use lib.Dec.{ltb}
-use lib.ListN.{length, getD, take, replicate, length-append, length-replicate}
+use lib.ListN.{length, getD, take}
 use lib.Seq.{take-at, getD-at}
 use borrow.Author.Tests.{lt-ltb, le-leb}
 use Rattle.grammar.specs.Valid.{all}
-use Rattle.results.specs.Recognize.{State, stateOf, stateCheck}
+use Rattle.results.specs.Recognize.{State, stateCheck}
 use Rattle.hand.specs.Declared.{Declared}
 use Rattle.sizes.specs.Sizes.{maxInput}
 use Rattle.numbers.specs.Numbers.{byteIn, countOf}
-use Rattle.hand.specs.Hand.{isByte, bytesIn, countIn, stateOfRow, validHand, rowOf}
-use Rattle.hand.proofs.Judged.{judged-whole}
+use Rattle.hand.specs.Hand.{isByte, bytesIn, countIn, stateOfRow, rowOf}
 
 -- ---- bytes
 
@@ -81,30 +80,3 @@ module _ (s : State) (d : Declared s) where
 
       large : (s .count < 65536 → ⊥) → ltb maxInput (countOf (s .count)) ≡ ltb maxInput (s .count)
       large h = lt-ltb maxInput (countOf (s .count)) (omega arith) ∙ sym (lt-ltb maxInput (s .count) (omega arith))
-
-  pub write-valid : not (validHand (rowOf s)) ≡ stateCheck s .fails
-  write-valid = sym (judged-whole (rowOf s)) ∙ write-judged
-
--- ---- the state that has taken an input
-
-zeros-small : (n i : ℕ) → getD (replicate n 0) i 0 < 256
-zeros-small zero i = omega arith
-zeros-small (suc n) zero = omega arith
-zeros-small (suc n) (suc i) = zeros-small n i
-
-padded-small : (w : List ℕ) (n : ℕ) → Bytes w → Bytes (w ++ replicate n 0)
-padded-small [] n b i = zeros-small n i
-padded-small (a ∷ w) n b zero = b 0
-padded-small (a ∷ w) n b (suc i) = padded-small w n (λ j. b (suc j)) i
-
-module _ (w : List ℕ) (few : length w ≤ maxInput) (bytes : (i : ℕ) → getD w i 0 < 256) where
-  pub state-declared : Declared (stateOf w)
-  unfolding stateOf
-  state-declared = record {
-    long = length-append w (replicate (maxInput - length w) 0) ∙ omega (arith, length-replicate {A = ℕ} (maxInput - length w) 0);
-    each = padded-small w (maxInput - length w) bytes;
-  }
-
-  pub read-write-input : stateOfRow (rowOf (stateOf w)) ≡ stateOf w
-  unfolding stateOf
-  read-write-input = read-write (stateOf w) state-declared (omega arith)

@@ -2,7 +2,7 @@
 -- above these are the rows that fit and are without superfluous recursion.
 -- Assumes nothing.
 use Prim.Native.Nat.{ℕ}
-use mathlib.Core.Bool.{Bool, true, false, _&&_, _||_, true≢false, false≢true}
+use mathlib.Core.Bool.{Bool, true, false, _&&_, _||_, or-true, true≢false, false≢true}
 use mathlib.Core.List.{List, [], _∷_}
 use mathlib.Core.Logic.{_⊎_, inl, inr}
 use mathlib.Core.Path.{_≡_, refl, sym, subst, _∙_}
@@ -13,7 +13,8 @@ use Rattle.cfg.specs.Tree.{Forest, end, leaf, node, yield, Fits, fits-end, fits
 use Rattle.cfg.specs.Derivation.{Has, has-here, has-below, has-beside, has-after}
 use Rattle.cfg.specs.Derivation.{Superfluous, super-here, super-below, super-beside, super-after}
 use Rattle.cfg.specs.Listing.{Span, among}
-use Rattle.listing.proofs.Rules.{eqb-true, true-eqb, of-same-left}
+use borrow.Author.Tests.{eq-eqb, eqb-true}
+use Rattle.cfg.proofs.Of.{of-same-left}
 
 abbrev pub span : ℕ → ℕ → Span
 span k n = record { symbol = k; cover = n }
@@ -29,22 +30,18 @@ pub data Fit (G : Cfg) : List Span → List Symbol → Forest → Type 0 where
 
 pub among-first : (k n : ℕ) (above : List Span) → among k n (span k n ∷ above) ≡ true
 unfolding among
-among-first k n above = rw (eqb-true {a = k} refl, eqb-true {a = n} refl)
+among-first k n above = rw (eq-eqb k k refl, eq-eqb n n refl)
 
 pub among-later : (k n : ℕ) (s : Span) (above : List Span) → among k n above ≡ true → among k n (s ∷ above) ≡ true
 unfolding among
 among-later k n s above e = rw e (or-true (eqb (s .symbol) k && eqb (s .cover) n))
-  where
-    or-true : (b : Bool) → (b || true) ≡ true
-    or-true true = refl
-    or-true false = refl
 
 pub among-cases : (j m k n : ℕ) (above : List Span) → among k n (span j m ∷ above) ≡ true → ((j ≡ k) × (m ≡ n)) ⊎ (among k n above ≡ true)
 unfolding among
 among-cases j m k n above h = go (eqb j k) (eqb m n) refl refl h
   where
     go : (a b : Bool) → eqb j k ≡ a → eqb m n ≡ b → ((a && b) || among k n above) ≡ true → ((j ≡ k) × (m ≡ n)) ⊎ (among k n above ≡ true)
-    go true true p q e = inl (true-eqb p, true-eqb q)
+    go true true p q e = inl (eqb-true j k p, eqb-true m n q)
     go true false p q e = inr e
     go false b p q e = inr e
 

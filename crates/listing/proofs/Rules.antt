@@ -1,16 +1,16 @@
--- The numbers that `from` gives and the rules that `rulesFrom` gives: exactly those that are meant, in rising order; and a number has one
--- rule.
+-- The numbers that `from` gives and the rules that `rulesFrom` gives: exactly those that are meant, in rising order.
 -- Assumes nothing.
 use Prim.Native.Nat.{ℕ, zero, suc, _+_, _≤_, _<_}
 use mathlib.Core.Bool.{Bool, true, false, false≢true}
 use mathlib.Core.List.{List, [], _∷_, List·Memᴰ, List·Memᴰ·head, List·Memᴰ·tail, List·Memᴰ·not-nil}
-use mathlib.Core.Option.{Option, none, some, Option·some-injective, Option·none-ne-some}
+use mathlib.Core.Option.{Option, none, some, Option·none-ne-some}
 use mathlib.Core.Path.{_≡_, refl, sym, ap, subst, _∙_}
-use lib.Dec.{T, eqb, eqb→eq, eqb-refl}
+use lib.Dec.{eqb}
 use lib.ListN.{getElem?}
 use native.Mathlib.Decide.{ℕ-discrete}
 use native.Mathlib.Nat.{zero-add}
 use native.Mathlib.Omega.{arith}
+use borrow.Author.Tests.{eq-eqb, eqb-true}
 use Rattle.cfg.specs.Grammar.{Cfg, Rule, Of, rule, joined}
 use Rattle.cfg.specs.Listing.{from, keep, rulesFrom, Numbered}
 use Rattle.listing.proofs.Members.{Pairs, pairs-none, pairs-more}
@@ -34,17 +34,6 @@ pub from-rising : (a n : ℕ) → Pairs _<_ (from a n)
 unfolding from
 from-rising a zero = pairs-none
 from-rising a (suc n) = pairs-more (λ b i. from-cases (suc a) n i .0) (from-rising (suc a) n)
-
--- a test of numbers that holds, or fails
-pub eqb-true : {a b : ℕ} → a ≡ b → eqb a b ≡ true
-eqb-true {a} {b} e = go (eqb a b) refl (subst (λ x. T (eqb a x)) e (eqb-refl a))
-  where
-    go : (t : Bool) → eqb a b ≡ t → T t → t ≡ true
-    go true q h = refl
-    go false q h = absurd h
-
-pub true-eqb : {a b : ℕ} → eqb a b ≡ true → a ≡ b
-true-eqb {a} {b} e = eqb→eq a b (subst T (sym e) tt)
 
 -- a rule with a number
 abbrev pub numbered : ℕ → Rule → Numbered
@@ -81,7 +70,7 @@ rulesFrom-cases k s (some o ∷ l) {ρ} h = go (eqb (o .left) k) refl h (λ i. n
       number = let q : ρ .number ≡ s = ap (λ x. x .number) e in omega arith;
       the = o;
       here = refl;
-      left = true-eqb t;
+      left = eqb-true (o .left) k t;
       places = ap (λ x. x .places) e;
     }
 
@@ -104,7 +93,7 @@ keep-later k r (some o) {l} {ρ} h = go (eqb (o .left) k)
 pub keep-now : (k r : ℕ) (o : Rule) (l : List Numbered) → o .left ≡ k
     → List·Memᴰ (numbered r o) (keep k r (some o) l)
 unfolding keep
-keep-now k r o l e = go (eqb (o .left) k) (eqb-true e)
+keep-now k r o l e = go (eqb (o .left) k) (eq-eqb (o .left) k e)
   where
     go : (t : Bool) → t ≡ true
         → List·Memᴰ {A = Numbered} (numbered r o) (elim t [ true ↦ numbered r o ∷ l | false ↦ l ])
@@ -155,10 +144,3 @@ rules-cases G k {ρ} h = step (rulesFrom-cases k 0 (G .rules) h)
 
 pub rules-member : (G : Cfg) (k r : ℕ) (o : Of G r k) → List·Memᴰ (numbered r (o .the)) (rulesFrom k 0 (G .rules))
 rules-member G k r o = rulesFrom-member k 0 r r (G .rules) (o .the) (omega arith) (o .here) (o .left)
-
--- a number has one rule, and that one left side
-pub of-same-rule : {G : Cfg} {r s j k : ℕ} → r ≡ s → (o : Of G r j) (p : Of G s k) → o .the ≡ p .the
-of-same-rule {G} e o p = Option·some-injective (o .the) (p .the) (sym (o .here) ∙ ap (rule G) e ∙ p .here)
-
-pub of-same-left : {G : Cfg} {r j k : ℕ} → Of G r j → Of G r k → j ≡ k
-of-same-left o p = sym (o .left) ∙ ap (λ x. x .left) (of-same-rule refl o p) ∙ p .left

@@ -8,7 +8,7 @@ use lib.ListN.{length, length-append}
 use native.Mathlib.Omega.{arith}
 use Rattle.cfg.specs.Grammar.{Cfg, Symbol}
 use Rattle.cfg.specs.Tree.{Forest, end, leaf, node, yield, nodes, code, Fits, fits-end, fits-leaf, fits-node}
-use Rattle.listing.proofs.Rules.{of-same-rule}
+use Rattle.cfg.proofs.Of.{of-same-rule}
 
 pub length-code : (t : Forest) → length (code t) ≡ 2 * nodes t
 unfolding code nodes

@@ -3,7 +3,7 @@
 use Prim.Native.Nat.{ℕ, zero, suc, _+_, _*_, _-_, _≤_, _<_, min}
 use mathlib.Core.Bool.{Bool, true, false, cond}
 use mathlib.Core.List.{List, [], _∷_}
-use mathlib.Core.Option.{Option, none, some}
+use mathlib.Core.Option.{none, some, Option·none-ne-some}
 use mathlib.Core.Path.{_≡_, refl, sym, ap, _∙_}
 use mathlib.Core.Logic.{dite}
 use native.Mathlib.Decide.{decLt}
@@ -99,11 +99,6 @@ rules-past p zero a r h = refl
 rules-past p (suc n) a zero h = absurd (omega arith)
 rules-past p (suc n) a (suc r) h = rules-past p n (suc a) r (omega arith)
 
-none-some : {A : Type 0} {a : A} → _≡_ {A = Option A} none (some a) → ⊥
-none-some e =
-    let z : _≡_ {A = ℕ} 0 1 = cc in
-    omega arith
-
 module _ (s : ℕ) (p : List ℕ) where
   pub rule-in : (r : ℕ) → r < 128 → rule (cfgIn s p) r ≡ ruleIn p r
   unfolding cfgIn rulesIn joined
@@ -125,7 +120,7 @@ module _ (s : ℕ) (p : List ℕ) where
       go (yes h) =
           let u = used-rule p r (o .the) (sym (rule-in r h) ∙ o .here) in
           (h, ap (λ (ρ : Rule). ρ .left) (u .1) ∙ o .left, u .0, sym (ap (λ (ρ : Rule). ρ .places) (u .1)))
-      go (no h) = absurd (none-some (sym (rule-in-past r (omega arith)) ∙ o .here))
+      go (no h) = absurd (Option·none-ne-some (o .the) (sym (rule-in-past r (omega arith)) ∙ o .here))
 
   unfoldable pub in-of : (r k : ℕ) → r < 128 → leftIn p r ≡ k → leftIn p r < 32 → Of (cfgIn s p) r k
   in-of r k h e l = record { the = rowRule p r; here = rule-in r h ∙ rule-used p r l; left = e }

@@ -62,10 +62,6 @@ pub card-le : (w : ℕ) → card w ≤ 32
 unfolding card
 card-le w = count-le 32 w
 
-pub card-mono : (v w : ℕ) → ((k : ℕ) → has k v ≡ true → has k w ≡ true) → card v ≤ card w
-unfolding card
-card-mono v w sub = count-mono v w sub 32
-
 pub card-strict : (v w k : ℕ) → k < 32 → ((j : ℕ) → has j v ≡ true → has j w ≡ true)
     → has k v ≡ false → has k w ≡ true → card v < card w
 unfolding card

@@ -82,7 +82,7 @@ pub has-above : (n k w : ℕ) → w < 2 ^ n → n ≤ k → has k w ≡ false
 unfolding has
 has-above n k w l h = ap (λ (x : ℕ). eqb (x % 2) 1) (div-eq-of-lt (lt-of-lt-of-le l (pow-mono h)))
 
--- the lowest bits are equal, or in order, where membership of 0 is
+-- the lowest bits are equal where membership of 0 is
 low-eq : (v w : ℕ) → has 0 v ≡ has 0 w → v % 2 ≡ w % 2
 low-eq v w e = go (has 0 w) refl
   where
@@ -90,26 +90,12 @@ low-eq v w e = go (has 0 w) refl
     go true h = has-zero-true v (e ∙ h) ∙ sym (has-zero-true w h)
     go false h = has-zero-false v (e ∙ h) ∙ sym (has-zero-false w h)
 
-low-le : (v w : ℕ) → (has 0 v ≡ true → has 0 w ≡ true) → v % 2 ≤ w % 2
-low-le v w f = go (has 0 v) refl
-  where
-    go : (b : Bool) → has 0 v ≡ b → v % 2 ≤ w % 2
-    go true h = omega (arith, has-zero-true w (f h))
-    go false h = omega (arith, has-zero-false v h)
-
 pub ext-below : (n v w : ℕ) → v < 2 ^ n → w < 2 ^ n → ((k : ℕ) → k < n → has k v ≡ has k w) → v ≡ w
 ext-below zero v w p q f = omega arith
 ext-below (suc n) v w p q f =
     let g : (k : ℕ) → k < n → has k (v / 2) ≡ has k (w / 2) = λ k h. sym (has-suc k v) ∙ f (suc k) (omega arith) ∙ has-suc k w in
     let e : v / 2 ≡ w / 2 = ext-below n (v / 2) (w / 2) (half-below n v p) (half-below n w q) g in
     omega (arith, low-eq v w (f 0 (omega arith)))
-
-pub le-below : (n v w : ℕ) → v < 2 ^ n → ((k : ℕ) → has k v ≡ true → has k w ≡ true) → v ≤ w
-le-below zero v w p f = omega arith
-le-below (suc n) v w p f =
-    let g : (k : ℕ) → has k (v / 2) ≡ true → has k (w / 2) ≡ true = λ k h. sym (has-suc k w) ∙ f (suc k) (has-suc k v ∙ h) in
-    let l : v / 2 ≤ w / 2 = le-below n (v / 2) (w / 2) (half-below n v p) g in
-    omega (arith, low-le v w (f 0))
 
 -- ---- sets of 32 bits
 
@@ -121,6 +107,3 @@ has-high k w l h = has-above 32 k w l h
 
 pub set-ext : (v w : ℕ) → v < 2 ^ 32 → w < 2 ^ 32 → ((k : ℕ) → k < 32 → has k v ≡ has k w) → v ≡ w
 set-ext v w p q f = ext-below 32 v w p q f
-
-pub set-le : (v w : ℕ) → v < 2 ^ 32 → w < 2 ^ 32 → ((k : ℕ) → has k v ≡ true → has k w ≡ true) → v ≤ w
-set-le v w p q f = le-below 32 v w p f

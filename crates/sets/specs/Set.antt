@@ -12,10 +12,6 @@ has k w = eqb (w / 2 ^ k % 2) 1
 unfoldable pub insert : ℕ → ℕ → ℕ
 insert k w = cond (has k w) w (w + 2 ^ k)
 
--- the set with no member
-abbrev pub empty : ℕ
-empty = 0
-
 -- how many of 0..n-1 are in the set
 unfoldable pub countBelow : ℕ → ℕ → ℕ
 countBelow zero w = 0
@@ -24,7 +20,3 @@ countBelow (suc n) w = cond (has n w) (suc (countBelow n w)) (countBelow n w)
 -- how many of 0..31 are in the set
 unfoldable pub card : ℕ → ℕ
 card w = countBelow 32 w
-
--- the number of words of 32 bits: a set is a number below it
-abbrev pub word : ℕ
-word = 4294967296

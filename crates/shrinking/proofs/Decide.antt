@@ -1,24 +1,21 @@
--- A rule has one left side; and whether a row has a node of a nonterminal over so many bytes, and whether it has superfluous recursion,
+-- A known rule is of its left side; and whether a row has a node of a nonterminal over so many bytes, and whether it has superfluous recursion,
 -- can be decided.
 -- Assumes nothing.
 use Prim.Native.Nat.{ℕ}
 use native.Mathlib.Decide.{ℕ-discrete, map-dec}
 use mathlib.Core.Logic.{_⊎_, inl, inr, ⊎-elim, Dec·and}
-use mathlib.Core.Path.{_≡_, refl, sym, ap, _∙_, subst}
-use mathlib.Core.Option.{Option, none, some, Option·some-injective, Option·some-ne-none}
+use mathlib.Core.Path.{_≡_, refl, sym, _∙_, subst}
+use mathlib.Core.Option.{Option, none, some, Option·some-ne-none}
 use lib.ListN.{length}
 use Rattle.cfg.specs.Grammar.{Cfg, Rule, rule, Of}
+use Rattle.cfg.proofs.Of.{of-same-left}
 use Rattle.cfg.specs.Tree.{Forest, end, leaf, node, yield}
 use Rattle.cfg.specs.Derivation.{Has, has-here, has-below, has-beside, has-after}
 use Rattle.cfg.specs.Derivation.{Superfluous, super-here, super-below, super-beside, super-after}
 
 -- where the rule is known, a nonterminal of which it is a rule is its left side
 pub of-left : (G : Cfg) {r k : ℕ} (ρ : Rule) → rule G r ≡ some ρ → Of G r k → ρ .left ≡ k
-of-left G ρ e o = ap (λ (σ : Rule). σ .left) (Option·some-injective ρ (o .the) (sym e ∙ o .here)) ∙ o .left
-
--- a rule is of one nonterminal
-pub of-unique : (G : Cfg) {r j k : ℕ} → Of G r j → Of G r k → j ≡ k
-of-unique G o p = sym (o .left) ∙ of-left G (o .the) (o .here) p
+of-left G ρ e o = of-same-left (record { the = ρ; here = e; left = refl }) o
 
 -- a rule of j is a rule of k where j is k
 abbrev pub of-same : (G : Cfg) {r j k : ℕ} → j ≡ k → Of G r j → Of G r k

@@ -10,7 +10,8 @@ use Rattle.cfg.specs.Grammar.{Cfg, Symbol, Of}
 use Rattle.cfg.specs.Tree.{Forest, end, leaf, node, yield, nodes, Fits, fits-end, fits-leaf, fits-node}
 use Rattle.cfg.specs.Derivation.{Has, has-here, has-below, has-beside, has-after}
 use Rattle.cfg.specs.Derivation.{Superfluous, super-here, super-below, super-beside, super-after}
-use Rattle.shrinking.proofs.Decide.{of-unique, of-same}
+use Rattle.cfg.proofs.Of.{of-same-left}
+use Rattle.shrinking.proofs.Decide.{of-same}
 
 -- a node of k over n bytes of the row t, with an empty row beside it
 pub record Found (G : Cfg) (k n : ℕ) (t : Forest) : Type 0 where
@@ -32,7 +33,7 @@ pub found-here : (G : Cfg) {k n j r : ℕ} {below rest : Forest} (o : Of G r j) 
 unfolding yield nodes
 found-here G {r} {below} {rest} o f p e = record {
   number = r;
-  of = of-same G (of-unique G o p) o;
+  of = of-same G (of-same-left o p) o;
   below = below;
   fitted = f;
   cover = e;

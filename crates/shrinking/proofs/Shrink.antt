@@ -13,7 +13,8 @@ use Rattle.cfg.specs.Grammar.{Cfg, Symbol, nonterminal, Of}
 use Rattle.cfg.specs.Tree.{Forest, end, leaf, node, yield, nodes, code, Fits, fits-end, fits-leaf, fits-node, Parse}
 use Rattle.cfg.specs.Derivation.{Has, has-here, has-below, has-beside, has-after, Derivation}
 use Rattle.cfg.specs.Derivation.{Superfluous, super-here, super-below, super-beside, super-after}
-use Rattle.shrinking.proofs.Decide.{of-unique, has-dec}
+use Rattle.cfg.proofs.Of.{of-same-left}
+use Rattle.shrinking.proofs.Decide.{has-dec}
 use Rattle.shrinking.proofs.Extract.{Found, extract, middle-whole}
 
 -- a row for the same places over the same bytes as t, without superfluous recursion
@@ -67,7 +68,7 @@ shrunk-keep G {k} {r} {below} {rest} o B S n = record {
 }
   where
     plain : ¬ Superfluous G (node r (B .row) (S .row))
-    plain (super-here p h) = n (subst (λ (j : ℕ). Has G j (length (yield (B .row))) (B .row)) (of-unique G p o) h)
+    plain (super-here p h) = n (subst (λ (j : ℕ). Has G j (length (yield (B .row))) (B .row)) (of-same-left p o) h)
     plain (super-below h) = B .plain h
     plain (super-beside h) = S .plain h
 
