@@ -14,9 +14,10 @@ use Rattle.cfg.specs.Tree.{Forest, end, node, yield, nodes, code, Fits, fits-en
 use Rattle.cfg.specs.Derivation.{Superfluous}
 use Rattle.chart.proofs.Slices.{slice-append, slice-split}
 use Rattle.listing.proofs.Unique.{length-code}
-use Rattle.checker.specs.Walk.{Free, Walked, SameSpan}
-use Rattle.checker.proofs.Spans.{join-plain, join-free, first-plain, first-free, beside-plain, beside-free, node-plain, node-free}
-use Rattle.checker.proofs.Spans.{below-plain, node-fresh, below-free}
+use Rattle.enumeration.specs.Rows.{Free, SameSpan}
+use Rattle.enumeration.proofs.Free.{join-plain, join-free, first-plain, first-free, beside-plain, beside-free}
+use Rattle.checker.specs.Walk.{Walked}
+use Rattle.checker.proofs.Spans.{node-plain, node-free, below-plain, node-fresh, below-free}
 
 -- a list that goes on with two numbers has them at that place
 two-at : (e x : List ℕ) (i a b : ℕ) → a ∷ b ∷ x ≡ drop i e

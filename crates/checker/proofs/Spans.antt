@@ -1,92 +1,24 @@
--- Nodes by nonterminal and cover: none covers more than the row that it stands in, and how the set of the nonterminals above is passed on
--- from a node to the row below it.
+-- How the set of the nonterminals above is passed on from a node to the row below it, which may cover as many bytes or fewer.
 -- Assumes nothing.
 use Prim.Native.Nat.{ℕ, _≤_}
 use mathlib.Core.Bool.{Bool, true, false, true≢false}
-use mathlib.Core.Logic.{_≢_}
 use mathlib.Core.Path.{_≡_, refl, sym, ap, subst, _∙_}
 use native.Mathlib.Decide.{ℕ-discrete}
 use native.Mathlib.Omega.{arith}
-use lib.ListN.{length, length-append}
+use lib.ListN.{length}
 use Rattle.sets.specs.Set.{has, insert}
-use Rattle.sets.proofs.Laws.{has-empty, has-insert-same, has-insert-other, has-insert}
+use Rattle.sets.proofs.Laws.{has-empty, has-insert-other, has-insert}
 use Rattle.cfg.specs.Grammar.{Cfg, Of}
-use Rattle.cfg.specs.Tree.{Forest, end, leaf, node, yield}
-use Rattle.cfg.specs.Derivation.{Has, has-here, has-below, has-beside, has-after, Superfluous, super-here, super-below, super-beside}
-use Rattle.cfg.specs.Derivation.{super-after}
-use Rattle.listing.proofs.Rules.{of-same-left}
-use Rattle.checker.specs.Walk.{Free, SameSpan}
-
-pub has-within : {G : Cfg} {k n : ℕ} {t : Forest} → Has G k n t → n ≤ length (yield t)
-unfolding yield
-has-within (has-here {below = below} {rest} o e) = omega (arith, length-append (yield below) (yield rest))
-has-within (has-below {below = below} {rest} h) = omega (arith, has-within h, length-append (yield below) (yield rest))
-has-within (has-beside {below = below} {rest} h) = omega (arith, has-within h, length-append (yield below) (yield rest))
-has-within (has-after h) = omega (arith, has-within h)
-
--- a member of a set with k in it is k or was a member
-insert-cases : (j k set : ℕ) → has j (insert k set) ≡ true → j ≢ k → has j set ≡ true
-insert-cases j k set h d = sym (has-insert-other j k set d) ∙ h
-
--- ---- the end of a row, and a byte before a row
-
-module _ (G : Cfg) where
-  pub end-plain : Superfluous G end → ⊥
-  end-plain = elim [ ]
-
-  pub end-free : (cover set : ℕ) → Free G cover set end
-  end-free cover set k h = elim [ ]
-
-  module _ (m : ℕ) (rest : Forest) where
-    pub leaf-plain : ¬ Superfluous G rest → ¬ Superfluous G (leaf m rest)
-    leaf-plain s (super-after i) = s i
-
-    pub leaf-free : (cover set : ℕ) → Free G cover set rest → Free G cover set (leaf m rest)
-    leaf-free cover set f k h (has-after i) = f k h i
-
-    pub after-plain : ¬ Superfluous G (leaf m rest) → ¬ Superfluous G rest
-    after-plain s i = s (super-after i)
-
-    pub after-free : (cover set : ℕ) → Free G cover set (leaf m rest) → Free G cover set rest
-    after-free cover set f k h i = f k h (has-after i)
-
-  -- a node alone, and before a row
-  module _ (r : ℕ) (below rest : Forest) where
-    pub join-plain : ¬ Superfluous G (node r below end) → ¬ Superfluous G rest → ¬ Superfluous G (node r below rest)
-    join-plain s t (super-here o i) = s (super-here o i)
-    join-plain s t (super-below i) = s (super-below i)
-    join-plain s t (super-beside i) = t i
-
-    pub join-free : (cover set : ℕ) → Free G cover set (node r below end) → Free G cover set rest → Free G cover set (node r below rest)
-    join-free cover set f g k h (has-here o e) = f k h (has-here o e)
-    join-free cover set f g k h (has-below i) = f k h (has-below i)
-    join-free cover set f g k h (has-beside i) = g k h i
-
-    pub first-plain : ¬ Superfluous G (node r below rest) → ¬ Superfluous G (node r below end)
-    first-plain s (super-here o i) = s (super-here o i)
-    first-plain s (super-below i) = s (super-below i)
-    first-plain s (super-beside i) = end-plain i
-
-    pub first-free : (cover set : ℕ) → Free G cover set (node r below rest) → Free G cover set (node r below end)
-    first-free cover set f k h (has-here o e) = f k h (has-here o e)
-    first-free cover set f k h (has-below i) = f k h (has-below i)
-    first-free cover set f k h (has-beside i) = end-free cover set k h i
-
-    pub beside-plain : ¬ Superfluous G (node r below rest) → ¬ Superfluous G rest
-    beside-plain s i = s (super-beside i)
-
-    pub beside-free : (cover set : ℕ) → Free G cover set (node r below rest) → Free G cover set rest
-    beside-free cover set f k h i = f k h (has-beside i)
-
--- ---- a node and the row below it
+use Rattle.cfg.specs.Tree.{Forest, end, node, yield}
+use Rattle.cfg.specs.Derivation.{Has, has-here, has-below, has-beside, Superfluous, super-here, super-below}
+use Rattle.cfg.proofs.Of.{of-same-left}
+use Rattle.enumeration.specs.Rows.{Free, SameSpan}
+use Rattle.enumeration.proofs.Free.{has-within, end-free, node-plain as node-plain-over}
 
 -- own: what matters of the set for the node
 module _ (G : Cfg) (cover set own k r : ℕ) (o : Of G r k) (below : Forest) where
   pub node-plain : ¬ Superfluous G below → Free G (length (yield below)) (insert k own) below → ¬ Superfluous G (node r below end)
-  node-plain s f (super-here {k = j} p i) =
-      f k (has-insert-same k own) (subst (λ (x : ℕ). Has G x (length (yield below)) below) (of-same-left p o) i)
-  node-plain s f (super-below i) = s i
-  node-plain s f (super-beside i) = end-plain G i
+  node-plain = node-plain-over G (length (yield below)) own k r o below refl
 
   module _ (span : SameSpan cover set (length (yield below)) own) where
     -- a member of the set over the bytes of the node is one that matters
@@ -133,5 +65,5 @@ module _ (G : Cfg) (cover set own k r : ℕ) (o : Of G r k) (below : Forest) whe
           go : Dec (j ≡ k) → ⊥
           go (yes e) = plain (super-here o (subst (λ (x : ℕ). Has G x (length (yield below)) below) e i))
           go (no d) =
-              let m = matters j (insert-cases j k own h d) in
+              let m = matters j (sym (has-insert-other j k own d) ∙ h) in
               free j (m .1) (has-below (subst (λ (x : ℕ). Has G j x below) (m .0) i))

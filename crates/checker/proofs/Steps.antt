@@ -11,7 +11,8 @@ use Rattle.packed.specs.Packed.{leftIn, countIn, symbolIn, placesFrom, placesIn
 use Rattle.packed.proofs.Laws.{count-le, places-step, places-end, places-start, of-in, in-of, in-of-places}
 use Rattle.checker.specs.declared.walk.Step.{Step}
 use Rattle.checker.specs.declared.walk.Step.the-variants.{No, End, Byte, Node}
-use Rattle.checker.specs.Walk.{Walked, Answers, Room, SameSpan, Opens, Looked, at-end, not-end, at-byte, not-byte, at-node}
+use Rattle.enumeration.specs.Rows.{SameSpan}
+use Rattle.checker.specs.Walk.{Walked, Answers, Room, Opens, Looked, at-end, not-end, at-byte, not-byte, at-node}
 use Rattle.checker.specs.Walk.{not-node}
 use Rattle.checker.proofs.Walks.{walk-unique, walk-end, end-walk, walk-leaf, leaf-walk}
 use Rattle.checker.proofs.Nodes.{walk-node, Parted, node-walk, Opened, walk-open, open-walk}

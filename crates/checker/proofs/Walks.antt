@@ -12,8 +12,9 @@ use Rattle.cfg.specs.Tree.{Forest, end, leaf, yield, nodes, code, Fits, fits-en
 use Rattle.cfg.specs.Derivation.{Superfluous}
 use Rattle.chart.proofs.Slices.{slice-nil, slice-head}
 use Rattle.listing.proofs.Unique.{row-unique}
-use Rattle.checker.specs.Walk.{Free, Walked}
-use Rattle.checker.proofs.Spans.{end-plain, end-free, leaf-plain, leaf-free, after-plain, after-free}
+use Rattle.enumeration.specs.Rows.{Free}
+use Rattle.enumeration.proofs.Free.{end-plain, end-free, leaf-plain, leaf-free, after-plain, after-free}
+use Rattle.checker.specs.Walk.{Walked}
 
 module _ (G : Cfg) (w e : List ℕ) (n cover set : ℕ) where
   -- ---- one row at most

@@ -10,14 +10,11 @@ use lib.Seq.{slice}
 use Rattle.sets.specs.Set.{has}
 use Rattle.cfg.specs.Grammar.{Cfg, Symbol, nonterminal, terminal, Terminal, fits}
 use Rattle.cfg.specs.Tree.{Forest, yield, nodes, code, Fits}
-use Rattle.cfg.specs.Derivation.{Has, Superfluous}
+use Rattle.cfg.specs.Derivation.{Superfluous}
+use Rattle.enumeration.specs.Rows.{Free}
 use Rattle.packed.specs.Packed.{leftIn, countIn, symbolIn}
 use Rattle.checker.specs.declared.walk.Step.{Step}
 use Rattle.checker.specs.declared.walk.Step.the-variants.{No, End, Byte, Node}
-
--- no node of the forest has a nonterminal of the set over that many bytes
-abbrev pub Free : Cfg → ℕ → ℕ → Forest → Type 0
-Free G cover set t = (k : ℕ) → has k set ≡ true → Has G k cover t → ⊥
 
 -- a forest for the places over the bytes `from` to `to`, without superfluous recursion and free of the set over `cover` bytes, whose code
 -- stands in e from node `at` on; `next` is the node after it, and n the number of nodes that e has
@@ -44,11 +41,6 @@ pub record Room (w e : List ℕ) (n cover at from to : ℕ) : Type 0 where
   pub rising : from ≤ to
   pub known : to ≤ length w
   pub narrow : to ≤ from + cover
-
--- own is what matters of the set over `cover` bytes for a node over c bytes: all of it where the bytes are the same, else nothing
-pub record SameSpan (cover set c own : ℕ) : Type 0 where
-  pub same : c ≡ cover → own ≡ set
-  pub other : (c ≡ cover → ⊥) → own ≡ 0
 
 -- node `at` of e covers c bytes and has rule r, a rule of the nonterminal k, which is not in the set
 pub record Opens (p e : List ℕ) (n set k c at r : ℕ) : Type 0 where

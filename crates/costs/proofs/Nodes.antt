@@ -17,7 +17,7 @@ use Rattle.cfg.specs.Grammar.{Cfg, Symbol, nonterminal, Terminal, Of, Rule}
 use Rattle.cfg.specs.Tree.{Forest, end, node, yield, nodes, Fits, fits-end, fits-node}
 use Rattle.cfg.specs.Derivation.{Has, has-below}
 use Rattle.cfg.specs.Derivation.{Superfluous, super-here, super-below, super-beside}
-use Rattle.shrinking.proofs.Decide.{of-unique}
+use Rattle.cfg.proofs.Of.{of-same-left}
 use Rattle.costs.specs.Lowest.{Lowest}
 use Rattle.costs.specs.Span.{Tells, Reads, Free, FreeTree, Least, Inside, Full}
 use Rattle.costs.specs.Rule.{NodeCost}
@@ -56,7 +56,7 @@ module _ {G : Cfg} {bytes : ℕ → ℕ → Type 0} {M n r k a b : ℕ} {below :
       plain : ¬ Superfluous G (node r below end)
       plain (super-here {k = l} p h) =
           F .none k (has-insert-same k M)
-          (subst (λ (x : ℕ). Has G x n below) (of-unique G p o) (subst (λ (x : ℕ). Has G l x below) size h))
+          (subst (λ (x : ℕ). Has G x n below) (of-same-left p o) (subst (λ (x : ℕ). Has G l x below) size h))
       plain (super-below s) = P s
       plain (super-beside s) = elim s [ ]
 

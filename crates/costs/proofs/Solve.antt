@@ -13,7 +13,7 @@ use Rattle.sets.specs.Set.{has}
 use Rattle.cfg.specs.Grammar.{Cfg, Symbol, nonterminal, Terminal, Of}
 use Rattle.cfg.specs.Tree.{Forest, end, node, yield, nodes, Fits, fits-end, fits-node}
 use Rattle.cfg.specs.Derivation.{Has, has-here, has-below, has-beside}
-use Rattle.shrinking.proofs.Decide.{of-unique}
+use Rattle.cfg.proofs.Of.{of-same-left}
 use Rattle.costs.specs.Lowest.{Lowest}
 use Rattle.costs.specs.Cut.{Cut, within}
 use Rattle.costs.specs.Span.{Tells, Reads, Free, Row, Tree, Inside, Full}
@@ -50,7 +50,7 @@ pub free-node : (G : Cfg) (M n : ℕ) {r k : ℕ} (below : Forest) → Of G r k 
 free-node G M n {r} below o e F = record { none = none }
   where
     none : (l : ℕ) → has l M ≡ true → Has G l n (node r below end) → ⊥
-    none l d (has-here p q) = true≢false (sym d ∙ ap (λ (x : ℕ). has x M) (of-unique G p o) ∙ e)
+    none l d (has-here p q) = true≢false (sym d ∙ ap (λ (x : ℕ). has x M) (of-same-left p o) ∙ e)
     none l d (has-below h) = F .none l d h
     none l d (has-beside h) = elim h [ ]
 

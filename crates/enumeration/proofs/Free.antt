@@ -13,7 +13,7 @@ use Rattle.cfg.specs.Grammar.{Cfg, Of}
 use Rattle.cfg.specs.Tree.{Forest, end, leaf, node, yield}
 use Rattle.cfg.specs.Derivation.{Has, has-here, has-below, has-beside, has-after}
 use Rattle.cfg.specs.Derivation.{Superfluous, super-here, super-below, super-beside, super-after}
-use Rattle.listing.proofs.Rules.{of-same-left}
+use Rattle.cfg.proofs.Of.{of-same-left}
 use Rattle.enumeration.specs.Rows.{Free}
 
 pub has-within : {G : Cfg} {k n : ℕ} {t : Forest} → Has G k n t → n ≤ length (yield t)

@@ -12,7 +12,7 @@ use Rattle.sets.specs.Set.{has, insert}
 use Rattle.cfg.specs.Grammar.{Cfg, nonterminal, Of}
 use Rattle.cfg.specs.Tree.{Forest, end, node, yield, nodes, code, Fits, fits-end, fits-node}
 use Rattle.cfg.specs.Derivation.{Superfluous}
-use Rattle.listing.proofs.Rules.{of-same-rule}
+use Rattle.cfg.proofs.Of.{of-same-rule}
 use Rattle.listing.proofs.Sorted.{numbers-sorted}
 use Rattle.enumeration.specs.Rows.{Free, Row, Tree, Below, firstRule}
 use Rattle.enumeration.specs.Order.{Coded, None}

@@ -6,6 +6,7 @@ use mathlib.Core.Logic.{_≢_}
 use mathlib.Core.Path.{_≡_, refl, sym, _∙_}
 use Rattle.sets.specs.Set.{has, insert}
 use Rattle.sets.proofs.Laws.{has-insert-same, has-insert-other}
+use Rattle.grammar.proofs.All.{and-both}
 
 module _ (q v : ℕ) where
   pub has-if-same : (f : Bool) → has q v ≡ false → has q (cond f (insert q v) v) ≡ f
@@ -16,18 +17,8 @@ module _ (q v : ℕ) where
   has-if-other true j d = has-insert-other j q v d
   has-if-other false j d = refl
 
-pub and-both : (a b : Bool) → a ≡ true → b ≡ true → (a && b) ≡ true
-and-both a b e f = rw (e, f)
-
-pub and-parts : (a b : Bool) → (a && b) ≡ true → (a ≡ true) × (b ≡ true)
-and-parts true b e = (refl, e)
-and-parts false b e = absurd (false≢true e)
-
 pub not-both : (a b : Bool) → (a && b) ≡ false → a ≡ true → b ≡ true → ⊥
 not-both a b e f g = false≢true (sym e ∙ and-both a b f g)
-
-pub true-false : {b : Bool} → b ≡ true → b ≡ false → ⊥
-true-false e f = false≢true (sym f ∙ e)
 
 -- ---- what the branches of the code give
 

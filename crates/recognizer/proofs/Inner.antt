@@ -18,7 +18,8 @@ use Rattle.packed.specs.Packed.{countIn, isNonterminalIn, valueIn, terminalIn, 
 use Rattle.packed.proofs.Fitting.{symbol-nonterminal, symbol-terminal}
 use Rattle.recognizer.specs.Flags.{Fit, Sets, tail, flag, inner-leaf, inner-node, InnerAt, Later}
 use Rattle.recognizer.specs.Flags.{Between, InnerPlace, InnerMask, InnerMasks}
-use Rattle.recognizer.proofs.Bits.{has-if-same, has-if-other, and-parts, not-both, true-false}
+use Rattle.grammar.proofs.All.{and-parts, true-false}
+use Rattle.recognizer.proofs.Bits.{has-if-same, has-if-other, not-both}
 
 -- ---- a nonterminal over a span from i to some b before n
 

@@ -18,7 +18,8 @@ use Rattle.packed.specs.Packed.{countIn, symbolIn}
 use Rattle.packed.proofs.Laws.{places-step, places-end}
 use Rattle.recognizer.specs.Flags.{Fit, Sets, tail}
 use Rattle.recognizer.specs.Passes.{placeCuts, Words, RuleMask}
-use Rattle.recognizer.proofs.Bits.{has-if-same, has-if-other, and-both, and-parts, true-false}
+use Rattle.grammar.proofs.All.{and-both, and-parts, true-false}
+use Rattle.recognizer.proofs.Bits.{has-if-same, has-if-other}
 use Rattle.recognizer.proofs.First.{FirstCut, first-inner, first-empty, first-whole, cuts-first, first-cuts}
 
 or-parts : (a b : Bool) → (a || b) ≡ true → (a ≡ true) ⊎ (b ≡ true)

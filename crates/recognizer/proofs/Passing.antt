@@ -20,7 +20,7 @@ use Rattle.packed.specs.Packed.{leftIn, placesIn}
 use Rattle.packed.proofs.Laws.{places-start}
 use Rattle.recognizer.specs.Flags.{Fit, Sets, flag, Cutting, Inner, owned, flagsSize}
 use Rattle.recognizer.specs.Passes.{Within, Words, RuleMask, addedIn, Stepped, Ready, ClosedAt, Settled, Passed, Reached, Closing}
-use Rattle.recognizer.proofs.Bits.{and-both, and-parts}
+use Rattle.grammar.proofs.All.{and-both, and-parts}
 use Rattle.recognizer.proofs.Owned.{owned-here, owned-end, cutting-owned, inner-owned, owned-mono}
 
 -- ---- adding the left side of a rule

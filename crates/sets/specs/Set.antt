@@ -12,6 +12,10 @@ has k w = eqb (w / 2 ^ k % 2) 1
 unfoldable pub insert : ℕ → ℕ → ℕ
 insert k w = cond (has k w) w (w + 2 ^ k)
 
+-- the set with no member
+abbrev pub empty : ℕ
+empty = 0
+
 -- how many of 0..n-1 are in the set
 unfoldable pub countBelow : ℕ → ℕ → ℕ
 countBelow zero w = 0
