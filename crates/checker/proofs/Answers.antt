@@ -125,7 +125,8 @@ module _ (g : Grammar) (w chart : List ℕ) (j : Judged) (judging : Judging g (l
         (d ∙ ap (λ (x : List (List ℕ)). lengthAnswer (lengthsIn l) x e) same
         ∙ ap (λ (z : ℤ). decide (check (not (listed e (L (grammarOf g) w))) 12 ∷ []) refused (λ _. answered (rounded z))) (sum-row g l m e))
 
-    pub build-answered : (a : Answer Bool) (b c : List ℕ) → a ≡ buildAnswer (L (cfgIn s p) w) b c → checkingOf a chart' ≡ sameBuildOf g w b c chart
+    pub build-answered : (a : Answer Bool) (b c : List ℕ) → a ≡ buildAnswer (L (cfgIn s p) w) b c
+        → checkingOf a chart' ≡ sameBuildOf g w b c chart
     unfolding sameBuildOf sameBuildIn unlisted
     build-answered a b c d =
         call-passed g w chart _ j judging chart' a is (filling .0) (d ∙ ap (λ (l : List (List ℕ)). buildAnswer l b c) same)

@@ -72,7 +72,8 @@ module _ (G : Cfg) (w e : List ℕ) (n cover set k : ℕ) (places : List Symbol)
     unfolding yield nodes
     walk-node a b = go (a .fit) (a .plain) (a .free) (a .covers) (a .coded) (a .ends)
       where
-        go : {forest : Forest} → Fits G (nonterminal k ∷ []) forest → ¬ Superfluous G forest → Free G cover set forest → yield forest ≡ slice from mid w
+        go : {forest : Forest} → Fits G (nonterminal k ∷ []) forest → ¬ Superfluous G forest → Free G cover set forest
+            → yield forest ≡ slice from mid w
             → code forest ++ drop (2 * middle) e ≡ drop (2 * at) e → middle ≡ at + nodes forest
             → Walked G w e n cover set (nonterminal k ∷ places) at from to next
         go (fits-node {r = r} {below = below} o f fits-end) s z c d m =
@@ -106,7 +107,8 @@ module _ (G : Cfg) (w e : List ℕ) (n cover set k : ℕ) (places : List Symbol)
     unfolding yield nodes
     node-walk a = go (a .fit) (a .plain) (a .free) (a .covers) (a .coded) (a .ends)
       where
-        go : {forest : Forest} → Fits G (nonterminal k ∷ places) forest → ¬ Superfluous G forest → Free G cover set forest → yield forest ≡ slice from to w
+        go : {forest : Forest} → Fits G (nonterminal k ∷ places) forest → ¬ Superfluous G forest → Free G cover set forest
+            → yield forest ≡ slice from to w
             → code forest ++ drop (2 * next) e ≡ drop (2 * at) e → next ≡ at + nodes forest → Parted at from to next
         go (fits-node {r = r} {below = below} {rest = rest} o f g) s z c d m =
             let x = drop (2 * next) e in
@@ -199,7 +201,8 @@ module _ (G : Cfg) (w e : List ℕ) (n cover set own k at from to next : ℕ) (s
   unfolding yield nodes
   open-walk a = go (a .fit) (a .plain) (a .free) (a .covers) (a .coded) (a .ends)
     where
-      go : {forest : Forest} → Fits G (nonterminal k ∷ []) forest → ¬ Superfluous G forest → Free G cover set forest → yield forest ≡ slice from to w
+      go : {forest : Forest} → Fits G (nonterminal k ∷ []) forest → ¬ Superfluous G forest → Free G cover set forest
+          → yield forest ≡ slice from to w
           → code forest ++ drop (2 * next) e ≡ drop (2 * at) e → next ≡ at + nodes forest → Opened
       go (fits-node {r = r} {below = below} o f fits-end) s z c d m =
           let q : yield below ≡ slice from to w = sym (yield-alone r below) ∙ c in

@@ -57,7 +57,8 @@ module _ (p w e : List ℕ) (n cover set at from to : ℕ) (room : Room w e n co
           fresh = o .fresh;
         }
 
-    pub node-none : (r : ℕ) → Answers (Opens p e n own k (to - from) at) 128 r → 127 < r → Answers (Rows (nonterminal k ∷ [])) tooMany tooMany
+    pub node-none : (r : ℕ) → Answers (Opens p e n own k (to - from) at) 128 r → 127 < r
+        → Answers (Rows (nonterminal k ∷ [])) tooMany tooMany
     node-none r a h =
         none-answers (Rows (nonterminal k ∷ [])) (λ s x. a .none h (opened s x .rule) (opens s (opened s x)))
 
@@ -66,7 +67,8 @@ module _ (p w e : List ℕ) (n cover set at from to : ℕ) (room : Room w e n co
         → Answers (Rows (nonterminal k ∷ [])) tooMany next
     node-some r next passed a h same b =
         answers-same (Below (placesFrom p r 0 (countIn p r - 0))) (Rows (nonterminal k ∷ [])) tooMany next up down
-        (subst (λ (x : ℕ). Answers (Walked (cfgIn 0 p) w e n (to - from) x (placesFrom p r 0 (countIn p r - 0)) (at + 1) from to) tooMany next)
+        (subst
+        (λ (x : ℕ). Answers (Walked (cfgIn 0 p) w e n (to - from) x (placesFrom p r 0 (countIn p r - 0)) (at + 1) from to) tooMany next)
         same b)
       where
         it : Opens p e n own k (to - from) at r

@@ -74,7 +74,8 @@ module _ (G : Cfg) (w e : List ℕ) (n cover set : ℕ) where
     unfolding yield code nodes
     leaf-walk rising a = go (a .fit) (a .plain) (a .free) (a .covers) (a .coded) (a .ends)
       where
-        go : {forest : Forest} → Fits G (terminal t ∷ places) forest → ¬ Superfluous G forest → Free G cover set forest → yield forest ≡ slice from to w
+        go : {forest : Forest} → Fits G (terminal t ∷ places) forest → ¬ Superfluous G forest → Free G cover set forest
+            → yield forest ≡ slice from to w
             → code forest ++ drop (2 * next) e ≡ drop (2 * at) e → next ≡ at + nodes forest
             → (from < to) × (fits t (getD w from 0) ≡ true) × Walked G w e n cover set places at (from + 1) to next
         go (fits-leaf {m = m} {rest = rest} f g) s r c d k =

@@ -50,7 +50,8 @@ module _ (g : Grammar) (w chart : List ℕ) (ready : Ready g w chart) where
 module _ (g : Grammar) (w chart out : List ℕ) (ready : ReadyOut g w chart out) where
   pub first-filled : firstOf g w chart out .chart ≡ filled (grammarOf g) w chart
   unfolding firstIn
-  first-filled = ap (λ (x : Enumeration). x .chart) (first-passed g w chart out ready) ∙ handing-chart _ _ (filled (grammarOf g) w chart) out
+  first-filled =
+      ap (λ (x : Enumeration). x .chart) (first-passed g w chart out ready) ∙ handing-chart _ _ (filled (grammarOf g) w chart) out
 
   pub next-filled : (offered : List ℕ) → nextOf g w offered chart out .chart ≡ filled (grammarOf g) w chart
   unfolding nextIn

@@ -38,7 +38,8 @@ module _ (g : Grammar) (w : List ℕ) where
     one-twelve : (e : List ℕ) → (Offered e → ⊥) → decide (check (unlisted (grammarOf g) w e) 12 ∷ []) refuse go ≡ refuse 12
     one-twelve e f = by (unlisted-cases e)
       where
-        by : (unlisted (grammarOf g) w e ≡ true) ⊎ (unlisted (grammarOf g) w e ≡ false) → decide (check (unlisted (grammarOf g) w e) 12 ∷ []) refuse go ≡ refuse 12
+        by : (unlisted (grammarOf g) w e ≡ true) ⊎ (unlisted (grammarOf g) w e ≡ false)
+            → decide (check (unlisted (grammarOf g) w e) 12 ∷ []) refuse go ≡ refuse 12
         by (inl p) = decide-first refuse go [] (check (unlisted (grammarOf g) w e) 12) [] tt p
         by (inr p) = absurd (f (offered→derivation g w e p))
 
@@ -52,9 +53,11 @@ module _ (g : Grammar) (w : List ℕ) where
     two-twelve : (a b : List ℕ) → (Offered a × Offered b → ⊥) → two a b ≡ refuse 12
     two-twelve a b f = by (unlisted-cases a) (unlisted-cases b)
       where
-        by : (unlisted (grammarOf g) w a ≡ true) ⊎ (unlisted (grammarOf g) w a ≡ false) → (unlisted (grammarOf g) w b ≡ true) ⊎ (unlisted (grammarOf g) w b ≡ false) → two a b ≡ refuse 12
+        by : (unlisted (grammarOf g) w a ≡ true) ⊎ (unlisted (grammarOf g) w a ≡ false)
+            → (unlisted (grammarOf g) w b ≡ true) ⊎ (unlisted (grammarOf g) w b ≡ false) → two a b ≡ refuse 12
         by (inl p) q = decide-first refuse go [] (check (unlisted (grammarOf g) w a) 12) (check (unlisted (grammarOf g) w b) 12 ∷ []) tt p
-        by (inr p) (inl q) = decide-first refuse go (check (unlisted (grammarOf g) w a) 12 ∷ []) (check (unlisted (grammarOf g) w b) 12) [] (p, tt) q
+        by (inr p) (inl q) =
+            decide-first refuse go (check (unlisted (grammarOf g) w a) 12 ∷ []) (check (unlisted (grammarOf g) w b) 12) [] (p, tt) q
         by (inr p) (inr q) = absurd (f (offered→derivation g w a p, offered→derivation g w b q))
 
     two-passed : (a b : List ℕ) → Offered a × Offered b → two a b ≡ go tt

@@ -85,7 +85,8 @@ pub first-thirteen : (g : Grammar) (w chart out : List ℕ)
 unfolding firstIn
 first-thirteen g w chart out = record {
   thirteen = λ r t f. ap (λ (x : Enumeration). x .answer) (first-passed g w chart out r)
-      ∙ first-thirteen-at (L (grammarOf g) w) (treeIn (grammarOf g) w chart) _ _ (none→empty (grammarOf g) w f) (tree-test g w chart (r .input) .1 t);
+      ∙ first-thirteen-at (L (grammarOf g) w) (treeIn (grammarOf g) w chart) _ _ (none→empty (grammarOf g) w f)
+      (tree-test g w chart (r .input) .1 t);
   passed = λ r c n e. first-passed-at (L (grammarOf g) w) (treeIn (grammarOf g) w chart) _ _ (tests g w chart (r .input) c) n
       (sym (ap (λ (x : Enumeration). x .answer) (first-passed g w chart out r)) ∙ e);
 }

@@ -129,7 +129,8 @@ module _ (g : Grammar) (found : List ℕ) where
       tree-of : (answered (complete (grammarOf g) (length ms) (filled (grammarOf g) ms found)) ≡ answered true) ↔ HasTree (grammarOf g) ms
       tree-of = (λ e. has-tree .0 (answered-inj e), λ t. ap answered (has-tree .1 t))
 
-      no-tree-of : (answered (complete (grammarOf g) (length ms) (filled (grammarOf g) ms found)) ≡ answered false) ↔ (HasTree (grammarOf g) ms → ⊥)
+      no-tree-of : (answered (complete (grammarOf g) (length ms) (filled (grammarOf g) ms found)) ≡ answered false)
+          ↔ (HasTree (grammarOf g) ms → ⊥)
       no-tree-of = (λ e t. true-false (has-tree .1 t) (answered-inj e), λ f. ap answered (by _ (λ e. f (has-tree .0 e))))
         where
           by : (b : Bool) → (b ≡ true → ⊥) → b ≡ false

@@ -51,7 +51,8 @@ fit→fits (fit-leaf h f) = fits-leaf h (fit→fits f)
 fit→fits (fit-node o h f g) = fits-node o (fit→fits f) (fit→fits g)
 
 -- no node of the row has a span of those above
-pub fit-has-none : {G : Cfg} {above : List Span} {places : List Symbol} {t : Forest} {k n : ℕ} → Fit G above places t → among k n above ≡ true
+pub fit-has-none : {G : Cfg} {above : List Span} {places : List Symbol} {t : Forest} {k n : ℕ} → Fit G above places t
+    → among k n above ≡ true
     → Has G k n t → ⊥
 fit-has-none (fit-leaf h f) a (has-after i) = fit-has-none f a i
 fit-has-none {k = k} {n} (fit-node {above} {k = j} {below = below} o h f g) a (has-here p e) =

@@ -24,12 +24,6 @@ pub ≺-different : {x y : List ℕ} → x ≺ y → x ≡ y → ⊥
 pub ≺-irreflexive : (x : List ℕ) → x ≺ x → ⊥
 ≺-irreflexive x h = ≺-different h refl
 
-pub ≺-not-to-longer : (x u : List ℕ) → x ≺ x ++ u → ⊥
-≺-not-to-longer x u h = ≺-apart h u [] (sym (append-nil (x ++ u)))
-
-pub ≺-not-from-longer : (x u : List ℕ) → x ++ u ≺ x → ⊥
-≺-not-from-longer x u h = ≺-apart h [] u (append-nil (x ++ u))
-
 pub ≺-asymmetric : {x y : List ℕ} → x ≺ y → y ≺ x → ⊥
 ≺-asymmetric {x} h k = ≺-irreflexive x (≺-transitive h k)
 

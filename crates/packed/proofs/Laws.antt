@@ -31,10 +31,12 @@ pub count-le : (p : List ℕ) (r : ℕ) → countIn p r ≤ 8
 count-le p r = dite (decLt (leftIn p r) 32) (λ h. omega (arith, count-used p r h)) (λ h. omega (arith, count-unused p r (omega arith)))
 
 -- what `count` answers: the byte of a rule that is there, 8 where it is larger, and 0 for one that is not
-pub count-small : (p : List ℕ) (r k n : ℕ) → k ≡ leftIn p r → k < 32 → n ≡ getD p (ruleBytes * r + 1) 0 → n < 8 → (n ≡ countIn p r) × (n ≤ 8)
+pub count-small : (p : List ℕ) (r k n : ℕ) → k ≡ leftIn p r → k < 32 → n ≡ getD p (ruleBytes * r + 1) 0 → n < 8
+    → (n ≡ countIn p r) × (n ≤ 8)
 count-small p r k n e h f l = let c = count-used p r (omega arith) in (omega arith, omega arith)
 
-pub count-large : (p : List ℕ) (r k n : ℕ) → k ≡ leftIn p r → k < 32 → n ≡ getD p (ruleBytes * r + 1) 0 → 8 ≤ n → (8 ≡ countIn p r) × (8 ≤ 8)
+pub count-large : (p : List ℕ) (r k n : ℕ) → k ≡ leftIn p r → k < 32 → n ≡ getD p (ruleBytes * r + 1) 0 → 8 ≤ n
+    → (8 ≡ countIn p r) × (8 ≤ 8)
 count-large p r k n e h f l = let c = count-used p r (omega arith) in (omega arith, omega arith)
 
 pub count-none : (p : List ℕ) (r k : ℕ) → k ≡ leftIn p r → 32 ≤ k → (0 ≡ countIn p r) × (0 ≤ 8)

@@ -58,8 +58,10 @@ module _ (p : List ℕ) (a x c y : ℕ) where
 abbrev pub headed : List ℕ → ℕ → ℕ → ℕ → List ℕ
 headed p r left count = set (set p (ruleBytes * r) left) (ruleBytes * r + 1) count
 
-headed-other : (p : List ℕ) (r left count s b : ℕ) → s ≢ r → b < ruleBytes → getD (headed p r left count) (ruleBytes * s + b) 0 ≡ getD p (ruleBytes * s + b) 0
-headed-other p r left count s b d h = two-other p (ruleBytes * r) left (ruleBytes * r + 1) count (ruleBytes * s + b) (omega arith) (omega arith)
+headed-other : (p : List ℕ) (r left count s b : ℕ) → s ≢ r → b < ruleBytes
+    → getD (headed p r left count) (ruleBytes * s + b) 0 ≡ getD p (ruleBytes * s + b) 0
+headed-other p r left count s b d h =
+    two-other p (ruleBytes * r) left (ruleBytes * r + 1) count (ruleBytes * s + b) (omega arith) (omega arith)
 
 module _ (ρ : Rule) (r : ℕ) (low : r < 128) where
   pub row-start : (p : List ℕ) → length p ≡ packedSize → Row ρ r 0 (headed p r (ρ .left) (ρ .count)) (headed p r (ρ .left) (ρ .count))
@@ -84,7 +86,8 @@ module _ (ρ : Rule) (r : ℕ) (low : r < 128) where
 
     place-same : symbolIn next r q ≡ placeOf (getD (ρ .places) q zeroPlace)
     unfolding symbolIn isNonterminalIn tagIn terminalIn valueIn
-    place-same = two-bytes (getD (ρ .places) q zeroPlace .symbol) (getD next (ruleBytes * r + 2 + 2 * q) 0) (getD next (ruleBytes * r + 3 + 2 * q) 0)
+    place-same =
+        two-bytes (getD (ρ .places) q zeroPlace .symbol) (getD next (ruleBytes * r + 2 + 2 * q) 0) (getD next (ruleBytes * r + 3 + 2 * q) 0)
         (two-first p (ruleBytes * r + 2 + 2 * q) t (ruleBytes * r + 3 + 2 * q) v (omega arith) (omega (arith, row .long)) ∙ et)
         (two-second p (ruleBytes * r + 2 + 2 * q) t (ruleBytes * r + 3 + 2 * q) v (omega (arith, row .long)) ∙ ev)
 

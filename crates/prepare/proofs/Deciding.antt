@@ -60,7 +60,8 @@ module _ (g : Grammar) (w chart : List ℕ) {B : Type 0} (refuse : ℕ → B) (g
     abbrev checks : List (Check ℕ)
     checks = inputChecks g w chart ++ (outputCheck out ∷ [])
 
-    eleven : {r : Refusal} → JudgingOutput g (length w) (length chart) (length out) (Refused r) → decide checks refuse go ≡ refuse (numberOf r)
+    eleven : {r : Refusal} → JudgingOutput g (length w) (length chart) (length out) (Refused r)
+        → decide checks refuse go ≡ refuse (numberOf r)
     eleven (before p) = first-fails (outputCheck out ∷ []) p
     eleven (no-space p l) =
         decide-first refuse go (inputChecks g w chart) (outputCheck out) [] (ready→pass g w chart (ready g w chart p))

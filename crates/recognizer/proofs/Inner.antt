@@ -28,9 +28,6 @@ module _ (k r q i n : ℕ) (chart flags : List ℕ) where
   abbrev pub Missed : ℕ → Type 0
   Missed b = (x : ℕ) → i < x → x < b → has k (cell chart i x) ≡ true → has q (flag flags x r) ≡ true → ⊥
 
-  pub missed-start : Missed (i + 1)
-  missed-start x l m e f = omega arith
-
   pub missed-step : (b : ℕ) (t : Bool) → t ≡ (has k (cell chart i b) && has q (flag flags b r)) → t ≡ false → Missed b → Missed (b + 1)
   missed-step b t e f missed x l m g h = go (ℕ-discrete x b)
     where

@@ -51,7 +51,8 @@ fn close_cell(
     chart: &mut [u32],
     flags: &mut Flags,
 )
-    requires { ⌜ (rules ≤ 128) × Used (now p) rules × (i ≤ n) × (n ≤ 64) × (cells ≤ length (now chart)) × (length (now flags) ≡ flagsSize) ⌝ }
+    requires { ⌜ (rules ≤ 128) × Used (now p) rules × (i ≤ n) × (n ≤ 64)
+        × (cells ≤ length (now chart)) × (length (now flags) ≡ flagsSize) ⌝ }
     ensures { λ _.
         ⌜ CellWritten (now (p .entry)) (now (w .entry)) rules n i
         (now (chart .entry)) (now (flags .entry)) (now (chart .exit)) (now (flags .exit)) ⌝ }

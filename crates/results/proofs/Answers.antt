@@ -11,9 +11,6 @@ refused-inj e = cc
 pub answered-inj : {A : Type 0} {a b : A} → answered a ≡ answered b → a ≡ b
 answered-inj e = cc
 
-pub handed-inj : {m n : ℕ} → handed m ≡ handed n → m ≡ n
-handed-inj e = cc
-
 pub refused-apart : {A : Type 0} {n : ℕ} {a : A} → refused n ≡ answered a → ⊥
 refused-apart e = let z : _≡_ {A = ℕ} 0 1 = cc in omega arith
 

@@ -28,8 +28,10 @@ pub take-passed : (g : Grammar) (h : State) (m : ℕ) (chart : List ℕ) → val
     → takeOf g h m chart ≡ takeIn (grammarOf g) h m chart
 unfolding takeOf
 take-passed g h m chart v l r =
-    decide-passed _ _ _
-    (ap not v, (le-ltb maxInput (h .count) (omega arith), (le-ltb (length chart) cells r, (ne-eqb (h .count) maxInput (λ e. omega arith), tt))))
+    decide-passed _ _ _ (
+      ap not v,
+      (le-ltb maxInput (h .count) (omega arith), (le-ltb (length chart) cells r, (ne-eqb (h .count) maxInput (λ e. omega arith), tt))),
+    )
 
 pub onInput-passed : {A : Type 0} (g : Grammar) (w chart : List ℕ) (go : Cfg → Checking A) → Ready g w chart
     → onInput g w chart go ≡ go (grammarOf g)

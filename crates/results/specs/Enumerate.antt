@@ -12,7 +12,8 @@ use Rattle.cfg.specs.Listing.{L}
 use Rattle.chart.specs.Column.{filled, complete}
 use Rattle.grammar.specs.declared.Grammar.{Grammar}
 use Rattle.grammar.specs.View.{grammarOf}
-use Rattle.results.specs.Answer.{Answer, refused, answered, Handing, handed, nothing, Figure, counted, more, most, Check, check, decide}
+use Rattle.results.specs.Answer.{Answer, refused, answered, Handing, handed, nothing, Figure, counted, more, most}
+use Rattle.results.specs.Answer.{Check, check, decide}
 use Rattle.results.specs.Check.{same, inputChecks, Checking, onInput}
 use Rattle.results.specs.Measure.{unlisted}
 
@@ -33,7 +34,8 @@ treeIn G w chart = complete G (length w) (filled G w chart)
 -- a derivation is written to the front of the output, and the rest stays; without one the output stays as found
 unfoldable pub handingOut : Option (List ℕ) → Answer Handing → List ℕ → List ℕ → Enumeration
 handingOut none answer chart out = record { answer = answer; chart = chart; output = out }
-handingOut (some e) answer chart out = record { answer = answered (handed (length e / 2)); chart = chart; output = e ++ drop (length e) out }
+handingOut (some e) answer chart out =
+    record { answer = answered (handed (length e / 2)); chart = chart; output = e ++ drop (length e) out }
 
 -- the first element, if there is one
 unfoldable pub headOf : List (List ℕ) → Option (List ℕ)

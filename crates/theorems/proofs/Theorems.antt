@@ -134,7 +134,8 @@ count-thirteen = Trees.count-thirteen
 
 -- TAKING over any chart and any state of 64 bytes: the state after it; of the chart only column n is written, the least one that is closed
 -- under the rules, earlier columns as found; "complete" is the start symbol's bit
-pub take-any : (g : Grammar) (h : State) (m : ℕ) (found : List ℕ) → validGrammar g ≡ true → length (h .bytes) ≡ maxInput → h .count < maxInput
+pub take-any : (g : Grammar) (h : State) (m : ℕ) (found : List ℕ) → validGrammar g ≡ true → length (h .bytes) ≡ maxInput
+    → h .count < maxInput
     → cells ≤ length found → Taken (grammarOf g) h m found (h .count + 1) (takeOf g h m found)
 take-any = Take.take-any
 
@@ -167,7 +168,8 @@ module _ (g : Grammar) (valid : validGrammar g ≡ true) (w : List ℕ) (low : 1
       → length (L (grammarOf g) w) ≤ length lent → handedOut (history g w [] (first chart out ∷ nextCalls lent)) ≡ L (grammarOf g) w
   first-then-next = Consequences.first-then-next g valid w low high
 
-  pub first-then-next-said : (chart out : List ℕ) (lent : List (List ℕ × List ℕ)) → AllAllowed (grammarOf g) w (first chart out ∷ nextCalls lent)
+  pub first-then-next-said : (chart out : List ℕ) (lent : List (List ℕ × List ℕ))
+      → AllAllowed (grammarOf g) w (first chart out ∷ nextCalls lent)
       → 1 ≤ length (L (grammarOf g) w) → length (L (grammarOf g) w) ≤ suc (length lent)
       → history g w [] (first chart out ∷ nextCalls lent)
       ≡ map hands (L (grammarOf g) w) ++ replicate (suc (length lent) - length (L (grammarOf g) w)) noneLeft

@@ -1,4 +1,5 @@
--- `checker::same_build` meets its contract: a check that fails refuses, and else the chart is filled and the offered derivations are compared.
+-- `checker::same_build` meets its contract: a check that fails refuses, and else the chart is filled and the offered derivations are
+-- compared.
 -- Assumes nothing.
 use borrow.Author.Needs.{needs}
 use Rattle.prepare.proofs.Judging.{judged-ready}

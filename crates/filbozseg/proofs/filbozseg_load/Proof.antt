@@ -33,7 +33,8 @@ returns-2 c =
     let after-write = c .before .before .before .before in
     let after-load = after-write .before .before .before in
     loads-refused _ (λ i. omega (arith, after-load .before .shared-slice-known .given i)) (after-load .load .result)
-    (after-load .load .ensures .0) (after-load .load .ensures .1) _ _ (after-write .write .ensures) _ _ _ (c .before .before .outcome .given .1)
+    (after-load .load .ensures .0) (after-load .load .ensures .1) _ _ (after-write .write .ensures) _ _ _
+    (c .before .before .outcome .given .1)
     (c .of-refusal .ensures)
 
 pub filbozseg-load-spec : {M : Type 1} → statement M

@@ -66,9 +66,6 @@ member-listed e (List·Memᴰ·tail {x = d} i) = go (same e d) (member-listed e 
     go true p = refl
     go false p = p
 
-pub listed-exact : (e : List ℕ) (l : List (List ℕ)) → (listed e l ≡ true) ↔ List·Memᴰ e l
-listed-exact e l = (listed-member e l, member-listed e)
-
 pub not-member-listed : (e : List ℕ) (l : List (List ℕ)) → (List·Memᴰ e l → ⊥) → listed e l ≡ false
 not-member-listed e l n = go (listed e l) refl
   where

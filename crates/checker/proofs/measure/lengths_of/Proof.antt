@@ -48,10 +48,11 @@ loop-again : tie.Need-loop-again Inv-loop μ-loop
 loop-again c =
     let b = c .before .before .before in
     let rules = b .before .args .t1 .rules in
-    let full = simp length-map at (b .before .good .0 .1 .1 .1 .1 .1 .0 .1 .0 .1) in (
+    let full = simp length-map at (b .before .good .0 .1 .1 .1 .1 .1 .0 .1 .0 .1) in
+    let read = toZ-ofZ {w = w16} {z = c .length-of .result} (record { sfits = c .length-of .ok }) ∙ c .length-of .ensures in (
       omega arith,
       search needs,
-      ap (λ (z : ℤ). take (b .loop .r + 1) (set (b .loop .l) (b .loop .r) z)) (toZ-ofZ {w = w16} {z = c .length-of .result} (record { sfits = c .length-of .ok }) ∙ c .length-of .ensures)
+      ap (λ (z : ℤ). take (b .loop .r + 1) (set (b .loop .l) (b .loop .r) z)) read
           ∙ lengths-step (b .loop .l) rules (b .loop .r) (omega arith) (omega arith) (b .loop .inv .2),
     )
 

@@ -58,7 +58,8 @@ loop-again c =
     ⊎-elim
     (λ w.
     let x = next-rule (lengthsIn (s .args .l .now)) _ (l .loop .i) (l .loop .sum) _ _ (omega arith) (omega arith) (b .rule-number .ensures)
-    (l .loop .inv .2) (l .loop .inv .3) _ (w .0 .taken) (w .2 .ensures .0 ∙ toZ-ofZ {w = w16} (record { sfits = w .1 .given }), w .2 .ensures .1) (w .3) in
+    (l .loop .inv .2) (l .loop .inv .3) _ (w .0 .taken)
+    (w .2 .ensures .0 ∙ toZ-ofZ {w = w16} (record { sfits = w .1 .given }), w .2 .ensures .1) (w .3) in
     (omega arith, refl, x .0, x .1))
     (λ w.
     let x = next-none (lengthsIn (s .args .l .now)) _ (l .loop .i) (l .loop .sum) _ _ (omega arith) (omega arith) (b .rule-number .ensures)
@@ -69,7 +70,8 @@ loop-again c =
 returns : tie.Need-returns Inv-loop μ-loop
 returns c =
     let a = c .before .before .before .args in
-    (sum-done (lengthsIn (a .l .now)) (a .e .now) (c .before .loop .i) (c .before .loop .sum) (omega arith) (c .before .loop .inv .2), omega arith)
+    let l = c .before .loop in
+    (sum-done (lengthsIn (a .l .now)) (a .e .now) (l .i) (l .sum) (omega arith) (l .inv .2), omega arith)
 
 pub total-spec : {M : Type 1} → statement M
 total-spec =

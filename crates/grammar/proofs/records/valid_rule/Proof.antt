@@ -1,5 +1,5 @@
--- `grammar::records::valid_rule` meets its contract. The loop's invariant: the left side and the count are small, and the places passed are valid.
--- The measure is what is left of the count. Assumes nothing.
+-- `grammar::records::valid_rule` meets its contract. The loop's invariant: the left side and the count are small, and the places passed
+-- are valid. The measure is what is left of the count. Assumes nothing.
 use Prim.Native.Nat.{_≤_, _-_}
 use mathlib.Core.Bool.{true}
 use mathlib.Core.Logic.{⊎-elim}
