@@ -13,7 +13,7 @@ fn used(e: &[u16], i: usize) -> usize
     ensures { λ r. ⌜ (r ≡ usedAt (now (e .entry)) i) × (r ≤ 128) ⌝ }
 {
     if number(e, 2 * i) == 0 {
-        return 128;
+        return sizes::MAX_RULES;
     }
     rule_number(e, i)
 }
@@ -42,7 +42,7 @@ pub fn same_rules(a: &[u16], b: &[u16]) -> bool
     let x = tally(a);
     let y = tally(b);
     let mut r = 0;
-    while r < 128 {
+    while r < sizes::MAX_RULES {
         if x[r] != y[r] {
             return false;
         }

@@ -11,7 +11,7 @@ pub fn is_derivation(p: &Packed, start: usize, w: &[u8], e: &[u16]) -> bool
     ensures { λ b. ⌜ b ≡ listed (now (e .entry)) (L (cfgIn start (now (p .entry))) (now (w .entry))) ⌝ }
 {
     let m = e.len();
-    if m > 1024 {
+    if m > sizes::OUTPUT {
         return false;
     }
     if m % 2 == 1 {

@@ -64,7 +64,7 @@ pub fn total(l: &[i16], e: &[u16]) -> i32
     let mut i = 0;
     while i < n {
         let r = rule_number(e, i);
-        if r < 128 {
+        if r < sizes::MAX_RULES {
             sum += widened(l[r]);
         }
         i += 1;

@@ -17,5 +17,9 @@ pub fn rule_number(e: &[u16], i: usize) -> usize
     ensures { λ r. ⌜ r ≡ min (getD (now (e .entry)) (2 * i + 1) 0) 128 ⌝ }
 {
     let r = number(e, 2 * i + 1);
-    if r < 128 { r } else { 128 }
+    if r < sizes::MAX_RULES {
+        r
+    } else {
+        sizes::MAX_RULES
+    }
 }

@@ -31,22 +31,26 @@ fn rule_at(p: &Packed, e: &[u16], n: usize, set: u32, k: usize, c: usize, at: us
     ensures { λ r. ⌜ Answers (Opens (now (p .entry)) (now (e .entry)) n set k c at) 128 r ⌝ }
 {
     if k > 31 {
-        return 128;
+        return sizes::MAX_RULES;
     }
     if at >= n {
-        return 128;
+        return sizes::MAX_RULES;
     }
     if number(e, 2 * at) != c {
-        return 128;
+        return sizes::MAX_RULES;
     }
     let r = number(e, 2 * at + 1);
     if r > 127 {
-        return 128;
+        return sizes::MAX_RULES;
     }
     if packed::left(p, r) != k {
-        return 128;
+        return sizes::MAX_RULES;
     }
-    if sets::has(set, k) { 128 } else { r }
+    if sets::has(set, k) {
+        sizes::MAX_RULES
+    } else {
+        r
+    }
 }
 
 // What comes next at place q of rule r, over the bytes `from` to `to`.
@@ -138,7 +142,7 @@ pub fn row(
         Step::Byte => row(p, w, e, n, cover, above, r, q + 1, at, from + 1, to),
         Step::Node(k, c) => {
             let next = node(p, w, e, n, cover, above, k, at, from, from + c);
-            if next > 512 {
+            if next > sizes::MAX_NODES {
                 return sizes::TOO_MANY;
             }
             row(p, w, e, n, cover, above, r, q + 1, next, from + c, to)

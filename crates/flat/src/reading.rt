@@ -37,13 +37,13 @@ fn read_place(f: &Flat, at: usize) -> Place
     }
 }
 
-fn read_places(f: &Flat, at: usize) -> [Place; 8]
+fn read_places(f: &Flat, at: usize) -> [Place; sizes::MAX_PLACES]
     requires { ⌜ at + 2 * maxPlaces ≤ flatSize ⌝ }
     ensures { λ l. ⌜ l ≡ placesIn (now (f .entry)) at ⌝ }
 {
-    let mut places = [grammar::zero_place(); 8];
+    let mut places = [grammar::zero_place(); sizes::MAX_PLACES];
     let mut q = 0;
-    while q < 8 {
+    while q < sizes::MAX_PLACES {
         places[q] = read_place(f, at + 2 * q);
         q += 1;
     }
@@ -66,12 +66,12 @@ fn read_rule(f: &Flat, at: usize) -> Rule
     }
 }
 
-pub fn read_rules(f: &Flat) -> [Rule; 128]
+pub fn read_rules(f: &Flat) -> [Rule; sizes::MAX_RULES]
     ensures { λ l. ⌜ l ≡ rulesIn (now (f .entry)) ⌝ }
 {
-    let mut rules = [grammar::zero_rule(); 128];
+    let mut rules = [grammar::zero_rule(); sizes::MAX_RULES];
     let mut r = 0;
-    while r < 128 {
+    while r < sizes::MAX_RULES {
         rules[r] = read_rule(f, 3 + RULE_NUMBERS * r);
         r += 1;
     }

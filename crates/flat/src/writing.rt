@@ -19,7 +19,7 @@ pub fn write_rule(rule: Rule, at: usize, f: &mut Flat)
     f[at + 1] = numbers::unsigned(z);
     f[at + 2] = numbers::count_of(rule.count);
     let mut q = 0;
-    while q < 8 {
+    while q < sizes::MAX_PLACES {
         let place = rule.places[q];
         let s = place.symbol;
         f[at + 3 + 2 * q] = tagged::tag_of(s) as u16;

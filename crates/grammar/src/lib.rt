@@ -24,7 +24,7 @@ pub struct Rule {
     pub left: u8,
     pub length: i16,
     pub count: usize,
-    pub places: [Place; 8],
+    pub places: [Place; sizes::MAX_PLACES],
 }
 
 // A loaded grammar (book): its start symbol, how many of its rules are used, and its nullable depth (blank depth).
@@ -32,7 +32,7 @@ pub struct Grammar {
     pub start: u8,
     pub count: usize,
     pub depth: u8,
-    pub rules: [Rule; 128],
+    pub rules: [Rule; sizes::MAX_RULES],
 }
 
 // The refusals of document 01, in the order of their numbers.
@@ -100,7 +100,7 @@ pub fn zero_rule() -> Rule
         left: 0,
         length: 0,
         count: 0,
-        places: [zero_place(); 8],
+        places: [zero_place(); sizes::MAX_PLACES],
     }
 }
 
@@ -111,7 +111,7 @@ pub fn zero_grammar() -> Grammar
         start: 0,
         count: 0,
         depth: 0,
-        rules: [zero_rule(); 128],
+        rules: [zero_rule(); sizes::MAX_RULES],
     }
 }
 
@@ -120,7 +120,7 @@ pub fn valid(g: Grammar) -> bool
     ensures { λ r. ⌜ r ≡ validGrammar g ⌝ }
 {
     let n = g.count;
-    if g.start > 31 || n > 128 {
+    if g.start > 31 || n > sizes::MAX_RULES {
         return false;
     }
     let mut i = 0;

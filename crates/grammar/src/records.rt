@@ -21,7 +21,7 @@ pub fn valid_rule(rule: Rule) -> bool
     ensures { λ r. ⌜ r ≡ validRule rule ⌝ }
 {
     let n = rule.count;
-    if rule.left > 31 || n > 8 {
+    if rule.left > 31 || n > sizes::MAX_PLACES {
         return false;
     }
     let mut q = 0;

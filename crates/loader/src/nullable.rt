@@ -88,7 +88,7 @@ pub fn nullable_depth(set: u32) -> u8
 {
     let mut n = 0u8;
     let mut k = 0;
-    while k < 32 {
+    while k < sizes::NONTERMINALS {
         if sets::has(set, k) {
             n += 1;
         }

@@ -13,7 +13,7 @@ ghost use Rattle.loader.specs.Command.{Reads};
 ghost use Rattle.loader.specs.Rule.{placedRule};
 
 // A rule has at most this many places.
-const PLACES: usize = 8;
+const PLACES: usize = sizes::MAX_PLACES;
 
 // Command 30: a place for a nonterminal, in an open rule that has this many places before it.
 pub fn nonterminal_at(bytes: &[u8], at: usize, rules: usize, places: usize) -> Command

@@ -11,7 +11,7 @@ ghost use Rattle.loader.specs.Command.{Reads};
 ghost use Rattle.loader.specs.Rule.{openedRule};
 
 // A book has at most this many rules.
-const RULES: usize = 128;
+const RULES: usize = sizes::MAX_RULES;
 
 // Command 20: a rule with its left side and its length, after as many rules as the book has before it.
 pub fn rule_at(bytes: &[u8], at: usize, rules: usize) -> Command
@@ -47,7 +47,7 @@ pub fn opened(left: u8, low: u8, high: u8) -> Rule
         left: left,
         length: length,
         count: 0,
-        places: [grammar::zero_place(); 8],
+        places: [grammar::zero_place(); sizes::MAX_PLACES],
     }
 }
 

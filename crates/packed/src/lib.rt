@@ -40,9 +40,13 @@ pub fn count(p: &Packed, r: usize) -> usize
     requires { ⌜ r < 128 ⌝ }
     ensures { λ n. ⌜ (n ≡ countIn (now (p .entry)) r) × (n ≤ 8) ⌝ }
 {
-    if left(p, r) < 32 {
+    if left(p, r) < sizes::NONTERMINALS {
         let n = wide_byte(p[RULE_BYTES * r + 1]);
-        if n < 8 { n } else { 8 }
+        if n < sizes::MAX_PLACES {
+            n
+        } else {
+            sizes::MAX_PLACES
+        }
     } else {
         0
     }
@@ -68,7 +72,11 @@ pub fn value(p: &Packed, r: usize, q: usize) -> usize
 pub fn contains(word: u32, k: usize) -> bool
     ensures { λ b. ⌜ b ≡ inSet k word ⌝ }
 {
-    if k < 32 { sets::has(word, k) } else { false }
+    if k < sizes::NONTERMINALS {
+        sets::has(word, k)
+    } else {
+        false
+    }
 }
 
 // Whether the byte at position i of the input fits place q of rule r. The only reading of the input.

@@ -30,7 +30,7 @@ pub fn judge(g: Grammar, n: usize, m: usize) -> Judged
     if n == 0 {
         return Judged::Refused(Refusal::InputLength); // none
     }
-    if n > 64 {
+    if n > sizes::MAX_INPUT {
         return Judged::Refused(Refusal::InputLength); // too many
     }
     if m < sizes::CELLS {

@@ -46,7 +46,12 @@ fn inner_nonterminal(
 {
     let mut b = i + 1;
     while b < n {
-        if both(chart[65 * i + b], k, flags[128 * b + r], q) {
+        if both(
+            chart[sizes::SIDE * i + b],
+            k,
+            flags[sizes::MAX_RULES * b + r],
+            q,
+        ) {
             return true;
         }
         b += 1;
@@ -69,7 +74,7 @@ fn inner_terminal(
 {
     if i < n {
         if packed::fits_at(p, r, q, w, i) {
-            return packed::contains(flags[128 * (i + 1) + r], q + 1);
+            return packed::contains(flags[sizes::MAX_RULES * (i + 1) + r], q + 1);
         }
     }
     false

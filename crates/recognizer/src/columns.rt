@@ -30,10 +30,10 @@ pub fn tied_flags() -> usize
 fn rule_count(p: &Packed) -> usize
     ensures { λ m. ⌜ (m ≤ 128) × Used (now (p .entry)) m ⌝ }
 {
-    let mut m = 128;
+    let mut m = sizes::MAX_RULES;
     while m > 0 {
         let k = packed::left(p, m - 1);
-        if k < 32 {
+        if k < sizes::NONTERMINALS {
             return m;
         }
         m -= 1;
@@ -59,8 +59,8 @@ fn close_cell(
 {
     let mut masks = [0u32; 128];
     inner_masks(p, rules, w, i, n, chart, flags, &mut masks);
-    let own = closure(p, rules, i, n, chart[65 * i + i], &masks, flags);
-    chart[65 * i + n] = own;
+    let own = closure(p, rules, i, n, chart[sizes::SIDE * i + i], &masks, flags);
+    chart[sizes::SIDE * i + n] = own;
 }
 
 // Writes column n.

@@ -113,13 +113,13 @@ impl Recognizer {
         if !grammar::valid(g) {
             return refused(self, Refusal::InvalidGrammar);
         }
-        if n > 64 {
+        if n > sizes::MAX_INPUT {
             return refused(self, Refusal::InvalidRecognizer);
         }
         if room < sizes::CELLS {
             return refused(self, Refusal::ChartTooShort);
         }
-        if n == 64 {
+        if n == sizes::MAX_INPUT {
             return refused(self, Refusal::RecognizerFull);
         }
         taking(self, g, byte, chart)

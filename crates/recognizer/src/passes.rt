@@ -74,7 +74,7 @@ fn added(p: &Packed, r: usize, m: u32, own: u32) -> u32
 {
     if packed::contains(m, 0) {
         let k = packed::left(p, r);
-        if k < 32 {
+        if k < sizes::NONTERMINALS {
             return sets::with(own, k);
         }
     }
@@ -96,9 +96,9 @@ fn rule_step(
     ensures { λ v. ⌜ Stepped (now (p .entry)) r i n own start inner (now (flags .entry)) (now (flags .exit)) v ⌝ }
 {
     let empty = pick(i, n, start, own);
-    let last = pick(i, n, flags[128 * n + r], 0);
+    let last = pick(i, n, flags[sizes::MAX_RULES * n + r], 0);
     let m = rule_mask(p, r, i, n, empty, own, inner, last);
-    flags[128 * i + r] = m;
+    flags[sizes::MAX_RULES * i + r] = m;
     added(p, r, m, own)
 }
 
