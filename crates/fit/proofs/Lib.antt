@@ -1,0 +1,3 @@
+-- The laws of fit tables.
+pub mod Entries
+pub mod Tables
