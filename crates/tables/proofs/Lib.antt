@@ -1,0 +1,2 @@
+-- Laws of the tables, by the tests that the code makes.
+pub mod Entries

@@ -1,0 +1,2 @@
+-- The enumerator's tables: where their numbers stand.
+pub mod Layout

@@ -1,0 +1,3 @@
+// The enumerator's tables: least numbers of nodes, capped at 513, which stands for none.
+pub mod layout;
+pub mod least;
