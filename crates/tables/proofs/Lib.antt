@@ -1,2 +1,3 @@
 -- Laws of the tables, by the tests that the code makes.
 pub mod Entries
+pub mod Ends

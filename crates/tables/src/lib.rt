@@ -1,3 +1,4 @@
 // The enumerator's tables: least numbers of nodes, capped at 513, which stands for none.
 pub mod layout;
 pub mod least;
+pub mod suffix;
