@@ -1,3 +1,4 @@
 -- Laws of the tables, by the tests that the code makes.
 pub mod Entries
 pub mod Ends
+pub mod Places

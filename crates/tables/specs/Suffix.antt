@@ -1,11 +1,11 @@
 -- The least cost of the places of a rule from one place on, over a span, from that of the places behind it.
 -- Assumes nothing.
-use Prim.Native.Nat.{ℕ, _+_, _≤_, _<_}
+use Prim.Native.Nat.{ℕ, suc, _+_, _≤_, _<_}
 use mathlib.Core.Bool.{Bool}
-use mathlib.Core.List.{List, _∷_}
+use mathlib.Core.List.{List, [], _∷_}
 use mathlib.Core.Path.{_≡_}
 use lib.ListN.{getD}
-use Rattle.cfg.specs.Grammar.{Symbol, nonterminal, Terminal}
+use Rattle.cfg.specs.Grammar.{Symbol, nonterminal, terminal, Terminal}
 use Rattle.costs.specs.Lowest.{Lowest, Seen, None}
 use Rattle.costs.specs.Cut.{LeastCut, First}
 use Rattle.tables.specs.Layout.{costIn}
@@ -35,3 +35,12 @@ pub record AtNonterminal (least : List ℕ) (k a b last : ℕ) (rests : List ℕ
 pub record EndsBefore (least : List ℕ) (k a b last : ℕ) (rests : List ℕ) (at c v : ℕ) : Type 0 where
   pub lowest : (fit : Fit) (cost : Cost) (places : List Symbol) → Behind fit cost k places a b least last rests at
       → Lowest (Seen None (First fit cost k places a b) a c) v
+
+-- v is the least cost of a terminal, of which `fits` says whether it fits the byte at a, and any places behind it, whose cost is that given
+pub record AtTerminal (fits : Bool) (a b : ℕ) (rests : List ℕ) (at v : ℕ) : Type 0 where
+  pub exact : (fit : Fit) (cost : Cost) (t : Terminal) (places : List Symbol) → fits ≡ fit a t
+      → (a < b → LeastCut fit cost places (suc a) b (getD rests (at + suc a) 0)) → LeastCut fit cost (terminal t ∷ places) a b v
+
+-- v is the least cost of no places
+pub record AtEnd (a b v : ℕ) : Type 0 where
+  pub exact : (fit : Fit) (cost : Cost) → LeastCut fit cost [] a b v

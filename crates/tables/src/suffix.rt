@@ -6,7 +6,7 @@ use super::least::capped;
 use super::least::lower;
 ghost use Prim.Native.Nat.{_+_, _<_, _≤_};
 ghost use lib.ListN.{length};
-ghost use Rattle.tables.specs.Suffix.{AtNonterminal};
+ghost use Rattle.tables.specs.Suffix.{AtNonterminal, AtTerminal, AtEnd};
 
 // At the nonterminal k, from a to b: the least over its ends c of its own cost and that of the places behind it. `last` is its cost up to b,
 // which is not the table's where that span is the whole.
@@ -29,4 +29,25 @@ pub fn over_ends(
         c += 1;
     }
     lower(best, capped(last, rests[at + b]))
+}
+
+// At a terminal, from a to b: the cost of the places behind it, if it fits the byte at a.
+pub fn at_terminal(fits: bool, a: usize, b: usize, rests: &[u16], at: usize) -> u16
+    requires { ⌜ (b < 65) × (at + 65 ≤ length (now rests)) ⌝ }
+    ensures { λ v. ⌜ AtTerminal fits a b (now (rests .entry)) at v ⌝ }
+{
+    if a < b {
+        if fits {
+            return rests[at + (a + 1)];
+        }
+    }
+    513
+}
+
+// Behind the last place, from a to b: nothing is left, or too much.
+pub fn at_end(a: usize, b: usize) -> u16
+    requires { ⌜ a ≤ b ⌝ }
+    ensures { λ v. ⌜ AtEnd a b v ⌝ }
+{
+    if a < b { 513 } else { 0 }
 }
