@@ -2,3 +2,4 @@
 pub mod Entries
 pub mod Ends
 pub mod Places
+pub mod Sums

@@ -1,4 +1,4 @@
--- The least table: where the number of a nonterminal over a span stands.
+-- Where the number of a nonterminal over a span stands: in the least table, and in the numbers of one span.
 -- Assumes nothing.
 use Prim.Native.Nat.{ℕ, _+_, _*_}
 use mathlib.Core.Bool.{cond}
@@ -14,3 +14,7 @@ leastSize = nonterminals * cells
 -- the cost of the nonterminal k from a to b in the table; too many where k is no nonterminal
 unfoldable pub costIn : List ℕ → ℕ → ℕ → ℕ → ℕ
 costIn least k a b = cond (ltb k nonterminals) (getD least (cells * k + side * a + b) 0) tooMany
+
+-- the cost of the nonterminal k in the numbers of one span; too many where k is no nonterminal
+unfoldable pub fullIn : List ℕ → ℕ → ℕ
+fullIn full k = cond (ltb k nonterminals) (getD full k 0) tooMany
