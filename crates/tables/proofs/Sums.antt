@@ -44,8 +44,8 @@ module _ {cost : ℕ → ℕ} {p : List ℕ} {r : ℕ} where
   unfolding together
   summed-step {m} {q} {sum} {n} d h S e =
       let s : together cost (placesFrom p r q (countIn p r - q))
-            ≡ single cost (symbolIn p r q) + together cost (placesFrom p r (suc q) (countIn p r - suc q)) =
-          ap (together cost) (places-step p r q (omega arith))
+      ≡ single cost (symbolIn p r q) + together cost (placesFrom p r (suc q) (countIn p r - suc q)) =
+      ap (together cost) (places-step p r q (omega arith))
       in
       rw add-one (record { all = omega (arith, S .all) })
 
@@ -110,8 +110,11 @@ module _ (cost : ℕ → ℕ) (p : List ℕ) (r q : ℕ) where
     pub alone-terminal : b ≡ false → tooMany ≡ alone cost (placesIn p r) q
     unfolding alone
     alone-terminal t =
-        omega (arith, others-terminal cost (placesIn p r) q
-        (place-at p r q (omega arith) ∙ ap (λ (s : Symbol). some s) (symbol-terminal p r q (sym e ∙ t))))
+        omega (
+          arith,
+          others-terminal cost (placesIn p r) q
+              (place-at p r q (omega arith) ∙ ap (λ (s : Symbol). some s) (symbol-terminal p r q (sym e ∙ t))),
+        )
 
     -- the own cost is among all
     own-total : b ≡ true → others cost (placesIn p r) q + cost (valueIn p r q) ≡ together cost (placesIn p r)
