@@ -1,0 +1,25 @@
+-- The number of a nonterminal in the least table and in the numbers of one span, by the test that the code makes.
+-- Assumes nothing.
+use Prim.Native.Nat.{ℕ, _+_, _*_, _≤_, _<_}
+use mathlib.Core.List.{List}
+use mathlib.Core.Path.{_≡_}
+use lib.ListN.{getD}
+use borrow.Author.Tests.{lt-ltb, le-ltb}
+use Rattle.sizes.specs.Sizes.{side, cells, tooMany}
+use Rattle.tables.specs.Layout.{costIn, fullIn}
+
+pub cost-read : (least : List ℕ) (k a b : ℕ) → k < 32 → getD least (cells * k + side * a + b) 0 ≡ costIn least k a b
+unfolding costIn
+cost-read least k a b h = rw (lt-ltb k 32 h)
+
+pub cost-none : (least : List ℕ) (k a b : ℕ) → 32 ≤ k → tooMany ≡ costIn least k a b
+unfolding costIn
+cost-none least k a b h = rw (le-ltb k 32 h)
+
+pub full-read : (full : List ℕ) (k : ℕ) → k < 32 → getD full k 0 ≡ fullIn full k
+unfolding fullIn
+full-read full k h = rw (lt-ltb k 32 h)
+
+pub full-none : (full : List ℕ) (k : ℕ) → 32 ≤ k → tooMany ≡ fullIn full k
+unfolding fullIn
+full-none full k h = rw (le-ltb k 32 h)

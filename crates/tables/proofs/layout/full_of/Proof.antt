@@ -1,0 +1,15 @@
+-- `tables::layout::full_of` meets its contract.
+-- Assumes nothing.
+use borrow.Author.Needs.{needs}
+use Rattle.tables.proofs.Entries.{full-read, full-none}
+use Rattle.tables.proofs.layout.full_of.Statement.{statement}
+use Rattle.tables.proofs.layout.full_of.Tie as tie
+
+pub full-of-spec : {M : Type 1} → statement M
+full-of-spec =
+    tie.close
+    (tie.spec
+    (λ c. search needs)
+    (λ c. search needs)
+    (λ c. search (needs, full-read))
+    (λ c. search (needs, full-none)))

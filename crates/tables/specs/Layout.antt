@@ -1,0 +1,20 @@
+-- Where the number of a nonterminal over a span stands: in the least table, and in the numbers of one span.
+-- Assumes nothing.
+use Prim.Native.Nat.{ℕ, _+_, _*_}
+use mathlib.Core.Bool.{cond}
+use mathlib.Core.List.{List}
+use lib.Dec.{ltb}
+use lib.ListN.{getD}
+use Rattle.sizes.specs.Sizes.{nonterminals, side, cells, tooMany}
+
+-- the numbers of the least table: one for each nonterminal, start and end
+abbrev pub leastSize : ℕ
+leastSize = nonterminals * cells
+
+-- the cost of the nonterminal k from a to b in the table; too many where k is no nonterminal
+unfoldable pub costIn : List ℕ → ℕ → ℕ → ℕ → ℕ
+costIn least k a b = cond (ltb k nonterminals) (getD least (cells * k + side * a + b) 0) tooMany
+
+-- the cost of the nonterminal k in the numbers of one span; too many where k is no nonterminal
+unfoldable pub fullIn : List ℕ → ℕ → ℕ
+fullIn full k = cond (ltb k nonterminals) (getD full k 0) tooMany

@@ -1,0 +1,46 @@
+-- The least cost of the places of a rule from one place on, over a span, from that of the places behind it.
+-- Assumes nothing.
+use Prim.Native.Nat.{ℕ, suc, _+_, _≤_, _<_}
+use mathlib.Core.Bool.{Bool}
+use mathlib.Core.List.{List, [], _∷_}
+use mathlib.Core.Path.{_≡_}
+use lib.ListN.{getD}
+use Rattle.cfg.specs.Grammar.{Symbol, nonterminal, terminal, Terminal}
+use Rattle.costs.specs.Lowest.{Lowest, Seen, None}
+use Rattle.costs.specs.Cut.{LeastCut, First}
+use Rattle.tables.specs.Layout.{costIn}
+
+-- which terminals fit a position
+abbrev pub Fit : Type 0
+Fit = ℕ → Terminal → Bool
+
+-- the cost of a nonterminal over a span
+abbrev pub Cost : Type 0
+Cost = ℕ → ℕ → ℕ → ℕ
+
+-- what is known when a nonterminal k is looked at from a to b: its cost up to each end, `last` for the end b, and the costs of the places
+-- behind it, which stand in `rests` from `at` on
+pub record Behind (fit : Fit) (cost : Cost) (k : ℕ) (places : List Symbol) (a b : ℕ) (least : List ℕ) (last : ℕ) (rests : List ℕ) (at : ℕ)
+    : Type 0 where
+  pub first : (c : ℕ) → a ≤ c → c < b → costIn least k a c ≡ cost k a c
+  pub whole : last ≡ cost k a b
+  pub later : (c : ℕ) → a ≤ c → c ≤ b → LeastCut fit cost places c b (getD rests (at + c) 0)
+
+-- v is the least cost of the nonterminal k and any places behind it, whose costs are those given
+pub record AtNonterminal (least : List ℕ) (k a b last : ℕ) (rests : List ℕ) (at v : ℕ) : Type 0 where
+  pub exact : (fit : Fit) (cost : Cost) (places : List Symbol) → Behind fit cost k places a b least last rests at
+      → LeastCut fit cost (nonterminal k ∷ places) a b v
+
+-- v is the least cost over the ends before c
+pub record EndsBefore (least : List ℕ) (k a b last : ℕ) (rests : List ℕ) (at c v : ℕ) : Type 0 where
+  pub lowest : (fit : Fit) (cost : Cost) (places : List Symbol) → Behind fit cost k places a b least last rests at
+      → Lowest (Seen None (First fit cost k places a b) a c) v
+
+-- v is the least cost of a terminal, of which `fits` says whether it fits the byte at a, and any places behind it, whose cost is that given
+pub record AtTerminal (fits : Bool) (a b : ℕ) (rests : List ℕ) (at v : ℕ) : Type 0 where
+  pub exact : (fit : Fit) (cost : Cost) (t : Terminal) (places : List Symbol) → fits ≡ fit a t
+      → (a < b → LeastCut fit cost places (suc a) b (getD rests (at + suc a) 0)) → LeastCut fit cost (terminal t ∷ places) a b v
+
+-- v is the least cost of no places
+pub record AtEnd (a b v : ℕ) : Type 0 where
+  pub exact : (fit : Fit) (cost : Cost) → LeastCut fit cost [] a b v

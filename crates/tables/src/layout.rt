@@ -1,0 +1,38 @@
+// Where numbers of nodes stand. The least table has a number for each nonterminal, start and end, the last index the end, so that a minimum over ends runs along memory.
+ghost use mathlib.Core.Path.{_≡_};
+ghost use Prim.Native.Nat.{_<_};
+ghost use Rattle.tables.specs.Layout.{leastSize, costIn, fullIn};
+
+pub const LEAST_SIZE: usize = sizes::NONTERMINALS * sizes::CELLS;
+
+pub type Least = [u16; LEAST_SIZE];
+
+// The numbers of one span: one for each nonterminal.
+pub type Full = [u16; sizes::NONTERMINALS];
+
+pub fn tied_least() -> usize
+    ensures { λ n. ⌜ n ≡ leastSize ⌝ }
+{
+    LEAST_SIZE
+}
+
+// The cost of the nonterminal k from a to b: 513 where k is from 32 on.
+pub fn cost(least: &Least, k: usize, a: usize, b: usize) -> u16
+    requires { ⌜ (a < 65) × (b < 65) ⌝ }
+    ensures { λ v. ⌜ v ≡ costIn (now (least .entry)) k a b ⌝ }
+{
+    if k < 32 {
+        return least[sizes::CELLS * k + sizes::SIDE * a + b];
+    }
+    513
+}
+
+// The cost of the nonterminal k over the span of these numbers: 513 where k is from 32 on.
+pub fn full_of(full: &Full, k: usize) -> u16
+    ensures { λ v. ⌜ v ≡ fullIn (now (full .entry)) k ⌝ }
+{
+    if k < 32 {
+        return full[k];
+    }
+    513
+}

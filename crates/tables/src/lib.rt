@@ -1,0 +1,5 @@
+// The enumerator's tables: least numbers of nodes, capped at 513, which stands for none.
+pub mod alone;
+pub mod layout;
+pub mod least;
+pub mod suffix;
