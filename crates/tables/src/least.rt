@@ -3,16 +3,25 @@ ghost use mathlib.Core.Path.{_≡_};
 ghost use Prim.Native.Nat.{_+_, min};
 ghost use Rattle.sizes.specs.Sizes.{tooMany};
 
+// One more than the nodes of any derivation, which stands for none, as the tables hold it.
+pub const TOO_MANY: u16 = sizes::TOO_MANY as u16;
+
+pub fn tied_too_many() -> u16
+    ensures { λ n. ⌜ n ≡ tooMany ⌝ }
+{
+    TOO_MANY
+}
+
 // The sum of two numbers of nodes, or 513 if that is less.
 pub fn capped(a: u16, b: u16) -> u16
     ensures { λ r. ⌜ r ≡ min (a + b) tooMany ⌝ }
 {
-    if a < 513 {
-        if b < 513 - a {
+    if a < TOO_MANY {
+        if b < TOO_MANY - a {
             return a + b;
         }
     }
-    513
+    TOO_MANY
 }
 
 // The smaller of two numbers.
