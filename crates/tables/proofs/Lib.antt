@@ -3,3 +3,4 @@ pub mod Entries
 pub mod Ends
 pub mod Places
 pub mod Sums
+pub mod Through

@@ -1,7 +1,7 @@
 // Where numbers of nodes stand. The least table has a number for each nonterminal, start and end, the last index the end, so that a minimum over ends runs along memory.
 ghost use mathlib.Core.Path.{_≡_};
 ghost use Prim.Native.Nat.{_<_};
-ghost use Rattle.tables.specs.Layout.{leastSize, costIn, fullIn};
+ghost use Rattle.tables.specs.Layout.{leastSize, aloneSize, costIn, fullIn};
 
 pub const LEAST_SIZE: usize = sizes::NONTERMINALS * sizes::CELLS;
 
@@ -14,6 +14,17 @@ pub fn tied_least() -> usize
     ensures { λ n. ⌜ n ≡ leastSize ⌝ }
 {
     LEAST_SIZE
+}
+
+// What a node costs beside a child that covers all: one number for each rule and place.
+pub const ALONE_SIZE: usize = sizes::MAX_RULES * sizes::MAX_PLACES;
+
+pub type Alone = [u16; ALONE_SIZE];
+
+pub fn tied_alone() -> usize
+    ensures { λ n. ⌜ n ≡ aloneSize ⌝ }
+{
+    ALONE_SIZE
 }
 
 // The cost of the nonterminal k from a to b: 513 where k is from 32 on.

@@ -2,4 +2,5 @@
 pub mod alone;
 pub mod layout;
 pub mod least;
+pub mod rule;
 pub mod suffix;
