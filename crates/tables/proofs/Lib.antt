@@ -4,3 +4,4 @@ pub mod Ends
 pub mod Places
 pub mod Sums
 pub mod Through
+pub mod Inner

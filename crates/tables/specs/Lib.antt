@@ -2,3 +2,4 @@
 pub mod Layout
 pub mod Suffix
 pub mod Rule
+pub mod Within

@@ -4,3 +4,4 @@ pub mod layout;
 pub mod least;
 pub mod rule;
 pub mod suffix;
+pub mod within;
