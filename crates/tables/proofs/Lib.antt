@@ -5,3 +5,4 @@ pub mod Places
 pub mod Sums
 pub mod Through
 pub mod Inner
+pub mod Filling

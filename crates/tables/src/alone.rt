@@ -1,14 +1,17 @@
 // What a rule's places cost over no byte: all of them, and all but one beside a child that covers the whole span.
+use super::layout::Alone;
 use super::layout::Full;
 use super::layout::full_of;
 use numbers::wide;
 use packed::Packed;
 ghost use mathlib.Core.Path.{_≡_};
 ghost use Prim.Native.Nat.{suc, _+_, _*_, _<_, _≤_, min};
+ghost use lib.ListN.{length};
 ghost use Rattle.sizes.specs.Sizes.{tooMany};
 ghost use Rattle.costs.specs.Rule.{single, together, alone as aloneOf};
 ghost use Rattle.packed.specs.Packed.{symbolIn, placesIn};
-ghost use Rattle.tables.specs.Layout.{fullIn};
+ghost use Rattle.tables.specs.Layout.{fullIn, aloneSize};
+ghost use Rattle.tables.specs.Rule.{AlonePut, AlonesFilled};
 
 // One more than a number of nodes, or 513 if that is less.
 pub fn one_more(n: usize) -> u16
@@ -63,4 +66,29 @@ pub fn alone_at(p: &Packed, r: usize, q: usize, empty: &Full, sum: usize) -> u16
         }
     }
     513
+}
+
+// Writes the numbers of rule r.
+fn put_alone(p: &Packed, r: usize, empty: &Full, alones: &mut Alone)
+    requires { ⌜ (r < 128) × (length (now alones) ≡ aloneSize) ⌝ }
+    ensures { λ _. ⌜ AlonePut (now (p .entry)) r (now (empty .entry)) (now (alones .entry)) (now (alones .exit)) ⌝ }
+{
+    let sum = total(p, r, empty);
+    let mut q = 0;
+    while q < sizes::MAX_PLACES {
+        alones[sizes::MAX_PLACES * r + q] = alone_at(p, r, q, empty, sum);
+        q += 1;
+    }
+}
+
+// Writes the numbers of every rule.
+pub fn fill_alone(p: &Packed, empty: &Full, alones: &mut Alone)
+    requires { ⌜ length (now alones) ≡ aloneSize ⌝ }
+    ensures { λ _. ⌜ AlonesFilled (now (p .entry)) (now (empty .entry)) 128 (now (alones .exit)) ⌝ }
+{
+    let mut r = 0;
+    while r < sizes::MAX_RULES {
+        put_alone(p, r, empty, alones);
+        r += 1;
+    }
 }
