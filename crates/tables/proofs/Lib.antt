@@ -6,3 +6,4 @@ pub mod Sums
 pub mod Through
 pub mod Inner
 pub mod Filling
+pub mod Starts
