@@ -14,7 +14,7 @@ use Rattle.cfg.specs.Grammar.{Symbol}
 use Rattle.costs.specs.Cut.{within}
 use Rattle.packed.specs.Packed.{countIn}
 use Rattle.packed.proofs.Laws.{places-end}
-use Rattle.tables.specs.Layout.{costIn, fullIn}
+use Rattle.tables.specs.Layout.{costIn, fullIn, rowsSize}
 use Rattle.tables.specs.Suffix.{Fit, AtEnd}
 use Rattle.tables.specs.Within.{tailIn, Inside, Rests, SuffixAt, rowAt, Word, LaterStarts, ColumnFrom, ColumnPut}
 
@@ -30,7 +30,7 @@ module _ (p : List ℕ) (r word : ℕ) (least full : List ℕ) (i a j at : ℕ) 
   }
 
   module _ (rows₀ rows : List ℕ) (q v : ℕ) {b : Bool} (h : a ≤ j) (l : j < 65) (o : q < countIn p r) (o8 : q < 8)
-      (k : at + 585 ≤ length rows) (e : b ≡ has q word) (S : ColumnFrom p r word least full i a j at (q + 1) rows₀ rows)
+      (k : at + rowsSize ≤ length rows) (e : b ≡ has q word) (S : ColumnFrom p r word least full i a j at (q + 1) rows₀ rows)
       (X : SuffixAt p r q b least full i a j rows (at + 65 * (q + 1)) v) where
     -- the costs of the places behind q, from every start
     rests : (fit : Fit) → Word fit p r a j word → LaterStarts fit p r least full i a j rows₀ at
@@ -75,7 +75,7 @@ module _ (p : List ℕ) (r word : ℕ) (least full : List ℕ) (i a j at : ℕ) 
 
   -- the same as the code counts: from n down to n - 1
   pub column-back : (rows₀ rows : List ℕ) (n v : ℕ) {b : Bool} → a ≤ j → j < 65 → countIn p r ≤ 8 → n ≤ countIn p r → 0 < n
-      → at + 585 ≤ length rows → b ≡ has (n - 1) word → ColumnFrom p r word least full i a j at n rows₀ rows
+      → at + rowsSize ≤ length rows → b ≡ has (n - 1) word → ColumnFrom p r word least full i a j at n rows₀ rows
       → SuffixAt p r (n - 1) b least full i a j rows (at + 65 * (n - 1 + 1)) v
       → ColumnFrom p r word least full i a j at (n - 1) rows₀ (set rows (at + 65 * (n - 1) + a) v)
   column-back rows₀ rows n v h l c o z k e S X =
@@ -84,7 +84,7 @@ module _ (p : List ℕ) (r word : ℕ) (least full : List ℕ) (i a j at : ℕ) 
       (subst (λ (x : ℕ). ColumnFrom p r word least full i a j at x rows₀ rows) f S) X
 
   -- the number behind the last place, which is written first
-  module _ (rows₀ rows : List ℕ) (m v : ℕ) (e : m ≡ countIn p r) (b : m ≤ 8) (l : j < 65) (h : a ≤ j) (k : at + 585 ≤ length rows₀)
+  module _ (rows₀ rows : List ℕ) (m v : ℕ) (e : m ≡ countIn p r) (b : m ≤ 8) (l : j < 65) (h : a ≤ j) (k : at + rowsSize ≤ length rows₀)
       (E : AtEnd a j v) (S : ColumnFrom p r word least full i a j at 0 (set rows₀ (at + 65 * m + a) v) rows) where
     last : (fit : Fit) → Inside fit least full i j [] a (getD (set rows₀ (rowAt at m a) v) (rowAt at (countIn p r) a) 0)
     last fit =
@@ -109,7 +109,7 @@ module _ (p : List ℕ) (r word : ℕ) (least full : List ℕ) (i a j at : ℕ) 
       exact = λ fit W L s x. S .exact fit W (later fit L) (last fit) s (omega arith) x;
     }
 
-  pub column-end : {q : ℕ} (rows₀ rows : List ℕ) (m v : ℕ) → m ≡ countIn p r → m ≤ 8 → j < 65 → a ≤ j → at + 585 ≤ length rows₀
+  pub column-end : {q : ℕ} (rows₀ rows : List ℕ) (m v : ℕ) → m ≡ countIn p r → m ≤ 8 → j < 65 → a ≤ j → at + rowsSize ≤ length rows₀
       → AtEnd a j v → q ≤ 0 → ColumnFrom p r word least full i a j at q (set rows₀ (at + 65 * m + a) v) rows
       → ColumnPut p r word least full i a j at rows₀ rows
   column-end {q} rows₀ rows m v e b l h k E n S = let d : q ≡ 0 = omega arith in column-whole rows₀ rows m v e b l h k E (rw d at S)

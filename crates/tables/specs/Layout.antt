@@ -26,3 +26,7 @@ aloneSize = maxRules * maxPlaces
 -- the number of place q of rule r in that table
 abbrev pub aloneIn : List ℕ → ℕ → ℕ → ℕ
 aloneIn alones r q = getD alones (maxPlaces * r + q) 0
+
+-- the numbers of the rows of one rule: one row for each place and one behind the last, with a number for each start
+abbrev pub rowsSize : ℕ
+rowsSize = side * (maxPlaces + 1)

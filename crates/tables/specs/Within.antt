@@ -7,6 +7,7 @@ use mathlib.Core.List.{List, [], _∷_}
 use mathlib.Core.Logic.{_≢_}
 use mathlib.Core.Path.{_≡_}
 use lib.ListN.{length, getD}
+use Rattle.sizes.specs.Sizes.{side}
 use Rattle.sets.specs.Set.{has}
 use Rattle.cfg.specs.Grammar.{Symbol, nonterminal}
 use Rattle.costs.specs.Cut.{LeastCut, within}
@@ -38,7 +39,7 @@ pub record SuffixAt (p : List ℕ) (r q : ℕ) (fits : Bool) (least full : List 
 
 -- where the cost of the places from q on and from a on stands, in the rows of one rule that begin at `at`
 abbrev pub rowAt : ℕ → ℕ → ℕ → ℕ
-rowAt at q a = at + 65 * q + a
+rowAt at q a = at + side * q + a
 
 -- the word tells for each terminal of rule r whether it fits the byte at a
 abbrev pub Word : Fit → List ℕ → ℕ → ℕ → ℕ → ℕ → Type 0

@@ -6,6 +6,7 @@ use super::within::suffix_at;
 use packed::Packed;
 ghost use Prim.Native.Nat.{_+_, _<_, _≤_};
 ghost use lib.ListN.{length};
+ghost use Rattle.tables.specs.Layout.{rowsSize};
 ghost use Rattle.tables.specs.Within.{ColumnPut};
 
 // Writes the costs from a to j inside i to j into the rows that begin at `at`, those of the later starts being written. The word tells which
@@ -22,17 +23,17 @@ pub fn put_column(
     rows: &mut [u16],
     at: usize,
 )
-    requires { ⌜ (r < 128) × (i ≤ a) × (a ≤ j) × (j < 65) × (at + 585 ≤ length (now rows)) ⌝ }
+    requires { ⌜ (r < 128) × (i ≤ a) × (a ≤ j) × (j < 65) × (at + rowsSize ≤ length (now rows)) ⌝ }
     ensures { λ _.
         ⌜ ColumnPut (now (p .entry)) r word (now (least .entry)) (now (full .entry)) i a j at
         (now (rows .entry)) (now (rows .exit)) ⌝ }
 {
     let count = packed::count(p, r);
-    rows[at + 65 * count + a] = at_end(a, j);
+    rows[at + sizes::SIDE * count + a] = at_end(a, j);
     let mut q = count;
     while q > 0 {
         q -= 1;
-        rows[at + 65 * q + a] = suffix_at(
+        rows[at + sizes::SIDE * q + a] = suffix_at(
             p,
             r,
             q,
@@ -43,7 +44,7 @@ pub fn put_column(
             a,
             j,
             rows,
-            at + 65 * (q + 1),
+            at + sizes::SIDE * (q + 1),
         );
     }
 }

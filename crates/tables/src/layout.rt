@@ -1,7 +1,7 @@
 // Where numbers of nodes stand. The least table has a number for each nonterminal, start and end, the last index the end, so that a minimum over ends runs along memory.
 ghost use mathlib.Core.Path.{_≡_};
 ghost use Prim.Native.Nat.{_<_};
-ghost use Rattle.tables.specs.Layout.{leastSize, aloneSize, costIn, fullIn};
+ghost use Rattle.tables.specs.Layout.{leastSize, aloneSize, rowsSize, costIn, fullIn};
 
 pub const LEAST_SIZE: usize = sizes::NONTERMINALS * sizes::CELLS;
 
@@ -25,6 +25,15 @@ pub fn tied_alone() -> usize
     ensures { λ n. ⌜ n ≡ aloneSize ⌝ }
 {
     ALONE_SIZE
+}
+
+// The rows of one rule: one for each place and one behind the last, with a number for each start.
+pub const ROWS_SIZE: usize = sizes::SIDE * (sizes::MAX_PLACES + 1);
+
+pub fn tied_rows() -> usize
+    ensures { λ n. ⌜ n ≡ rowsSize ⌝ }
+{
+    ROWS_SIZE
 }
 
 // The cost of the nonterminal k from a to b: 513 where k is from 32 on.

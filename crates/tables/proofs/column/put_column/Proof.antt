@@ -4,6 +4,7 @@ use Prim.Native.Nat.{_+_, _≤_}
 use mathlib.Core.Path.{_≡_}
 use borrow.Author.Needs.{needs}
 use lib.ListN.{length, length-set}
+use Rattle.tables.specs.Layout.{rowsSize}
 use Rattle.tables.specs.Within.{ColumnFrom}
 use Rattle.tables.proofs.Starts.{column-start, column-back, column-end}
 use Rattle.tables.proofs.column.put_column.Statement.{statement}
@@ -11,7 +12,7 @@ use Rattle.tables.proofs.column.put_column.Tie as tie
 
 abbrev Inv-loop : tie.InvT-loop
 Inv-loop p r word least full i a j rows₀ at count q₀ rows q =
-    (q ≤ count) × (length rows ≡ length rows₀) × (at + 585 ≤ length rows) × ColumnFrom p r word least full i a j at q rows₀ rows
+    (q ≤ count) × (length rows ≡ length rows₀) × (at + rowsSize ≤ length rows) × ColumnFrom p r word least full i a j at q rows₀ rows
 
 abbrev μ-loop : tie.MeasureT-loop
 μ-loop p r word least full i a j rows₀ at count q₀ rows q = q
