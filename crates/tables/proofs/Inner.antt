@@ -4,9 +4,8 @@ use Prim.Native.Nat.{ℕ, suc, _+_, _-_, _≤_, _<_}
 use mathlib.Core.Bool.{Bool, true, false}
 use mathlib.Core.List.{List, _∷_}
 use mathlib.Core.Logic.{_≢_}
-use mathlib.Core.Path.{_≡_, refl, sym, ap, subst, _∙_}
+use mathlib.Core.Path.{_≡_, sym, ap, subst, _∙_}
 use native.Mathlib.Omega.{arith}
-use lib.ListN.{getD}
 use Rattle.cfg.specs.Grammar.{Symbol, nonterminal, terminal}
 use Rattle.costs.specs.Cut.{within}
 use Rattle.costs.proofs.Within.{within-whole, within-part}
@@ -14,8 +13,8 @@ use Rattle.packed.specs.Packed.{countIn, isNonterminalIn, valueIn, terminalIn, 
 use Rattle.packed.proofs.Laws.{places-step}
 use Rattle.packed.proofs.Fitting.{symbol-nonterminal, symbol-terminal}
 use Rattle.tables.specs.Layout.{costIn, fullIn}
-use Rattle.tables.specs.Suffix.{Fit, AtNonterminal, AtTerminal}
-use Rattle.tables.specs.Within.{tailIn, Inside, Rests, NonterminalAt, SuffixAt}
+use Rattle.tables.specs.Suffix.{AtNonterminal, AtTerminal}
+use Rattle.tables.specs.Within.{tailIn, Inside, NonterminalAt, SuffixAt}
 
 module _ (least full : List ℕ) (k i a j : ℕ) where
   pub last-whole : {v : ℕ} → a ≡ i → v ≡ fullIn full k → v ≡ within i j (fullIn full) (costIn least) k a j

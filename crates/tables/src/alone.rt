@@ -5,7 +5,7 @@ use super::layout::full_of;
 use numbers::wide;
 use packed::Packed;
 ghost use mathlib.Core.Path.{_≡_};
-ghost use Prim.Native.Nat.{suc, _+_, _*_, _<_, _≤_, min};
+ghost use Prim.Native.Nat.{suc, _+_, _*_, _<_, min};
 ghost use lib.ListN.{length};
 ghost use Rattle.sizes.specs.Sizes.{tooMany};
 ghost use Rattle.costs.specs.Rule.{single, together, alone as aloneOf};

@@ -9,8 +9,8 @@ ghost use lib.ListN.{length};
 ghost use Rattle.tables.specs.Layout.{rowsSize};
 ghost use Rattle.tables.specs.Within.{ColumnPut};
 
-// Writes the costs from a to j inside i to j into the rows that begin at `at`, those of the later starts being written. The word tells which
-// places of rule r hold a terminal that fits the byte at a.
+// Writes the costs from a to j inside i to j into the rows that begin at `at`, those of the later starts being written. The word tells
+// which places of rule r hold a terminal that fits the byte at a.
 pub fn put_column(
     p: &Packed,
     r: usize,

@@ -1,4 +1,5 @@
-// Where numbers of nodes stand. The least table has a number for each nonterminal, start and end, the last index the end, so that a minimum over ends runs along memory.
+// Where numbers of nodes stand. The least table has a number for each nonterminal, start and end, the last index the end, so that a
+// minimum over ends runs along memory.
 ghost use mathlib.Core.Path.{_≡_};
 ghost use Prim.Native.Nat.{_<_};
 ghost use Rattle.tables.specs.Layout.{leastSize, aloneSize, rowsSize, costIn, fullIn};

@@ -8,8 +8,8 @@ ghost use Prim.Native.Nat.{_+_, _<_, _≤_};
 ghost use lib.ListN.{length};
 ghost use Rattle.tables.specs.Suffix.{AtNonterminal, AtTerminal, AtEnd};
 
-// At the nonterminal k, from a to b: the least over its ends c of its own cost and that of the places behind it. `last` is its cost up to b,
-// which is not the table's where that span is the whole.
+// At the nonterminal k, from a to b: the least over its ends c of its own cost and that of the places behind it. `last` is its cost up to
+// b, which is not the table's where that span is the whole.
 pub fn over_ends(
     least: &Least,
     k: usize,

@@ -1,5 +1,5 @@
--- `tables::alone::put_alone` meets its contract. The loop's invariant: the numbers of the places passed are written. The measure is what is
--- left of them. Assumes nothing.
+-- `tables::alone::put_alone` meets its contract. The loop's invariant: the numbers of the places passed are written. The measure is
+-- what is left of them. Assumes nothing.
 use Prim.Native.Nat.{_-_, _≤_}
 use borrow.Author.Needs.{needs}
 use Rattle.tables.specs.Rule.{AloneBefore}
