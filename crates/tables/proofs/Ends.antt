@@ -1,8 +1,8 @@
 -- The least cost at a nonterminal place, as a running minimum over its ends.
 -- Assumes nothing.
-use Prim.Native.Nat.{ℕ, suc, _+_, _≤_, _<_, min}
+use Prim.Native.Nat.{ℕ, _+_, _≤_, _<_, min}
 use mathlib.Core.List.{List}
-use mathlib.Core.Path.{_≡_, ap, sym, _∙_}
+use mathlib.Core.Path.{_≡_, ap, _∙_}
 use native.Mathlib.Numerals.{add-one}
 use native.Mathlib.Omega.{arith}
 use lib.ListN.{getD}
@@ -10,7 +10,7 @@ use Rattle.sizes.specs.Sizes.{tooMany}
 use Rattle.costs.proofs.Lowest.{seen-none}
 use Rattle.costs.proofs.Cut.{leastcut-node, first-step}
 use Rattle.tables.specs.Layout.{costIn}
-use Rattle.tables.specs.Suffix.{Behind, AtNonterminal, EndsBefore}
+use Rattle.tables.specs.Suffix.{AtNonterminal, EndsBefore}
 
 module _ {least : List ℕ} {k a b last : ℕ} {rests : List ℕ} {at : ℕ} where
   pub ends-start : EndsBefore least k a b last rests at a tooMany

@@ -3,3 +3,7 @@ pub mod Entries
 pub mod Ends
 pub mod Places
 pub mod Sums
+pub mod Through
+pub mod Inner
+pub mod Filling
+pub mod Starts

@@ -1,6 +1,6 @@
 -- The least cost at a terminal place and behind the last place, by the tests that the code makes.
 -- Assumes nothing.
-use Prim.Native.Nat.{ℕ, suc, _+_, _≤_, _<_}
+use Prim.Native.Nat.{ℕ, _+_, _≤_, _<_}
 use mathlib.Core.Bool.{Bool, true, false}
 use mathlib.Core.List.{List}
 use mathlib.Core.Path.{_≡_, sym, _∙_}
@@ -14,11 +14,11 @@ use Rattle.tables.specs.Suffix.{AtTerminal, AtEnd}
 module _ (fits : Bool) (a b : ℕ) (rests : List ℕ) (at : ℕ) where
   pub terminal-fits : a < b → fits ≡ true → AtTerminal fits a b rests at (getD rests (at + (a + 1)) 0)
   terminal-fits l e = record {
-    exact = λ fit cost t places f L. leastcut-leaf l (sym f ∙ e) (rw add-one (L l));
+    exact = λ fit cost t places f L. leastcut-leaf l (sym (f l) ∙ e) (rw add-one (L l));
   }
 
-  pub terminal-misfit : fits ≡ false → AtTerminal fits a b rests at tooMany
-  terminal-misfit e = record { exact = λ fit cost t places f L. leastcut-misfit (sym f ∙ e) }
+  pub terminal-misfit : a < b → fits ≡ false → AtTerminal fits a b rests at tooMany
+  terminal-misfit l e = record { exact = λ fit cost t places f L. leastcut-misfit (sym (f l) ∙ e) }
 
   pub terminal-no-byte : b ≤ a → AtTerminal fits a b rests at tooMany
   terminal-no-byte l = record { exact = λ fit cost t places f L. leastcut-no-byte l }

@@ -12,7 +12,7 @@ use Rattle.sizes.specs.Sizes.{tooMany}
 use Rattle.cfg.specs.Grammar.{Symbol, nonterminal, terminal, Terminal}
 use Rattle.costs.specs.Rule.{single, together, others, alone}
 use Rattle.costs.proofs.Rule.{others-total}
-use Rattle.packed.specs.Packed.{countIn, isNonterminalIn, valueIn, terminalIn, symbolIn, placesFrom, placesIn}
+use Rattle.packed.specs.Packed.{countIn, isNonterminalIn, valueIn, symbolIn, placesFrom, placesIn}
 use Rattle.packed.proofs.Laws.{places-step, places-end, places-start}
 use Rattle.packed.proofs.Fitting.{symbol-nonterminal, symbol-terminal}
 

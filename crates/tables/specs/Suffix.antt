@@ -36,9 +36,9 @@ pub record EndsBefore (least : List ℕ) (k a b last : ℕ) (rests : List ℕ) (
   pub lowest : (fit : Fit) (cost : Cost) (places : List Symbol) → Behind fit cost k places a b least last rests at
       → Lowest (Seen None (First fit cost k places a b) a c) v
 
--- v is the least cost of a terminal, of which `fits` says whether it fits the byte at a, and any places behind it, whose cost is that given
+-- v is the least cost of a terminal, of which `fits` says whether it fits the byte at a, and any places behind it, whose cost is given
 pub record AtTerminal (fits : Bool) (a b : ℕ) (rests : List ℕ) (at v : ℕ) : Type 0 where
-  pub exact : (fit : Fit) (cost : Cost) (t : Terminal) (places : List Symbol) → fits ≡ fit a t
+  pub exact : (fit : Fit) (cost : Cost) (t : Terminal) (places : List Symbol) → (a < b → fits ≡ fit a t)
       → (a < b → LeastCut fit cost places (suc a) b (getD rests (at + suc a) 0)) → LeastCut fit cost (terminal t ∷ places) a b v
 
 -- v is the least cost of no places

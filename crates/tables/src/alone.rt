@@ -1,20 +1,28 @@
 // What a rule's places cost over no byte: all of them, and all but one beside a child that covers the whole span.
+use super::layout::Alone;
 use super::layout::Full;
 use super::layout::full_of;
+use super::least::TOO_MANY;
 use numbers::wide;
 use packed::Packed;
 ghost use mathlib.Core.Path.{_≡_};
-ghost use Prim.Native.Nat.{suc, _+_, _*_, _<_, _≤_, min};
+ghost use Prim.Native.Nat.{suc, _+_, _*_, _<_, min};
+ghost use lib.ListN.{length};
 ghost use Rattle.sizes.specs.Sizes.{tooMany};
 ghost use Rattle.costs.specs.Rule.{single, together, alone as aloneOf};
 ghost use Rattle.packed.specs.Packed.{symbolIn, placesIn};
-ghost use Rattle.tables.specs.Layout.{fullIn};
+ghost use Rattle.tables.specs.Layout.{fullIn, aloneSize};
+ghost use Rattle.tables.specs.Rule.{AlonePut, AlonesFilled};
 
 // One more than a number of nodes, or 513 if that is less.
 pub fn one_more(n: usize) -> u16
     ensures { λ v. ⌜ v ≡ min (suc n) tooMany ⌝ }
 {
-    if n < 512 { (n + 1) as u16 } else { 513 }
+    if n < sizes::MAX_NODES {
+        (n + 1) as u16
+    } else {
+        TOO_MANY
+    }
 }
 
 // The cost of place q of rule r over no byte.
@@ -25,7 +33,7 @@ fn single_at(p: &Packed, r: usize, q: usize, full: &Full) -> usize
     if packed::is_nonterminal(p, r, q) {
         return wide(full_of(full, packed::value(p, r, q)));
     }
-    513
+    sizes::TOO_MANY
 }
 
 // The cost of all places of rule r over no byte, not capped.
@@ -62,5 +70,30 @@ pub fn alone_at(p: &Packed, r: usize, q: usize, empty: &Full, sum: usize) -> u16
             return one_more(sum - own);
         }
     }
-    513
+    TOO_MANY
+}
+
+// Writes the numbers of rule r.
+fn put_alone(p: &Packed, r: usize, empty: &Full, alones: &mut Alone)
+    requires { ⌜ (r < 128) × (length (now alones) ≡ aloneSize) ⌝ }
+    ensures { λ _. ⌜ AlonePut (now (p .entry)) r (now (empty .entry)) (now (alones .entry)) (now (alones .exit)) ⌝ }
+{
+    let sum = total(p, r, empty);
+    let mut q = 0;
+    while q < sizes::MAX_PLACES {
+        alones[sizes::MAX_PLACES * r + q] = alone_at(p, r, q, empty, sum);
+        q += 1;
+    }
+}
+
+// Writes the numbers of every rule.
+pub fn fill_alone(p: &Packed, empty: &Full, alones: &mut Alone)
+    requires { ⌜ length (now alones) ≡ aloneSize ⌝ }
+    ensures { λ _. ⌜ AlonesFilled (now (p .entry)) (now (empty .entry)) 128 (now (alones .exit)) ⌝ }
+{
+    let mut r = 0;
+    while r < sizes::MAX_RULES {
+        put_alone(p, r, empty, alones);
+        r += 1;
+    }
 }

@@ -2,14 +2,15 @@
 // of the places behind it stand in `rests` from `at` on, one for each start.
 use super::layout::Least;
 use super::layout::cost;
+use super::least::TOO_MANY;
 use super::least::capped;
 use super::least::lower;
 ghost use Prim.Native.Nat.{_+_, _<_, _≤_};
 ghost use lib.ListN.{length};
 ghost use Rattle.tables.specs.Suffix.{AtNonterminal, AtTerminal, AtEnd};
 
-// At the nonterminal k, from a to b: the least over its ends c of its own cost and that of the places behind it. `last` is its cost up to b,
-// which is not the table's where that span is the whole.
+// At the nonterminal k, from a to b: the least over its ends c of its own cost and that of the places behind it. `last` is its cost up to
+// b, which is not the table's where that span is the whole.
 pub fn over_ends(
     least: &Least,
     k: usize,
@@ -22,7 +23,7 @@ pub fn over_ends(
     requires { ⌜ (a ≤ b) × (b < 65) × (at + 65 ≤ length (now rests)) ⌝ }
     ensures { λ v. ⌜ AtNonterminal (now (least .entry)) k a b last (now (rests .entry)) at v ⌝ }
 {
-    let mut best: u16 = 513;
+    let mut best = TOO_MANY;
     let mut c = a;
     while c < b {
         best = lower(best, capped(cost(least, k, a, c), rests[at + c]));
@@ -41,7 +42,7 @@ pub fn at_terminal(fits: bool, a: usize, b: usize, rests: &[u16], at: usize) -> 
             return rests[at + (a + 1)];
         }
     }
-    513
+    TOO_MANY
 }
 
 // Behind the last place, from a to b: nothing is left, or too much.
@@ -49,5 +50,5 @@ pub fn at_end(a: usize, b: usize) -> u16
     requires { ⌜ a ≤ b ⌝ }
     ensures { λ v. ⌜ AtEnd a b v ⌝ }
 {
-    if a < b { 513 } else { 0 }
+    if a < b { TOO_MANY } else { 0 }
 }

@@ -2,7 +2,6 @@
 -- Assumes nothing.
 use Prim.Native.Nat.{_*_, _-_, _≤_}
 use borrow.Author.Needs.{needs}
-use Rattle.packed.specs.Packed.{countIn}
 use Rattle.tables.specs.Layout.{fullIn}
 use Rattle.tables.proofs.Sums.{Summed, summed-start, summed-step, summed-end}
 use Rattle.tables.proofs.alone.total.Statement.{statement}

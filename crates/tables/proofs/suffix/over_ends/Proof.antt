@@ -1,7 +1,6 @@
--- `tables::suffix::over_ends` meets its contract. The loop's invariant: the least over the ends passed. The measure is what is left of them.
--- Assumes nothing.
+-- `tables::suffix::over_ends` meets its contract. The loop's invariant: the least over the ends passed. The measure is what is
+-- left of them. Assumes nothing.
 use Prim.Native.Nat.{_-_, _≤_}
-use native.Mathlib.Omega.{arith}
 use borrow.Author.Needs.{needs}
 use Rattle.sizes.specs.Sizes.{tooMany}
 use Rattle.tables.specs.Suffix.{EndsBefore}

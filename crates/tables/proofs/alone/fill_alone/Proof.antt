@@ -1,0 +1,27 @@
+-- `tables::alone::fill_alone` meets its contract. The loop's invariant: the numbers of the rules passed are right. The measure is what is
+-- left of them. Assumes nothing.
+use Prim.Native.Nat.{_-_, _≤_}
+use borrow.Author.Needs.{needs}
+use Rattle.tables.specs.Rule.{AlonesFilled}
+use Rattle.tables.proofs.Filling.{filled-start, filled-step, filled-end}
+use Rattle.tables.proofs.alone.fill_alone.Statement.{statement}
+use Rattle.tables.proofs.alone.fill_alone.Tie as tie
+
+abbrev Inv-loop : tie.InvT-loop
+Inv-loop p empty alones₀ r₀ alones r = (r ≤ 128) × AlonesFilled p empty r alones
+
+abbrev μ-loop : tie.MeasureT-loop
+μ-loop p empty alones₀ r₀ alones r = 128 - r
+
+pub fill-alone-spec : {M : Type 1} → statement M
+fill-alone-spec =
+    tie.close
+    (tie.spec
+    Inv-loop
+    μ-loop
+    (λ c. search (needs, filled-start))
+    (λ c κs. search needs)
+    (λ c. search needs)
+    (λ c. search needs)
+    (λ c. search (needs, filled-step))
+    (λ c. search (needs, filled-end)))

@@ -1,0 +1,63 @@
+-- `tables::column::put_column` meets its contract. The loop's invariant: the costs of the places from q on are written. The measure is q.
+-- Assumes nothing.
+use Prim.Native.Nat.{_+_, _≤_}
+use mathlib.Core.Path.{_≡_}
+use borrow.Author.Needs.{needs}
+use lib.ListN.{length, length-set}
+use Rattle.tables.specs.Layout.{rowsSize}
+use Rattle.tables.specs.Within.{ColumnFrom}
+use Rattle.tables.proofs.Starts.{column-start, column-back, column-end}
+use Rattle.tables.proofs.column.put_column.Statement.{statement}
+use Rattle.tables.proofs.column.put_column.Tie as tie
+
+abbrev Inv-loop : tie.InvT-loop
+Inv-loop p r word least full i a j rows₀ at count q₀ rows q =
+    (q ≤ count) × (length rows ≡ length rows₀) × (at + rowsSize ≤ length rows) × ColumnFrom p r word least full i a j at q rows₀ rows
+
+abbrev μ-loop : tie.MeasureT-loop
+μ-loop p r word least full i a j rows₀ at count q₀ rows q = q
+
+loop-holds : tie.Need-loop-holds Inv-loop μ-loop
+loop-holds c = search (needs, column-start)
+
+loop-again : tie.Need-loop-again Inv-loop μ-loop
+loop-again c = (
+  search needs,
+  search needs,
+  search needs,
+  column-back _ _ _ _ _ _ _ _ _ _ _ _ _ (search needs) (search needs) (search needs) (search needs) (search needs)
+      (search needs) (c .before .before .contains .ensures) (search needs) (c .suffix-at .ensures),
+)
+
+returns : tie.Need-returns Inv-loop μ-loop
+returns c = search (needs, column-end)
+
+pub put-column-spec : {M : Type 1} → statement M
+put-column-spec =
+    tie.close
+    (tie.spec
+    Inv-loop
+    μ-loop
+    (λ c κs. search needs)
+    (λ c κs. search needs)
+    (λ c. search needs)
+    (λ c. search needs)
+    (λ c. search needs)
+    (λ c. search needs)
+    (λ c. search needs)
+    loop-holds
+    (λ c. search needs)
+    (λ c κs. search needs)
+    (λ c. search needs)
+    (λ c. search needs)
+    (λ c. search needs)
+    (λ c κs. search needs)
+    (λ c. search needs)
+    (λ c. search needs)
+    (λ c. search needs)
+    (λ c. search needs)
+    (λ c. search needs)
+    (λ c. search needs)
+    loop-again
+    (λ c. simp length-set at (c .before .loop .inv .1))
+    returns)

@@ -1,0 +1,10 @@
+-- `tables::within::nonterminal_at` meets its contract.
+-- Assumes nothing.
+use borrow.Author.Needs.{needs}
+use Rattle.tables.proofs.Inner.{nonterminal-inside}
+use Rattle.tables.proofs.within.nonterminal_at.Statement.{statement}
+use Rattle.tables.proofs.within.nonterminal_at.Tie as tie
+
+pub nonterminal-at-spec : {M : Type 1} → statement M
+nonterminal-at-spec =
+    tie.close (tie.spec (λ c κs. search needs) (λ c κs. search needs) (λ c. search (needs, nonterminal-inside)))

@@ -1,0 +1,50 @@
+// The least costs of the places of a rule from one start on, for all its places: row q of 65 numbers has those of the places q.. .
+use super::layout::Full;
+use super::layout::Least;
+use super::suffix::at_end;
+use super::within::suffix_at;
+use packed::Packed;
+ghost use Prim.Native.Nat.{_+_, _<_, _≤_};
+ghost use lib.ListN.{length};
+ghost use Rattle.tables.specs.Layout.{rowsSize};
+ghost use Rattle.tables.specs.Within.{ColumnPut};
+
+// Writes the costs from a to j inside i to j into the rows that begin at `at`, those of the later starts being written. The word tells
+// which places of rule r hold a terminal that fits the byte at a.
+pub fn put_column(
+    p: &Packed,
+    r: usize,
+    word: u32,
+    least: &Least,
+    full: &Full,
+    i: usize,
+    a: usize,
+    j: usize,
+    rows: &mut [u16],
+    at: usize,
+)
+    requires { ⌜ (r < 128) × (i ≤ a) × (a ≤ j) × (j < 65) × (at + rowsSize ≤ length (now rows)) ⌝ }
+    ensures { λ _.
+        ⌜ ColumnPut (now (p .entry)) r word (now (least .entry)) (now (full .entry)) i a j at
+        (now (rows .entry)) (now (rows .exit)) ⌝ }
+{
+    let count = packed::count(p, r);
+    rows[at + sizes::SIDE * count + a] = at_end(a, j);
+    let mut q = count;
+    while q > 0 {
+        q -= 1;
+        rows[at + sizes::SIDE * q + a] = suffix_at(
+            p,
+            r,
+            q,
+            packed::contains(word, q),
+            least,
+            full,
+            i,
+            a,
+            j,
+            rows,
+            at + sizes::SIDE * (q + 1),
+        );
+    }
+}

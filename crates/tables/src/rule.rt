@@ -1,0 +1,39 @@
+// The cost of a rule over a span that is not empty, the node included: the least without a child over the whole span, or through one.
+use super::layout::Alone;
+use super::layout::Full;
+use super::layout::full_of;
+use super::least::capped;
+use super::least::lower;
+use packed::Packed;
+ghost use mathlib.Core.Path.{_≡_};
+ghost use Prim.Native.Nat.{_+_, _<_, min};
+ghost use Rattle.sizes.specs.Sizes.{tooMany};
+ghost use Rattle.packed.specs.Packed.{valueIn};
+ghost use Rattle.tables.specs.Layout.{fullIn};
+ghost use Rattle.tables.specs.Rule.{OfRule};
+
+// The cost through place q of rule r, `beside` being that of the rest. At a terminal `beside` is 513, so its value does not count.
+fn through(p: &Packed, r: usize, q: usize, full: &Full, beside: u16) -> u16
+    requires { ⌜ (r < 128) × (q < 8) ⌝ }
+    ensures { λ v. ⌜ v ≡ min (beside + fullIn (now (full .entry)) (valueIn (now (p .entry)) r q)) tooMany ⌝ }
+{
+    capped(beside, full_of(full, packed::value(p, r, q)))
+}
+
+// The cost of rule r, from its cost without a child over the whole span and the numbers of its places that stand alone.
+pub fn rule_cost(p: &Packed, r: usize, full: &Full, alones: &Alone, bare: u16) -> u16
+    requires { ⌜ r < 128 ⌝ }
+    ensures { λ v. ⌜ OfRule (now (p .entry)) r (now (full .entry)) (now (alones .entry)) bare v ⌝ }
+{
+    let count = packed::count(p, r);
+    let mut best = bare;
+    let mut q = 0;
+    while q < count {
+        best = lower(
+            best,
+            through(p, r, q, full, alones[sizes::MAX_PLACES * r + q]),
+        );
+        q += 1;
+    }
+    best
+}
