@@ -8,6 +8,14 @@ use lib.Dec.{eqb}
 use Rattle.cfg.specs.Grammar.{Symbol, nonterminal, terminal, Terminal}
 use Rattle.costs.specs.Lowest.{Lowest}
 
+-- which terminals fit a position
+abbrev pub Fit : Type 0
+Fit = ℕ → Terminal → Bool
+
+-- the cost of a nonterminal over a span
+abbrev pub Cost : Type 0
+Cost = ℕ → ℕ → ℕ → ℕ
+
 -- the places cut the span from a to b at total cost v: a terminal takes one position that fits it and costs nothing; a nonterminal k from
 -- a to c costs `cost k a c`. A cost of `tooMany` makes the total too many, so it needs no rule of its own
 pub data Cut (fit : ℕ → Terminal → Bool) (cost : ℕ → ℕ → ℕ → ℕ) (b : ℕ) : List Symbol → ℕ → ℕ → Type 0 where

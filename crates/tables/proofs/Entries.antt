@@ -8,13 +8,13 @@ use borrow.Author.Tests.{lt-ltb, le-ltb}
 use Rattle.sizes.specs.Sizes.{side, cells, tooMany}
 use Rattle.tables.specs.Layout.{costIn, fullIn}
 
-pub cost-read : (least : List ℕ) (k a b : ℕ) → k < 32 → getD least (cells * k + side * a + b) 0 ≡ costIn least k a b
+pub cost-read : (tables : List ℕ) (k a b : ℕ) → k < 32 → getD tables (cells * k + side * a + b) 0 ≡ costIn tables k a b
 unfolding costIn
-cost-read least k a b h = rw (lt-ltb k 32 h)
+cost-read tables k a b h = rw (lt-ltb k 32 h)
 
-pub cost-none : (least : List ℕ) (k a b : ℕ) → 32 ≤ k → tooMany ≡ costIn least k a b
+pub cost-none : (tables : List ℕ) (k a b : ℕ) → 32 ≤ k → tooMany ≡ costIn tables k a b
 unfolding costIn
-cost-none least k a b h = rw (le-ltb k 32 h)
+cost-none tables k a b h = rw (le-ltb k 32 h)
 
 pub full-read : (full : List ℕ) (k : ℕ) → k < 32 → getD full k 0 ≡ fullIn full k
 unfolding fullIn

@@ -5,45 +5,45 @@ use mathlib.Core.List.{List}
 use mathlib.Core.Logic.{_≢_}
 use mathlib.Core.Path.{_≡_}
 use lib.ListN.{length}
+use Rattle.costs.specs.Cut.{Fit, Cost}
 use Rattle.costs.specs.Lowest.{Lowest}
 use Rattle.costs.specs.Rule.{NodeCost, BareCost, alone, Costs}
 use Rattle.packed.specs.Packed.{countIn, placesIn}
-use Rattle.tables.specs.Layout.{fullIn, aloneIn, aloneSize}
-use Rattle.tables.specs.Suffix.{Fit, Cost}
+use Rattle.tables.specs.Layout.{fullIn, aloneIn, tablesSize}
 
 -- the numbers of the places of rule r that stand alone are those of `empty`, the costs over no byte
 abbrev pub Alones : (ℕ → ℕ) → List ℕ → ℕ → List ℕ → Type 0
-Alones empty p r alones = (q : ℕ) → q < countIn p r → aloneIn alones r q ≡ alone empty (placesIn p r) q
+Alones empty p r tables = (q : ℕ) → q < countIn p r → aloneIn tables r q ≡ alone empty (placesIn p r) q
 
 -- what is known of rule r over the span from i to j: its numbers of places that stand alone, and its cost without a child over the whole
-pub record Known (fit : Fit) (empty : ℕ → ℕ) (least : Cost) (i j : ℕ) (p : List ℕ) (r : ℕ) (alones : List ℕ) (bare : ℕ) : Type 0 where
+pub record Known (fit : Fit) (empty : ℕ → ℕ) (least : Cost) (i j : ℕ) (p : List ℕ) (r : ℕ) (tables : List ℕ) (bare : ℕ) : Type 0 where
   pub span : i < j
   pub start : (k : ℕ) → least k i i ≡ empty k
   pub stop : (k : ℕ) → least k j j ≡ empty k
-  pub beside : Alones empty p r alones
+  pub beside : Alones empty p r tables
   pub without : Lowest (BareCost fit least (placesIn p r) i j) bare
 
 -- v is the cost of rule r over any such span, the node included
-pub record OfRule (p : List ℕ) (r : ℕ) (full alones : List ℕ) (bare v : ℕ) : Type 0 where
-  pub exact : (fit : Fit) (empty : ℕ → ℕ) (least : Cost) (i j : ℕ) → Known fit empty least i j p r alones bare
+pub record OfRule (p : List ℕ) (r : ℕ) (full tables : List ℕ) (bare v : ℕ) : Type 0 where
+  pub exact : (fit : Fit) (empty : ℕ → ℕ) (least : Cost) (i j : ℕ) → Known fit empty least i j p r tables bare
       → Lowest (NodeCost fit (fullIn full) least (placesIn p r) i j) v
 
 -- v is the least of those through the places before q
-pub record PlacesBefore (p : List ℕ) (r : ℕ) (full alones : List ℕ) (bare q v : ℕ) : Type 0 where
-  pub lowest : (fit : Fit) (empty : ℕ → ℕ) (least : Cost) (i j : ℕ) → Known fit empty least i j p r alones bare
+pub record PlacesBefore (p : List ℕ) (r : ℕ) (full tables : List ℕ) (bare q v : ℕ) : Type 0 where
+  pub lowest : (fit : Fit) (empty : ℕ → ℕ) (least : Cost) (i j : ℕ) → Known fit empty least i j p r tables bare
       → Lowest (Costs fit empty (fullIn full) least (placesIn p r) i j q) v
 
 -- the table with the numbers of the places before q of rule r written: the others are as found
-pub record AloneBefore (p : List ℕ) (r : ℕ) (empty : List ℕ) (q : ℕ) (alones₀ alones : List ℕ) : Type 0 where
-  pub long : length alones ≡ aloneSize
-  pub here : (n : ℕ) → n < q → aloneIn alones r n ≡ alone (fullIn empty) (placesIn p r) n
-  pub other : (s n : ℕ) → s ≢ r → n < 8 → aloneIn alones s n ≡ aloneIn alones₀ s n
+pub record AloneBefore (p : List ℕ) (r : ℕ) (empty : List ℕ) (q : ℕ) (tables₀ tables : List ℕ) : Type 0 where
+  pub long : length tables ≡ tablesSize
+  pub here : (n : ℕ) → n < q → aloneIn tables r n ≡ alone (fullIn empty) (placesIn p r) n
+  pub other : (s n : ℕ) → s ≢ r → n < 8 → aloneIn tables s n ≡ aloneIn tables₀ s n
 
 -- the same with all of them written
 abbrev pub AlonePut : List ℕ → ℕ → List ℕ → List ℕ → List ℕ → Type 0
-AlonePut p r empty alones₀ alones = AloneBefore p r empty 8 alones₀ alones
+AlonePut p r empty tables₀ tables = AloneBefore p r empty 8 tables₀ tables
 
 -- the numbers of the rules before r are right
-pub record AlonesFilled (p empty : List ℕ) (r : ℕ) (alones : List ℕ) : Type 0 where
-  pub long : length alones ≡ aloneSize
-  pub here : (s n : ℕ) → s < r → n < 8 → aloneIn alones s n ≡ alone (fullIn empty) (placesIn p s) n
+pub record AlonesFilled (p empty : List ℕ) (r : ℕ) (tables : List ℕ) : Type 0 where
+  pub long : length tables ≡ tablesSize
+  pub here : (s n : ℕ) → s < r → n < 8 → aloneIn tables s n ≡ alone (fullIn empty) (placesIn p s) n

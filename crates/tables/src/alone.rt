@@ -1,6 +1,7 @@
 // What a rule's places cost over no byte: all of them, and all but one beside a child that covers the whole span.
-use super::layout::Alone;
+use super::layout::ALONES;
 use super::layout::Full;
+use super::layout::Tables;
 use super::layout::full_of;
 use super::least::TOO_MANY;
 use numbers::wide;
@@ -11,7 +12,7 @@ ghost use lib.ListN.{length};
 ghost use Rattle.sizes.specs.Sizes.{tooMany};
 ghost use Rattle.costs.specs.Rule.{single, together, alone as aloneOf};
 ghost use Rattle.packed.specs.Packed.{symbolIn, placesIn};
-ghost use Rattle.tables.specs.Layout.{fullIn, aloneSize};
+ghost use Rattle.tables.specs.Layout.{fullIn, tablesSize};
 ghost use Rattle.tables.specs.Rule.{AlonePut, AlonesFilled};
 
 // One more than a number of nodes, or 513 if that is less.
@@ -74,26 +75,26 @@ pub fn alone_at(p: &Packed, r: usize, q: usize, empty: &Full, sum: usize) -> u16
 }
 
 // Writes the numbers of rule r.
-fn put_alone(p: &Packed, r: usize, empty: &Full, alones: &mut Alone)
-    requires { ⌜ (r < 128) × (length (now alones) ≡ aloneSize) ⌝ }
-    ensures { λ _. ⌜ AlonePut (now (p .entry)) r (now (empty .entry)) (now (alones .entry)) (now (alones .exit)) ⌝ }
+fn put_alone(p: &Packed, r: usize, empty: &Full, tables: &mut Tables)
+    requires { ⌜ (r < 128) × (length (now tables) ≡ tablesSize) ⌝ }
+    ensures { λ _. ⌜ AlonePut (now (p .entry)) r (now (empty .entry)) (now (tables .entry)) (now (tables .exit)) ⌝ }
 {
     let sum = total(p, r, empty);
     let mut q = 0;
     while q < sizes::MAX_PLACES {
-        alones[sizes::MAX_PLACES * r + q] = alone_at(p, r, q, empty, sum);
+        tables[ALONES + sizes::MAX_PLACES * r + q] = alone_at(p, r, q, empty, sum);
         q += 1;
     }
 }
 
 // Writes the numbers of every rule.
-pub fn fill_alone(p: &Packed, empty: &Full, alones: &mut Alone)
-    requires { ⌜ length (now alones) ≡ aloneSize ⌝ }
-    ensures { λ _. ⌜ AlonesFilled (now (p .entry)) (now (empty .entry)) 128 (now (alones .exit)) ⌝ }
+pub fn fill_alone(p: &Packed, empty: &Full, tables: &mut Tables)
+    requires { ⌜ length (now tables) ≡ tablesSize ⌝ }
+    ensures { λ _. ⌜ AlonesFilled (now (p .entry)) (now (empty .entry)) 128 (now (tables .exit)) ⌝ }
 {
     let mut r = 0;
     while r < sizes::MAX_RULES {
-        put_alone(p, r, empty, alones);
+        put_alone(p, r, empty, tables);
         r += 1;
     }
 }

@@ -1,8 +1,5 @@
 // The enumerator's tables: least numbers of nodes, capped at 513, which stands for none.
 pub mod alone;
-pub mod column;
 pub mod layout;
 pub mod least;
 pub mod rule;
-pub mod suffix;
-pub mod within;

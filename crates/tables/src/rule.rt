@@ -1,6 +1,7 @@
 // The cost of a rule over a span that is not empty, the node included: the least without a child over the whole span, or through one.
-use super::layout::Alone;
+use super::layout::ALONES;
 use super::layout::Full;
+use super::layout::Tables;
 use super::layout::full_of;
 use super::least::capped;
 use super::least::lower;
@@ -21,9 +22,9 @@ fn through(p: &Packed, r: usize, q: usize, full: &Full, beside: u16) -> u16
 }
 
 // The cost of rule r, from its cost without a child over the whole span and the numbers of its places that stand alone.
-pub fn rule_cost(p: &Packed, r: usize, full: &Full, alones: &Alone, bare: u16) -> u16
+pub fn rule_cost(p: &Packed, r: usize, full: &Full, tables: &Tables, bare: u16) -> u16
     requires { ⌜ r < 128 ⌝ }
-    ensures { λ v. ⌜ OfRule (now (p .entry)) r (now (full .entry)) (now (alones .entry)) bare v ⌝ }
+    ensures { λ v. ⌜ OfRule (now (p .entry)) r (now (full .entry)) (now (tables .entry)) bare v ⌝ }
 {
     let count = packed::count(p, r);
     let mut best = bare;
@@ -31,7 +32,7 @@ pub fn rule_cost(p: &Packed, r: usize, full: &Full, alones: &Alone, bare: u16) -
     while q < count {
         best = lower(
             best,
-            through(p, r, q, full, alones[sizes::MAX_PLACES * r + q]),
+            through(p, r, q, full, tables[ALONES + sizes::MAX_PLACES * r + q]),
         );
         q += 1;
     }

@@ -8,10 +8,10 @@ use Rattle.tables.proofs.alone.fill_alone.Statement.{statement}
 use Rattle.tables.proofs.alone.fill_alone.Tie as tie
 
 abbrev Inv-loop : tie.InvT-loop
-Inv-loop p empty alones₀ r₀ alones r = (r ≤ 128) × AlonesFilled p empty r alones
+Inv-loop p empty tables₀ r₀ tables r = (r ≤ 128) × AlonesFilled p empty r tables
 
 abbrev μ-loop : tie.MeasureT-loop
-μ-loop p empty alones₀ r₀ alones r = 128 - r
+μ-loop p empty tables₀ r₀ tables r = 128 - r
 
 pub fill-alone-spec : {M : Type 1} → statement M
 fill-alone-spec =

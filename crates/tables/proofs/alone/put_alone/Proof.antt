@@ -8,10 +8,10 @@ use Rattle.tables.proofs.alone.put_alone.Statement.{statement}
 use Rattle.tables.proofs.alone.put_alone.Tie as tie
 
 abbrev Inv-loop : tie.InvT-loop
-Inv-loop p r empty alones₀ sum q₀ alones q = (q ≤ 8) × AloneBefore p r empty q alones₀ alones
+Inv-loop p r empty tables₀ sum q₀ tables q = (q ≤ 8) × AloneBefore p r empty q tables₀ tables
 
 abbrev μ-loop : tie.MeasureT-loop
-μ-loop p r empty alones₀ sum q₀ alones q = 8 - q
+μ-loop p r empty tables₀ sum q₀ tables q = 8 - q
 
 loop-again : tie.Need-loop-again Inv-loop μ-loop
 loop-again c = search (needs, alone-step)
@@ -28,6 +28,7 @@ put-alone-spec =
     (λ c κs. search needs)
     (λ c. search (needs, alone-start))
     (λ c κs. search needs)
+    (λ c. search needs)
     (λ c. search needs)
     (λ c. search needs)
     (λ c. search needs)

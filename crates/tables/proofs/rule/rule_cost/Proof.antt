@@ -8,10 +8,10 @@ use Rattle.tables.proofs.rule.rule_cost.Statement.{statement}
 use Rattle.tables.proofs.rule.rule_cost.Tie as tie
 
 abbrev Inv-loop : tie.InvT-loop
-Inv-loop p r full alones bare count best₀ q₀ best q = (q ≤ count) × PlacesBefore p r full alones bare q best
+Inv-loop p r full tables bare count best₀ q₀ best q = (q ≤ count) × PlacesBefore p r full tables bare q best
 
 abbrev μ-loop : tie.MeasureT-loop
-μ-loop p r full alones bare count best₀ q₀ best q = count - q
+μ-loop p r full tables bare count best₀ q₀ best q = count - q
 
 loop-again : tie.Need-loop-again Inv-loop μ-loop
 loop-again c = search (needs, through-step)
@@ -27,6 +27,7 @@ rule-cost-spec =
     μ-loop
     (λ c κs. search needs)
     (λ c. search (needs, through-start))
+    (λ c. search needs)
     (λ c. search needs)
     (λ c. search needs)
     (λ c. search needs)

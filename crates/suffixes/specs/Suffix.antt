@@ -7,33 +7,25 @@ use mathlib.Core.Path.{_≡_}
 use lib.ListN.{getD}
 use Rattle.cfg.specs.Grammar.{Symbol, nonterminal, terminal, Terminal}
 use Rattle.costs.specs.Lowest.{Lowest, Seen, None}
-use Rattle.costs.specs.Cut.{LeastCut, First}
+use Rattle.costs.specs.Cut.{Fit, Cost, LeastCut, First}
 use Rattle.tables.specs.Layout.{costIn}
-
--- which terminals fit a position
-abbrev pub Fit : Type 0
-Fit = ℕ → Terminal → Bool
-
--- the cost of a nonterminal over a span
-abbrev pub Cost : Type 0
-Cost = ℕ → ℕ → ℕ → ℕ
 
 -- what is known when a nonterminal k is looked at from a to b: its cost up to each end, `last` for the end b, and the costs of the places
 -- behind it, which stand in `rests` from `at` on
-pub record Behind (fit : Fit) (cost : Cost) (k : ℕ) (places : List Symbol) (a b : ℕ) (least : List ℕ) (last : ℕ) (rests : List ℕ) (at : ℕ)
+pub record Behind (fit : Fit) (cost : Cost) (k : ℕ) (places : List Symbol) (a b : ℕ) (tables : List ℕ) (last : ℕ) (rests : List ℕ) (at : ℕ)
     : Type 0 where
-  pub first : (c : ℕ) → a ≤ c → c < b → costIn least k a c ≡ cost k a c
+  pub first : (c : ℕ) → a ≤ c → c < b → costIn tables k a c ≡ cost k a c
   pub whole : last ≡ cost k a b
   pub later : (c : ℕ) → a ≤ c → c ≤ b → LeastCut fit cost places c b (getD rests (at + c) 0)
 
 -- v is the least cost of the nonterminal k and any places behind it, whose costs are those given
-pub record AtNonterminal (least : List ℕ) (k a b last : ℕ) (rests : List ℕ) (at v : ℕ) : Type 0 where
-  pub exact : (fit : Fit) (cost : Cost) (places : List Symbol) → Behind fit cost k places a b least last rests at
+pub record AtNonterminal (tables : List ℕ) (k a b last : ℕ) (rests : List ℕ) (at v : ℕ) : Type 0 where
+  pub exact : (fit : Fit) (cost : Cost) (places : List Symbol) → Behind fit cost k places a b tables last rests at
       → LeastCut fit cost (nonterminal k ∷ places) a b v
 
 -- v is the least cost over the ends before c
-pub record EndsBefore (least : List ℕ) (k a b last : ℕ) (rests : List ℕ) (at c v : ℕ) : Type 0 where
-  pub lowest : (fit : Fit) (cost : Cost) (places : List Symbol) → Behind fit cost k places a b least last rests at
+pub record EndsBefore (tables : List ℕ) (k a b last : ℕ) (rests : List ℕ) (at c v : ℕ) : Type 0 where
+  pub lowest : (fit : Fit) (cost : Cost) (places : List Symbol) → Behind fit cost k places a b tables last rests at
       → Lowest (Seen None (First fit cost k places a b) a c) v
 
 -- v is the least cost of a terminal, of which `fits` says whether it fits the byte at a, and any places behind it, whose cost is given

@@ -4,18 +4,18 @@ use Prim.Native.Nat.{_+_, _≤_}
 use mathlib.Core.Path.{_≡_}
 use borrow.Author.Needs.{needs}
 use lib.ListN.{length, length-set}
 use Rattle.tables.specs.Layout.{rowsSize}
-use Rattle.tables.specs.Within.{ColumnFrom}
-use Rattle.tables.proofs.Starts.{column-start, column-back, column-end}
-use Rattle.tables.proofs.column.put_column.Statement.{statement}
-use Rattle.tables.proofs.column.put_column.Tie as tie
+use Rattle.suffixes.specs.Within.{ColumnFrom}
+use Rattle.suffixes.proofs.Starts.{column-start, column-back, column-end}
+use Rattle.suffixes.proofs.column.put_column.Statement.{statement}
+use Rattle.suffixes.proofs.column.put_column.Tie as tie
 
 abbrev Inv-loop : tie.InvT-loop
-Inv-loop p r word least full i a j rows₀ at count q₀ rows q =
-    (q ≤ count) × (length rows ≡ length rows₀) × (at + rowsSize ≤ length rows) × ColumnFrom p r word least full i a j at q rows₀ rows
+Inv-loop p r word tables full i a j rows₀ at count q₀ rows q =
+    (q ≤ count) × (length rows ≡ length rows₀) × (at + rowsSize ≤ length rows) × ColumnFrom p r word tables full i a j at q rows₀ rows
 
 abbrev μ-loop : tie.MeasureT-loop
-μ-loop p r word least full i a j rows₀ at count q₀ rows q = q
+μ-loop p r word tables full i a j rows₀ at count q₀ rows q = q
 
 loop-holds : tie.Need-loop-holds Inv-loop μ-loop
 loop-holds c = search (needs, column-start)

@@ -1,13 +1,13 @@
 // The least costs of the places of a rule from one start on, for all its places: row q of 65 numbers has those of the places q.. .
-use super::layout::Full;
-use super::layout::Least;
 use super::suffix::at_end;
 use super::within::suffix_at;
 use packed::Packed;
+use tables::layout::Full;
+use tables::layout::Tables;
 ghost use Prim.Native.Nat.{_+_, _<_, _≤_};
 ghost use lib.ListN.{length};
 ghost use Rattle.tables.specs.Layout.{rowsSize};
-ghost use Rattle.tables.specs.Within.{ColumnPut};
+ghost use Rattle.suffixes.specs.Within.{ColumnPut};
 
 // Writes the costs from a to j inside i to j into the rows that begin at `at`, those of the later starts being written. The word tells
 // which places of rule r hold a terminal that fits the byte at a.
@@ -15,7 +15,7 @@ pub fn put_column(
     p: &Packed,
     r: usize,
     word: u32,
-    least: &Least,
+    tables: &Tables,
     full: &Full,
     i: usize,
     a: usize,
@@ -25,7 +25,7 @@ pub fn put_column(
 )
     requires { ⌜ (r < 128) × (i ≤ a) × (a ≤ j) × (j < 65) × (at + rowsSize ≤ length (now rows)) ⌝ }
     ensures { λ _.
-        ⌜ ColumnPut (now (p .entry)) r word (now (least .entry)) (now (full .entry)) i a j at
+        ⌜ ColumnPut (now (p .entry)) r word (now (tables .entry)) (now (full .entry)) i a j at
         (now (rows .entry)) (now (rows .exit)) ⌝ }
 {
     let count = packed::count(p, r);
@@ -38,7 +38,7 @@ pub fn put_column(
             r,
             q,
             packed::contains(word, q),
-            least,
+            tables,
             full,
             i,
             a,

@@ -1,9 +1,9 @@
 -- `tables::within::suffix_at` meets its contract.
 -- Assumes nothing.
 use borrow.Author.Needs.{needs}
-use Rattle.tables.proofs.Inner.{suffix-nonterminal, suffix-terminal}
-use Rattle.tables.proofs.within.suffix_at.Statement.{statement}
-use Rattle.tables.proofs.within.suffix_at.Tie as tie
+use Rattle.suffixes.proofs.Inner.{suffix-nonterminal, suffix-terminal}
+use Rattle.suffixes.proofs.within.suffix_at.Statement.{statement}
+use Rattle.suffixes.proofs.within.suffix_at.Tie as tie
 
 pub suffix-at-spec : {M : Type 1} → statement M
 suffix-at-spec =

@@ -1,9 +1,9 @@
 -- `tables::within::last_cost` meets its contract.
 -- Assumes nothing.
 use borrow.Author.Needs.{needs}
-use Rattle.tables.proofs.Inner.{last-whole, last-part}
-use Rattle.tables.proofs.within.last_cost.Statement.{statement}
-use Rattle.tables.proofs.within.last_cost.Tie as tie
+use Rattle.suffixes.proofs.Inner.{last-whole, last-part}
+use Rattle.suffixes.proofs.within.last_cost.Statement.{statement}
+use Rattle.suffixes.proofs.within.last_cost.Tie as tie
 
 pub last-cost-spec : {M : Type 1} → statement M
 last-cost-spec =

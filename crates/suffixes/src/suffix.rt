@@ -1,18 +1,18 @@
 // The least cost of the places of a rule from one place on, over a span: at a nonterminal, at a terminal, at the end of the row. The costs
 // of the places behind it stand in `rests` from `at` on, one for each start.
-use super::layout::Least;
-use super::layout::cost;
-use super::least::TOO_MANY;
-use super::least::capped;
-use super::least::lower;
+use tables::layout::Tables;
+use tables::layout::cost;
+use tables::least::TOO_MANY;
+use tables::least::capped;
+use tables::least::lower;
 ghost use Prim.Native.Nat.{_+_, _<_, _≤_};
 ghost use lib.ListN.{length};
-ghost use Rattle.tables.specs.Suffix.{AtNonterminal, AtTerminal, AtEnd};
+ghost use Rattle.suffixes.specs.Suffix.{AtNonterminal, AtTerminal, AtEnd};
 
 // At the nonterminal k, from a to b: the least over its ends c of its own cost and that of the places behind it. `last` is its cost up to
 // b, which is not the table's where that span is the whole.
 pub fn over_ends(
-    least: &Least,
+    tables: &Tables,
     k: usize,
     a: usize,
     b: usize,
@@ -21,12 +21,12 @@ pub fn over_ends(
     at: usize,
 ) -> u16
     requires { ⌜ (a ≤ b) × (b < 65) × (at + 65 ≤ length (now rests)) ⌝ }
-    ensures { λ v. ⌜ AtNonterminal (now (least .entry)) k a b last (now (rests .entry)) at v ⌝ }
+    ensures { λ v. ⌜ AtNonterminal (now (tables .entry)) k a b last (now (rests .entry)) at v ⌝ }
 {
     let mut best = TOO_MANY;
     let mut c = a;
     while c < b {
-        best = lower(best, capped(cost(least, k, a, c), rests[at + c]));
+        best = lower(best, capped(cost(tables, k, a, c), rests[at + c]));
         c += 1;
     }
     lower(best, capped(last, rests[at + b]))

@@ -3,17 +3,17 @@
 use Prim.Native.Nat.{_-_, _≤_}
 use borrow.Author.Needs.{needs}
 use Rattle.sizes.specs.Sizes.{tooMany}
-use Rattle.tables.specs.Suffix.{EndsBefore}
-use Rattle.tables.proofs.Ends.{ends-start, ends-step, ends-last}
-use Rattle.tables.proofs.suffix.over_ends.Statement.{statement}
-use Rattle.tables.proofs.suffix.over_ends.Tie as tie
+use Rattle.suffixes.specs.Suffix.{EndsBefore}
+use Rattle.suffixes.proofs.Ends.{ends-start, ends-step, ends-last}
+use Rattle.suffixes.proofs.suffix.over_ends.Statement.{statement}
+use Rattle.suffixes.proofs.suffix.over_ends.Tie as tie
 
 abbrev Inv-loop : tie.InvT-loop
-Inv-loop least k a b last rests at best₀ c₀ best c =
-    (a ≤ c) × (c ≤ b) × (best ≤ tooMany) × EndsBefore least k a b last rests at c best
+Inv-loop tables k a b last rests at best₀ c₀ best c =
+    (a ≤ c) × (c ≤ b) × (best ≤ tooMany) × EndsBefore tables k a b last rests at c best
 
 abbrev μ-loop : tie.MeasureT-loop
-μ-loop least k a b last rests at best₀ c₀ best c = b - c
+μ-loop tables k a b last rests at best₀ c₀ best c = b - c
 
 loop-again : tie.Need-loop-again Inv-loop μ-loop
 loop-again c = search (needs, ends-step)

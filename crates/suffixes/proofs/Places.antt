@@ -9,7 +9,7 @@ use native.Mathlib.Omega.{arith}
 use lib.ListN.{getD}
 use Rattle.sizes.specs.Sizes.{tooMany}
 use Rattle.costs.proofs.Cut.{leastcut-end, leastcut-end-short, leastcut-leaf, leastcut-misfit, leastcut-no-byte}
-use Rattle.tables.specs.Suffix.{AtTerminal, AtEnd}
+use Rattle.suffixes.specs.Suffix.{AtTerminal, AtEnd}
 
 module _ (fits : Bool) (a b : ℕ) (rests : List ℕ) (at : ℕ) where
   pub terminal-fits : a < b → fits ≡ true → AtTerminal fits a b rests at (getD rests (at + (a + 1)) 0)

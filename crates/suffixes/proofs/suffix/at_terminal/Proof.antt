@@ -1,9 +1,9 @@
 -- `tables::suffix::at_terminal` meets its contract.
 -- Assumes nothing.
 use borrow.Author.Needs.{needs}
-use Rattle.tables.proofs.Places.{terminal-fits, terminal-misfit, terminal-no-byte}
-use Rattle.tables.proofs.suffix.at_terminal.Statement.{statement}
-use Rattle.tables.proofs.suffix.at_terminal.Tie as tie
+use Rattle.suffixes.proofs.Places.{terminal-fits, terminal-misfit, terminal-no-byte}
+use Rattle.suffixes.proofs.suffix.at_terminal.Statement.{statement}
+use Rattle.suffixes.proofs.suffix.at_terminal.Tie as tie
 
 pub at-terminal-spec : {M : Type 1} → statement M
 at-terminal-spec =

@@ -1,9 +1,9 @@
 -- `tables::within::nonterminal_at` meets its contract.
 -- Assumes nothing.
 use borrow.Author.Needs.{needs}
-use Rattle.tables.proofs.Inner.{nonterminal-inside}
-use Rattle.tables.proofs.within.nonterminal_at.Statement.{statement}
-use Rattle.tables.proofs.within.nonterminal_at.Tie as tie
+use Rattle.suffixes.proofs.Inner.{nonterminal-inside}
+use Rattle.suffixes.proofs.within.nonterminal_at.Statement.{statement}
+use Rattle.suffixes.proofs.within.nonterminal_at.Tie as tie
 
 pub nonterminal-at-spec : {M : Type 1} → statement M
 nonterminal-at-spec =

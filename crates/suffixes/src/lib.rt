@@ -1,0 +1,4 @@
+// The least costs of the places of a rule, from each place on and from each start.
+pub mod column;
+pub mod suffix;
+pub mod within;

@@ -1,0 +1,56 @@
+-- When the tables are right, for a packed grammar and the bytes that may stand at the positions before n. Nothing here reads an input: the
+-- fit table and the chart stand for it.
+-- Assumes nothing.
+use Prim.Native.Nat.{ℕ, _≤_, _<_}
+use mathlib.Core.Bool.{false}
+use mathlib.Core.List.{List}
+use mathlib.Core.Path.{_≡_}
+use lib.ListN.{length}
+use Rattle.sizes.specs.Sizes.{maxRules, nonterminals}
+use Rattle.sets.specs.Set.{has}
+use Rattle.cfg.specs.Grammar.{Cfg}
+use Rattle.cfg.specs.Tree.{Forest}
+use Rattle.chart.specs.Cell.{cell}
+use Rattle.packed.specs.Packed.{leftIn, countIn, isNonterminalIn, terminalIn, placesIn, cfgIn}
+use Rattle.fit.specs.Fit.{entryIn}
+use Rattle.costs.specs.Cut.{Fit, Cost}
+use Rattle.costs.specs.Lowest.{Lowest}
+use Rattle.costs.specs.Span.{Tree, Least}
+use Rattle.costs.specs.Rule.{BareCost}
+use Rattle.tables.specs.Layout.{costIn, bareIn, tablesSize}
+use Rattle.tables.specs.Rule.{Alones}
+
+-- the grammar of the packed bytes; its start does not matter below the root
+abbrev pub Packing : List ℕ → Cfg
+Packing p = cfgIn 0 p
+
+-- no number from m on has a rule
+abbrev pub PastLast : List ℕ → ℕ → Type 0
+PastLast p m = (r : ℕ) → m ≤ r → r < maxRules → nonterminals ≤ leftIn p r
+
+-- the fit table tells for each terminal of a rule whether it fits each position before n
+abbrev pub FitTold : Fit → List ℕ → List ℕ → ℕ → Type 0
+FitTold fit p fits n = (a r q : ℕ) → a < n → r < maxRules → q < countIn p r → isNonterminalIn p r q ≡ false
+    → has q (entryIn fits a r) ≡ fit a (terminalIn p r q)
+
+-- a nonterminal that is not in the set has no tree over the span from i to j
+abbrev pub CellTrue : List ℕ → (ℕ → ℕ → Type 0) → ℕ → ℕ → ℕ → Type 0
+CellTrue p bytes i j set = (k : ℕ) → has k set ≡ false → (t : Forest) → Tree (Packing p) bytes k i j t → ⊥
+
+-- the same for each cell of the chart up to n
+abbrev pub ChartTrue : List ℕ → (ℕ → ℕ → Type 0) → List ℕ → ℕ → Type 0
+ChartTrue p bytes chart n = (i j : ℕ) → i ≤ j → j ≤ n → CellTrue p bytes i j (cell chart i j)
+
+-- what the cost of a rule over the span from i to j, which is not empty, is made of: `least` has the costs over the spans inside
+pub record Ready (fit : Fit) (least : Cost) (p tables : List ℕ) (i j : ℕ) : Type 0 where
+  pub empty : ℕ → ℕ
+  pub start : (k : ℕ) → least k i i ≡ empty k
+  pub stop : (k : ℕ) → least k j j ≡ empty k
+  pub beside : (r : ℕ) → r < maxRules → Alones empty p r tables
+  pub without : (r : ℕ) → r < maxRules → Lowest (BareCost fit least (placesIn p r) i j) (bareIn tables i j r)
+
+-- the tables are right for every span up to n
+pub record Exact (fit : Fit) (bytes : ℕ → ℕ → Type 0) (p : List ℕ) (n : ℕ) (tables : List ℕ) : Type 0 where
+  pub long : length tables ≡ tablesSize
+  pub least : (k i j : ℕ) → i ≤ j → j ≤ n → Least (Tree (Packing p) bytes k i j) (costIn tables k i j)
+  pub ready : (i j : ℕ) → i < j → j ≤ n → Ready fit (costIn tables) p tables i j
