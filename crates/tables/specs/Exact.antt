@@ -41,13 +41,14 @@ CellTrue p bytes i j set = (k : ℕ) → has k set ≡ false → (t : Forest) �
 abbrev pub ChartTrue : List ℕ → (ℕ → ℕ → Type 0) → List ℕ → ℕ → Type 0
 ChartTrue p bytes chart n = (i j : ℕ) → i ≤ j → j ≤ n → CellTrue p bytes i j (cell chart i j)
 
--- what the cost of a rule over the span from i to j, which is not empty, is made of: `least` has the costs over the spans inside
+-- what the cost of a rule over the span from i to j, which is not empty, is made of: `least` has the costs over the spans inside. Of a
+-- number that has no rule nothing is said
 pub record Ready (fit : Fit) (least : Cost) (p tables : List ℕ) (i j : ℕ) : Type 0 where
   pub empty : ℕ → ℕ
   pub start : (k : ℕ) → least k i i ≡ empty k
   pub stop : (k : ℕ) → least k j j ≡ empty k
   pub beside : (r : ℕ) → r < maxRules → Alones empty p r tables
-  pub without : (r : ℕ) → r < maxRules → Lowest (BareCost fit least (placesIn p r) i j) (bareIn tables i j r)
+  pub without : (r : ℕ) → r < maxRules → leftIn p r < nonterminals → Lowest (BareCost fit least (placesIn p r) i j) (bareIn tables i j r)
 
 -- the tables are right for every span up to n
 pub record Exact (fit : Fit) (bytes : ℕ → ℕ → Type 0) (p : List ℕ) (n : ℕ) (tables : List ℕ) : Type 0 where
