@@ -1,0 +1,3 @@
+-- From least numbers of nodes to first codes. What the code cites: Node, Row, Root.
+pub mod Ties
+pub mod Node
