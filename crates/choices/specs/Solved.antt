@@ -6,7 +6,7 @@ use mathlib.Core.List.{List}
 use lib.ListN.{length}
 use Rattle.cfg.specs.Grammar.{Cfg, Symbol, Terminal, Of}
 use Rattle.costs.specs.Lowest.{Lowest}
-use Rattle.costs.specs.Cut.{LeastCut, within}
+use Rattle.costs.specs.Cut.{LeastCut}
 use Rattle.costs.specs.Span.{bytesOf, Tells, Inside, Full}
 use Rattle.costs.specs.Rule.{NodeCost}
 
@@ -20,8 +20,8 @@ pub record Solved (G : Cfg) (w : List ℕ) (fit : ℕ → Terminal → Bool) (M 
   pub exact : Full G (bytesOf w) M i j full
 
 -- `rest` has the least costs of the places from each start from a to j on
-abbrev pub Rests : (ℕ → Terminal → Bool) → ℕ → ℕ → (ℕ → ℕ) → (ℕ → ℕ → ℕ → ℕ) → List Symbol → ℕ → (ℕ → ℕ) → Type 0
-Rests fit i j full least places a rest = (c : ℕ) → a ≤ c → c ≤ j → LeastCut fit (within i j full least) places c j (rest c)
+abbrev pub Rests : (ℕ → Terminal → Bool) → (ℕ → ℕ → ℕ → ℕ) → List Symbol → ℕ → ℕ → (ℕ → ℕ) → Type 0
+Rests fit cost places a j rest = (c : ℕ) → a ≤ c → c ≤ j → LeastCut fit cost places c j (rest c)
 
 -- each rule of k before r costs more than the budget
 abbrev pub Dearer : Cfg → (ℕ → Terminal → Bool) → ℕ → ℕ → (ℕ → ℕ) → (ℕ → ℕ → ℕ → ℕ) → ℕ → ℕ → ℕ → Type 0
