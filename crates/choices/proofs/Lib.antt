@@ -2,3 +2,4 @@
 pub mod Ties
 pub mod Node
 pub mod Row
+pub mod Root
