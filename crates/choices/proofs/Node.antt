@@ -22,7 +22,7 @@ use Rattle.costs.proofs.Nodes.{tree-node, plain-under, rule-reaches}
 use Rattle.enumeration.specs.Rows.{Row, Tree, Below}
 use Rattle.enumeration.specs.Order.{None, Min}
 use Rattle.enumeration.proofs.First.{node-first}
-use Rattle.choices.specs.Solved.{Solved, Dearer}
+use Rattle.choices.specs.SpanCosts.{SpanCosts, Dearer}
 use Rattle.choices.proofs.Ties.{row→plain}
 
 -- ---- from the cost of a rule to that of its places
@@ -58,7 +58,7 @@ module _ {G : Cfg} {bytes : ℕ → ℕ → Type 0} {M k i j x budget : ℕ} (X 
       omega arith
 
 module _ {G : Cfg} {w : List ℕ} {fit : ℕ → Terminal → Bool} (M : ℕ) {k i j : ℕ} {full : ℕ → ℕ} {least : ℕ → ℕ → ℕ → ℕ}
-    (S : Solved G w fit (insert k M) i j full least) where
+    (S : SpanCosts G w fit (insert k M) i j full least) where
   -- some rule costs no more than the budget
   pub rule-exists : {x budget : ℕ} → Least (FreeTree G (bytesOf w) M (j - i) k i j) x → x ≤ budget → budget < tooMany
       → (r : ℕ) × (o : Of G r k) × ((v : ℕ) → Lowest (NodeCost fit full least (o .the .places) i j) v → v ≤ budget)

@@ -9,7 +9,7 @@ use lib.ListN.{length}
 use Rattle.sizes.specs.Sizes.{tooMany}
 use Rattle.sets.specs.Set.{empty}
 use Rattle.cfg.specs.Grammar.{Cfg, Symbol}
-use Rattle.cfg.specs.Tree.{Forest}
+use Rattle.cfg.specs.Tree.{Forest, nodes}
 use Rattle.cfg.specs.Derivation.{limit}
 use Rattle.cfg.specs.Listing.{L}
 use Rattle.chart.proofs.SameRules.{SameRules, same-sym}
@@ -62,20 +62,29 @@ module _ (G G' : Cfg) (same : SameRules G G') where
   -- ---- the list L
 
   module _ (w : List ℕ) {k : ℕ} (start : k ≡ G' .start) where
-    pub root-begins : {e : List ℕ} → Min (Tree G w (length w) empty k 0 (length w) limit) e → (m : List (List ℕ)) × (L G' w ≡ e ∷ m)
-    root-begins {e} m =
-        root-first G' w (subst (λ (x : ℕ). Min (Tree G' w (length w) empty x 0 (length w) limit) e) start (first-same-rules m))
+    pub root-begins : {c n : ℕ} {e : List ℕ} → c ≡ length w → n ≡ length w → Min (Tree G w c empty k 0 n limit) e
+        → (m : List (List ℕ)) × (L G' w ≡ e ∷ m)
+    root-begins {c} {n} {e} p q m =
+        root-first G' w (first-same-rules
+        (subst (λ (x : ℕ). Min (Tree G w (length w) empty x 0 (length w) limit) e) start
+        (subst (λ (x : ℕ). Min (Tree G w (length w) empty k 0 x limit) e) q
+        (subst (λ (x : ℕ). Min (Tree G w x empty k 0 n limit) e) p m))))
 
     -- a derivation is a tree of G
-    root-tree : (t : Forest) → Root G' limit w t → Tree G w (length w) empty k 0 (length w) limit t
-    root-tree t r =
-        row-same G' G (same-sym G G' same) (subst (λ (x : ℕ). Tree G' w (length w) empty x 0 (length w) limit t) (sym start) r)
+    root-tree : {n : ℕ} (t : Forest) → n ≡ length w → Root G' limit w t → SpanTree G (bytesOf w) k 0 n t × (nodes t ≤ limit)
+    root-tree {n} t q r =
+        let s : Tree G w (length w) empty (G' .start) 0 (length w) limit t = row-same G' G (same-sym G G' same) r in
+        let (((T, _), _), l) = row→plain (omega arith) (omega arith) s in (
+          subst (λ (x : ℕ). SpanTree G (bytesOf w) k 0 x t) (sym q)
+              (subst (λ (x : ℕ). SpanTree G (bytesOf w) x 0 (length w) t) (sym start) T),
+          l,
+        )
 
-    pub root-barren : ((t : Forest) → SpanTree G (bytesOf w) k 0 (length w) t → ⊥) → L G' w ≡ []
-    root-barren n = root-none G' w (λ t r. n t (row→plain (omega arith) (omega arith) (root-tree t r) .0 .0 .0))
+    pub root-barren : {n : ℕ} → n ≡ length w → ((t : Forest) → SpanTree G (bytesOf w) k 0 n t → ⊥) → L G' w ≡ []
+    root-barren q f = root-none G' w (λ t r. f t (root-tree t q r .0))
 
-    pub root-exceeds : {v : ℕ} → Least (SpanTree G (bytesOf w) k 0 (length w)) v → tooMany ≤ v → L G' w ≡ []
-    root-exceeds X l = root-none G' w (λ t r.
-        let (((T, _), _), s) = row→plain (omega arith) (omega arith) (root-tree t r) in
+    pub root-exceeds : {n v : ℕ} → n ≡ length w → Least (SpanTree G (bytesOf w) k 0 n) v → tooMany ≤ v → L G' w ≡ []
+    root-exceeds q X l = root-none G' w (λ t r.
+        let (T, s) = root-tree t q r in
         let h = least-below X t T in
         omega arith)

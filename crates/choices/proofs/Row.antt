@@ -4,12 +4,14 @@
 use Prim.Native.Nat.{ℕ, suc, _+_, _-_, _*_, _≤_, _<_}
 use mathlib.Core.Bool.{Bool, true}
 use mathlib.Core.List.{List, [], _∷_, _++_}
-use mathlib.Core.Path.{_≡_, sym, subst}
+use mathlib.Core.Path.{_≡_, sym, ap, subst}
 use native.Mathlib.Omega.{arith}
 use lib.ListN.{length}
 use Rattle.sizes.specs.Sizes.{tooMany}
 use Rattle.sets.specs.Set.{empty}
 use Rattle.cfg.specs.Grammar.{Cfg, Symbol, nonterminal, terminal, Terminal, fits}
+use Rattle.cfg.specs.Tree.{code}
+use Rattle.listing.proofs.Unique.{length-code}
 use Rattle.costs.specs.Cut.{Cut, cut-end, cut-leaf, cut-node, LeastCut, within}
 use Rattle.costs.specs.Span.{bytesOf, FreeTree, Least}
 use Rattle.costs.proofs.Within.{within-cases}
@@ -18,7 +20,7 @@ use Rattle.enumeration.specs.Rows.{Row, Tree, Skipped, Share, SameSpan}
 use Rattle.enumeration.specs.Order.{AtLeast, Min}
 use Rattle.enumeration.proofs.Budgets.{least-skipped, least-share}
 use Rattle.enumeration.proofs.First.{own-first, end-first, leaf-first, row-first}
-use Rattle.choices.specs.Solved.{Solved, Rests}
+use Rattle.choices.specs.SpanCosts.{SpanCosts, Rests}
 use Rattle.choices.proofs.Ties.{suffix-atleast, piece-atleast}
 
 -- ---- what a least cost within the budget says of the first place
@@ -30,19 +32,19 @@ module _ {fit : ℕ → Terminal → Bool} {cost : ℕ → ℕ → ℕ → ℕ} 
       go : {u : ℕ} → Cut fit cost j [] a u → a ≡ j
       go (cut-end e) = e
 
-  module _ {t : Terminal} {places : List Symbol} (L : LeastCut fit cost (terminal t ∷ places) a j v) (l : v ≤ budget) (m : budget < tooMany)
-    where
-      pub terminal-fits : (a < j) × (fit a t ≡ true)
-      terminal-fits = go (L .reached (omega arith))
-        where
-          go : {u : ℕ} → Cut fit cost j (terminal t ∷ places) a u → (a < j) × (fit a t ≡ true)
-          go (cut-leaf h q c) = (h, q)
+  module _ {t : Terminal} {places : List Symbol} (L : LeastCut fit cost (terminal t ∷ places) a j v) (l : v ≤ budget)
+      (m : budget < tooMany) where
+    pub terminal-fits : (a < j) × (fit a t ≡ true)
+    terminal-fits = go (L .reached (omega arith))
+      where
+        go : {u : ℕ} → Cut fit cost j (terminal t ∷ places) a u → (a < j) × (fit a t ≡ true)
+        go (cut-leaf h q c) = (h, q)
 
-      pub terminal-rest : {u : ℕ} → LeastCut fit cost places (suc a) j u → u ≤ budget
-      terminal-rest {u} R = let h = go (L .reached (omega arith)) in omega arith
-        where
-          go : {x : ℕ} → Cut fit cost j (terminal t ∷ places) a x → u ≤ x
-          go (cut-leaf h q c) = R .below _ c
+    pub terminal-rest : {c u : ℕ} → c ≡ suc a → LeastCut fit cost places c j u → u ≤ budget
+    terminal-rest {c} {u} e R = let h = go (L .reached (omega arith)) in omega arith
+      where
+        go : {x : ℕ} → Cut fit cost j (terminal t ∷ places) a x → u ≤ x
+        go {x} (cut-leaf h q d) = R .below x (subst (λ (y : ℕ). Cut fit cost j places y x) (sym e) d)
 
   -- some end is within the budget
   pub end-exists : {k : ℕ} {places : List Symbol} {rest : ℕ → ℕ} → Rests fit cost places a j rest
@@ -54,18 +56,26 @@ module _ {fit : ℕ → Terminal → Bool} {cost : ℕ → ℕ → ℕ → ℕ} 
           → (c : ℕ) × (a ≤ c) × (c ≤ j) × (cost k a c + rest c ≤ budget)
       go h (cut-node {v = later} c x y d e) = (c, x, y, let b = R c x y .below later d in omega arith)
 
+-- the first row has no more nodes than the budget
+pub first-within : {G : Cfg} {w : List ℕ} {cover set a b budget : ℕ} {places : List Symbol} {e : List ℕ} (n : ℕ)
+    → Min (Row G w cover set places a b budget) e → length e ≡ 2 * n → n ≤ budget
+first-within {e = e} n m size =
+    let t = m .found .forest in
+    let d : length (code t) ≡ length e = ap length (m .found .coded) in
+    omega (arith, length-code t, m .found .member .small)
+
 module _ {G : Cfg} {w : List ℕ} {fit : ℕ → Terminal → Bool} {M i j : ℕ} {full : ℕ → ℕ} {least : ℕ → ℕ → ℕ → ℕ}
-    (S : Solved G w fit M i j full least) where
+    (S : SpanCosts G w fit M i j full least) where
   -- ---- no places, and a terminal
 
   pub end-step : {a : ℕ} (budget : ℕ) → a ≡ j → Min (Row G w (j - i) M [] a j budget) []
   end-step {a} budget e = end-first G w (j - i) M a j budget (S .known) e
 
-  pub leaf-step : {t : Terminal} {places : List Symbol} {a budget : ℕ} {e : List ℕ} → a < j → fit a t ≡ true
-      → Min (Row G w (j - i) M places (suc a) j budget) e → Min (Row G w (j - i) M (terminal t ∷ places) a j budget) e
-  leaf-step {t} {places} {a} {budget} {e} h q m =
+  pub leaf-step : {t : Terminal} {places : List Symbol} {a c budget : ℕ} {e : List ℕ} → c ≡ suc a → a < j → fit a t ≡ true
+      → Min (Row G w (j - i) M places c j budget) e → Min (Row G w (j - i) M (terminal t ∷ places) a j budget) e
+  leaf-step {t} {places} {a} {c} {budget} {e} n h q m =
       let (x, (_, d), f) = S .tells a t .0 q in
-      let s : suc a ≡ a + 1 = omega arith in
+      let s : c ≡ a + 1 = omega arith in
       leaf-first G w (j - i) M a j budget (S .known) places (omega arith) t h (subst (λ (y : ℕ). fits t y ≡ true) d f)
       (subst (λ (y : ℕ). Min (Row G w (j - i) M places y j budget) e) s m)
 

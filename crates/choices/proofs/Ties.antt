@@ -17,7 +17,7 @@ use Rattle.costs.proofs.Within.{within-cases}
 use Rattle.costs.proofs.Rows.{leastcut-least}
 use Rattle.enumeration.specs.Rows.{Row, Tree}
 use Rattle.enumeration.specs.Order.{AtLeast}
-use Rattle.choices.specs.Solved.{Solved}
+use Rattle.choices.specs.SpanCosts.{SpanCosts}
 
 module _ {G : Cfg} {w : List ℕ} {cover set : ℕ} {places : List Symbol} {a b budget : ℕ} {f : Forest} (known : b ≤ length w) where
   pub row→plain : a ≤ b → Row G w cover set places a b budget f → PlainRow G (bytesOf w) set cover places a b f × (nodes f ≤ budget)
@@ -34,7 +34,7 @@ module _ {G : Cfg} {w : List ℕ} {cover set : ℕ} {places : List Symbol} {a b 
       record { fit = R .fitted; covers = reads-slice w known (R .reads); plain = P; free = F .none; small = l }
 
 module _ {G : Cfg} {w : List ℕ} {fit : ℕ → Terminal → Bool} {M i j : ℕ} {full : ℕ → ℕ} {least : ℕ → ℕ → ℕ → ℕ}
-    (S : Solved G w fit M i j full least) where
+    (S : SpanCosts G w fit M i j full least) where
   -- the rows over a suffix of the span
   pub suffix-atleast : {places : List Symbol} {a v : ℕ} (budget : ℕ) → i ≤ a → a ≤ j → LeastCut fit (within i j full least) places a j v
       → AtLeast (Row G w (j - i) M places a j budget) v

@@ -1,2 +1,2 @@
 -- From least numbers of nodes to first codes: what is known over one span.
-pub mod Solved
+pub mod SpanCosts

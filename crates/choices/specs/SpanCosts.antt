@@ -12,7 +12,7 @@ use Rattle.costs.specs.Rule.{NodeCost}
 
 -- over the span from i to j of w, `full` has the least numbers of nodes where no nonterminal of M may stand over the whole span, and
 -- `least` those over every span inside
-pub record Solved (G : Cfg) (w : List ℕ) (fit : ℕ → Terminal → Bool) (M i j : ℕ) (full : ℕ → ℕ) (least : ℕ → ℕ → ℕ → ℕ) : Type 0 where
+pub record SpanCosts (G : Cfg) (w : List ℕ) (fit : ℕ → Terminal → Bool) (M i j : ℕ) (full : ℕ → ℕ) (least : ℕ → ℕ → ℕ → ℕ) : Type 0 where
   pub tells : Tells fit (bytesOf w)
   pub rising : i ≤ j
   pub known : j ≤ length w
