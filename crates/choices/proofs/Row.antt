@@ -1,5 +1,5 @@
--- At a place of a rule over the span from i to j: the first end whose cost is within the budget is the end of the first child, and what the
--- rest leaves of the budget is the child's.
+-- At a place of a rule over the span from i to j: the first end whose cost is within the budget is the end of the first child, and what
+-- the rest leaves of the budget is the child's.
 -- Assumes nothing.
 use Prim.Native.Nat.{ℕ, suc, _+_, _-_, _*_, _≤_, _<_}
 use mathlib.Core.Bool.{Bool, true}
@@ -126,4 +126,5 @@ module _ {G : Cfg} {w : List ℕ} {fit : ℕ → Terminal → Bool} {M i j : ℕ
 
       share : Share G w (j - i) M k places a j budget (b - a) (budget - rest b)
       share = least-share G w (j - i) M k places a j budget (b - a) (rest b)
-          (subst (λ (y : ℕ). AtLeast (Row G w (j - i) M places y j budget) (rest b)) at (suffix-atleast S budget (omega arith) m (R b l m)))
+          (subst (λ (y : ℕ). AtLeast (Row G w (j - i) M places y j budget) (rest b)) at
+          (suffix-atleast S budget (omega arith) m (R b l m)))
