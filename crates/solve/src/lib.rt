@@ -6,9 +6,8 @@ use tables::layout::Full;
 use tables::layout::Tables;
 use tables::least::TOO_MANY;
 use tables::rule::rule_cost;
-ghost use mathlib.Core.Path.{_≡_};
 ghost use Prim.Native.Nat.{_<_, _≤_};
-ghost use Rattle.solve.specs.Solve.{RuleOver, Numbers, Improved, Passed, Solved};
+ghost use Rattle.solve.specs.Solve.{RuleOver, Wanted, Numbers, Improved, Passed, Solved};
 
 // The cost of rule r over the span from i to j, the node included: over no byte that of its places together, else by the table of costs
 // without a child over the whole span and through its places.
@@ -23,8 +22,9 @@ pub fn rule_over(p: &Packed, r: usize, full: &Full, tables: &Tables, i: usize, j
     }
 }
 
-// Whether the numbers of the nonterminal k are looked for: it is in the cell and not in the mask.
+// Whether the number of the nonterminal k is looked for: k is in the cell and not in the mask.
 fn wanted(k: usize, cell: u32, mask: u32) -> bool
+    ensures { λ b. ⌜ Wanted k cell mask b ⌝ }
 {
     if k < sizes::NONTERMINALS {
         if sets::has(cell, k) {
