@@ -41,8 +41,8 @@ module _ (full : List ℕ) (k v : ℕ) where
 
 -- ---- one rule
 
-module _ (p : List ℕ) (r cell mask : ℕ) (tables : List ℕ) (i j : ℕ) (full : List ℕ) {k : ℕ} {b : Bool} (N : Numbers full)
-    (e : k ≡ leftIn p r) (W : Wanted k cell mask b) where
+module _ (p : List ℕ) (r cell mask : ℕ) (tables : List ℕ) (i j : ℕ) (full : List ℕ) {k : ℕ} (N : Numbers full)
+    (e : k ≡ leftIn p r) where
   kept : Settled p r cell mask tables i j full → Improved p r cell mask tables i j full full false
   kept S = record {
     numbers = N;
@@ -52,19 +52,20 @@ module _ (p : List ℕ) (r cell mask : ℕ) (tables : List ℕ) (i j : ℕ) (ful
     settled = λ _. S;
   }
 
+  -- there is no such rule
+  pub improved-hole : 32 ≤ k → Improved p r cell mask tables i j full full false
+  improved-hole h = kept (λ fit least R l. absurd (omega arith))
+
   -- its left side is not looked for
-  pub improved-not : b ≡ false → Improved p r cell mask tables i j full full false
-  improved-not f = kept (λ fit least R h c m. absurd
-      (W .left f (omega arith) (ap (λ (x : ℕ). has x cell) e ∙ c) (ap (λ (x : ℕ). has x mask) e ∙ m)))
+  pub improved-not : {b : Bool} → Wanted k cell mask b → b ≡ false → Improved p r cell mask tables i j full full false
+  improved-not W f = kept (λ fit least R h c m. absurd
+      (W .left f (ap (λ (x : ℕ). has x cell) e ∙ c) (ap (λ (x : ℕ). has x mask) e ∙ m)))
 
-  module _ {v : ℕ} (t : b ≡ true) (O : RuleOver p r full tables i j v) where
-    pub wanted-below : k < 32
-    wanted-below = W .taken t .0
-
+  module _ {b : Bool} {v : ℕ} (below : k < 32) (W : Wanted k cell mask b) (t : b ≡ true) (O : RuleOver p r full tables i j v) where
     -- its cost is no lower
     pub improved-same : getD full k 0 ≤ v → Improved p r cell mask tables i j full full false
     improved-same l = kept (λ fit least R h c m.
-        let f : getD full k 0 ≡ fullIn full (leftIn p r) = full-read full k wanted-below ∙ ap (fullIn full) e in
+        let f : getD full k 0 ≡ fullIn full (leftIn p r) = full-read full k below ∙ ap (fullIn full) e in
         settled-by (O .exact h fit least R) (omega arith))
 
     module _ (h : r < 128) (l : v < getD full k 0) where
@@ -72,9 +73,9 @@ module _ (p : List ℕ) (r cell mask : ℕ) (tables : List ℕ) (i j : ℕ) (ful
       new-reached : AllReached p mask tables i j full → AllReached p mask tables i j (set full k v)
       new-reached A = record {
         at = λ fit least R.
-            full-each full k v (λ (x y : ℕ). y < tooMany → Reach fit least p mask i j x y) (N .long) wanted-below
-            (λ _. reach (fullIn full) h (sym e) wanted-below (W .taken t .2) (A .at fit least R)
-            (O .exact (omega (arith, wanted-below)) fit least R))
+            full-each full k v (λ (x y : ℕ). y < tooMany → Reach fit least p mask i j x y) (N .long) below
+            (λ _. reach (fullIn full) h (sym e) below (W .taken t .1) (A .at fit least R)
+            (O .exact (omega arith) fit least R))
             (A .at fit least R);
       }
 
@@ -83,11 +84,11 @@ module _ (p : List ℕ) (r cell mask : ℕ) (tables : List ℕ) (i j : ℕ) (ful
       improved-lower = record {
         numbers = record {
           long = length-set full k v ∙ N .long;
-          capped = full-each full k v (λ (x y : ℕ). y ≤ tooMany) (N .long) wanted-below
-              (omega (arith, full-read full k wanted-below, N .capped k)) (N .capped);
+          capped = full-each full k v (λ (x y : ℕ). y ≤ tooMany) (N .long) below
+              (omega (arith, full-read full k below, N .capped k)) (N .capped);
         };
         reached = new-reached;
-        less = λ _. total-less full k v (omega (arith, N .long, wanted-below)) l;
+        less = λ _. total-less full k v (omega (arith, N .long)) l;
         same = λ x. absurd (true≢false x);
         settled = λ x. absurd (true≢false x);
       }

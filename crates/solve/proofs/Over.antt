@@ -3,7 +3,7 @@
 use Prim.Native.Nat.{ℕ, suc, _≤_, _<_, min}
 use mathlib.Core.Bool.{Bool, true, false, not, true≢false}
 use mathlib.Core.List.{List}
-use mathlib.Core.Path.{_≡_, refl, sym, ap, subst, _∙_}
+use mathlib.Core.Path.{_≡_, sym, subst, _∙_}
 use native.Mathlib.Omega.{arith}
 use Rattle.sizes.specs.Sizes.{tooMany}
 use Rattle.sets.specs.Set.{has}
@@ -48,12 +48,9 @@ module _ (p : List ℕ) (r : ℕ) (full tables : List ℕ) (i j : ℕ) where
 -- ---- whether a number is looked for
 
 module _ (k cell mask : ℕ) where
-  pub wanted-masked : {b d : Bool} → k < 32 → b ≡ has k cell → b ≡ true → d ≡ has k mask → Wanted k cell mask (not d)
-  wanted-masked {d = true} h e t f = record { taken = λ x. absurd (true≢false (sym x)); left = λ _ _ _ x. true≢false (f ∙ x) }
-  wanted-masked {d = false} h e t f = record { taken = λ _. (h, sym e ∙ t, sym f); left = λ x _ _ _. true≢false x }
+  pub wanted-masked : {b d : Bool} → b ≡ has k cell → b ≡ true → d ≡ has k mask → Wanted k cell mask (not d)
+  wanted-masked {d = true} e t f = record { taken = λ x. absurd (true≢false (sym x)); left = λ _ _ x. true≢false (f ∙ x) }
+  wanted-masked {d = false} e t f = record { taken = λ _. (sym e ∙ t, sym f); left = λ x _ _. true≢false x }
 
   pub wanted-barren : {b : Bool} → b ≡ has k cell → b ≡ false → Wanted k cell mask false
-  wanted-barren e t = record { taken = λ x. absurd (true≢false (sym x)); left = λ _ _ x _. true≢false (sym x ∙ sym e ∙ t) }
-
-  pub wanted-none : 32 ≤ k → Wanted k cell mask false
-  wanted-none h = record { taken = λ x. absurd (true≢false (sym x)); left = λ _ x _ _. omega arith }
+  wanted-barren e t = record { taken = λ x. absurd (true≢false (sym x)); left = λ _ x _. true≢false (sym x ∙ sym e ∙ t) }

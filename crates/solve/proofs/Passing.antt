@@ -1,7 +1,7 @@
 -- A pass over the rules, and passes until one changes nothing.
 -- Assumes nothing.
 use Prim.Native.Nat.{ℕ, _+_, _≤_, _<_}
-use mathlib.Core.Bool.{Bool, true, false, true≢false}
+use mathlib.Core.Bool.{Bool, true, false, not, true≢false, Bool·not-not}
 use mathlib.Core.List.{List}
 use mathlib.Core.Path.{_≡_, refl, sym, ap, subst, _∙_}
 use native.Mathlib.Decide.{ℕ-discrete, decLt}
@@ -31,23 +31,23 @@ module _ (p : List ℕ) (cell mask : ℕ) (tables : List ℕ) (i j : ℕ) (full�
     fallen true e = let h = S .less e in omega arith
     fallen false e = omega (arith, ap total (S .same e))
 
-    pub passed-changed : b ≡ true → Passed p (m + 1) cell mask tables i j full₀ full' true
-    passed-changed e = record {
+    pub passed-changed : {x : Bool} → b ≡ true → x ≡ true → Passed p (m + 1) cell mask tables i j full₀ full' x
+    passed-changed e f = rw f (record {
       numbers = I .numbers;
       reached = λ A. I .reached (S .reached A);
       less = λ _. let h = I .less e in omega (arith, fallen changed refl);
       same = λ x. absurd (true≢false x);
       settled = λ x. absurd (true≢false x);
-    }
+    })
 
-    pub passed-kept : b ≡ false → Passed p (m + 1) cell mask tables i j full₀ full' changed
-    passed-kept e = record {
+    pub passed-kept : {x : Bool} → b ≡ false → x ≡ changed → Passed p (m + 1) cell mask tables i j full₀ full' x
+    passed-kept e f = rw f (record {
       numbers = I .numbers;
       reached = λ A. I .reached (S .reached A);
       less = λ x. let h = S .less x in omega (arith, ap total (I .same e));
       same = λ x. I .same e ∙ S .same x;
       settled = λ x r h. go x r h (ℕ-discrete r m);
-    }
+    })
       where
         go : changed ≡ false → (r : ℕ) → r < m + 1 → Dec (r ≡ m) → Settled p r cell mask tables i j full'
         go x r h (yes d) = subst (λ (y : ℕ). Settled p y cell mask tables i j full') (sym d) (I .settled e)
@@ -75,10 +75,13 @@ module _ (p : List ℕ) (mask : ℕ) (tables : List ℕ) (i j : ℕ) where
   pub reached-none : AllReached p mask tables i j (replicate 32 tooMany)
   reached-none = record { at = λ fit least R k h. absurd (omega (arith, full-none-yet k)) }
 
-  module _ {rules cell : ℕ} (full full' : List ℕ) {b : Bool} (A : AllReached p mask tables i j full)
-      (S : Passed p rules cell mask tables i j full full' b) where
-    pub reached-step : AllReached p mask tables i j full'
-    reached-step = S .reached A
+  module _ {rules cell : ℕ} (full full' : List ℕ) {b : Bool} (S : Passed p rules cell mask tables i j full full' b) where
+    pub reached-less : not b ≡ false → total full' < total full
+    reached-less e = S .less (sym (Bool·not-not b) ∙ ap not e)
 
-    pub solved-last : b ≡ false → Solved p rules cell mask tables i j full'
-    solved-last e = record { numbers = S .numbers; reached = reached-step; settled = S .settled e }
+    module _ (A : AllReached p mask tables i j full) where
+      pub reached-step : AllReached p mask tables i j full'
+      reached-step = S .reached A
+
+      pub solved-last : not b ≡ true → Solved p rules cell mask tables i j full'
+      solved-last e = record { numbers = S .numbers; reached = reached-step; settled = S .settled (sym (Bool·not-not b) ∙ ap not e) }

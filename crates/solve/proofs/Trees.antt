@@ -16,7 +16,7 @@ use Rattle.costs.specs.Rule.{NodeCost}
 use Rattle.costs.specs.Span.{Tells, Inside, Full}
 use Rattle.costs.specs.Solve.{SoundAt, Sound}
 use Rattle.costs.proofs.Solve.{rule-sound, rule-barren, solved}
-use Rattle.packed.specs.Packed.{leftIn, placesIn}
+use Rattle.packed.specs.Packed.{leftIn}
 use Rattle.packed.proofs.Laws.{of-in, in-of, in-of-places}
 use Rattle.tables.specs.Layout.{fullIn}
 use Rattle.tables.specs.Exact.{Packing, PastLast, CellTrue, Ready}

@@ -24,8 +24,8 @@ pub record RuleOver (p : List ℕ) (r : ℕ) (full tables : List ℕ) (i j v : �
 
 -- the answer b tells whether the number of k is looked for: k is in the cell and not in the mask
 pub record Wanted (k cell mask : ℕ) (b : Bool) : Type 0 where
-  pub taken : b ≡ true → (k < nonterminals) × (has k cell ≡ true) × (has k mask ≡ false)
-  pub left : b ≡ false → k < nonterminals → has k cell ≡ true → has k mask ≡ false → ⊥
+  pub taken : b ≡ true → (has k cell ≡ true) × (has k mask ≡ false)
+  pub left : b ≡ false → has k cell ≡ true → has k mask ≡ false → ⊥
 
 -- the sum of numbers
 unfoldable pub total : List ℕ → ℕ
@@ -73,8 +73,8 @@ pub record Improved (p : List ℕ) (r cell mask : ℕ) (tables : List ℕ) (i j 
   pub same : changed ≡ false → full ≡ full₀
   pub settled : changed ≡ false → Settled p r cell mask tables i j full
 
--- passes until one changes nothing: each number is reached, and no rule below `rules` gives a lower one. What that says of trees is the
--- law `solved-full`: `full` has the least numbers of nodes over the whole of i to j, where no nonterminal of `mask` may stand over the whole
+-- passes until one changes nothing: each number is reached, and no rule below `rules` gives a lower one. By the law `solved-full` these
+-- are the least numbers of nodes over the whole of i to j, where no nonterminal of `mask` may stand over the whole
 pub record Solved (p : List ℕ) (rules cell mask : ℕ) (tables : List ℕ) (i j : ℕ) (full : List ℕ) : Type 0 where
   pub numbers : Numbers full
   pub reached : AllReached p mask tables i j full

@@ -24,12 +24,11 @@ pub fn rule_over(p: &Packed, r: usize, full: &Full, tables: &Tables, i: usize, j
 
 // Whether the number of the nonterminal k is looked for: k is in the cell and not in the mask.
 fn wanted(k: usize, cell: u32, mask: u32) -> bool
+    requires { ⌜ k < 32 ⌝ }
     ensures { λ b. ⌜ Wanted k cell mask b ⌝ }
 {
-    if k < sizes::NONTERMINALS {
-        if sets::has(cell, k) {
-            return !sets::has(mask, k);
-        }
+    if sets::has(cell, k) {
+        return !sets::has(mask, k);
     }
     false
 }
@@ -50,11 +49,13 @@ fn improve(
         ⌜ Improved (now (p .entry)) r cell mask (now (tables .entry)) i j (now (full .entry)) (now (full .exit)) b ⌝ }
 {
     let k = packed::left(p, r);
-    if wanted(k, cell, mask) {
-        let v = rule_over(p, r, full, tables, i, j);
-        if v < full[k] {
-            full[k] = v;
-            return true;
+    if k < sizes::NONTERMINALS {
+        if wanted(k, cell, mask) {
+            let v = rule_over(p, r, full, tables, i, j);
+            if v < full[k] {
+                full[k] = v;
+                return true;
+            }
         }
     }
     false
