@@ -21,10 +21,12 @@ use Rattle.choices.proofs.Root.{row-same}
 
 -- ---- places in a list
 
+-- what stands behind x
 at-length : (x : List (List ℕ)) (d : List ℕ) (y : List (List ℕ)) → getD (x ++ d ∷ y) (length x) [] ≡ d
 at-length [] d y = refl
 at-length (a ∷ x) d y = at-length x d y
 
+-- and the next one
 behind-length : (x : List (List ℕ)) (d e : List ℕ) (y : List (List ℕ)) → getD (x ++ d ∷ e ∷ y) (suc (length x)) [] ≡ e
 behind-length [] d e y = refl
 behind-length (a ∷ x) d e y = behind-length x d e y
@@ -41,6 +43,7 @@ module _ (G G' : Cfg) (same : SameRules G G') (w : List ℕ) {k : ℕ} (start : 
       (subst (λ (x : ℕ). Tree G w (length w) empty k 0 x limit t) q
       (subst (λ (x : ℕ). Tree G w x empty k 0 n limit t) p r)))
 
+  -- and back
   root-down : (t : Forest) → Root G' limit w t → Tree G w c empty k 0 n limit t
   root-down t r =
       subst (λ (x : ℕ). Tree G w x empty k 0 n limit t) (sym p)

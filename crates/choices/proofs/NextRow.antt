@@ -33,6 +33,7 @@ next-within {e = e} n m size =
 
 -- ---- no places, and a terminal
 
+-- nothing is after no nodes
 pub end-ends : {G : Cfg} {w : List ℕ} {cover set a j budget : ℕ} {f : Forest} → j ≤ length w → a ≤ j
     → Row G w cover set [] a j budget f → Last (Row G w cover set [] a j budget) (code f)
 end-ends {G} {w} {cover} {set} {a} {j} {budget} known rising r =
@@ -43,6 +44,7 @@ module _ {G : Cfg} {w : List ℕ} {cover set : ℕ} {t : Terminal} {places : Lis
   at-next : c ≡ a + 1
   at-next = let e = o .next in omega arith
 
+  -- the row behind the leaf moves
   pub leaf-moves : {e : List ℕ} → After (Row G w cover set places c j budget) (code g) e
       → After (Row G w cover set (terminal t ∷ places) a j budget) (code f) e
   leaf-moves {e} m =
@@ -51,6 +53,7 @@ module _ {G : Cfg} {w : List ℕ} {cover set : ℕ} {t : Terminal} {places : Lis
       (subst (λ (d : List ℕ). After (Row G w cover set places (a + 1) j budget) d e) (o .coded)
       (subst (λ (y : ℕ). After (Row G w cover set places y j budget) (code g) e) at-next m))
 
+  -- the row behind the leaf is last
   pub leaf-ends : Last (Row G w cover set places c j budget) (code g)
       → Last (Row G w cover set (terminal t ∷ places) a j budget) (code f)
   leaf-ends m =
@@ -59,7 +62,7 @@ module _ {G : Cfg} {w : List ℕ} {cover set : ℕ} {t : Terminal} {places : Lis
       (subst (λ (d : List ℕ). Last (Row G w cover set places (a + 1) j budget) d) (o .coded)
       (subst (λ (y : ℕ). Last (Row G w cover set places y j budget) (code g)) at-next m))
 
--- ---- the rest moves: the budget itself is what the child may have
+-- ---- a nonterminal, before the costs are known: the budget itself is what the child may have
 
 module _ {G : Cfg} {w : List ℕ} {cover set k : ℕ} {places : List Symbol} {a j budget b n : ℕ} {f x y : Forest} (known : j ≤ length w)
     (o : OpenedRow G w cover set k places a j budget f b x y) (count : n ≡ nodes x) where
@@ -73,17 +76,21 @@ module _ {G : Cfg} {w : List ℕ} {cover set k : ℕ} {places : List Symbol} {a 
     coded = refl;
   }
 
+  -- the rest stands within what the child leaves
+  pub rest-stands : Row G w cover set places b j (budget - n) y
+  rest-stands = row-budget G w (o .others) (omega (arith, o .others .small))
+
   others-coded : Coded (Row G w cover set places (a + (b - a)) j (budget - n)) (code y)
   others-coded = record {
     forest = y;
-    member = subst (λ (z : ℕ). Row G w cover set places z j (budget - n) y) at-end
-        (row-budget G w (o .others) (omega (arith, o .others .small)));
+    member = subst (λ (z : ℕ). Row G w cover set places z j (budget - n) y) at-end rest-stands;
     coded = refl;
   }
 
   child-size : length (code x) ≡ 2 * n
   child-size = omega (arith, length-code x)
 
+  -- the rest moves
   pub rest-moves : {e : List ℕ} → After (Row G w cover set places b j (budget - n)) (code y) e
       → After (Row G w cover set (nonterminal k ∷ places) a j budget) (code f) (code x ++ e)
   rest-moves {e} m =
@@ -97,7 +104,7 @@ module _ {G : Cfg} {w : List ℕ} {cover set k : ℕ} {places : List Symbol} {a 
       share : Share G w cover set k places a j budget (b - a) budget
       share = record { within = omega arith; enough = λ u v p q. p .small }
 
--- ---- the costs are known
+-- ---- a nonterminal, where the costs are known
 
 module _ {G : Cfg} {w : List ℕ} {fit : ℕ → Terminal → Bool} {M i j : ℕ} {full : ℕ → ℕ} {least : ℕ → ℕ → ℕ → ℕ}
     (S : SpanCosts G w fit M i j full least) {k a budget b : ℕ} {places : List Symbol} {rest : ℕ → ℕ} {f x y : Forest} (h : i ≤ a)
@@ -109,6 +116,7 @@ module _ {G : Cfg} {w : List ℕ} {fit : ℕ → Terminal → Bool} {M i j : ℕ
       suffix-atleast S budget (omega arith) (o .inside) (R b l (o .inside)) y
       (row-budget G w (o .others) (omega (arith, o .others .small)))
 
+  -- so it is within the budget, and the child within what it leaves
   pub rest-within : rest b ≤ budget
   rest-within = omega (arith, rest-nodes, o .others .small)
 
@@ -147,8 +155,7 @@ module _ {G : Cfg} {w : List ℕ} {fit : ℕ → Terminal → Bool} {M i j : ℕ
         let at : b ≡ a + (b - a) = omega arith in
         subst (λ (d : List ℕ). After (Row G w (j - i) M (nonterminal k ∷ places) a j budget) d (e ++ g)) (sym (o .coded))
         (row-next-child G w (j - i) M a j budget (S .known) places (omega arith) k (b - a) (budget - rest b) n (omega arith)
-        (end-share S h R l t) child-there size-there others-there
-        last-there m
+        (end-share S h R l t) child-there size-there others-there last-there m
         (subst (λ (v : ℕ). After (Tree G w (j - i) M k a v (budget - rest b)) (code x) e) at
         (own-next G w (j - i) M a b (budget - rest b) (omega (arith, S .known)) (nonterminal k ∷ []) s (omega arith) (omega arith) z))
         size (subst (λ (v : ℕ). Min (Row G w (j - i) M places v j (budget - m)) g) at later))
@@ -175,8 +182,7 @@ module _ {G : Cfg} {w : List ℕ} {fit : ℕ → Terminal → Bool} {M i j : ℕ
           let at : c ≡ a + (c - a) = omega arith in
           subst (λ (d : List ℕ). After (Row G w (j - i) M (nonterminal k ∷ places) a j budget) d (e ++ g)) (sym (o .coded))
           (row-next-cover G w (j - i) M a j budget (S .known) places (omega arith) k (b - a) (budget - rest b) n (omega arith)
-          (end-share S h R l t) child-there size-there others-there
-          last-there child-last-there (c - a) (budget - rest c) m (omega arith) (omega arith)
+          (end-share S h R l t) child-there size-there others-there last-there child-last-there (c - a) (budget - rest c) m (omega arith) (omega arith)
           (λ d u v. end-skipped S h R d (omega arith) (dear (a + d) (omega arith) (omega arith)))
           (end-share S h R (omega arith) q)
           (subst (λ (v : ℕ). Min (Tree G w (j - i) M k a v (budget - rest c)) e) at
@@ -192,5 +198,5 @@ module _ {G : Cfg} {w : List ℕ} {fit : ℕ → Terminal → Bool} {M i j : ℕ
           let t = o .inside in
           subst (λ (d : List ℕ). Last (Row G w (j - i) M (nonterminal k ∷ places) a j budget) d) (sym (o .coded))
           (row-last G w (j - i) M a j budget (S .known) places (omega arith) k (b - a) (budget - rest b) n (omega arith)
-          (end-share S h R l t) child-there size-there others-there
-          last-there child-last-there (λ d u v. end-skipped S h R d v (dear (a + d) (omega arith) v)))
+          (end-share S h R l t) child-there size-there others-there last-there child-last-there
+          (λ d u v. end-skipped S h R d v (dear (a + d) (omega arith) v)))

@@ -22,13 +22,15 @@ same-nodes f g e = omega (arith, ap length e, length-code f, length-code g)
 -- ---- no places, and a terminal
 
 module _ {G : Cfg} {w : List ℕ} {cover set a j budget : ℕ} {f : Forest} (known : j ≤ length w) (rising : a ≤ j) where
+  -- a row of no places
   pub end-stands : Row G w cover set [] a j budget f → (a ≡ j) × (code f ≡ [])
   unfolding code
   end-stands r = let x = end-row G w cover set a j budget f rising known r in (x .0, ap code (x .1))
 
-  pub leaf-opened : {t : Terminal} {places : List Symbol} {c : ℕ} → Row G w cover set (terminal t ∷ places) a j budget f → c ≡ suc a
+  -- a row of a terminal and further places; c is the next position
+  pub leaf-opened : {t : Terminal} {places : List Symbol} (c : ℕ) → Row G w cover set (terminal t ∷ places) a j budget f → c ≡ suc a
       → (g : Forest) × OpenedLeaf G w cover set t places a j budget f c g
-  leaf-opened {t} {places} {c} r e =
+  leaf-opened {t} {places} c r e =
       let x = leaf-row G w cover set a j budget places rising known t f r in
       let s : a + 1 ≡ c = omega arith in (
         x .rest,
@@ -53,6 +55,7 @@ tree-begins (fits-node {r = r} {below = below} o f fits-end) =
     (r, code below ++ [], o, ap (λ (n : ℕ). n ∷ r ∷ (code below ++ [])) e)
 
 module _ {G : Cfg} {w : List ℕ} {cover set k : ℕ} {places : List Symbol} {a j budget : ℕ} {f : Forest} (known : j ≤ length w) where
+  -- a row that is cut behind its first child
   cut-opened : {c : ℕ} (x : Cut G w cover set k places a j budget c f)
       → OpenedRow G w cover set k places a j budget f (a + c) (x .first) (x .rest)
   cut-opened {c} x =
@@ -80,9 +83,10 @@ module _ {G : Cfg} {w : List ℕ} {cover set k : ℕ} {places : List Symbol} {a 
   opened-first : {b : ℕ} {x y : Forest} → OpenedRow G w cover set k places a j budget f b x y → getD (code f) 0 0 ≡ b - a
   opened-first {b} {x} {y} o = ap (λ (l : List ℕ). getD l 0 0) (o .coded ∙ ap (λ (l : List ℕ). l ++ code y) (o .begins))
 
-  pub row-opened : {b : ℕ} → a ≤ j → Row G w cover set (nonterminal k ∷ places) a j budget f → b ≡ a + getD (code f) 0 0
+  -- a row of a nonterminal and further places; b is where the first number says that the child ends
+  pub row-opened : a ≤ j → (b : ℕ) → Row G w cover set (nonterminal k ∷ places) a j budget f → b ≡ a + getD (code f) 0 0
       → (x y : Forest) × OpenedRow G w cover set k places a j budget f b x y
-  row-opened {b} rising r e =
+  row-opened rising b r e =
       let x = row-cut G w cover set k places a j budget known rising f r in
       let o = cut-opened x in
       let q : a + firstCover f ≡ b = omega (arith, opened-first o) in
@@ -90,19 +94,22 @@ module _ {G : Cfg} {w : List ℕ} {cover set k : ℕ} {places : List Symbol} {a 
 
 -- ---- a node
 
+-- the second number
 second : {c r : ℕ} {d l : List ℕ} → d ≡ c ∷ r ∷ l → getD d 1 0 ≡ r
 second e = ap (λ (x : List ℕ). getD x 1 0) e
 
+-- a node has one node more than the row below it
 below-nodes : {c r : ℕ} (t f : Forest) → code t ≡ c ∷ r ∷ code f → nodes t ≡ suc (nodes f)
 below-nodes t f e = omega (arith, ap length e, length-code t, length-code f)
 
 module _ {G : Cfg} {w : List ℕ} {set k i j budget : ℕ} {t : Forest} (known : j ≤ length w) (rising : i ≤ j) where
   -- the second number of a node is its rule
-  pub node-rule : {r : ℕ} → Tree G w (j - i) set k i j budget t → r ≡ getD (code t) 1 0 → Of G r k
-  node-rule {r} s e =
+  pub node-rule : (r : ℕ) → Tree G w (j - i) set k i j budget t → r ≡ getD (code t) 1 0 → Of G r k
+  node-rule r s e =
       let x = node-opened G w (j - i) set k i j budget (omega arith) known t s in
       subst (λ (z : ℕ). Of G z k) (sym (e ∙ second (x .coded))) (x .of)
 
+  -- a node of that rule
   pub node-below : {r : ℕ} (o : Of G r k) → Tree G w (j - i) set k i j budget t → r ≡ getD (code t) 1 0
       → (f : Forest) × OpenedNode G w (j - i) set k i j budget o t f
   node-below {r} o s e =
