@@ -182,7 +182,8 @@ module _ {G : Cfg} {w : List ℕ} {fit : ℕ → Terminal → Bool} {M i j : ℕ
           let at : c ≡ a + (c - a) = omega arith in
           subst (λ (d : List ℕ). After (Row G w (j - i) M (nonterminal k ∷ places) a j budget) d (e ++ g)) (sym (o .coded))
           (row-next-cover G w (j - i) M a j budget (S .known) places (omega arith) k (b - a) (budget - rest b) n (omega arith)
-          (end-share S h R l t) child-there size-there others-there last-there child-last-there (c - a) (budget - rest c) m (omega arith) (omega arith)
+          (end-share S h R l t) child-there size-there others-there last-there child-last-there
+          (c - a) (budget - rest c) m (omega arith) (omega arith)
           (λ d u v. end-skipped S h R d (omega arith) (dear (a + d) (omega arith) (omega arith)))
           (end-share S h R (omega arith) q)
           (subst (λ (v : ℕ). Min (Tree G w (j - i) M k a v (budget - rest c)) e) at
