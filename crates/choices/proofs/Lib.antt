@@ -1,5 +1,10 @@
--- From least numbers of nodes to first codes. What the code cites: Node, Row, Root.
+-- From least numbers of nodes to first and next codes. What the code of `first` cites: Node, Row, Root; that of `next`: Stands, NextNode,
+-- NextRow, NextRoot.
 pub mod Ties
 pub mod Node
 pub mod Row
 pub mod Root
+pub mod Stands
+pub mod NextNode
+pub mod NextRow
+pub mod NextRoot

@@ -25,7 +25,7 @@ use Rattle.choices.proofs.Ties.{row→plain}
 
 -- ---- the rows of grammars with the same rules
 
-row-same : (G G' : Cfg) → SameRules G G' → {w : List ℕ} {cover set : ℕ} {places : List Symbol} {a b budget : ℕ} {t : Forest}
+pub row-same : (G G' : Cfg) → SameRules G G' → {w : List ℕ} {cover set : ℕ} {places : List Symbol} {a b budget : ℕ} {t : Forest}
     → Row G w cover set places a b budget t → Row G' w cover set places a b budget t
 row-same G G' same r = record {
   fit = fits-same-rules G G' same (r .fit);

@@ -100,6 +100,23 @@ module _ {G : Cfg} {w : List ℕ} {fit : ℕ → Terminal → Bool} {M i j : ℕ
           subst (λ (y : ℕ). Least (FreeTree G (bytesOf w) y (b - a) k a b) (least k a b)) (sym z)
           (unmasked-least (S .inside .at k a b h l m q))
 
+  module _ {k a budget : ℕ} {places : List Symbol} {rest : ℕ → ℕ} (h : i ≤ a) (R : Rests fit (within i j full least) places a j rest) where
+    -- no row begins with a child over d bytes where child and rest cost more than the budget
+    pub end-skipped : (d : ℕ) → a + d ≤ j → budget < within i j full least k a (a + d) + rest (a + d)
+        → Skipped G w (j - i) M k places a j budget d
+    end-skipped d l =
+        least-skipped G w (j - i) M k places a j budget d (within i j full least k a (a + d)) (rest (a + d))
+        (piece-atleast S k a (a + d) budget h (omega arith) l)
+        (suffix-atleast S budget (omega arith) l (R (a + d) (omega arith) l))
+
+    -- a child that ends at b may have what the rest leaves
+    pub end-share : {b : ℕ} → a ≤ b → b ≤ j → Share G w (j - i) M k places a j budget (b - a) (budget - rest b)
+    end-share {b} l m =
+        let at : b ≡ a + (b - a) = omega arith in
+        least-share G w (j - i) M k places a j budget (b - a) (rest b)
+        (subst (λ (y : ℕ). AtLeast (Row G w (j - i) M places y j budget) (rest b)) at
+        (suffix-atleast S budget (omega arith) m (R b l m)))
+
   -- the first child ends at the first end within the budget, and has what the rest leaves
   pub row-step : {k a b own budget : ℕ} {places : List Symbol} {rest : ℕ → ℕ} {e f : List ℕ} (n : ℕ) → i ≤ a → a ≤ b → b ≤ j
       → Rests fit (within i j full least) places a j rest
@@ -109,22 +126,11 @@ module _ {G : Cfg} {w : List ℕ} {fit : ℕ → Terminal → Bool} {M i j : ℕ
       → Min (Row G w (j - i) M places b j (budget - n)) f
       → Min (Row G w (j - i) M (nonterminal k ∷ places) a j budget) (e ++ f)
   row-step {k} {a} {b} {own} {budget} {places} {rest} {e} {f} n h l m R dear s first size later =
-      row-first G w (j - i) M a j budget (S .known) places (omega arith) k (b - a) (budget - rest b) n (omega arith) skipped share
+      row-first G w (j - i) M a j budget (S .known) places (omega arith) k (b - a) (budget - rest b) n (omega arith)
+      (λ d q. end-skipped h R d (omega arith) (dear (a + d) (omega arith) (omega arith))) (end-share h R l m)
       (subst (λ (y : ℕ). Min (Tree G w (j - i) M k a y (budget - rest b)) e) at
       (own-first G w (j - i) M a b (budget - rest b) (omega (arith, S .known)) (nonterminal k ∷ []) s (omega arith) (omega arith) first))
       size (subst (λ (y : ℕ). Min (Row G w (j - i) M places y j (budget - n)) f) at later)
     where
       at : b ≡ a + (b - a)
       at = omega arith
-
-      skipped : (d : ℕ) → d < b - a → Skipped G w (j - i) M k places a j budget d
-      skipped d q =
-          least-skipped G w (j - i) M k places a j budget d (within i j full least k a (a + d)) (rest (a + d))
-          (piece-atleast S k a (a + d) budget h (omega arith) (omega arith))
-          (suffix-atleast S budget (omega arith) (omega arith) (R (a + d) (omega arith) (omega arith)))
-          (dear (a + d) (omega arith) (omega arith))
-
-      share : Share G w (j - i) M k places a j budget (b - a) (budget - rest b)
-      share = least-share G w (j - i) M k places a j budget (b - a) (rest b)
-          (subst (λ (y : ℕ). AtLeast (Row G w (j - i) M places y j budget) (rest b)) at
-          (suffix-atleast S budget (omega arith) m (R b l m)))

@@ -1,2 +1,3 @@
--- From least numbers of nodes to first codes: what is known over one span.
+-- From least numbers of nodes to first codes: what is known over one span, and what stands, opened.
 pub mod SpanCosts
+pub mod Opened

@@ -27,3 +27,13 @@ Rests fit cost places a j rest = (c : ℕ) → a ≤ c → c ≤ j → LeastCut 
 abbrev pub Dearer : Cfg → (ℕ → Terminal → Bool) → ℕ → ℕ → (ℕ → ℕ) → (ℕ → ℕ → ℕ → ℕ) → ℕ → ℕ → ℕ → Type 0
 Dearer G fit i j full least k budget r = (s : ℕ) → s < r → (o : Of G s k)
     → (v : ℕ) × Lowest (NodeCost fit full least (o .the .places) i j) v × (budget < v)
+
+-- each rule of k beyond r and before s costs more than the budget
+abbrev pub DearerBetween : Cfg → (ℕ → Terminal → Bool) → ℕ → ℕ → (ℕ → ℕ) → (ℕ → ℕ → ℕ → ℕ) → ℕ → ℕ → ℕ → ℕ → Type 0
+DearerBetween G fit i j full least k budget r s = (q : ℕ) → r < q → q < s → (o : Of G q k)
+    → (v : ℕ) × Lowest (NodeCost fit full least (o .the .places) i j) v × (budget < v)
+
+-- each rule of k beyond r costs more than the budget
+abbrev pub DearerBeyond : Cfg → (ℕ → Terminal → Bool) → ℕ → ℕ → (ℕ → ℕ) → (ℕ → ℕ → ℕ → ℕ) → ℕ → ℕ → ℕ → Type 0
+DearerBeyond G fit i j full least k budget r = (q : ℕ) → r < q → (o : Of G q k)
+    → (v : ℕ) × Lowest (NodeCost fit full least (o .the .places) i j) v × (budget < v)
