@@ -1,0 +1,5 @@
+-- Laws of the passes over the rules, by the tests that the code makes.
+pub mod Over
+pub mod Total
+pub mod Improve
+pub mod Pass
