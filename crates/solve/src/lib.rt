@@ -24,8 +24,7 @@ pub fn rule_over(p: &Packed, r: usize, full: &Full, tables: &Tables, i: usize, j
 }
 
 // Whether the numbers of the nonterminal k are looked for: it is in the cell and not in the mask.
-fn wanted(k: usize, cell: u32, mask: u32) -> bool
-{
+fn wanted(k: usize, cell: u32, mask: u32) -> bool {
     if k < sizes::NONTERMINALS {
         if sets::has(cell, k) {
             return !sets::has(mask, k);
