@@ -6,9 +6,8 @@ use tables::layout::Full;
 use tables::layout::Tables;
 use tables::least::TOO_MANY;
 use tables::rule::rule_cost;
-ghost use mathlib.Core.Path.{_≡_};
 ghost use Prim.Native.Nat.{_<_, _≤_};
-ghost use Rattle.solve.specs.Solve.{RuleOver, Numbers, Improved, Passed, Solved};
+ghost use Rattle.solve.specs.Solve.{RuleOver, Wanted, Numbers, Improved, Passed, Solved};
 
 // The cost of rule r over the span from i to j, the node included: over no byte that of its places together, else by the table of costs
 // without a child over the whole span and through its places.
@@ -23,12 +22,13 @@ pub fn rule_over(p: &Packed, r: usize, full: &Full, tables: &Tables, i: usize, j
     }
 }
 
-// Whether the numbers of the nonterminal k are looked for: it is in the cell and not in the mask.
-fn wanted(k: usize, cell: u32, mask: u32) -> bool {
-    if k < sizes::NONTERMINALS {
-        if sets::has(cell, k) {
-            return !sets::has(mask, k);
-        }
+// Whether the number of the nonterminal k is looked for: k is in the cell and not in the mask.
+fn wanted(k: usize, cell: u32, mask: u32) -> bool
+    requires { ⌜ k < 32 ⌝ }
+    ensures { λ b. ⌜ Wanted k cell mask b ⌝ }
+{
+    if sets::has(cell, k) {
+        return !sets::has(mask, k);
     }
     false
 }
@@ -49,11 +49,13 @@ fn improve(
         ⌜ Improved (now (p .entry)) r cell mask (now (tables .entry)) i j (now (full .entry)) (now (full .exit)) b ⌝ }
 {
     let k = packed::left(p, r);
-    if wanted(k, cell, mask) {
-        let v = rule_over(p, r, full, tables, i, j);
-        if v < full[k] {
-            full[k] = v;
-            return true;
+    if k < sizes::NONTERMINALS {
+        if wanted(k, cell, mask) {
+            let v = rule_over(p, r, full, tables, i, j);
+            if v < full[k] {
+                full[k] = v;
+                return true;
+            }
         }
     }
     false
