@@ -3,17 +3,15 @@
 use Prim.Native.Nat.{ℕ, zero, suc, _+_, _*_, _-_, _≤_, _<_}
 use mathlib.Core.Bool.{Bool, true, false}
 use mathlib.Core.List.{List, List·Memᴰ, List·Memᴰ·head, List·Memᴰ·tail}
-use mathlib.Core.Path.{_≡_, refl, sym, ap, subst, _∙_}
-use native.Mathlib.Decide.{decLt}
+use mathlib.Core.Path.{_≡_, refl, sym, subst}
 use native.Mathlib.Omega.{arith}
-use lib.ListN.{getD}
 use Rattle.sizes.specs.Sizes.{tooMany}
 use Rattle.sets.specs.Set.{has}
-use Rattle.cfg.specs.Grammar.{Symbol, nonterminal, terminal}
-use Rattle.costs.specs.Cut.{Fit, LeastCut, within}
+use Rattle.cfg.specs.Grammar.{nonterminal}
+use Rattle.costs.specs.Cut.{Fit}
 use Rattle.costs.specs.Lowest.{Lowest}
 use Rattle.costs.specs.Rule.{BareCost}
-use Rattle.costs.specs.Span.{Tree, Least, Full}
+use Rattle.costs.specs.Span.{Tree, Least}
 use Rattle.costs.proofs.Lowest.{lowest-unique, lowest-none}
 use Rattle.costs.proofs.Cut.{leastcut-same, leastcut-places}
 use Rattle.costs.proofs.Within.{within-full, within-least, within-even, leastcut-later}
@@ -24,12 +22,12 @@ use Rattle.packed.specs.Packed.{countIn, isNonterminalIn, valueIn, symbolIn, pl
 use Rattle.packed.proofs.Laws.{count-le}
 use Rattle.packed.proofs.Fitting.{symbol-nonterminal, symbol-terminal}
 use Rattle.suffixes.specs.Within.{tailIn, LaterStarts}
-use Rattle.tables.specs.Layout.{alonesAt, baresAt, bareAt, costIn, fullIn, bareIn}
-use Rattle.tables.specs.Exact.{Packing, CellTrue, FitTold}
+use Rattle.tables.specs.Layout.{alonesAt, bareAt, costIn, fullIn}
+use Rattle.tables.specs.Exact.{Packing, CellTrue}
 use Rattle.tables.proofs.Bares.{bare-behind}
 use Rattle.solve.specs.Solve.{Solved}
 use Rattle.solve.proofs.Trees.{solved-full}
-use Rattle.tabulate.specs.Writes.{placeAt, LeastPut}
+use Rattle.tabulate.specs.Writes.{LeastPut}
 use Rattle.tabulate.specs.Starts.{Untouched, OtherStarts, StartRight, StartsPut, SuffixesPut}
 use Rattle.tabulate.specs.Sofar.{Standing, Given, Sofar, Opened}
 use Rattle.tabulate.specs.Spans.{SpanOpened, SpanPut, EmptyPut}
@@ -74,10 +72,10 @@ module _ {i j : ℕ} {full tables₀ tables : List ℕ} (l : j < 65) (L : LeastP
 
 -- ---- a span that is not empty
 
-module _ {fit : Fit} {bytes : ℕ → ℕ → Type 0} {p : List ℕ} {rules : ℕ} {fits : List ℕ} {set i j : ℕ} {full tables₀ rows₀ tables rows : List ℕ}
-    (o : rules ≤ 128) (h : i < j) (l : j < 65) (X : Solved p rules set 0 tables₀ i j full) (L : LeastPut full i j tables₀ tables)
-    (P : SuffixesPut p rules fits tables full set i j rows₀ rows) (G : Given fit bytes p rules fits j) (C : CellTrue p bytes i j set)
-    (O : Opened fit bytes p rules i j tables₀ rows₀) where
+module _ {fit : Fit} {bytes : ℕ → ℕ → Type 0} {p : List ℕ} {rules : ℕ} {fits : List ℕ} {set i j : ℕ}
+    {full tables₀ rows₀ tables rows : List ℕ} (o : rules ≤ 128) (h : i < j) (l : j < 65) (X : Solved p rules set 0 tables₀ i j full)
+    (L : LeastPut full i j tables₀ tables) (P : SuffixesPut p rules fits tables full set i j rows₀ rows)
+    (G : Given fit bytes p rules fits j) (C : CellTrue p bytes i j set) (O : Opened fit bytes p rules i j tables₀ rows₀) where
   numbers : (k : ℕ) → Least (Tree (Packing p) bytes k i j) (fullIn full k)
   numbers k =
       let R = ready-by (O .sofar) (G .past) i j (omega arith) l (omega arith) (omega arith) (O .bare) in
@@ -103,7 +101,8 @@ module _ {fit : Fit} {bytes : ℕ → ℕ → Type 0} {p : List ℕ} {rules : �
   untouched : (r : ℕ) → r < rules → Untouched p r set → StartRight fit p r tables full i j rows₀
   untouched r x U q y =
       leastcut-places (λ k a c m. within-full (λ _. tooMany) (fullIn full) (costIn tables) i j k a c (absent r q k U m))
-      (leastcut-same i j (λ k a b u v w. within-least (λ _. tooMany) (costIn tables₀) (costIn tables) i j k a b u v w (part-same l L k a b v w))
+      (leastcut-same i j
+      (λ k a b u v w. within-least (λ _. tooMany) (costIn tables₀) (costIn tables) i j k a b u v w (part-same l L k a b v w))
       (O .column r q x y))
 
   pub span-done : Sofar fit bytes p rules i j tables rows

@@ -5,7 +5,6 @@ use mathlib.Core.List.{List}
 use mathlib.Core.Path.{_≡_, subst}
 use native.Mathlib.Omega.{arith}
 use lib.ListN.{length, getD}
-use Rattle.chart.specs.Cell.{cell}
 use Rattle.costs.specs.Cut.{Fit}
 use Rattle.costs.specs.Span.{Tells}
 use Rattle.costs.proofs.Plain.{least-unmasked}
@@ -120,7 +119,8 @@ module _ (p : List ℕ) (rules : ℕ) (fits chart : List ℕ) where
 
   module _ (empty : List ℕ) (n : ℕ) {tables₀ tables₁ tables : List ℕ} (X : Solved p rules (getD chart 0 0) 0 tables₀ 0 0 empty)
       (A : AlonesFilled p empty 128 tables₁) (P : EndsPut p rules fits chart empty n tables₁ tables) where
-    empties : (fit : Fit) (bytes : ℕ → ℕ → Type 0) → Tells fit bytes → PastLast p rules → ChartTrue p bytes chart n → EmptyTrue p bytes empty
+    empties : (fit : Fit) (bytes : ℕ → ℕ → Type 0) → Tells fit bytes → PastLast p rules → ChartTrue p bytes chart n
+        → EmptyTrue p bytes empty
     empties fit bytes T past C k =
         least-unmasked
         (solved-full X fit bytes (λ _ _ _. 0) T past (λ h. absurd (omega arith))

@@ -2,7 +2,7 @@
 -- Assumes nothing.
 use Prim.Native.Nat.{ℕ, _+_, _*_, _-_, _≤_, _<_}
 use mathlib.Core.List.{List}
-use mathlib.Core.Path.{_≡_, sym, ap, subst, _∙_}
+use mathlib.Core.Path.{_≡_, sym, subst, _∙_}
 use native.Mathlib.Decide.{decLt, ℕ-discrete}
 use native.Mathlib.Omega.{arith}
 use lib.ListN.{getD}
@@ -80,8 +80,8 @@ module _ {fit : Fit} {bytes : ℕ → ℕ → Type 0} {p : List ℕ} {rules i j 
     }
 
   -- what the cost of a rule over the span from a to b is made of
-  module _ {tables rows : List ℕ} (S : Sofar fit bytes p rules i j tables rows) (past : PastLast p rules) (a b : ℕ) (x : a < 65) (y : b < 65)
-      (start : Done i j a a) (stop : Done i j b b)
+  module _ {tables rows : List ℕ} (S : Sofar fit bytes p rules i j tables rows) (past : PastLast p rules) (a b : ℕ)
+      (x : a < 65) (y : b < 65) (start : Done i j a a) (stop : Done i j b b)
       (bare : (r : ℕ) → r < rules → Lowest (BareCost fit (costIn tables) (placesIn p r) a b) (bareIn tables a b r)) where
     made : (r : ℕ) → r < 128 → leftIn p r < 32 → Dec (r < rules)
         → Lowest (BareCost fit (costIn tables) (placesIn p r) a b) (bareIn tables a b r)

@@ -5,3 +5,4 @@ pub mod Kept
 pub mod Opening
 pub mod Closing
 pub mod Ending
+pub mod Bytes

@@ -1,8 +1,8 @@
 -- The costs over one span that need no numbers of the whole of it.
 -- Assumes nothing.
-use Prim.Native.Nat.{ℕ, suc, _+_, _*_, _≤_, _<_, min}
+use Prim.Native.Nat.{ℕ, _+_, _*_, _≤_, _<_}
 use mathlib.Core.List.{List}
-use mathlib.Core.Path.{_≡_, sym, ap, subst, _∙_}
+use mathlib.Core.Path.{_≡_, sym, subst}
 use native.Mathlib.Omega.{arith}
 use lib.ListN.{getD}
 use Rattle.sizes.specs.Sizes.{tooMany}
@@ -26,7 +26,8 @@ use Rattle.tabulate.proofs.Written.{cost-same}
 use Rattle.tabulate.proofs.Kept.{sofar-kept}
 
 module _ (p : List ℕ) (rules : ℕ) (fits nothing : List ℕ) (i j : ℕ) (tables₀ rows₀ tables rows : List ℕ) (o : rules ≤ 128) (h : i < j)
-    (l : j < 65) (N : Nothing nothing) (A : StartsPut p rules fits tables₀ nothing i j rows₀ rows) (B : BaresPut rules i j rows tables₀ tables) where
+    (l : j < 65) (N : Nothing nothing) (A : StartsPut p rules fits tables₀ nothing i j rows₀ rows)
+    (B : BaresPut rules i j rows tables₀ tables) where
   costs : (k a b : ℕ) → a < 65 → b < 65 → costIn tables k a b ≡ costIn tables₀ k a b
   costs k a b x y = cost-same tables₀ tables k a b (λ z. B .front (4225 * k + 65 * a + b) (omega arith))
 
@@ -46,7 +47,8 @@ module _ (p : List ℕ) (rules : ℕ) (fits nothing : List ℕ) (i j : ℕ) (tab
     bare : (r : ℕ) → r < rules → Lowest (BareCost fit (costIn tables) (placesIn p r) i j) (bareIn tables i j r)
     bare r x =
         subst (λ (v : ℕ). Lowest (BareCost fit (costIn tables) (placesIn p r) i j) v) (sym (B .here r x))
-        (rule-node (subst (λ (s : List Symbol). LeastCut fit (within i j (λ _. tooMany) (costIn tables)) s i j (getD rows (placeAt r 0 i) 0))
+        (rule-node
+        (subst (λ (s : List Symbol). LeastCut fit (within i j (λ _. tooMany) (costIn tables)) s i j (getD rows (placeAt r 0 i) 0))
         (places-start p r) (column r 0 x (omega arith))))
 
     behind : Sofar fit bytes p rules (i + 1) j tables rows

@@ -1,7 +1,7 @@
 -- What the functions do that make the tables span by span: from what was right before to what is right after. The bytes that may stand at
 -- a position are told by a test.
 -- Assumes nothing.
-use Prim.Native.Nat.{ℕ, _+_, _≤_, _<_}
+use Prim.Native.Nat.{ℕ, _+_, _<_}
 use mathlib.Core.Bool.{Bool}
 use mathlib.Core.List.{List}
 use mathlib.Core.Path.{_≡_}
@@ -65,7 +65,8 @@ pub record EndsBefore (p : List ℕ) (rules : ℕ) (fits chart empty : List ℕ)
 pub record EndsPut (p : List ℕ) (rules : ℕ) (fits chart empty : List ℕ) (n : ℕ) (tables₀ tables : List ℕ) : Type 0 where
   pub long : length tables ≡ tablesSize
   pub exact : (fit : Fit) (can : ℕ → ℕ → Bool) → Given fit (Standing can) p rules fits n → EmptyTrue p (Standing can) empty
-      → ChartTrue p (Standing can) chart n → ((r : ℕ) → r < maxRules → Alones (fullIn empty) p r tables₀) → Exact fit (Standing can) p n tables
+      → ChartTrue p (Standing can) chart n → ((r : ℕ) → r < maxRules → Alones (fullIn empty) p r tables₀)
+      → Exact fit (Standing can) p n tables
 
 -- the tables are right for every span up to n
 pub record Tabulated (p : List ℕ) (rules : ℕ) (fits chart : List ℕ) (n : ℕ) (tables : List ℕ) : Type 0 where

@@ -1,7 +1,6 @@
 -- `tabulate::ends::put_end` meets its contract. The loop's invariant: the spans from the starts passed are done. The measure is the start.
 -- Assumes nothing.
 use Prim.Native.Nat.{_≤_}
-use mathlib.Core.Path.{_≡_}
 use borrow.Author.Needs.{needs}
 use Rattle.tabulate.specs.Spans.{EndFrom}
 use Rattle.tabulate.proofs.Ending.{end-start, end-back, end-put}
