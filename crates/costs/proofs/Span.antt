@@ -37,6 +37,12 @@ module _ {bytes : ℕ → ℕ → Type 0} where
       let e : suc a + length u ≡ a + length (m ∷ u) = omega arith in
       (reads-byte p (subst (λ (x : ℕ). Reads bytes x (suc a) u) e s), subst (λ (x : ℕ). Reads bytes b x v) e t)
 
+  -- what may stand where these bytes may, may stand where others may that include them
+  pub reads-map : {others : ℕ → ℕ → Type 0} → ((a m : ℕ) → bytes a m → others a m) → {a b : ℕ} {u : List ℕ} → Reads bytes b a u
+      → Reads others b a u
+  reads-map f (reads-end e) = reads-end e
+  reads-map f {a} (reads-byte {m = m} p r) = reads-byte (f a m p) (reads-map f r)
+
   -- nothing stands in an empty span
   pub reads-nil : {a : ℕ} {u : List ℕ} → Reads bytes a a u → u ≡ []
   reads-nil (reads-end e) = refl
@@ -116,10 +122,12 @@ tree-empty {bytes = bytes} b T = record {
   reads = subst (Reads bytes b b) (sym (reads-nil (T .reads))) (reads-end refl);
 }
 
+pub least-moved : {G : Cfg} {bytes : ℕ → ℕ → Type 0} {k a v : ℕ} (b : ℕ) → Least (Tree G bytes k a a) v → Least (Tree G bytes k b b) v
+least-moved {a = a} b = least-same (λ t T. (t, tree-empty b T, omega arith)) (λ t T. (t, tree-empty a T, omega arith))
+
 pub least-empty : {G : Cfg} {bytes : ℕ → ℕ → Type 0} {k a b u v : ℕ} → Least (Tree G bytes k a a) u → Least (Tree G bytes k b b) v
     → u ≡ v
-least-empty {a = a} {b} L M =
-    lowest-unique (least-same (λ t T. (t, tree-empty b T, omega arith)) (λ t T. (t, tree-empty a T, omega arith)) L) M
+least-empty {b = b} L M = lowest-unique (least-moved b L) M
 
 pub inside-empty : {G : Cfg} {bytes : ℕ → ℕ → Type 0} {i j b k e : ℕ} {least : ℕ → ℕ → ℕ → ℕ} → Inside G bytes i j least → i < j
     → Least (Tree G bytes k b b) e → (a : ℕ) → i ≤ a → a ≤ j → least k a a ≡ e
