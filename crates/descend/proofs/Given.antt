@@ -43,7 +43,8 @@ module _ {p : List ℕ} {rules : ℕ} {fits chart tables w : List ℕ} (G : Give
     rising = h;
     known = l;
     inside = inside;
-    exact = solved-full S (fitsAt w) (bytesOf w) (costIn tables) (tells-input w) (G .past) (λ m. G .exact .ready i j m l) inside (G .cells i j h l);
+    exact = solved-full S (fitsAt w) (bytesOf w) (costIn tables) (tells-input w) (G .past) (λ m. G .exact .ready i j m l) inside
+        (G .cells i j h l);
   }
 
   pub rule-lowest : {r v : ℕ} {full : List ℕ} → RuleOver p r full tables i j v → leftIn p r < 32

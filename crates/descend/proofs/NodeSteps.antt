@@ -22,7 +22,7 @@ use Rattle.packed.proofs.Laws.{places-start, of-in, in-of, in-of-places}
 use Rattle.tables.specs.Layout.{costIn, fullIn}
 use Rattle.tables.specs.Exact.{Packing}
 use Rattle.suffixes.specs.Within.{tailIn, rowAt}
-use Rattle.descend.specs.Chosen.{RuleChosen}
+use Rattle.choose.specs.Chosen.{RuleChosen}
 use Rattle.descend.specs.Descend.{Given, Below, FirstAt, NodePut, NodeFirst, RowFirst, Opened}
 use Rattle.descend.proofs.Codes.{kept-none, kept-open, first-open}
 use Rattle.descend.proofs.Given.{node-used, span-solved, rule-lowest, rows-right}
@@ -112,5 +112,6 @@ module _ {p : List ℕ} {rules : ℕ} {fits chart tables : List ℕ} {k i j mask
   node-some m P R = record {
     kept = kept-open P (O .room (omega arith)) (R .kept);
     exact = λ w G known x X l.
-        first-open P (R .exact w (below w G known X l m) (omega arith) (row-within w G known X l m)) (R .kept) (first-code w G known X l m);
+        first-open P (R .exact w (below w G known X l m) (omega arith) (row-within w G known X l m)) (R .kept)
+        (first-code w G known X l m);
   }

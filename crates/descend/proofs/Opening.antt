@@ -8,7 +8,7 @@ use Rattle.sizes.specs.Sizes.{maxRules}
 use Rattle.chart.specs.Cell.{cell}
 use Rattle.suffixes.specs.Rows.{RowsPut}
 use Rattle.solve.specs.Solve.{Solved}
-use Rattle.descend.specs.Chosen.{RuleChosen}
+use Rattle.choose.specs.Chosen.{RuleChosen}
 use Rattle.descend.specs.Descend.{Opened}
 
 module _ {p : List ℕ} {rules : ℕ} {fits chart tables : List ℕ} {k i j own budget : ℕ} {full rows : List ℕ} where

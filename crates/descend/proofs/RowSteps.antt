@@ -20,9 +20,9 @@ use Rattle.packed.proofs.Fitting.{symbol-nonterminal, symbol-terminal}
 use Rattle.tables.specs.Layout.{costIn, fullIn}
 use Rattle.tables.specs.Exact.{Packing}
 use Rattle.suffixes.specs.Within.{tailIn, rowAt}
-use Rattle.descend.specs.declared.choose.Step.{Step}
-use Rattle.descend.specs.declared.choose.Step.the-variants.{No, End, Byte, Node}
-use Rattle.descend.specs.Chosen.{EndChosen, Looked, at-end, at-byte, no-byte, at-node, no-node}
+use Rattle.choose.specs.declared.look.Step.{Step}
+use Rattle.choose.specs.declared.look.Step.the-variants.{No, End, Byte, Node}
+use Rattle.choose.specs.Chosen.{EndChosen, Looked, at-end, at-byte, no-byte, at-node, no-node}
 use Rattle.descend.specs.Descend.{Below, FirstAt, NodeFirst, RowFirst}
 use Rattle.descend.proofs.Codes.{first-none, kept-none, first-same, kept-join, first-join}
 
@@ -78,7 +78,8 @@ module _ {p : List ℕ} {rules : ℕ} {fits chart tables full rows : List ℕ} {
 
   pub row-end : {at : ℕ} {s : Step} {out : List ℕ} → Looked p r q tables full rows i a j budget s → s ≡ End
       → RowFirst p rules fits chart tables full rows r q a i j mask budget at out out 0
-  row-end {at} {out = out} L e = record { kept = kept-none; exact = λ w B c v. go w B c v (subst (Looked p r q tables full rows i a j budget) e L) }
+  row-end {at} {out = out} L e =
+      record { kept = kept-none; exact = λ w B c v. go w B c v (subst (Looked p r q tables full rows i a j budget) e L) }
     where
       go : (w : List ℕ) → Below p rules fits chart tables full rows r i j mask w → q ≤ countIn p r → getD rows (rowAt 0 q a) 0 ≤ budget
           → Looked p r q tables full rows i a j budget End → FirstAt (Row (Packing p) w (j - i) mask (tailIn p r q) a j budget) out at 0

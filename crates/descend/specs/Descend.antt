@@ -18,7 +18,7 @@ use Rattle.tables.specs.Exact.{Packing, PastLast, FitTold, ChartTrue, Exact}
 use Rattle.suffixes.specs.Within.{tailIn, Inside, rowAt}
 use Rattle.suffixes.specs.Rows.{RowsPut}
 use Rattle.solve.specs.Solve.{Solved}
-use Rattle.descend.specs.Chosen.{RuleChosen}
+use Rattle.choose.specs.Chosen.{RuleChosen}
 
 -- what is given of the input w: the number behind its last rule, its fit table, its chart and its tables
 pub record Given (p : List ℕ) (rules : ℕ) (fits chart tables w : List ℕ) : Type 0 where

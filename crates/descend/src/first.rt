@@ -1,10 +1,7 @@
 // The first derivation below a node, written from the left: a node calls the row of its rule's places, which calls the nodes below it.
-use super::choose::Step;
-use super::choose::look;
-use super::open::child_set;
-use super::open::open_node;
-use super::open::own_set;
-use super::open::put_node;
+use super::open;
+use choose::look::Step;
+use choose::look::look;
 use fit::FitTable;
 use packed::Packed;
 use suffixes::rows::Rows;
@@ -35,10 +32,10 @@ pub fn node(
     ensures { λ n. ⌜ NodeFirst (now (p .entry)) rules (now (fits .entry)) (now (chart .entry)) (now (tables .entry)) k i j mask budget at
         (now (out .entry)) (now (out .exit)) n ⌝ }
 {
-    let own = own_set(mask, k);
+    let own = open::own_set(mask, k);
     let mut full = [0u16; sizes::NONTERMINALS];
     let mut rows = [0u16; ROWS_SIZE];
-    let r = open_node(
+    let r = open::open_node(
         p,
         rules,
         fits,
@@ -55,7 +52,7 @@ pub fn node(
     if r > 127 {
         return 0;
     }
-    put_node(j - i, r, out, at);
+    open::put_node(j - i, r, out, at);
     1
         + row(
             p,
@@ -125,7 +122,7 @@ pub fn row(
             at,
         ),
         Step::Node(k, b, share) => {
-            let set = child_set(j - i, mask, b - a);
+            let set = open::child_set(j - i, mask, b - a);
             let m = node(p, rules, fits, chart, tables, k, a, b, set, share, out, at);
             m
                 + row(
@@ -148,35 +145,4 @@ pub fn row(
                 )
         }
     }
-}
-
-// Writes the first derivation of the input of n bytes from the nonterminal `start`. The result is the number of its nodes.
-pub fn first_of(
-    p: &Packed,
-    rules: usize,
-    fits: &FitTable,
-    chart: &[u32],
-    tables: &Tables,
-    start: usize,
-    n: usize,
-    out: &mut [u16],
-) -> usize
-    requires { ⌜ (rules ≤ 128) × (n < 65) × (4225 ≤ length (now chart)) × (1024 ≤ length (now out)) ⌝ }
-    ensures { λ m. ⌜ NodeFirst (now (p .entry)) rules (now (fits .entry)) (now (chart .entry)) (now (tables .entry)) start 0 n 0 512 0
-        (now (out .entry)) (now (out .exit)) m ⌝ }
-{
-    node(
-        p,
-        rules,
-        fits,
-        chart,
-        tables,
-        start,
-        0,
-        n,
-        0,
-        sizes::MAX_NODES,
-        out,
-        0,
-    )
 }

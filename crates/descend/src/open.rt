@@ -1,5 +1,5 @@
 // What a node needs before its row is written: the costs over its span, its rule, and the costs of the rule's places.
-use super::choose::choose_rule;
+use choose::rule::choose_rule;
 use fit::FitTable;
 use packed::Packed;
 use solve::solve;

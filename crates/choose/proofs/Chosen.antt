@@ -16,9 +16,9 @@ use Rattle.costs.proofs.Within.{within-whole, within-part}
 use Rattle.packed.specs.Packed.{leftIn, countIn, isNonterminalIn, valueIn}
 use Rattle.tables.specs.Layout.{costIn, fullIn}
 use Rattle.solve.specs.Solve.{RuleOver}
-use Rattle.descend.specs.Chosen.{Dear, Weighed, RulesPassed, RuleChosen, EndsPassed, EndChosen, sumAt}
-use Rattle.descend.specs.Chosen.{Looked, at-end, at-byte, no-byte, at-node, no-node}
-use Rattle.descend.specs.declared.choose.Step.the-variants.{No, End, Byte, Node}
+use Rattle.choose.specs.Chosen.{Dear, Weighed, RulesPassed, RuleChosen, EndsPassed, EndChosen, sumAt}
+use Rattle.choose.specs.Chosen.{Looked, at-end, at-byte, no-byte, at-node, no-node}
+use Rattle.choose.specs.declared.look.Step.the-variants.{No, End, Byte, Node}
 
 -- ---- a rule
 
@@ -111,7 +111,8 @@ module _ {p : List ℕ} {r q : ℕ} {tables full rows : List ℕ} {i a j budget 
 
     module _ {k b : ℕ} (y : t ≡ true) (g : k ≡ valueIn p r q) (C : EndChosen tables full k i a j rows (side * (q + 1)) budget b) where
       -- n is the cost of the places behind
-      pub look-node : {n : ℕ} → b ≤ j → n ≡ getD rows (side * (q + 1) + b) 0 → Looked p r q tables full rows i a j budget (Node k b (budget - n))
+      pub look-node : {n : ℕ} → b ≤ j → n ≡ getD rows (side * (q + 1) + b) 0
+          → Looked p r q tables full rows i a j budget (Node k b (budget - n))
       look-node l d = at-node (omega arith) (sym f ∙ y) g C l (ap (λ (x : ℕ). budget - x) d)
 
       pub look-none : j < b → Looked p r q tables full rows i a j budget No

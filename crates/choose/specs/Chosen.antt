@@ -10,8 +10,8 @@ use Rattle.costs.specs.Cut.{within}
 use Rattle.packed.specs.Packed.{leftIn, countIn, isNonterminalIn, valueIn}
 use Rattle.tables.specs.Layout.{costIn, fullIn}
 use Rattle.solve.specs.Solve.{RuleOver}
-use Rattle.descend.specs.declared.choose.Step.{Step}
-use Rattle.descend.specs.declared.choose.Step.the-variants.{No, End, Byte, Node}
+use Rattle.choose.specs.declared.look.Step.{Step}
+use Rattle.choose.specs.declared.look.Step.the-variants.{No, End, Byte, Node}
 
 -- rule r is of the nonterminal k and costs at most the budget over the span from i to j
 pub record Affordable (p : List ℕ) (k : ℕ) (full tables : List ℕ) (i j budget r : ℕ) : Type 0 where

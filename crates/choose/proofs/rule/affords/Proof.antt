@@ -1,9 +1,9 @@
--- `descend::choose::affords` meets its contract.
+-- `choose::rule::affords` meets its contract.
 -- Assumes nothing.
 use borrow.Author.Needs.{needs}
-use Rattle.descend.proofs.Chosen.{weighed-other, weighed-cost}
-use Rattle.descend.proofs.choose.affords.Statement.{statement}
-use Rattle.descend.proofs.choose.affords.Tie as tie
+use Rattle.choose.proofs.Chosen.{weighed-other, weighed-cost}
+use Rattle.choose.proofs.rule.affords.Statement.{statement}
+use Rattle.choose.proofs.rule.affords.Tie as tie
 
 pub affords-spec : {M : Type 1} → statement M
 affords-spec =
