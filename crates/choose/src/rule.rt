@@ -1,0 +1,52 @@
+// Which rule a node has: the first that costs at most the budget.
+use numbers::wide;
+use packed::Packed;
+use solve::rule_over;
+use tables::layout::Full;
+use tables::layout::Tables;
+ghost use Prim.Native.Nat.{_<_, _≤_};
+ghost use Rattle.choose.specs.Chosen.{Weighed, RuleChosen};
+
+// Whether rule r is of the nonterminal k and costs at most the budget over the span.
+fn affords(
+    p: &Packed,
+    k: usize,
+    full: &Full,
+    tables: &Tables,
+    i: usize,
+    j: usize,
+    budget: usize,
+    r: usize,
+) -> bool
+    requires { ⌜ (r < 128) × (i ≤ j) × (j < 65) ⌝ }
+    ensures { λ b. ⌜ Weighed (now (p .entry)) k (now (full .entry)) (now (tables .entry)) i j budget r b ⌝ }
+{
+    if packed::left(p, r) != k {
+        return false;
+    }
+    wide(rule_over(p, r, full, tables, i, j)) <= budget
+}
+
+// The smallest rule of k below `rules` that costs at most the budget over the span; 128 if there is none.
+pub fn choose_rule(
+    p: &Packed,
+    rules: usize,
+    k: usize,
+    full: &Full,
+    tables: &Tables,
+    i: usize,
+    j: usize,
+    budget: usize,
+) -> usize
+    requires { ⌜ (rules ≤ 128) × (i ≤ j) × (j < 65) ⌝ }
+    ensures { λ r. ⌜ RuleChosen (now (p .entry)) rules k (now (full .entry)) (now (tables .entry)) i j budget r ⌝ }
+{
+    let mut r = 0;
+    while r < rules {
+        if affords(p, k, full, tables, i, j, budget, r) {
+            return r;
+        }
+        r += 1;
+    }
+    sizes::MAX_RULES
+}

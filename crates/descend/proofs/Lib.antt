@@ -1,0 +1,6 @@
+-- Laws of what a node and a row write, by the tests that the code makes.
+pub mod Opening
+pub mod Codes
+pub mod Given
+pub mod RowSteps
+pub mod NodeSteps
