@@ -1,0 +1,2 @@
+-- What first gives.
+pub mod Answer
