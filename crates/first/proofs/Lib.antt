@@ -3,3 +3,5 @@ pub mod Chart
 pub mod Front
 pub mod Past
 pub mod Root
+pub mod Handing
+pub mod Calls

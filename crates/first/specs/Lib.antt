@@ -1,2 +1,4 @@
 -- What first gives.
 pub mod Answer
+pub mod Stub
+pub mod Made
