@@ -12,3 +12,4 @@ pub mod Filled
 pub mod Exact
 pub mod Truth
 pub mod SameRules
+pub mod SameTrees

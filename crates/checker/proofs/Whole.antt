@@ -19,8 +19,8 @@ use Rattle.cfg.specs.Listing.{L}
 use Rattle.listing.proofs.Unique.{length-code}
 use Rattle.listing.proofs.Exact.{listed→derivation, derivation→listed, derivation-length}
 use Rattle.chart.proofs.SameRules.{SameRules, same-sym}
+use Rattle.chart.proofs.SameTrees.{fits-same-rules, superfluous-same-rules}
 use Rattle.packed.specs.Packed.{cfgIn}
-use Rattle.prepare.proofs.SameRules.{fits-same-rules, superfluous-same-rules}
 use Rattle.results.specs.Check.{listed}
 use Rattle.results.proofs.Demand3.Rows.{listed-member, member-listed}
 use Rattle.checker.specs.Walk.{Walked, Answers}

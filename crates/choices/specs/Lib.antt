@@ -1,0 +1,2 @@
+-- From least numbers of nodes to first codes: what is known over one span.
+pub mod SpanCosts

@@ -1,0 +1,1 @@
+// Which rule, which cover and which budget the first derivation takes, from least numbers of nodes: theory only, no code.
