@@ -32,22 +32,14 @@ fn first_tree(p: &Packed, start: usize, input: &[u8], chart: &[u32], out: &mut [
     ensures { λ a. ⌜ enumerationOf (handingOf a) (now (chart .entry)) (now (out .exit))
         ≡ firstTree (cfgIn start (now (p .entry))) (now (input .entry)) (now (chart .entry)) (now (out .entry)) ⌝ }
 {
-    let n = input.len();
     let fits = fit::table(p, input);
-    let rules = rules::rules_end(p);
     let mut tables = [0u16; TABLES_SIZE];
-    stub::tabulate(p, rules, &fits, chart, n, &mut tables);
-    made::first_made(p, rules, &fits, chart, &tables, start, n, out)
+    let rules = made::build(p, input, &fits, chart, &mut tables);
+    made::first_made(p, rules, &fits, chart, &tables, start, input.len(), out)
 }
 
 // The first derivation, where the chart is filled.
-fn first_filled(
-    p: &Packed,
-    start: usize,
-    input: &[u8],
-    chart: &[u32],
-    out: &mut [u16],
-) -> Handed
+fn first_filled(p: &Packed, start: usize, input: &[u8], chart: &[u32], out: &mut [u16]) -> Handed
     requires { ⌜ (length (now input) ≤ 64) × (4225 ≤ length (now chart)) × (1024 ≤ length (now out))
         × ChartTrue (now p) (bytesOf (now input)) (now chart) (length (now input)) ⌝ }
     ensures { λ a. ⌜ enumerationOf (handingOf a) (now (chart .entry)) (now (out .exit))

@@ -1,5 +1,6 @@
-// First over tables that are made: whether there is a derivation, and the first one.
+// The tables of an input, and first over tables that are made: whether there is a derivation, and the first one.
 use super::Handed;
+use super::rules::rules_end;
 use super::stub;
 use fit::FitTable;
 use grammar::Refusal;
@@ -12,9 +13,25 @@ ghost use Prim.Native.Nat.{_<_, _≤_};
 ghost use lib.Dec.{leb};
 ghost use lib.ListN.{length};
 ghost use Rattle.sizes.specs.Sizes.{maxNodes};
-ghost use Rattle.tables.specs.Layout.{costIn};
+ghost use Rattle.costs.specs.Span.{bytesOf};
+ghost use Rattle.fit.specs.Fit.{Told};
+ghost use Rattle.tables.specs.Exact.{ChartTrue};
+ghost use Rattle.tables.specs.Layout.{costIn, tablesSize};
 ghost use Rattle.first.specs.Answer.{handingOf};
 ghost use Rattle.first.specs.Made.{FirstMade, FirstWritten};
+ghost use Rattle.first.specs.Stub.{Given};
+
+// Makes the tables of the input, for which the chart is filled and the fit table made. Answers one past the last number that has a rule.
+pub fn build(p: &Packed, input: &[u8], fits: &FitTable, chart: &[u32], tables: &mut Tables) -> usize
+    requires { ⌜ (length (now input) ≤ 64) × (4225 ≤ length (now chart)) × (length (now tables) ≡ tablesSize)
+        × Told (now p) (now input) (now fits) × ChartTrue (now p) (bytesOf (now input)) (now chart) (length (now input)) ⌝ }
+    ensures { λ rules. ⌜ (rules ≤ 128)
+        × Given (now (p .entry)) rules (now (fits .entry)) (now (chart .entry)) (now (tables .exit)) (now (input .entry)) ⌝ }
+{
+    let rules = rules_end(p);
+    stub::tabulate(p, rules, fits, chart, input.len(), tables);
+    rules
+}
 
 // Whether a derivation exists: a tree of the start symbol over n bytes has at most 512 nodes.
 pub fn exists(tables: &Tables, start: usize, n: usize) -> bool
@@ -71,9 +88,7 @@ pub fn first_made(
         (now (out .entry)) (now (out .exit)) (handingOf a) ⌝ }
 {
     if exists(tables, start, n) {
-        Handed::Nodes(write_first(
-            p, rules, fits, chart, tables, start, n, out,
-        ))
+        Handed::Nodes(write_first(p, rules, fits, chart, tables, start, n, out))
     } else {
         Handed::Refused(Refusal::OnlyLargerTrees)
     }

@@ -8,8 +8,8 @@ use Rattle.first.proofs.Handing.{made-tree}
 use Rattle.first.proofs.first_tree.Statement.{statement}
 use Rattle.first.proofs.first_tree.Tie as tie
 
-tabulate-requires : tie.Need-tabulate-requires
-tabulate-requires c κs = (search needs, search needs, search needs, length-replicate {A = ℕ} tablesSize 0)
+build-requires : tie.Need-build-requires
+build-requires c κs = (search needs, search needs, length-replicate {A = ℕ} tablesSize 0, search needs, search needs)
 
 returns : tie.Need-returns
 returns c = search (needs, made-tree)
@@ -19,8 +19,7 @@ first-tree-spec =
     tie.close
     (tie.spec
     (λ c κs. search needs)
-    (λ c κs. search needs)
-    tabulate-requires
+    build-requires
     (λ c κs. search needs)
     (λ c. search needs)
     returns)
