@@ -24,6 +24,7 @@ use Rattle.first.specs.Made.{FirstMade, FirstWritten}
 use Rattle.first.specs.Stub.{Tabulated, Given, FirstAt, NodeFirst}
 use Rattle.first.proofs.Chart.{fit-told}
 use Rattle.first.proofs.Front.{front-put}
+use Rattle.first.proofs.Input.{tabulated-input}
 use Rattle.first.proofs.Root.{first-many, first-handed}
 
 -- v is the cost, read and widened
@@ -76,7 +77,7 @@ pub built : (p w : List ℕ) (rules : ℕ) (fits chart tables : List ℕ) → le
 built p w rules fits chart tables h told cells (few, past) T =
     let fitting = fit-told p w fits h told in (
       few,
-      record { past = past; told = fitting; cells = cells; exact = T .exact w refl past fitting cells },
+      record { past = past; told = fitting; cells = cells; exact = tabulated-input w p rules fits chart (length w) tables T past fitting cells },
     )
 
 pub made-tree : (p w : List ℕ) (s rules : ℕ) (fits chart tables out₀ out : List ℕ) (a : Answer Handing)

@@ -1,5 +1,6 @@
 -- Laws of first.
 pub mod Chart
+pub mod Input
 pub mod Front
 pub mod Past
 pub mod Root

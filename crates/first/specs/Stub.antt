@@ -1,21 +1,26 @@
 -- stubs
 -- Assumes nothing.
 use Prim.Native.Nat.{ℕ, _+_, _*_, _-_, _≤_, _<_}
+use mathlib.Core.Bool.{Bool, true}
 use mathlib.Core.List.{List}
 use mathlib.Core.Path.{_≡_}
 use lib.ListN.{length, getD}
 use Rattle.chart.specs.Cell.{fitsAt}
-use Rattle.costs.specs.Span.{bytesOf, FreeTree, Least}
+use Rattle.costs.specs.Cut.{Fit}
+use Rattle.costs.specs.Span.{bytesOf, Tells, FreeTree, Least}
 use Rattle.cfg.specs.Tree.{Forest}
 use Rattle.enumeration.specs.Order.{Min}
 use Rattle.enumeration.specs.Rows.{Tree}
 use Rattle.tables.specs.Layout.{tablesSize}
 use Rattle.tables.specs.Exact.{Packing, PastLast, FitTold, ChartTrue, Exact}
 
+abbrev pub Standing : (ℕ → ℕ → Bool) → ℕ → ℕ → Type 0
+Standing can a m = can a m ≡ true
+
 pub record Tabulated (p : List ℕ) (rules : ℕ) (fits chart : List ℕ) (n : ℕ) (tables : List ℕ) : Type 0 where
   pub long : length tables ≡ tablesSize
-  pub exact : (w : List ℕ) → length w ≡ n → PastLast p rules → FitTold (fitsAt w) p fits n → ChartTrue p (bytesOf w) chart n
-      → Exact (fitsAt w) (bytesOf w) p n tables
+  pub exact : (fit : Fit) (can : ℕ → ℕ → Bool) → Tells fit (Standing can) → PastLast p rules → FitTold fit p fits n
+      → ChartTrue p (Standing can) chart n → Exact fit (Standing can) p n tables
 
 pub record Given (p : List ℕ) (rules : ℕ) (fits chart tables w : List ℕ) : Type 0 where
   pub past : PastLast p rules
