@@ -3,3 +3,4 @@ pub mod Entries
 pub mod Sums
 pub mod Through
 pub mod Filling
+pub mod Bares

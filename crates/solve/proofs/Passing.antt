@@ -1,0 +1,87 @@
+-- A pass over the rules, and passes until one changes nothing.
+-- Assumes nothing.
+use Prim.Native.Nat.{ℕ, _+_, _≤_, _<_}
+use mathlib.Core.Bool.{Bool, true, false, not, true≢false, Bool·not-not}
+use mathlib.Core.List.{List}
+use mathlib.Core.Path.{_≡_, refl, sym, ap, subst, _∙_}
+use native.Mathlib.Decide.{ℕ-discrete, decLt}
+use native.Mathlib.Omega.{arith}
+use lib.ListN.{replicate, length-replicate, getD-replicate}
+use Rattle.sizes.specs.Sizes.{tooMany}
+use Rattle.tables.specs.Layout.{fullIn}
+use Rattle.tables.proofs.Entries.{full-read, full-none}
+use Rattle.solve.specs.Solve.{total, Numbers, AllReached, Settled, Improved, Passed, Solved}
+
+-- ---- one pass
+
+module _ (p : List ℕ) (cell mask : ℕ) (tables : List ℕ) (i j : ℕ) (full₀ : List ℕ) where
+  pub passed-start : Numbers full₀ → Passed p 0 cell mask tables i j full₀ full₀ false
+  passed-start N = record {
+    numbers = N;
+    reached = λ A. A;
+    less = λ x. absurd (true≢false (sym x));
+    same = λ _. refl;
+    settled = λ _ r h. absurd (omega arith);
+  }
+
+  module _ (full full' : List ℕ) {m : ℕ} {changed b : Bool} (S : Passed p m cell mask tables i j full₀ full changed)
+      (I : Improved p m cell mask tables i j full full' b) where
+    -- the sum before rule m is at most that at the start
+    fallen : (c : Bool) → changed ≡ c → total full ≤ total full₀
+    fallen true e = let h = S .less e in omega arith
+    fallen false e = omega (arith, ap total (S .same e))
+
+    pub passed-changed : {x : Bool} → b ≡ true → x ≡ true → Passed p (m + 1) cell mask tables i j full₀ full' x
+    passed-changed e f = rw f (record {
+      numbers = I .numbers;
+      reached = λ A. I .reached (S .reached A);
+      less = λ _. let h = I .less e in omega (arith, fallen changed refl);
+      same = λ x. absurd (true≢false x);
+      settled = λ x. absurd (true≢false x);
+    })
+
+    pub passed-kept : {x : Bool} → b ≡ false → x ≡ changed → Passed p (m + 1) cell mask tables i j full₀ full' x
+    passed-kept e f = rw f (record {
+      numbers = I .numbers;
+      reached = λ A. I .reached (S .reached A);
+      less = λ x. let h = S .less x in omega (arith, ap total (I .same e));
+      same = λ x. I .same e ∙ S .same x;
+      settled = λ x r h. go x r h (ℕ-discrete r m);
+    })
+      where
+        go : changed ≡ false → (r : ℕ) → r < m + 1 → Dec (r ≡ m) → Settled p r cell mask tables i j full'
+        go x r h (yes d) = subst (λ (y : ℕ). Settled p y cell mask tables i j full') (sym d) (I .settled e)
+        go x r h (no d) =
+            let c : ¬ (r ≡ m) = d in
+            subst (Settled p r cell mask tables i j) (sym (I .same e)) (S .settled x r (omega arith))
+
+  pub passed-end : {full : List ℕ} {m rules : ℕ} {changed : Bool} → m ≤ rules → rules ≤ m
+      → Passed p m cell mask tables i j full₀ full changed → Passed p rules cell mask tables i j full₀ full changed
+  passed-end {m = m} {rules} h l S = let e : m ≡ rules = omega arith in rw e at S
+
+-- ---- until nothing changes
+
+full-none-yet : (k : ℕ) → fullIn (replicate 32 tooMany) k ≡ tooMany
+full-none-yet k = go (decLt k 32)
+  where
+    go : Dec (k < 32) → fullIn (replicate 32 tooMany) k ≡ tooMany
+    go (yes h) = sym (full-read (replicate 32 tooMany) k h) ∙ getD-replicate 32 k tooMany 0 h
+    go (no h) = let l : 32 ≤ k = omega arith in sym (full-none (replicate 32 tooMany) k l)
+
+pub numbers-none : Numbers (replicate 32 tooMany)
+numbers-none = record { long = length-replicate 32 tooMany; capped = λ k. omega (arith, full-none-yet k) }
+
+module _ (p : List ℕ) (mask : ℕ) (tables : List ℕ) (i j : ℕ) where
+  pub reached-none : AllReached p mask tables i j (replicate 32 tooMany)
+  reached-none = record { at = λ fit least R k h. absurd (omega (arith, full-none-yet k)) }
+
+  module _ {rules cell : ℕ} (full full' : List ℕ) {b : Bool} (S : Passed p rules cell mask tables i j full full' b) where
+    pub reached-less : not b ≡ false → total full' < total full
+    reached-less e = S .less (sym (Bool·not-not b) ∙ ap not e)
+
+    module _ (A : AllReached p mask tables i j full) where
+      pub reached-step : AllReached p mask tables i j full'
+      reached-step = S .reached A
+
+      pub solved-last : not b ≡ true → Solved p rules cell mask tables i j full'
+      solved-last e = record { numbers = S .numbers; reached = reached-step; settled = S .settled (sym (Bool·not-not b) ∙ ap not e) }

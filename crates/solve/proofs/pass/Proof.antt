@@ -1,0 +1,31 @@
+-- `solve::pass` meets its contract. The loop's invariant: the same of the rules passed. The measure is what is left of the rules.
+-- Assumes nothing.
+use Prim.Native.Nat.{_-_, _≤_}
+use mathlib.Core.Logic.{⊎-elim}
+use borrow.Author.Needs.{needs}
+use Rattle.solve.specs.Solve.{Passed}
+use Rattle.solve.proofs.Passing.{passed-start, passed-changed, passed-kept, passed-end}
+use Rattle.solve.proofs.pass.Statement.{statement}
+use Rattle.solve.proofs.pass.Tie as tie
+
+abbrev Inv-loop : tie.InvT-loop
+Inv-loop p rules cell mask tables i j full₀ changed₀ r₀ full changed r = (r ≤ rules) × Passed p r cell mask tables i j full₀ full changed
+
+abbrev μ-loop : tie.MeasureT-loop
+μ-loop p rules cell mask tables i j full₀ changed₀ r₀ full changed r = rules - r
+
+loop-again : tie.Need-loop-again Inv-loop μ-loop
+loop-again c = ⊎-elim (λ w. search (needs, passed-changed)) (λ w. search (needs, passed-kept)) (c .if1 .came)
+
+pub pass-spec : {M : Type 1} → statement M
+pass-spec =
+    tie.close
+    (tie.spec
+    Inv-loop
+    μ-loop
+    (λ c. search (needs, passed-start))
+    (λ c κs. search needs)
+    (λ c. search needs)
+    (λ c. search needs)
+    loop-again
+    (λ c. search (needs, passed-end)))

@@ -1,0 +1,2 @@
+-- The least numbers of nodes over one whole span.
+pub mod Solve

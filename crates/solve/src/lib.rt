@@ -1,0 +1,109 @@
+// The least numbers of nodes over one whole span: passes of the rules, from too many everywhere on, until a pass changes nothing.
+use packed::Packed;
+use tables::alone::rule_empty;
+use tables::bare::bare;
+use tables::layout::Full;
+use tables::layout::Tables;
+use tables::least::TOO_MANY;
+use tables::rule::rule_cost;
+ghost use Prim.Native.Nat.{_<_, _≤_};
+ghost use Rattle.solve.specs.Solve.{RuleOver, Wanted, Numbers, Improved, Passed, Solved};
+
+// The cost of rule r over the span from i to j, the node included: over no byte that of its places together, else by the table of costs
+// without a child over the whole span and through its places.
+pub fn rule_over(p: &Packed, r: usize, full: &Full, tables: &Tables, i: usize, j: usize) -> u16
+    requires { ⌜ (r < 128) × (i ≤ j) × (j < 65) ⌝ }
+    ensures { λ v. ⌜ RuleOver (now (p .entry)) r (now (full .entry)) (now (tables .entry)) i j v ⌝ }
+{
+    if i < j {
+        rule_cost(p, r, full, tables, bare(tables, i, j, r))
+    } else {
+        rule_empty(p, r, full)
+    }
+}
+
+// Whether the number of the nonterminal k is looked for: k is in the cell and not in the mask.
+fn wanted(k: usize, cell: u32, mask: u32) -> bool
+    requires { ⌜ k < 32 ⌝ }
+    ensures { λ b. ⌜ Wanted k cell mask b ⌝ }
+{
+    if sets::has(cell, k) {
+        return !sets::has(mask, k);
+    }
+    false
+}
+
+// Rule r at its left side's number. Says whether that got lower.
+fn improve(
+    p: &Packed,
+    r: usize,
+    cell: u32,
+    mask: u32,
+    tables: &Tables,
+    i: usize,
+    j: usize,
+    full: &mut Full,
+) -> bool
+    requires { ⌜ (r < 128) × (i ≤ j) × (j < 65) × Numbers (now full) ⌝ }
+    ensures { λ b.
+        ⌜ Improved (now (p .entry)) r cell mask (now (tables .entry)) i j (now (full .entry)) (now (full .exit)) b ⌝ }
+{
+    let k = packed::left(p, r);
+    if k < sizes::NONTERMINALS {
+        if wanted(k, cell, mask) {
+            let v = rule_over(p, r, full, tables, i, j);
+            if v < full[k] {
+                full[k] = v;
+                return true;
+            }
+        }
+    }
+    false
+}
+
+// The rules below a number, once. Says whether a number got lower.
+fn pass(
+    p: &Packed,
+    rules: usize,
+    cell: u32,
+    mask: u32,
+    tables: &Tables,
+    i: usize,
+    j: usize,
+    full: &mut Full,
+) -> bool
+    requires { ⌜ (rules ≤ 128) × (i ≤ j) × (j < 65) × Numbers (now full) ⌝ }
+    ensures { λ b.
+        ⌜ Passed (now (p .entry)) rules cell mask (now (tables .entry)) i j (now (full .entry)) (now (full .exit)) b ⌝ }
+{
+    let mut changed = false;
+    let mut r = 0;
+    while r < rules {
+        if improve(p, r, cell, mask, tables, i, j, full) {
+            changed = true;
+        }
+        r += 1;
+    }
+    changed
+}
+
+// These rules, until a pass changes nothing.
+pub fn solve(
+    p: &Packed,
+    rules: usize,
+    cell: u32,
+    mask: u32,
+    tables: &Tables,
+    i: usize,
+    j: usize,
+) -> Full
+    requires { ⌜ (rules ≤ 128) × (i ≤ j) × (j < 65) ⌝ }
+    ensures { λ full. ⌜ Solved (now (p .entry)) rules cell mask (now (tables .entry)) i j full ⌝ }
+{
+    let mut full = [TOO_MANY; sizes::NONTERMINALS];
+    loop {
+        if !pass(p, rules, cell, mask, tables, i, j, &mut full) {
+            return full;
+        }
+    }
+}

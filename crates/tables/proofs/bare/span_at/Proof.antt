@@ -1,0 +1,21 @@
+-- `tables::bare::span_at` meets its contract.
+-- Assumes nothing.
+use borrow.Author.Needs.{needs}
+use Rattle.tables.proofs.Bares.{span-low, span-high}
+use Rattle.tables.proofs.bare.span_at.Statement.{statement}
+use Rattle.tables.proofs.bare.span_at.Tie as tie
+
+pub span-at-spec : {M : Type 1} → statement M
+span-at-spec =
+    tie.close
+    (tie.spec
+    (λ c. search needs)
+    (λ c. search needs)
+    (λ c. search needs)
+    (λ c. search needs)
+    (λ c. search needs)
+    (λ c. search needs)
+    (λ c. search needs)
+    (λ c. search needs)
+    (λ c. (search (needs, span-low), search needs))
+    (λ c. (search (needs, span-high), search needs)))
