@@ -13,6 +13,7 @@ use Rattle.sets.specs.Set.{empty}
 use Rattle.costs.specs.Span.{bytesOf, Least}
 use Rattle.costs.specs.Span.{Tree as SpanTree}
 use Rattle.costs.proofs.Plain.{unmasked-least}
+use Rattle.descend.specs.Descend.{Given, FirstAt, NodeFirst}
 use Rattle.enumeration.specs.Rows.{Tree}
 use Rattle.fit.specs.Fit.{Told}
 use Rattle.packed.specs.Packed.{cfgIn}
@@ -21,7 +22,7 @@ use Rattle.tables.specs.Layout.{costIn}
 use Rattle.tables.specs.Exact.{Packing, PastLast, ChartTrue}
 use Rattle.first.specs.Answer.{enumerationOf, firstTree}
 use Rattle.first.specs.Made.{FirstMade, FirstWritten}
-use Rattle.first.specs.Stub.{Tabulated, Given, FirstAt, NodeFirst}
+use Rattle.first.specs.Stub.{Tabulated}
 use Rattle.first.proofs.Chart.{fit-told}
 use Rattle.first.proofs.Front.{front-put}
 use Rattle.first.proofs.Input.{tabulated-input}

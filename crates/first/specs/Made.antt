@@ -5,11 +5,11 @@ use mathlib.Core.List.{List}
 use mathlib.Core.Path.{_≡_}
 use lib.ListN.{length}
 use Rattle.sizes.specs.Sizes.{maxNodes}
+use Rattle.descend.specs.Descend.{Given}
 use Rattle.packed.specs.Packed.{cfgIn}
 use Rattle.results.specs.Answer.{Answer, Handing, answered, handed}
 use Rattle.tables.specs.Layout.{costIn}
 use Rattle.first.specs.Answer.{enumerationOf, firstTree}
-use Rattle.first.specs.Stub.{Given}
 
 -- the answer and the output left are those of the first derivation of any input of n bytes that the tables are made for
 pub record FirstMade (p : List ℕ) (rules : ℕ) (fits chart tables : List ℕ) (s n : ℕ) (out₀ out : List ℕ) (a : Answer Handing) : Type 0 where

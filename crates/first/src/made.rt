@@ -1,7 +1,8 @@
 // The tables of an input, and first over tables that are made: whether there is a derivation, and the first one.
 use super::Handed;
 use super::rules::rules_end;
-use super::stub;
+use super::stub::tabulate;
+use descend::first::node;
 use fit::FitTable;
 use grammar::Refusal;
 use numbers::wide;
@@ -14,12 +15,12 @@ ghost use lib.Dec.{leb};
 ghost use lib.ListN.{length};
 ghost use Rattle.sizes.specs.Sizes.{maxNodes};
 ghost use Rattle.costs.specs.Span.{bytesOf};
+ghost use Rattle.descend.specs.Descend.{Given};
 ghost use Rattle.fit.specs.Fit.{Told};
 ghost use Rattle.tables.specs.Exact.{ChartTrue};
 ghost use Rattle.tables.specs.Layout.{costIn, tablesSize};
 ghost use Rattle.first.specs.Answer.{handingOf};
 ghost use Rattle.first.specs.Made.{FirstMade, FirstWritten};
-ghost use Rattle.first.specs.Stub.{Given};
 
 // Makes the tables of the input, for which the chart is filled and the fit table made. Answers one past the last number that has a rule.
 pub fn build(p: &Packed, input: &[u8], fits: &FitTable, chart: &[u32], tables: &mut Tables) -> usize
@@ -29,7 +30,7 @@ pub fn build(p: &Packed, input: &[u8], fits: &FitTable, chart: &[u32], tables: &
         × Given (now (p .entry)) rules (now (fits .entry)) (now (chart .entry)) (now (tables .exit)) (now (input .entry)) ⌝ }
 {
     let rules = rules_end(p);
-    stub::tabulate(p, rules, fits, chart, input.len(), tables);
+    tabulate(p, rules, fits, chart, input.len(), tables);
     rules
 }
 
@@ -56,7 +57,7 @@ pub fn write_first(
     ensures { λ m. ⌜ FirstWritten (now (p .entry)) rules (now (fits .entry)) (now (chart .entry)) (now (tables .entry)) start n
         (now (out .entry)) (now (out .exit)) m ⌝ }
 {
-    stub::node(
+    node(
         p,
         rules,
         fits,
