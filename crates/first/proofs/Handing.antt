@@ -20,9 +20,9 @@ use Rattle.packed.specs.Packed.{cfgIn}
 use Rattle.results.specs.Answer.{Answer, Handing, refused, answered, handed}
 use Rattle.tables.specs.Layout.{costIn}
 use Rattle.tables.specs.Exact.{Packing, PastLast, ChartTrue}
+use Rattle.tabulate.specs.Spans.{Tabulated}
 use Rattle.first.specs.Answer.{enumerationOf, firstTree}
 use Rattle.first.specs.Made.{FirstMade, FirstWritten}
-use Rattle.first.specs.Stub.{Tabulated}
 use Rattle.first.proofs.Chart.{fit-told}
 use Rattle.first.proofs.Front.{front-put}
 use Rattle.first.proofs.Input.{tabulated-input}

@@ -15,7 +15,8 @@ use Rattle.chart.specs.Cell.{fitsAt}
 use Rattle.costs.specs.Span.{bytesOf, Tells, Reads, reads-end, reads-byte, Tree}
 use Rattle.costs.proofs.Span.{tells-input, least-same}
 use Rattle.tables.specs.Exact.{Packing, PastLast, FitTold, ChartTrue, Exact}
-use Rattle.first.specs.Stub.{Standing, Tabulated}
+use Rattle.tabulate.specs.Sofar.{Standing}
+use Rattle.tabulate.specs.Spans.{Tabulated}
 
 -- ---- forests over bytes that may stand in fewer places
 

@@ -16,7 +16,6 @@ ghost use Rattle.first.specs.Answer.{handingOf, enumerationOf, firstTree
 
 pub mod made;
 pub mod rules;
-mod stub;
 
 // How many nodes the derivation handed out has, that there is none, or why the call was refused.
 pub enum Handed {

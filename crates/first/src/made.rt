@@ -1,7 +1,6 @@
 // The tables of an input, and first over tables that are made: whether there is a derivation, and the first one.
 use super::Handed;
 use super::rules::rules_end;
-use super::stub::tabulate;
 use descend::first::node;
 use fit::FitTable;
 use grammar::Refusal;
@@ -9,6 +8,7 @@ use numbers::wide;
 use packed::Packed;
 use tables::layout::Tables;
 use tables::layout::cost;
+use tabulate::ends::tabulate;
 ghost use mathlib.Core.Path.{_≡_};
 ghost use Prim.Native.Nat.{_<_, _≤_};
 ghost use lib.Dec.{leb};
