@@ -1,0 +1,8 @@
+-- Laws of first.
+pub mod Chart
+pub mod Input
+pub mod Front
+pub mod Past
+pub mod Root
+pub mod Handing
+pub mod Calls
