@@ -89,6 +89,29 @@ impl Reader for Library {
         told(filbozseg::same_build(&Grammar::from_row(grammar), input, one, other, chart))
     }
 
+    #[cfg(feature = "first")]
+    fn first(
+        &self,
+        grammar: &FlatGrammar,
+        input: &[u8],
+        chart: &mut [u32],
+        out: &mut [u16],
+        nodes: &mut usize,
+    ) -> Answer {
+        let ((w, n), (c, m), (o, l)) =
+            ((input.as_ptr(), input.len()), (chart.as_mut_ptr(), chart.len()), (out.as_mut_ptr(), out.len()));
+        match said(lend(nodes, |nodes| unsafe { sys::filbozseg_first(grammar, w, n, c, m, o, l, nodes) })) {
+            Answer::Yes => Answer::Nodes(*nodes),
+            Answer::No => Answer::NoDerivation,
+            refused => refused,
+        }
+    }
+
+    #[cfg(not(feature = "first"))]
+    fn first(&self, _: &FlatGrammar, _: &[u8], _: &mut [u32], _: &mut [u16], _: &mut usize) -> Answer {
+        unimplemented!("the feature `first` is off")
+    }
+
     fn lists(&self) -> bool {
         false
     }

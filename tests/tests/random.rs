@@ -4,7 +4,7 @@
 use outside_tests::books::book;
 use outside_tests::compare::{compare_book, Counts};
 use outside_tests::reader::Reader;
-use outside_tests::reader_under_test;
+use outside_tests::{reader_under_test, FIRST};
 use std::time::Instant;
 
 /// Books compared in a run.
@@ -110,13 +110,23 @@ const OUT_OF_RANGE: &[(&str, u64)] = &[
 /// A mark up to 255 is in range, so is the low byte of any, and one over is 256.
 const NO_SUCH: &[&str] = &["a mark, up to 255", "a mark, 256", "a mark, low byte out of range"];
 
+/// The same for a reader that has first.
+const DUE_FIRST: &[(&str, u64)] = &[
+    ("first: handed out", 2000),
+    ("first: no reading", 1000),
+    ("first: refused 8", 3000),
+    ("first: refused 9", 2000),
+    ("first: refused 10", 500),
+    ("first: refused 11", 300),
+    ("first: refused 13", 50),
+];
+
 /// The same for a reader that lists.
 const DUE_LISTING: &[(&str, u64)] = &[
     ("walk: First", 3000),
     ("walk: NextWithCopy", 5000),
     ("walk: NextWithNoDerivation", 800),
     ("walk: Count", 1000),
-    ("first: refused 11", 300),
     ("next: refused 11", 300),
     ("count: refused 10", 500),
 ];
@@ -145,7 +155,8 @@ fn random_books() {
         println!("{count:8}  {name}");
     }
     let listing = if reader_under_test().lists() { DUE_LISTING } else { &[] };
-    for (name, due) in DUE.iter().chain(listing) {
+    let first = if FIRST { DUE_FIRST } else { &[] };
+    for (name, due) in DUE.iter().chain(first).chain(listing) {
         assert!(counts.get(name) >= *due, "{name}: came up {} times, due {due}", counts.get(name));
     }
     for (number, (how, due)) in JUDGED.iter().flat_map(|number| OUT_OF_RANGE.iter().map(move |how| (number, how))) {
