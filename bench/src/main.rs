@@ -2,10 +2,15 @@
 //! run on both sides and the results are held equal (codes, flat rows, offsets, hands, all words of the chart); only
 //! then is it timed.
 
+#[cfg_attr(not(feature = "first"), allow(dead_code))]
 mod books;
 mod calls;
+#[cfg(feature = "first")]
+mod firsts;
+#[cfg_attr(not(feature = "first"), allow(dead_code))]
 mod plain;
 mod random;
+#[cfg_attr(not(feature = "first"), allow(dead_code))]
 mod timing;
 
 use books::{A, P};
@@ -379,13 +384,17 @@ fn sweep(count: usize) {
 }
 
 fn main() {
-    let count = std::env::args().nth(1).map_or(200, |n| n.parse().expect("usage: bench [BOOKS IN THE SWEEP]"));
+    let count = std::env::args().nth(1).map_or(200, |n| n.parse().expect("usage: bench [BOOKS IN THE SWEEP [first]]"));
     println!(
         "The proved library (C functions of libfilbozseg.a) beside the same algorithms in plain Rust. Load average {}.",
         load_average()
     );
     println!("Times are wall clock, a call: the median over batches run in turn, then the least batch; ratio = proved / plain.");
     println!("On a machine that does other work too, go by the least.");
+    #[cfg(feature = "first")]
+    if std::env::args().nth(2).is_some_and(|only| only == "first") {
+        return firsts::firsts(count / 10);
+    }
     loads();
     println!("\nBOOKS of the fill, 64 marks each; results are equal on both sides");
     let list = cases();
@@ -393,6 +402,8 @@ fn main() {
     takes(&list[..2]);
     overheads(&list);
     checks();
+    #[cfg(feature = "first")]
+    firsts::firsts(count / 10);
     if count > 0 {
         sweep(count);
     }
