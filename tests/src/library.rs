@@ -49,6 +49,22 @@ fn lend<T: Copy>(place: &mut T, call: impl FnOnce(*mut T) -> u32) -> u32 {
     code
 }
 
+/// Ends the run, saying so, if the call takes longer than 20 s: a search that blows up fails, and does not hang.
+#[cfg(feature = "first")]
+fn capped<T>(call: impl FnOnce() -> T) -> T {
+    let (done, waited) = std::sync::mpsc::channel::<()>();
+    let watch = std::thread::spawn(move || {
+        if waited.recv_timeout(std::time::Duration::from_secs(20)) == Err(std::sync::mpsc::RecvTimeoutError::Timeout) {
+            eprintln!("a call takes longer than 20 s");
+            std::process::abort();
+        }
+    });
+    let answer = call();
+    drop(done);
+    watch.join().expect("the watch ends");
+    answer
+}
+
 // Safety, of each call: the pointers are those of live values of these lengths, and those that are written overlap nothing.
 impl Reader for Library {
     fn load(&self, book: &[u8], grammar: &mut FlatGrammar, offset: &mut usize) -> Answer {
@@ -100,7 +116,8 @@ impl Reader for Library {
     ) -> Answer {
         let ((w, n), (c, m), (o, l)) =
             ((input.as_ptr(), input.len()), (chart.as_mut_ptr(), chart.len()), (out.as_mut_ptr(), out.len()));
-        match said(lend(nodes, |nodes| unsafe { sys::filbozseg_first(grammar, w, n, c, m, o, l, nodes) })) {
+        let call = |nodes| unsafe { sys::filbozseg_first(grammar, w, n, c, m, o, l, nodes) };
+        match said(capped(|| lend(nodes, call))) {
             Answer::Yes => Answer::Nodes(*nodes),
             Answer::No => Answer::NoDerivation,
             refused => refused,
