@@ -16,13 +16,9 @@ enum { KIB = 1024, PAGE = 4096, LARGE = 4096 * KIB, KNOWN = 100 * KIB, PAINT = 0
 
 static uint8_t book[2563], plate[FILBOZSEG_BYTES];
 static uint16_t full[FILBOZSEG_ROW], deep[FILBOZSEG_ROW], wide[FILBOZSEG_ROW], left[FILBOZSEG_ROW], hand[FILBOZSEG_HAND];
-static uint16_t nested[FILBOZSEG_OUTPUT];
-#ifdef FIRST /* -DFIRST where the static library has filbozseg_first */
-static uint16_t output[FILBOZSEG_OUTPUT];
-static size_t nodes;
-#endif
+static uint16_t nested[FILBOZSEG_OUTPUT], output[FILBOZSEG_OUTPUT];
 static uint32_t chart[FILBOZSEG_CELLS], code;
-static size_t offset, size;
+static size_t offset, size, nodes;
 static int32_t tenths;
 static ucontext_t home, away;
 
@@ -51,7 +47,6 @@ static void build_deep(void)
 {
     code = filbozseg_same_build(deep, plate, 64, nested, 1024, nested, 1024, chart, FILBOZSEG_CELLS);
 }
-#ifdef FIRST
 static void first_in(const uint16_t *grammar)
 {
     nodes = 0;
@@ -65,7 +60,6 @@ static void first_deep(void)
         code = ~0u;
 }
 static void first_wide(void) { first_in(wide); }
-#endif
 
 /* What is to be answered, and within how many bytes. The first is no call of the library: it shows that the measuring measures. */
 static const struct {
@@ -82,10 +76,8 @@ static const struct {
     {"check full", check_full, 0, FILBOZSEG_CHECK_STACK},
     {"length", length_deep, 1, FILBOZSEG_LENGTH_STACK},
     {"same build", build_deep, 1, FILBOZSEG_SAME_BUILD_STACK},
-#ifdef FIRST
     {"first deep", first_deep, 1, FILBOZSEG_FIRST_STACK},
     {"first full", first_wide, 1, FILBOZSEG_FIRST_STACK},
-#endif
 };
 enum { CALLS = sizeof calls / sizeof calls[0] };
 

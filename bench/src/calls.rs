@@ -2,7 +2,6 @@
 //! grammar is a flat row, which each call reads anew, and an answer is a number: 0 no; 1 yes, loaded, measured or handed
 //! out; 256 + n refusal n.
 
-#[cfg(feature = "first")]
 use crate::plain::enumerator;
 use crate::plain::flat::{self, FLAT};
 pub use crate::plain::hand::Hand;
@@ -18,7 +17,6 @@ pub trait Reader {
     fn check(flat: &Flat, input: &[u8], offered: &[u16], chart: &mut [u32]) -> u32;
     fn length(flat: &Flat, input: &[u8], offered: &[u16], chart: &mut [u32], tenths: &mut i32) -> u32;
     fn same_build(flat: &Flat, input: &[u8], a: &[u16], b: &[u16], chart: &mut [u32]) -> u32;
-    #[cfg(feature = "first")]
     fn first(flat: &Flat, input: &[u8], chart: &mut [u32], out: &mut [u16], nodes: &mut usize) -> u32;
 
     /// Opening, and then taking each byte of the input: the answers.
@@ -67,7 +65,6 @@ mod c {
             chart: *mut u32,
             length: usize,
         ) -> u32;
-        #[cfg(feature = "first")]
         pub fn filbozseg_first(
             grammar: *const u16,
             input: *const u8,
@@ -127,7 +124,6 @@ impl Reader for Proved {
         }
     }
 
-    #[cfg(feature = "first")]
     fn first(flat: &Flat, input: &[u8], chart: &mut [u32], out: &mut [u16], nodes: &mut usize) -> u32 {
         let (w, sheet, e) = (input.as_ptr(), chart.as_mut_ptr(), out.as_mut_ptr());
         unsafe { c::filbozseg_first(flat.as_ptr(), w, input.len(), sheet, chart.len(), e, out.len(), nodes) }
@@ -191,7 +187,6 @@ impl Reader for Plain {
         code(checker::same_build(&flat::read(flat), input, a, b, chart))
     }
 
-    #[cfg(feature = "first")]
     fn first(flat: &Flat, input: &[u8], chart: &mut [u32], out: &mut [u16], nodes: &mut usize) -> u32 {
         match enumerator::first(&flat::read(flat), input, chart, out) {
             Ok(Some(handed)) => {

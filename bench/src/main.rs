@@ -2,15 +2,11 @@
 //! run on both sides and the results are held equal (codes, flat rows, offsets, hands, all words of the chart); only
 //! then is it timed.
 
-#[cfg_attr(not(feature = "first"), allow(dead_code))]
 mod books;
 mod calls;
-#[cfg(feature = "first")]
 mod firsts;
-#[cfg_attr(not(feature = "first"), allow(dead_code))]
 mod plain;
 mod random;
-#[cfg_attr(not(feature = "first"), allow(dead_code))]
 mod timing;
 
 use books::{A, P};
@@ -391,7 +387,6 @@ fn main() {
     );
     println!("Times are wall clock, a call: the median over batches run in turn, then the least batch; ratio = proved / plain.");
     println!("On a machine that does other work too, go by the least.");
-    #[cfg(feature = "first")]
     if std::env::args().nth(2).is_some_and(|only| only == "first") {
         return firsts::firsts(count / 10);
     }
@@ -402,7 +397,6 @@ fn main() {
     takes(&list[..2]);
     overheads(&list);
     checks();
-    #[cfg(feature = "first")]
     firsts::firsts(count / 10);
     if count > 0 {
         sweep(count);

@@ -29,7 +29,6 @@ pub const HAND: usize = BYTES + 1;
 const NO_NUMBER: u16 = u16::MAX;
 const NO_OFFSET: usize = usize::MAX;
 const NO_TENTHS: i32 = i32::MIN;
-#[cfg(feature = "first")]
 const NO_NODES: usize = usize::MAX / 2;
 
 /// A grammar, as the row of numbers in which it crosses: start symbol, number of rules, nullable depth, and 19 numbers for each of 128
@@ -191,7 +190,6 @@ pub fn same_build(grammar: &Grammar, input: &[u8], a: &[u16], b: &[u16], chart: 
 /// left as found. Refused, or without a derivation, the output is left as found.
 ///
 /// The call needs up to 1,900 KiB of stack, as `include/filbozseg.h` says; a thread of Rust has 2 MiB by default.
-#[cfg(feature = "first")]
 pub fn first<'a>(
     grammar: &Grammar,
     input: &[u8],

@@ -56,7 +56,6 @@ extern "C" {
         chart_length: usize,
     ) -> u32;
 
-    #[cfg(feature = "first")]
     pub fn filbozseg_first(
         grammar: *const [u16; ROW],
         input: *const u8,

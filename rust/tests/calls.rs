@@ -153,10 +153,8 @@ fn offered_rows_are_checked_measured_and_compared() {
 }
 
 /// Numbers of an output past those that are asked for, and what they all hold before a call.
-#[cfg(feature = "first")]
 const UNWRITTEN: [u16; OUTPUT + 2] = [9; OUTPUT + 2];
 
-#[cfg(feature = "first")]
 #[test]
 fn the_first_derivation_is_handed_out_or_none() {
     let (grammar, mut chart, mut output) = (load(T).unwrap(), chart(), UNWRITTEN);
@@ -176,7 +174,6 @@ fn the_first_derivation_is_handed_out_or_none() {
     assert_eq!(chart, filled);
 }
 
-#[cfg(feature = "first")]
 #[test]
 fn a_refused_first_leaves_the_output() {
     let (grammar, mut chart, mut output) = (load(T).unwrap(), chart(), UNWRITTEN);

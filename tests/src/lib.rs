@@ -13,9 +13,6 @@ pub mod library;
 pub mod lister;
 pub mod reader;
 
-/// Whether the code under test has the call first.
-pub const FIRST: bool = cfg!(any(feature = "first", not(feature = "library")));
-
 /// The code under test: the lister itself, or the proved library with the
 /// feature `library`.
 #[cfg(not(feature = "library"))]

@@ -50,7 +50,6 @@ fn lend<T: Copy>(place: &mut T, call: impl FnOnce(*mut T) -> u32) -> u32 {
 }
 
 /// Ends the run, saying so, if the call takes longer than 20 s: a search that blows up fails, and does not hang.
-#[cfg(feature = "first")]
 fn capped<T>(call: impl FnOnce() -> T) -> T {
     let (done, waited) = std::sync::mpsc::channel::<()>();
     let watch = std::thread::spawn(move || {
@@ -105,7 +104,6 @@ impl Reader for Library {
         told(filbozseg::same_build(&Grammar::from_row(grammar), input, one, other, chart))
     }
 
-    #[cfg(feature = "first")]
     fn first(
         &self,
         grammar: &FlatGrammar,
@@ -122,11 +120,6 @@ impl Reader for Library {
             Answer::No => Answer::NoDerivation,
             refused => refused,
         }
-    }
-
-    #[cfg(not(feature = "first"))]
-    fn first(&self, _: &FlatGrammar, _: &[u8], _: &mut [u32], _: &mut [u16], _: &mut usize) -> Answer {
-        unimplemented!("the feature `first` is off")
     }
 
     fn lists(&self) -> bool {

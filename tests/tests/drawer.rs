@@ -9,7 +9,7 @@ use outside_tests::books::{Draft, Rng, Sym};
 use outside_tests::compare::{rubbish, Comparison, Counts};
 use outside_tests::lister::{self, trees, walk::Given};
 use outside_tests::reader::{record, Answer, Reader, CELLS, FLAT, OUTPUT};
-use outside_tests::{reader_under_test, FIRST};
+use outside_tests::reader_under_test;
 
 /// Book T of document 01, in full.
 const T: [u8; 21] = [
@@ -36,9 +36,7 @@ fn listed(book: &[u8], input: &[u8]) -> Vec<Vec<u16>> {
     for reading in &list {
         assert_eq!(check(&flat, input, reading), Answer::Yes);
     }
-    if FIRST {
-        assert_eq!(first(&flat, input), lister::walk::first(&list, tree));
-    }
+    assert_eq!(first(&flat, input), lister::walk::first(&list, tree));
     if reader.lists() {
         let mut chart = rubbish(&mut Rng::new(5), CELLS);
         let due = match lister::walk::count(&list, tree) {

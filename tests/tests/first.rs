@@ -1,6 +1,6 @@
 //! First of the proved library on the books that betray a search, on full books, and
 //! at its deepest: each call on a thread of 2 MiB, Rust's default, and within 10 s.
-#![cfg(feature = "first")]
+#![cfg(feature = "library")]
 
 #[allow(dead_code)] // not all of it is called from here
 mod calls;

@@ -55,7 +55,6 @@ fn both_sides_judge_a_hand_whole_and_leave_a_refused_one() {
     }
 }
 
-#[cfg(feature = "first")]
 #[test]
 fn both_sides_hand_out_the_same_first_reading() {
     let mut random = crate::random::Random::new(11);

@@ -27,7 +27,7 @@ impl Comparison<'_> {
         filled: &[u32],
         known: First,
     ) -> Result<(), String> {
-        if !crate::FIRST || known.list.is_none() && self.reader.by_listing() {
+        if known.list.is_none() && self.reader.by_listing() {
             return Ok(());
         }
         let (mine, mut chart, found) = (self.either(flat), self.chart(), offset(&mut self.rng));

@@ -80,7 +80,7 @@ impl Comparison<'_> {
         let out = Lent::filled(length, || self.rng.next() as u16);
         let found = lent::offset(&mut self.rng);
         let names = ["first", "next", "count"];
-        for name in &names[..if self.reader.lists() { 3 } else { usize::from(crate::FIRST) }] {
+        for name in &names[..if self.reader.lists() { 3 } else { 1 }] {
             let output = if *name == "count" { OUTPUT } else { length };
             if judged(flat, input, chart.part().len(), output).is_ok() {
                 continue;
