@@ -157,7 +157,7 @@ static int load_full(void)
     return filbozseg_load(book, size, full, &offset) == 1;
 }
 
-/* 128 rules of 8 places, in every other of which a quarter of the rules have a terminal and the others all: 64 bytes have derivations. */
+/* 128 rules of 8 places: in a quarter of them every place holds a terminal, in the others every second one. 64 bytes have derivations. */
 static int load_wide(void)
 {
     size_t k, q;

@@ -185,9 +185,9 @@ pub fn same_build(grammar: &Grammar, input: &[u8], a: &[u16], b: &[u16], chart: 
 }
 
 /// The first derivation of the input, the smallest by the first number in which two differ: for each node, in preorder, how many bytes it
-/// covers and the number of its rule. It stands at the output's front; the rest of the output is left as found. None if the input has no
-/// tree at all. The chart is filled for the input, also where its trees have all more than 512 nodes (13); refused with 8, 9, 10 or 11, it is
-/// left as found. Refused, or without a derivation, the output is left as found.
+/// covers and the number of its rule. None if the input has no tree at all. It stands at the front of the output, whose rest is left as
+/// found, and all of it where the call is refused or there is none. The chart is filled for the input, also where all its trees have more
+/// than 512 nodes (13); refused with 8, 9, 10 or 11, it is left as found.
 ///
 /// The call needs up to 1,900 KiB of stack, as `include/filbozseg.h` says; a thread of Rust has 2 MiB by default.
 pub fn first<'a>(
