@@ -7,7 +7,6 @@ use checker::Measured;
 use flat::Flat;
 use grammar::Verdict;
 use loader::Outcome;
-ghost use mathlib.Core.Path.{_≡_};
 ghost use Rattle.flat.specs.Flat.{grammarIn};
 ghost use Rattle.hand.specs.Hand.{stateOfRow};
 ghost use Rattle.results.specs.Check.{checkOf};
