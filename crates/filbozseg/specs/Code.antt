@@ -4,7 +4,7 @@
 use Prim.Native.Nat.{ℕ, _+_}
 use mathlib.Core.Bool.{Bool, true, false}
 use mathlib.Core.List.{List}
-use lib.IntN.{ℤ, pos}
+use lib.IntN.{ℤ}
 use Rattle.hand.specs.Hand.{rowOf}
 use Rattle.results.specs.Answer.{Answer, refused, answered, Handing, handed, nothing, LoadAnswer, refusedAt, loaded}
 use Rattle.results.specs.Recognize.{State}

@@ -8,7 +8,6 @@ use first::Handed;
 use flat::Flat;
 use grammar::Verdict;
 use loader::Outcome;
-ghost use mathlib.Core.Path.{_≡_};
 ghost use Rattle.flat.specs.Flat.{grammarIn};
 ghost use Rattle.hand.specs.Hand.{stateOfRow};
 ghost use Rattle.results.specs.Check.{checkOf};
