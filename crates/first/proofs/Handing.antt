@@ -16,10 +16,11 @@ use Rattle.costs.proofs.Plain.{unmasked-least}
 use Rattle.descend.specs.Descend.{Given, FirstAt, NodeFirst}
 use Rattle.enumeration.specs.Rows.{Tree}
 use Rattle.fit.specs.Fit.{Told}
-use Rattle.packed.specs.Packed.{cfgIn}
+use Rattle.packed.specs.Packed.{Used, cfgIn}
+use Rattle.packed.proofs.Used.{used-past}
 use Rattle.results.specs.Answer.{Answer, Handing, refused, answered, handed}
 use Rattle.tables.specs.Layout.{costIn}
-use Rattle.tables.specs.Exact.{Packing, PastLast, ChartTrue}
+use Rattle.tables.specs.Exact.{Packing, ChartTrue}
 use Rattle.tabulate.specs.Spans.{Tabulated}
 use Rattle.first.specs.Answer.{enumerationOf, firstTree}
 use Rattle.first.specs.Made.{FirstMade, FirstWritten}
@@ -73,9 +74,10 @@ module _ (p : List ℕ) (rules : ℕ) (fits chart tables : List ℕ) (s n : ℕ)
 -- ---- the tables of an input are right for it
 
 pub built : (p w : List ℕ) (rules : ℕ) (fits chart tables : List ℕ) → length w ≤ 64 → Told p w fits
-    → ChartTrue p (bytesOf w) chart (length w) → (rules ≤ 128) × PastLast p rules → Tabulated p rules fits chart (length w) tables
+    → ChartTrue p (bytesOf w) chart (length w) → (rules ≤ 128) × Used p rules → Tabulated p rules fits chart (length w) tables
     → (rules ≤ 128) × Given p rules fits chart tables w
-built p w rules fits chart tables h told cells (few, past) T =
+built p w rules fits chart tables h told cells (few, used) T =
+    let past = used-past p rules used in
     let fitting = fit-told p w fits h told in (
       few,
       record { past = past; told = fitting; cells = cells; exact = tabulated-input w p rules fits chart (length w) tables T past fitting cells },

@@ -2,7 +2,6 @@
 pub mod Chart
 pub mod Input
 pub mod Front
-pub mod Past
 pub mod Root
 pub mod Handing
 pub mod Calls

@@ -15,7 +15,6 @@ ghost use Rattle.tables.specs.Exact.{ChartTrue};
 ghost use Rattle.first.specs.Answer.{handingOf, enumerationOf, firstTree, firstFilled};
 
 pub mod made;
-pub mod rules;
 
 // How many nodes the derivation handed out has, that there is none, or why the call was refused.
 pub enum Handed {
@@ -44,7 +43,7 @@ fn first_filled(p: &Packed, start: usize, input: &[u8], chart: &[u32], out: &mut
     ensures { λ a. ⌜ enumerationOf (handingOf a) (now (chart .entry)) (now (out .exit))
         ≡ firstFilled (cfgIn start (now (p .entry))) (now (input .entry)) (now (chart .entry)) (now (out .entry)) ⌝ }
 {
-    if recognizer::columns::complete(start, input.len(), chart) {
+    if columns::complete(start, input.len(), chart) {
         first_tree(p, start, input, chart, out)
     } else {
         Handed::Nothing

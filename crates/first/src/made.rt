@@ -1,6 +1,5 @@
 // The tables of an input, and first over tables that are made: whether there is a derivation, and the first one.
 use super::Handed;
-use super::rules::rules_end;
 use descend::first::node;
 use fit::FitTable;
 use grammar::Refusal;
@@ -29,7 +28,7 @@ pub fn build(p: &Packed, input: &[u8], fits: &FitTable, chart: &[u32], tables: &
     ensures { λ rules. ⌜ (rules ≤ 128)
         × Given (now (p .entry)) rules (now (fits .entry)) (now (chart .entry)) (now (tables .exit)) (now (input .entry)) ⌝ }
 {
-    let rules = rules_end(p);
+    let rules = packed::rule_count(p);
     tabulate(p, rules, fits, chart, input.len(), tables);
     rules
 }

@@ -9,7 +9,7 @@ returns : tie.Need-returns
 returns c =
     let after-rules = c .before .before in
     let (short, _, _, told, cells) = after-rules .before .before .before .pre in
-    built _ _ _ _ _ _ short told cells (after-rules .rules-end .ensures) (c .tabulate .ensures)
+    built _ _ _ _ _ _ short told cells (after-rules .rule-count .ensures) (c .tabulate .ensures)
 
 pub build-spec : {M : Type 1} → statement M
 build-spec = tie.close (tie.spec (λ c κs. search needs) (λ c κs. search needs) returns)
