@@ -1,11 +1,11 @@
 -- The numbers from one on have no rule, step by step from the last.
 -- Assumes nothing.
-use Prim.Native.Nat.{ℕ, _-_, _≤_, _<_}
+use Prim.Native.Nat.{ℕ, _-_, _≤_}
 use mathlib.Core.List.{List}
 use mathlib.Core.Path.{_≡_, sym, subst}
 use native.Mathlib.Decide.{ℕ-discrete}
 use native.Mathlib.Omega.{arith}
-use Rattle.sizes.specs.Sizes.{maxRules, nonterminals}
+use Rattle.sizes.specs.Sizes.{nonterminals}
 use Rattle.packed.specs.Packed.{leftIn}
 use Rattle.tables.specs.Exact.{PastLast}
 
