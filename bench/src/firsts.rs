@@ -51,8 +51,8 @@ pub fn firsts(sweep: usize) {
     heading(
         "FIRST: tables and first together",
         &[
-            "The call less its filling, on both sides: the median of the difference between the call and a check of a row of no",
-            "numbers, then the difference of the least of each. Clearing the tables is part of it.",
+            "The call less its filling, on both sides, in processor time: the median of the difference between the call and a",
+            "check of a row of no numbers, then the difference of the least of each. Clearing the tables is part of it.",
         ],
     );
     let a = [b'A'; 64];
