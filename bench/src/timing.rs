@@ -63,7 +63,7 @@ extern "C" {
 }
 
 /// The processor time of this thread, in seconds.
-fn processor_time() -> f64 {
+pub fn processor_time() -> f64 {
     let mut time = [0; 2];
     // SAFETY: clock 3 is that of the calling thread, and the time is a struct of two numbers of 64 bits on x86-64 Linux.
     assert_eq!(unsafe { clock_gettime(3, &mut time) }, 0);
