@@ -14,28 +14,28 @@ use Rattle.choose.specs.declared.look.Step.{Step}
 use Rattle.choose.specs.declared.look.Step.the-variants.{No, End, Byte, Node}
 
 -- rule r is of the nonterminal k and costs at most the budget over the span from i to j
-pub record Affordable (p : List ℕ) (k : ℕ) (full tables : List ℕ) (i j budget r : ℕ) : Type 0 where
+pub record RuleWithin (p : List ℕ) (k : ℕ) (full tables : List ℕ) (i j budget r : ℕ) : Type 0 where
   pub left : leftIn p r ≡ k
   pub cost : ℕ
   pub over : RuleOver p r full tables i j cost
   pub within : cost ≤ budget
 
 -- if rule r is of the nonterminal k, it costs more than the budget
-pub record Dear (p : List ℕ) (k : ℕ) (full tables : List ℕ) (i j budget r : ℕ) : Type 0 where
+pub record RuleBeyond (p : List ℕ) (k : ℕ) (full tables : List ℕ) (i j budget r : ℕ) : Type 0 where
   pub cost : leftIn p r ≡ k → (v : ℕ) × RuleOver p r full tables i j v × (budget < v)
 
 -- b says which of the two
-pub record Weighed (p : List ℕ) (k : ℕ) (full tables : List ℕ) (i j budget r : ℕ) (b : Bool) : Type 0 where
-  pub yes : b ≡ true → Affordable p k full tables i j budget r
-  pub no : b ≡ false → Dear p k full tables i j budget r
+pub record RuleTested (p : List ℕ) (k : ℕ) (full tables : List ℕ) (i j budget r : ℕ) (b : Bool) : Type 0 where
+  pub yes : b ≡ true → RuleWithin p k full tables i j budget r
+  pub no : b ≡ false → RuleBeyond p k full tables i j budget r
 
 -- the rules before r, of those below `rules`, have been passed
 pub record RulesPassed (p : List ℕ) (rules k : ℕ) (full tables : List ℕ) (i j budget r : ℕ) : Type 0 where
-  pub dear : (s : ℕ) → s < r → s < rules → Dear p k full tables i j budget s
+  pub beyond : (s : ℕ) → s < r → s < rules → RuleBeyond p k full tables i j budget s
 
 -- r is the first rule below `rules` that is of k and within the budget; no number of a rule where there is none
 pub record RuleChosen (p : List ℕ) (rules k : ℕ) (full tables : List ℕ) (i j budget r : ℕ) : Type 0 where
-  pub fits : r < maxRules → Affordable p k full tables i j budget r
+  pub fits : r < maxRules → RuleWithin p k full tables i j budget r
   pub early : RulesPassed p rules k full tables i j budget r
 
 -- what the nonterminal k from a to c costs together with the places behind it, whose costs stand in `rows` from `at` on
@@ -44,9 +44,9 @@ sumAt tables full k i a j rows at c = within i j (fullIn full) (costIn tables) k
 
 -- up to each end from a on and before b that is more than the budget
 pub record EndsPassed (tables full : List ℕ) (k i a j : ℕ) (rows : List ℕ) (at budget b : ℕ) : Type 0 where
-  pub dear : (c : ℕ) → a ≤ c → c < b → c ≤ j → budget < sumAt tables full k i a j rows at c
+  pub beyond : (c : ℕ) → a ≤ c → c < b → c ≤ j → budget < sumAt tables full k i a j rows at c
 
--- b is the first end from a on where that is within the budget; no position where there is none up to j
+-- b is the first end from a on where that is within the budget; behind j where there is none up to j
 pub record EndChosen (tables full : List ℕ) (k i a j : ℕ) (rows : List ℕ) (at budget b : ℕ) : Type 0 where
   pub start : a ≤ b
   pub fits : b ≤ j → sumAt tables full k i a j rows at b ≤ budget

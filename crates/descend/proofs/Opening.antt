@@ -6,7 +6,6 @@ use mathlib.Core.Path.{_≡_}
 use native.Mathlib.Omega.{arith}
 use Rattle.sizes.specs.Sizes.{maxRules}
 use Rattle.chart.specs.Cell.{cell}
-use Rattle.suffixes.specs.Rows.{RowsPut}
 use Rattle.solve.specs.Solve.{Solved}
 use Rattle.choose.specs.Chosen.{RuleChosen}
 use Rattle.descend.specs.Descend.{Opened}
@@ -20,6 +19,6 @@ module _ {p : List ℕ} {rules : ℕ} {fits chart tables : List ℕ} {k i j own 
     costs = λ l. absurd (omega arith);
   }
 
-  pub opened-none : {r : ℕ} → 127 < r → Solved p rules (cell chart i j) own tables i j full → RuleChosen p rules k full tables i j budget r
-      → Opened p rules fits chart tables k i j own budget full rows r
+  pub opened-none : {r : ℕ} → maxRules ≤ r → Solved p rules (cell chart i j) own tables i j full
+      → RuleChosen p rules k full tables i j budget r → Opened p rules fits chart tables k i j own budget full rows r
   opened-none l S C = record { room = λ m. absurd (omega arith); solved = λ _. S; chosen = λ _. C; costs = λ m. absurd (omega arith) }

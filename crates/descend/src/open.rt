@@ -10,6 +10,7 @@ use tables::layout::Tables;
 ghost use mathlib.Core.Path.{_≡_};
 ghost use Prim.Native.Nat.{_-_, _<_, _≤_};
 ghost use lib.ListN.{length};
+ghost use Rattle.sizes.specs.Sizes.{maxRules, nonterminals, side, cells, maxNodes, outputSize};
 ghost use Rattle.sets.specs.Set.{insert};
 ghost use Rattle.enumeration.specs.Rows.{SameSpan};
 ghost use Rattle.tables.specs.Layout.{rowsSize};
@@ -17,7 +18,7 @@ ghost use Rattle.descend.specs.Descend.{NodePut, Opened};
 
 // The mask with the nonterminal k in it.
 pub fn own_set(mask: u32, k: usize) -> u32
-    ensures { λ set. ⌜ (k < 32 → set ≡ insert k mask) ⌝ }
+    ensures { λ set. ⌜ (k < nonterminals → set ≡ insert k mask) ⌝ }
 {
     if k < sizes::NONTERMINALS {
         sets::with(mask, k)
@@ -35,7 +36,7 @@ pub fn child_set(cover: usize, mask: u32, c: usize) -> u32
 
 // Writes the numbers of node `at`: how many bytes it covers, and its rule.
 pub fn put_node(c: usize, r: usize, out: &mut [u16], at: usize)
-    requires { ⌜ (c < 65) × (r < 128) × (at < 512) × (1024 ≤ length (now out)) ⌝ }
+    requires { ⌜ (c < side) × (r < maxRules) × (at < maxNodes) × (outputSize ≤ length (now out)) ⌝ }
     ensures { λ _. ⌜ NodePut c r at (now (out .entry)) (now (out .exit)) ⌝ }
 {
     out[2 * at] = c as u16;
@@ -58,7 +59,7 @@ pub fn open_node(
     full: &mut Full,
     rows: &mut Rows,
 ) -> usize
-    requires { ⌜ (rules ≤ 128) × (i ≤ j) × (j < 65) × (4225 ≤ length (now chart)) × (length (now rows) ≡ rowsSize) ⌝ }
+    requires { ⌜ (rules ≤ maxRules) × (i ≤ j) × (j < side) × (cells ≤ length (now chart)) × (length (now rows) ≡ rowsSize) ⌝ }
     ensures { λ r. ⌜ Opened (now (p .entry)) rules (now (fits .entry)) (now (chart .entry)) (now (tables .entry)) k i j own budget
         (now (full .exit)) (now (rows .exit)) r ⌝ }
 {
@@ -67,7 +68,7 @@ pub fn open_node(
     }
     *full = solve(p, rules, chart[sizes::SIDE * i + j], own, tables, i, j);
     let r = choose_rule(p, rules, k, full, tables, i, j, budget);
-    if r > 127 {
+    if r >= sizes::MAX_RULES {
         return r;
     }
     put_rows(p, r, fits, tables, full, i, j, rows);

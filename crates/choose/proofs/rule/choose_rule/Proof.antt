@@ -15,7 +15,7 @@ abbrev μ-loop : tie.MeasureT-loop
 μ-loop p rules k full tables i j budget r₀ r = rules - r
 
 loop-again : tie.Need-loop-again Inv-loop μ-loop
-loop-again c = passed-more (c .before .affords .ensures) (c .if1 .left) (c .before .before .before .loop .inv)
+loop-again c = passed-more (c .before .within-budget .ensures) (c .if1 .left) (c .before .before .before .loop .inv)
 
 pub choose-rule-spec : {M : Type 1} → statement M
 choose-rule-spec =

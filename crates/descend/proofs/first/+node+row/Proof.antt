@@ -76,7 +76,7 @@ node-put-node-requires : (t : ℕ) → node-lts.Need-put-node-requires (node-cal
 node-put-node-requires t c κs = let o = c .before .before .open-node .ensures .room (omega arith) in omega arith
 
 node-sub-row : (t : ℕ) → node-lts.Need-sub-row (node-calls t) (node-at t) node.Post
-node-sub-row t c = c .before .before .before .before .before .before .before .open-node .ensures .room (omega arith)
+node-sub-row t c = omega (arith, c .before .before .before .before .before .before .before .open-node .ensures .room (omega arith))
 
 node-row-requires : (t : ℕ) → node-lts.Need-row-requires (node-calls t) (node-at t) node.Post
 node-row-requires t c κs =
