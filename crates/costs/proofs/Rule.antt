@@ -1,7 +1,7 @@
 -- The cost of a rule over a span, the node included: over no byte, one more than its places together; over a span that is not empty, the
 -- smaller of the cost without a child over the whole span and the costs through one such child.
 -- Assumes nothing.
-use Prim.Native.Nat.{ℕ, zero, suc, _+_, _≤_, _<_, min}
+use Prim.Native.Nat.{ℕ, zero, suc, _+_, _-_, _≤_, _<_, min}
 use mathlib.Core.Bool.{Bool}
 use mathlib.Core.List.{List, [], _∷_}
 use mathlib.Core.Logic.{_⊎_, inl, inr}
@@ -15,7 +15,8 @@ use Rattle.costs.specs.Lowest.{Lowest, seen-first, seen-at}
 use Rattle.costs.specs.Cut.{Cut, LeastCut, within}
 use Rattle.costs.specs.Rule.{NodeCost, BareCost, single, together, others, alone, Through, Costs}
 use Rattle.costs.proofs.Lowest.{lowest-same, lowest-capped, seen-skip, seen-step}
-use Rattle.costs.proofs.Within.{within-whole}
+use Rattle.costs.proofs.Cut.{cut-map}
+use Rattle.costs.proofs.Within.{within-whole, within-least}
 use Rattle.costs.proofs.Whole.{cut-nothing, nothing-cut, bare→cut, ByWhole, whole-or-bare, whole→cut}
 
 -- ---- the places but one
@@ -50,6 +51,22 @@ module _ {fit : ℕ → Terminal → Bool} {full : ℕ → ℕ} {least : ℕ →
   rule-node {v} L = lowest-capped
       (λ l. record { under = v; cut = L .reached (omega arith); sum = refl })
       (λ u p. let h = L .below (p .under) (p .cut) in let e = p .sum in omega arith)
+
+-- the costs of the smaller spans inside count, and no others
+pub node-same : {fit : ℕ → Terminal → Bool} {full : ℕ → ℕ} {least least' : ℕ → ℕ → ℕ → ℕ} {places : List Symbol} {i j v : ℕ}
+    → ((k a b : ℕ) → i ≤ a → a ≤ b → b ≤ j → b - a < j - i → least k a b ≡ least' k a b)
+    → Lowest (NodeCost fit full least places i j) v → Lowest (NodeCost fit full least' places i j) v
+node-same {fit} {full} {least} {least'} {places} {i} {j} f =
+    lowest-same (λ u _ p. go least least' f p) (λ u _ p. (u, omega arith, go least' least (λ k a b h l m s. sym (f k a b h l m s)) p))
+  where
+    go : (from to : ℕ → ℕ → ℕ → ℕ) {u : ℕ} → ((k a b : ℕ) → i ≤ a → a ≤ b → b ≤ j → b - a < j - i → from k a b ≡ to k a b)
+        → NodeCost fit full from places i j u → NodeCost fit full to places i j u
+    go from to g p = record {
+      under = p .under;
+      cut = cut-map i j (p .under) (λ _ _ _ _ q. q) (λ k a c h l m _. within-least full from to i j k a c h l m (g k a c h l m)) (omega arith)
+          (omega arith) (p .cut);
+      sum = p .sum;
+    }
 
 -- ---- over no byte
 

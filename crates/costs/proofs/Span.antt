@@ -116,10 +116,12 @@ tree-empty {bytes = bytes} b T = record {
   reads = subst (Reads bytes b b) (sym (reads-nil (T .reads))) (reads-end refl);
 }
 
+pub least-moved : {G : Cfg} {bytes : ℕ → ℕ → Type 0} {k a v : ℕ} (b : ℕ) → Least (Tree G bytes k a a) v → Least (Tree G bytes k b b) v
+least-moved {a = a} b = least-same (λ t T. (t, tree-empty b T, omega arith)) (λ t T. (t, tree-empty a T, omega arith))
+
 pub least-empty : {G : Cfg} {bytes : ℕ → ℕ → Type 0} {k a b u v : ℕ} → Least (Tree G bytes k a a) u → Least (Tree G bytes k b b) v
     → u ≡ v
-least-empty {a = a} {b} L M =
-    lowest-unique (least-same (λ t T. (t, tree-empty b T, omega arith)) (λ t T. (t, tree-empty a T, omega arith)) L) M
+least-empty {b = b} L M = lowest-unique (least-moved b L) M
 
 pub inside-empty : {G : Cfg} {bytes : ℕ → ℕ → Type 0} {i j b k e : ℕ} {least : ℕ → ℕ → ℕ → ℕ} → Inside G bytes i j least → i < j
     → Least (Tree G bytes k b b) e → (a : ℕ) → i ≤ a → a ≤ j → least k a a ≡ e

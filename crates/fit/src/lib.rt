@@ -58,7 +58,7 @@ pub fn table(p: &Packed, w: &[u8]) -> FitTable
 }
 
 // A byte as a word.
-fn wide_word(x: u8) -> u32
+pub fn wide_word(x: u8) -> u32
     ensures { λ n. ⌜ n ≡ x ⌝ }
 {
     x as u32

@@ -3,3 +3,4 @@ pub mod Ends
 pub mod Places
 pub mod Inner
 pub mod Starts
+pub mod AllStarts

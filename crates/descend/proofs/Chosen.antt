@@ -1,0 +1,118 @@
+-- The rule and the end that are chosen, by the tests that the code makes.
+-- Assumes nothing.
+use Prim.Native.Nat.{ℕ, _+_, _*_, _-_, _≤_, _<_}
+use mathlib.Core.Bool.{Bool, true, false}
+use mathlib.Core.List.{List}
+use mathlib.Core.Logic.{_≢_}
+use mathlib.Core.Path.{_≡_, sym, ap, subst, _∙_}
+use native.Mathlib.Decide.{ℕ-discrete}
+use native.Mathlib.Omega.{arith}
+use borrow.Author.Tests.{leb-true, leb-false}
+use lib.Dec.{leb}
+use lib.ListN.{getD}
+use Rattle.sizes.specs.Sizes.{maxRules, side}
+use Rattle.costs.specs.Cut.{within}
+use Rattle.costs.proofs.Within.{within-whole, within-part}
+use Rattle.packed.specs.Packed.{leftIn, countIn, isNonterminalIn, valueIn}
+use Rattle.tables.specs.Layout.{costIn, fullIn}
+use Rattle.solve.specs.Solve.{RuleOver}
+use Rattle.descend.specs.Chosen.{Dear, Weighed, RulesPassed, RuleChosen, EndsPassed, EndChosen, sumAt}
+use Rattle.descend.specs.Chosen.{Looked, at-end, at-byte, no-byte, at-node, no-node}
+use Rattle.descend.specs.declared.choose.Step.the-variants.{No, End, Byte, Node}
+
+-- ---- a rule
+
+module _ {p : List ℕ} {k : ℕ} {full tables : List ℕ} {i j budget : ℕ} where
+  pub weighed-other : {r l : ℕ} → l ≡ leftIn p r → l ≢ k → Weighed p k full tables i j budget r false
+  weighed-other e n = record {
+    yes = λ q. absurd (false≢true q);
+    no = λ _. record { cost = λ q. absurd (n (e ∙ q)) };
+  }
+    where
+      false≢true : false ≡ true → ⊥
+      false≢true q = let z : _≡_ {A = ℕ} 0 1 = cc in omega arith
+
+  pub weighed-cost : {r l v n : ℕ} → l ≡ leftIn p r → l ≡ k → RuleOver p r full tables i j v → n ≡ v
+      → Weighed p k full tables i j budget r (leb n budget)
+  weighed-cost {r} {l} {v} {n} e q c f = record {
+    yes = λ t. record { left = sym e ∙ q; cost = v; over = c; within = let h = leb-true n budget t in omega arith };
+    no = λ t. record { cost = λ _. (v, c, let h = leb-false n budget t in omega arith) };
+  }
+
+  pub passed-none : {rules : ℕ} → RulesPassed p rules k full tables i j budget 0
+  passed-none = record { dear = λ s l _. absurd (omega arith) }
+
+  module _ {rules r : ℕ} where
+    pub passed-more : {b : Bool} → Weighed p k full tables i j budget r b → b ≡ false → RulesPassed p rules k full tables i j budget r
+        → RulesPassed p rules k full tables i j budget (r + 1)
+    passed-more W e P = record { dear = λ s l m. go s l m (ℕ-discrete s r) }
+      where
+        go : (s : ℕ) → s < r + 1 → s < rules → Dec (s ≡ r) → Dear p k full tables i j budget s
+        go s l m (yes q) = rw q (W .no e)
+        go s l m (no n) = let x : ¬ (s ≡ r) = n in P .dear s (omega arith) m
+
+    pub rule-found : {b : Bool} → Weighed p k full tables i j budget r b → b ≡ true → RulesPassed p rules k full tables i j budget r
+        → RuleChosen p rules k full tables i j budget r
+    rule-found W e P = record { fits = λ _. W .yes e; early = P }
+
+    pub rule-none : rules ≤ r → RulesPassed p rules k full tables i j budget r → RuleChosen p rules k full tables i j budget maxRules
+    rule-none h P = record {
+      fits = λ l. absurd (omega arith);
+      early = record { dear = λ s _ m. P .dear s (omega arith) m };
+    }
+
+-- ---- an end
+
+module _ (tables full : List ℕ) (k i a j b : ℕ) where
+  pub piece-later : {v : ℕ} → i ≤ a → a ≤ b → b ≤ j → a ≢ i → v ≡ costIn tables k a b
+      → v ≡ within i j (fullIn full) (costIn tables) k a b
+  piece-later h l m n e = let x : ¬ (a ≡ i) = n in e ∙ sym (within-part i j (fullIn full) (costIn tables) k a b (omega arith))
+
+  pub piece-short : {v : ℕ} → i ≤ a → a ≤ b → b ≤ j → b ≢ j → v ≡ costIn tables k a b
+      → v ≡ within i j (fullIn full) (costIn tables) k a b
+  piece-short h l m n e = let x : ¬ (b ≡ j) = n in e ∙ sym (within-part i j (fullIn full) (costIn tables) k a b (omega arith))
+
+  pub piece-whole : {v : ℕ} → a ≡ i → b ≡ j → v ≡ fullIn full k → v ≡ within i j (fullIn full) (costIn tables) k a b
+  piece-whole e d f =
+      f ∙ sym (ap (λ (x : ℕ). within i j (fullIn full) (costIn tables) k x b) e
+      ∙ ap (λ (x : ℕ). within i j (fullIn full) (costIn tables) k i x) d ∙ within-whole i j (fullIn full) (costIn tables) k)
+
+module _ {tables full : List ℕ} {k i a j : ℕ} {rows : List ℕ} {at budget : ℕ} where
+  pub ends-none : EndsPassed tables full k i a j rows at budget a
+  ends-none = record { dear = λ c l m n. absurd (omega arith) }
+
+  -- v is the cost up to b, n that with the places behind
+  module _ {b v n : ℕ} (e : v ≡ within i j (fullIn full) (costIn tables) k a b) (f : n ≡ v + getD rows (at + b) 0) where
+    pub ends-more : budget < n → EndsPassed tables full k i a j rows at budget b → EndsPassed tables full k i a j rows at budget (b + 1)
+    ends-more l P = record { dear = λ c x y z. go c x y z (ℕ-discrete c b) }
+      where
+        go : (c : ℕ) → a ≤ c → c < b + 1 → c ≤ j → Dec (c ≡ b) → budget < sumAt tables full k i a j rows at c
+        go c x y z (yes q) = rw q (omega arith)
+        go c x y z (no d) = let w : ¬ (c ≡ b) = d in P .dear c x (omega arith) z
+
+    pub end-found : a ≤ b → n ≤ budget → EndsPassed tables full k i a j rows at budget b → EndChosen tables full k i a j rows at budget b
+    end-found h l P = record { start = h; fits = λ _. omega arith; early = P }
+
+  pub end-none : {b : ℕ} → a ≤ b → j < b → EndsPassed tables full k i a j rows at budget b → EndChosen tables full k i a j rows at budget b
+  end-none h l P = record { start = h; fits = λ m. absurd (omega arith); early = P }
+
+-- ---- what comes next
+
+module _ {p : List ℕ} {r q : ℕ} {tables full rows : List ℕ} {i a j budget m : ℕ} (e : m ≡ countIn p r) where
+  pub look-end : m ≤ q → Looked p r q tables full rows i a j budget End
+  look-end h = at-end (omega arith)
+
+  module _ {t : Bool} (h : q < m) (f : t ≡ isNonterminalIn p r q) where
+    pub look-byte : t ≡ false → a < j → Looked p r q tables full rows i a j budget Byte
+    look-byte n l = at-byte (omega arith) (sym f ∙ n) l
+
+    pub look-short : t ≡ false → j ≤ a → Looked p r q tables full rows i a j budget No
+    look-short n l = no-byte (omega arith) (sym f ∙ n) l
+
+    module _ {k b : ℕ} (y : t ≡ true) (g : k ≡ valueIn p r q) (C : EndChosen tables full k i a j rows (side * (q + 1)) budget b) where
+      -- n is the cost of the places behind
+      pub look-node : {n : ℕ} → b ≤ j → n ≡ getD rows (side * (q + 1) + b) 0 → Looked p r q tables full rows i a j budget (Node k b (budget - n))
+      look-node l d = at-node (omega arith) (sym f ∙ y) g C l (ap (λ (x : ℕ). budget - x) d)
+
+      pub look-none : j < b → Looked p r q tables full rows i a j budget No
+      look-none l = no-node (omega arith) (sym f ∙ y) g C l

@@ -1,0 +1,55 @@
+-- What is given of an input, where a node is opened: its costs over the span, and those of a rule and of the places of a rule.
+-- Assumes nothing.
+use Prim.Native.Nat.{ℕ, _-_, _≤_, _<_}
+use mathlib.Core.List.{List}
+use mathlib.Core.Path.{_≡_}
+use native.Mathlib.Omega.{arith}
+use lib.ListN.{length, getD}
+use Rattle.sizes.specs.Sizes.{tooMany}
+use Rattle.chart.specs.Cell.{cell, fitsAt}
+use Rattle.costs.specs.Lowest.{Lowest}
+use Rattle.costs.specs.Span.{bytesOf, FreeTree, Least, Inside}
+use Rattle.costs.specs.Rule.{NodeCost}
+use Rattle.costs.proofs.Span.{tells-input, least-reached}
+use Rattle.costs.proofs.Nodes.{tree-node}
+use Rattle.choices.specs.SpanCosts.{SpanCosts}
+use Rattle.packed.specs.Packed.{leftIn, countIn, placesIn}
+use Rattle.packed.proofs.Laws.{of-in}
+use Rattle.tables.specs.Layout.{costIn, fullIn}
+use Rattle.tables.specs.Exact.{Packing}
+use Rattle.suffixes.specs.Within.{tailIn, rowAt, Inside as Suffix}
+use Rattle.suffixes.specs.Rows.{RowsPut}
+use Rattle.solve.specs.Solve.{Solved, RuleOver}
+use Rattle.solve.proofs.Trees.{solved-full}
+use Rattle.descend.specs.Descend.{Given}
+
+-- a nonterminal that has a tree has a rule
+pub node-used : (p w : List ℕ) {mask k i j x : ℕ} → Least (FreeTree (Packing p) (bytesOf w) mask (j - i) k i j) x → x < tooMany → k < 32
+node-used p w {k = k} X l =
+    let (t, T, b) = least-reached X l in
+    let (r, o, f, g, q) = tree-node (T .0 .fitted) in
+    let (h, e, m, s) = of-in 0 p r k o in
+    omega arith
+
+module _ {p : List ℕ} {rules : ℕ} {fits chart tables w : List ℕ} (G : Given p rules fits chart tables w) {i j : ℕ} (h : i ≤ j)
+    (l : j ≤ length w) where
+  inside : Inside (Packing p) (bytesOf w) i j (costIn tables)
+  inside = record { at = λ k a b x y z _. G .exact .least k a b y (omega arith) }
+
+  pub span-solved : {own : ℕ} {full : List ℕ} → Solved p rules (cell chart i j) own tables i j full
+      → SpanCosts (Packing p) w (fitsAt w) own i j (fullIn full) (costIn tables)
+  span-solved S = record {
+    tells = tells-input w;
+    rising = h;
+    known = l;
+    inside = inside;
+    exact = solved-full S (fitsAt w) (bytesOf w) (costIn tables) (tells-input w) (G .past) (λ m. G .exact .ready i j m l) inside (G .cells i j h l);
+  }
+
+  pub rule-lowest : {r v : ℕ} {full : List ℕ} → RuleOver p r full tables i j v → leftIn p r < 32
+      → Lowest (NodeCost (fitsAt w) (fullIn full) (costIn tables) (placesIn p r) i j) v
+  rule-lowest O m = O .exact m (fitsAt w) (costIn tables) (λ n. G .exact .ready i j n l)
+
+  pub rows-right : {r : ℕ} {full rows : List ℕ} → RowsPut p r fits tables full i j rows → (q c : ℕ) → q ≤ countIn p r → i ≤ c → c ≤ j
+      → Suffix (fitsAt w) tables full i j (tailIn p r q) c (getD rows (rowAt 0 q c) 0)
+  rows-right R = R .exact (fitsAt w) (λ a s n m. G .told a s n (omega arith))

@@ -1,0 +1,47 @@
+-- `descend::choose::choose_end` meets its contract. The loop's invariant: up to each end passed the costs are more than the budget. The
+-- measure is what is left of the ends.
+-- Assumes nothing.
+use Prim.Native.Nat.{_+_, _-_, _≤_}
+use borrow.Author.Needs.{needs}
+use Rattle.descend.specs.Chosen.{EndsPassed}
+use Rattle.descend.proofs.Chosen.{ends-none, ends-more, end-found, end-none}
+use Rattle.descend.proofs.choose.choose_end.Statement.{statement}
+use Rattle.descend.proofs.choose.choose_end.Tie as tie
+
+abbrev Inv-loop : tie.InvT-loop
+Inv-loop tables full k i a j rows at budget b₀ b =
+    (a ≤ b) × (b ≤ j + 1) × EndsPassed tables full k i a j rows at budget b
+
+abbrev μ-loop : tie.MeasureT-loop
+μ-loop tables full k i a j rows at budget b₀ b = j + 1 - b
+
+loop-again : tie.Need-loop-again Inv-loop μ-loop
+loop-again c = (
+  search needs,
+  search needs,
+  ends-more (c .before .before .before .piece .ensures) (c .before .sum .ensures) (search needs)
+      (c .before .before .before .before .before .loop .inv .2),
+)
+
+returns : tie.Need-returns Inv-loop μ-loop
+returns c =
+    end-found (c .before .before .before .piece .ensures) (c .before .sum .ensures) (search needs) (search needs)
+    (c .before .before .before .before .before .loop .inv .2)
+
+pub choose-end-spec : {M : Type 1} → statement M
+choose-end-spec =
+    tie.close
+    (tie.spec
+    Inv-loop
+    μ-loop
+    (λ c. search (needs, ends-none))
+    (λ c κs. search needs)
+    (λ c. search needs)
+    (λ c. search needs)
+    (λ c. search needs)
+    (λ c κs. search needs)
+    returns
+    (λ c. search needs)
+    (λ c. search needs)
+    loop-again
+    (λ c. search (needs, end-none)))

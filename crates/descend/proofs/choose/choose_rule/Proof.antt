@@ -1,0 +1,32 @@
+-- `descend::choose::choose_rule` meets its contract. The loop's invariant: the rules passed cost more than the budget or are of other
+-- nonterminals. The measure is what is left of the rules.
+-- Assumes nothing.
+use Prim.Native.Nat.{_-_}
+use borrow.Author.Needs.{needs}
+use Rattle.descend.specs.Chosen.{RulesPassed}
+use Rattle.descend.proofs.Chosen.{passed-none, passed-more, rule-found, rule-none}
+use Rattle.descend.proofs.choose.choose_rule.Statement.{statement}
+use Rattle.descend.proofs.choose.choose_rule.Tie as tie
+
+abbrev Inv-loop : tie.InvT-loop
+Inv-loop p rules k full tables i j budget r₀ r = RulesPassed p rules k full tables i j budget r
+
+abbrev μ-loop : tie.MeasureT-loop
+μ-loop p rules k full tables i j budget r₀ r = rules - r
+
+loop-again : tie.Need-loop-again Inv-loop μ-loop
+loop-again c = passed-more (c .before .affords .ensures) (c .if1 .left) (c .before .before .before .loop .inv)
+
+pub choose-rule-spec : {M : Type 1} → statement M
+choose-rule-spec =
+    tie.close
+    (tie.spec
+    Inv-loop
+    μ-loop
+    (λ c. search (needs, passed-none))
+    (λ c κs. search needs)
+    (λ c. search (needs, rule-found))
+    (λ c. search needs)
+    (λ c. search needs)
+    loop-again
+    (λ c. search (needs, rule-none)))

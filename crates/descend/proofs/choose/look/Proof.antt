@@ -1,0 +1,43 @@
+-- `descend::choose::look` meets its contract, one case for each way out.
+-- Assumes nothing.
+use native.Mathlib.Omega.{arith}
+use borrow.Author.Needs.{needs}
+use Rattle.descend.proofs.Chosen.{look-end, look-byte, look-short, look-node, look-none}
+use Rattle.descend.proofs.choose.look.Statement.{statement}
+use Rattle.descend.proofs.choose.look.Tie as tie
+
+-- the places behind cost no more than the budget
+rest-within : tie.Need-sub-t27
+rest-within c = omega (arith, c .before .before .before .choose-end .ensures .fits (omega arith))
+
+node : tie.Need-returns-2
+node c =
+    let d = c .before .before .before .before in
+    look-node (d .before .before .before .before .count .ensures .0) (search needs) (d .before .before .is-nonterminal .ensures)
+    (d .before .if2 .taken) (d .value .ensures .0) (c .before .before .before .choose-end .ensures) (search needs) (c .wide .ensures)
+
+none : tie.Need-returns-3
+none c = search (needs, look-none)
+
+pub look-spec : {M : Type 1} → statement M
+look-spec =
+    tie.close
+    (tie.spec
+    (λ c κs. search needs)
+    (λ c. search (needs, look-end))
+    (λ c κs. search needs)
+    (λ c κs. search needs)
+    (λ c. search needs)
+    (λ c. search needs)
+    (λ c κs. search needs)
+    (λ c. search needs)
+    (λ c. search needs)
+    (λ c. search needs)
+    (λ c. search needs)
+    (λ c. search needs)
+    (λ c κs. search needs)
+    rest-within
+    node
+    none
+    (λ c. search (needs, look-byte))
+    (λ c. search (needs, look-short)))

@@ -1,0 +1,17 @@
+-- `descend::choose::piece` meets its contract.
+-- Assumes nothing.
+use borrow.Author.Needs.{needs}
+use Rattle.descend.proofs.Chosen.{piece-later, piece-short, piece-whole}
+use Rattle.descend.proofs.choose.piece.Statement.{statement}
+use Rattle.descend.proofs.choose.piece.Tie as tie
+
+pub piece-spec : {M : Type 1} → statement M
+piece-spec =
+    tie.close
+    (tie.spec
+    (λ c κs. search needs)
+    (λ c. search (needs, piece-later))
+    (λ c κs. search needs)
+    (λ c. search (needs, piece-short))
+    (λ c κs. search needs)
+    (λ c. search (needs, piece-whole)))

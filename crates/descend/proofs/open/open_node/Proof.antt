@@ -1,0 +1,21 @@
+-- `descend::open::open_node` meets its contract.
+-- Assumes nothing.
+use borrow.Author.Needs.{needs}
+use Rattle.descend.proofs.Opening.{opened-empty, opened-none}
+use Rattle.descend.proofs.open.open_node.Statement.{statement}
+use Rattle.descend.proofs.open.open_node.Tie as tie
+
+pub open-node-spec : {M : Type 1} → statement M
+open-node-spec =
+    tie.close
+    (tie.spec
+    (λ c. search (needs, opened-empty))
+    (λ c. search needs)
+    (λ c. search needs)
+    (λ c. search needs)
+    (λ c. search needs)
+    (λ c κs. search needs)
+    (λ c κs. search needs)
+    (λ c. search (needs, opened-none))
+    (λ c κs. search needs)
+    (λ c. search needs))

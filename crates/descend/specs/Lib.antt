@@ -1,0 +1,3 @@
+-- The first derivation below a node, by the tables.
+pub mod Chosen
+pub mod Descend

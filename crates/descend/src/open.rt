@@ -1,0 +1,75 @@
+// What a node needs before its row is written: the costs over its span, its rule, and the costs of the rule's places.
+use super::choose::choose_rule;
+use fit::FitTable;
+use packed::Packed;
+use solve::solve;
+use suffixes::rows::Rows;
+use suffixes::rows::put_rows;
+use tables::layout::Full;
+use tables::layout::Tables;
+ghost use mathlib.Core.Path.{_≡_};
+ghost use Prim.Native.Nat.{_-_, _<_, _≤_};
+ghost use lib.ListN.{length};
+ghost use Rattle.sets.specs.Set.{insert};
+ghost use Rattle.enumeration.specs.Rows.{SameSpan};
+ghost use Rattle.tables.specs.Layout.{rowsSize};
+ghost use Rattle.descend.specs.Descend.{NodePut, Opened};
+
+// The mask with the nonterminal k in it.
+pub fn own_set(mask: u32, k: usize) -> u32
+    ensures { λ set. ⌜ (k < 32 → set ≡ insert k mask) ⌝ }
+{
+    if k < sizes::NONTERMINALS {
+        sets::with(mask, k)
+    } else {
+        mask
+    }
+}
+
+// Of the mask over `cover` bytes, what matters for a child over c bytes: all of it over as many, else nothing.
+pub fn child_set(cover: usize, mask: u32, c: usize) -> u32
+    ensures { λ set. ⌜ SameSpan cover mask c set ⌝ }
+{
+    if c == cover { mask } else { 0 }
+}
+
+// Writes the numbers of node `at`: how many bytes it covers, and its rule.
+pub fn put_node(c: usize, r: usize, out: &mut [u16], at: usize)
+    requires { ⌜ (c < 65) × (r < 128) × (at < 512) × (1024 ≤ length (now out)) ⌝ }
+    ensures { λ _. ⌜ NodePut c r at (now (out .entry)) (now (out .exit)) ⌝ }
+{
+    out[2 * at] = c as u16;
+    out[2 * at + 1] = r as u16;
+}
+
+// Makes the costs over the span from i to j under the mask `own`, and those of the places of the first rule of k that they allow within
+// the budget. The result is that rule, 128 if there is none.
+pub fn open_node(
+    p: &Packed,
+    rules: usize,
+    fits: &FitTable,
+    chart: &[u32],
+    tables: &Tables,
+    k: usize,
+    i: usize,
+    j: usize,
+    own: u32,
+    budget: usize,
+    full: &mut Full,
+    rows: &mut Rows,
+) -> usize
+    requires { ⌜ (rules ≤ 128) × (i ≤ j) × (j < 65) × (4225 ≤ length (now chart)) × (length (now rows) ≡ rowsSize) ⌝ }
+    ensures { λ r. ⌜ Opened (now (p .entry)) rules (now (fits .entry)) (now (chart .entry)) (now (tables .entry)) k i j own budget
+        (now (full .exit)) (now (rows .exit)) r ⌝ }
+{
+    if budget == 0 {
+        return sizes::MAX_RULES;
+    }
+    *full = solve(p, rules, chart[sizes::SIDE * i + j], own, tables, i, j);
+    let r = choose_rule(p, rules, k, full, tables, i, j, budget);
+    if r > 127 {
+        return r;
+    }
+    put_rows(p, r, fits, tables, full, i, j, rows);
+    r
+}

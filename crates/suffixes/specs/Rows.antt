@@ -1,0 +1,35 @@
+-- The least costs of the places of a rule, written from one start on and from all starts of a span, which places fit being told by the
+-- fit table.
+-- Assumes nothing.
+use Prim.Native.Nat.{ℕ, _≤_, _<_}
+use mathlib.Core.List.{List}
+use mathlib.Core.Logic.{_≢_}
+use mathlib.Core.Path.{_≡_}
+use lib.ListN.{length, getD}
+use Rattle.costs.specs.Cut.{Fit}
+use Rattle.packed.specs.Packed.{countIn}
+use Rattle.fit.specs.Fit.{entryIn}
+use Rattle.tables.specs.Layout.{rowsSize}
+use Rattle.tables.specs.Exact.{FitTold}
+use Rattle.suffixes.specs.Within.{tailIn, Inside, rowAt, LaterStarts}
+
+-- v has the places of rule r that fit position a, if that is before j
+pub record WordAt (fits : List ℕ) (r a j v : ℕ) : Type 0 where
+  pub told : a < j → v ≡ entryIn fits a r
+
+-- the rows of rule r with all costs from the start a written; all others are as found
+pub record StartPut (p : List ℕ) (r : ℕ) (fits tables full : List ℕ) (i a j at : ℕ) (rows₀ rows : List ℕ) : Type 0 where
+  pub long : length rows ≡ length rows₀
+  pub other : (n : ℕ) → ((s : ℕ) → s ≤ countIn p r → n ≢ rowAt at s a) → getD rows n 0 ≡ getD rows₀ n 0
+  pub exact : (fit : Fit) → FitTold fit p fits j → LaterStarts fit p r tables full i a j rows₀ at
+      → (s : ℕ) → s ≤ countIn p r → Inside fit tables full i j (tailIn p r s) a (getD rows (rowAt at s a) 0)
+
+-- the rows of rule r, which begin at 0, hold the costs from the starts from a on
+pub record RowsFrom (p : List ℕ) (r : ℕ) (fits tables full : List ℕ) (i a j : ℕ) (rows : List ℕ) : Type 0 where
+  pub long : length rows ≡ rowsSize
+  pub exact : (fit : Fit) → FitTold fit p fits j → (q c : ℕ) → q ≤ countIn p r → a ≤ c → c ≤ j
+      → Inside fit tables full i j (tailIn p r q) c (getD rows (rowAt 0 q c) 0)
+
+-- the same for all starts
+abbrev pub RowsPut : List ℕ → ℕ → List ℕ → List ℕ → List ℕ → ℕ → ℕ → List ℕ → Type 0
+RowsPut p r fits tables full i j rows = RowsFrom p r fits tables full i i j rows

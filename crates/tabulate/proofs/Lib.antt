@@ -1,0 +1,3 @@
+-- Laws of how the tables are made.
+pub mod Written
+pub mod Columns
