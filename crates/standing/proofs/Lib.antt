@@ -1,0 +1,5 @@
+-- Laws of codes in a buffer, of forests one behind the other, and of the walk over the nodes.
+pub mod Stands
+pub mod Forests
+pub mod Counts
+pub mod Walk

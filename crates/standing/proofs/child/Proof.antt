@@ -1,0 +1,14 @@
+-- `standing::child` meets its contract.
+-- Assumes nothing.
+use borrow.Author.Needs.{needs}
+use Rattle.standing.proofs.Counts.{child-nonterminal, child-terminal}
+use Rattle.standing.proofs.child.Statement.{statement}
+use Rattle.standing.proofs.child.Tie as tie
+
+pub child-spec : {M : Type 1} → statement M
+child-spec =
+    tie.close
+    (tie.spec
+    (λ c κs. search needs)
+    (λ c. (search (needs, child-nonterminal), search needs))
+    (λ c. (search (needs, child-terminal), search needs)))

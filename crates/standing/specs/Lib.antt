@@ -1,0 +1,2 @@
+-- Trees that stand in a buffer of numbers.
+pub mod Standing
