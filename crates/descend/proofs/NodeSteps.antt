@@ -29,7 +29,7 @@ use Rattle.descend.proofs.Given.{node-used, span-solved, rule-lowest, r
 
 module _ {p : List ℕ} {rules : ℕ} {fits chart tables : List ℕ} {k i j mask own budget : ℕ} {full rows : List ℕ} {r : ℕ}
     (h : i ≤ j) (small : budget ≤ 512) (e : k < 32 → own ≡ insert k mask)
-    (O : Opened p rules fits chart tables k i j own budget full rows r) where
+    (O : Opened p rules fits chart tables 0 k i j own budget full rows r) where
   -- ---- for an input with a tree within the budget
 
   module _ (w : List ℕ) (G : Given p rules fits chart tables w) (known : j ≤ length w) {x : ℕ}
@@ -50,7 +50,7 @@ module _ {p : List ℕ} {rules : ℕ} {fits chart tables : List ℕ} {k i j mask
     dearer : Dearer (Packing p) (fitsAt w) i j (fullIn full) (costIn tables) k budget r
     dearer s m o =
         let (u, c, d, f) = of-in 0 p s k o in
-        let (v, R, b) = O .chosen room .early .dear s m (before s u d) .cost c in (
+        let (v, R, b) = O .chosen room .early .dear s (omega arith) m (before s u d) .cost c in (
           v,
           subst (λ (z : List Symbol). Lowest (NodeCost (fitsAt w) (fullIn full) (costIn tables) z i j) v) (sym f)
               (rule-lowest G h known R d),

@@ -113,7 +113,7 @@ module _ {p : List ℕ} {rules : ℕ} {fits chart tables full rows : List ℕ} {
       (N : NodeFirst p rules fits chart tables k a b set share at out₀ out₁ m)
       (R : RowFirst p rules fits chart tables full rows r (q + 1) b i j mask (budget - m) (at + m) out₁ out n) where
     node-and-row : (w : List ℕ) → Below p rules fits chart tables full rows r i j mask w → q < countIn p r
-        → EndChosen tables full k i a j rows (side * (q + 1)) budget b → b ≤ j → share ≡ budget - getD rows (side * (q + 1) + b) 0
+        → EndChosen tables full k i a a j rows (side * (q + 1)) budget b → b ≤ j → share ≡ budget - getD rows (side * (q + 1) + b) 0
         → FirstAt (Row (Packing p) w (j - i) mask (nonterminal k ∷ tailIn p r (q + 1)) a j budget) out at (m + n)
     node-and-row w B c C x e =
         let f = C .fits x in

@@ -41,10 +41,11 @@ fn affords(
     wide(rule_over(p, r, full, tables, i, j)) <= budget
 }
 
-// The smallest rule of k below `rules` that costs at most the budget over the span; 128 if there is none.
+// The smallest rule of k from `from` on and below `rules` that costs at most the budget over the span; 128 if there is none.
 pub fn choose_rule(
     p: &Packed,
     rules: usize,
+    from: usize,
     k: usize,
     full: &Full,
     tables: &Tables,
@@ -52,10 +53,10 @@ pub fn choose_rule(
     j: usize,
     budget: usize,
 ) -> usize
-    requires { ⌜ (rules ≤ 128) × (i ≤ j) × (j < 65) ⌝ }
-    ensures { λ r. ⌜ RuleChosen (now (p .entry)) rules k (now (full .entry)) (now (tables .entry)) i j budget r ⌝ }
+    requires { ⌜ (rules ≤ 128) × (from ≤ 128) × (i ≤ j) × (j < 65) ⌝ }
+    ensures { λ r. ⌜ RuleChosen (now (p .entry)) rules from k (now (full .entry)) (now (tables .entry)) i j budget r ⌝ }
 {
-    let mut r = 0;
+    let mut r = from;
     while r < rules {
         if affords(p, k, full, tables, i, j, budget, r) {
             return r;
@@ -86,23 +87,24 @@ fn sum(a: u16, b: u16) -> usize
     wide(a) + wide(b)
 }
 
-// The smallest end from a on such that the nonterminal k up to it and the places behind it cost at most the budget together; the
+// The smallest end from `from` on such that the nonterminal k up to it and the places behind it cost at most the budget together; the
 // position behind the last where there is none up to j. The costs of those places stand in `rows` from `at` on.
-fn choose_end(
+pub fn choose_end(
     tables: &Tables,
     full: &Full,
     k: usize,
     i: usize,
     a: usize,
+    from: usize,
     j: usize,
     rows: &Rows,
     at: usize,
     budget: usize,
 ) -> usize
-    requires { ⌜ (i ≤ a) × (a ≤ j) × (j < 65) × (at + 65 ≤ rowsSize) ⌝ }
-    ensures { λ b. ⌜ EndChosen (now (tables .entry)) (now (full .entry)) k i a j (now (rows .entry)) at budget b ⌝ }
+    requires { ⌜ (i ≤ a) × (a ≤ from) × (from ≤ j + 1) × (j < 65) × (at + 65 ≤ rowsSize) ⌝ }
+    ensures { λ b. ⌜ EndChosen (now (tables .entry)) (now (full .entry)) k i a from j (now (rows .entry)) at budget b ⌝ }
 {
-    let mut b = a;
+    let mut b = from;
     while b <= j {
         if sum(piece(tables, full, k, i, a, j, b), rows[at + b]) <= budget {
             return b;
@@ -138,6 +140,7 @@ pub fn look(
             full,
             k,
             i,
+            a,
             a,
             j,
             rows,

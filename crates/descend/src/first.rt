@@ -1,6 +1,7 @@
 // The first derivation below a node, written from the left: a node calls the row of its rule's places, which calls the nodes below it.
 use super::choose::Step;
 use super::choose::look;
+use super::open::UNMADE;
 use super::open::child_set;
 use super::open::open_node;
 use super::open::own_set;
@@ -36,7 +37,7 @@ pub fn node(
         (now (out .entry)) (now (out .exit)) n ⌝ }
 {
     let own = own_set(mask, k);
-    let mut full = [0u16; sizes::NONTERMINALS];
+    let mut full = [UNMADE; sizes::NONTERMINALS];
     let mut rows = [0u16; ROWS_SIZE];
     let r = open_node(
         p,
@@ -44,6 +45,7 @@ pub fn node(
         fits,
         chart,
         tables,
+        0,
         k,
         i,
         j,
