@@ -59,8 +59,7 @@ module _ {p : List ℕ} {rules : ℕ} {fits chart tables w : List ℕ} (G : Give
       → (v : ℕ) × Lowest (NodeCost (fitsAt w) (fullIn full) (costIn tables) (o .the .places) i j) v × (budget < v)
   passed-dearer {k = k} {full = full} P s n m o =
       let (u, c, d, f) = of-in 0 p s k o in
-      let (v, R, b) = P .dear s n m (before u d) .cost c in
-      (
+      let (v, R, b) = P .dear s n m (before u d) .cost c in (
         v,
         subst (λ (z : List Symbol). Lowest (NodeCost (fitsAt w) (fullIn full) (costIn tables) z i j) v) (sym f) (rule-lowest R d),
         b,
