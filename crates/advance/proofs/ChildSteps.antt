@@ -12,7 +12,7 @@ use Rattle.cfg.specs.Tree.{Forest, nodes, code}
 use Rattle.costs.specs.Cut.{within}
 use Rattle.chart.specs.Cell.{fitsAt}
 use Rattle.enumeration.specs.Rows.{Row, Tree, SameSpan}
-use Rattle.enumeration.specs.Order.{Min, After, Last}
+use Rattle.enumeration.specs.Order.{Min, Last}
 use Rattle.choices.specs.SpanCosts.{Rests}
 use Rattle.choices.specs.Opened.{OpenedRow}
 use Rattle.choices.proofs.Row.{child-least}
@@ -26,7 +26,7 @@ use Rattle.descend.specs.Chosen.{EndChosen}
 use Rattle.descend.specs.Descend.{Given, Below, FirstAt, NodeFirst, RowFirst}
 use Rattle.descend.proofs.Codes.{kept-none, kept-join}
 use Rattle.descend.proofs.RowSteps.{rests}
-use Rattle.advance.specs.Advance.{Made, RestMade, AfterAt, NextAt, NodeNext, ChildNext, Widened, Moved}
+use Rattle.advance.specs.Advance.{RestMade, AfterAt, NextAt, NodeNext, ChildNext, Widened, Moved}
 use Rattle.advance.proofs.Codes.{stands-join, first-stands, kept-then, next-none, next-some}
 use Rattle.advance.proofs.Frames.{made-frame, made-below}
 use Rattle.advance.proofs.Reading.{first-nonempty}

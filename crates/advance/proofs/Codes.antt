@@ -8,7 +8,7 @@ use native.Mathlib.Omega.{arith}
 use lib.ListN.{length, getD, length-append, List·getD-append}
 use lib.Seq.{getD-append-add}
 use Rattle.cfg.specs.Tree.{Forest}
-use Rattle.enumeration.specs.Order.{Min, After, Last}
+use Rattle.enumeration.specs.Order.{After, Last}
 use Rattle.standing.specs.Standing.{StandsAt}
 use Rattle.descend.specs.Descend.{FirstAt, Kept, NodePut}
 use Rattle.advance.specs.Advance.{AfterAt, NextAt}

@@ -18,14 +18,14 @@ use Rattle.choices.specs.Opened.{OpenedNode}
 use Rattle.choices.proofs.Node.{rule-row}
 use Rattle.choices.proofs.Stands.{node-rule, node-below}
 use Rattle.choices.proofs.NextNode.{below-moves, rule-moves, node-ends}
-use Rattle.packed.specs.Packed.{leftIn, placesIn}
-use Rattle.packed.proofs.Laws.{places-start, of-in, in-of, in-of-places}
+use Rattle.packed.specs.Packed.{leftIn}
+use Rattle.packed.proofs.Laws.{places-start, of-in, in-of}
 use Rattle.standing.specs.Standing.{StandsAt}
 use Rattle.standing.proofs.Stands.{stands-first, stands-behind}
 use Rattle.tables.specs.Layout.{costIn, fullIn}
 use Rattle.tables.specs.Exact.{Packing}
 use Rattle.suffixes.specs.Within.{tailIn, rowAt}
-use Rattle.descend.specs.Descend.{Given, Below, FirstAt, NodePut, RowFirst, Opened}
+use Rattle.descend.specs.Descend.{Given, Below, NodePut, RowFirst, Opened}
 use Rattle.descend.proofs.Codes.{kept-none, kept-open}
 use Rattle.descend.proofs.Given.{span-solved, rule-lowest, passed-dearer, rows-right}
 use Rattle.advance.specs.Looked.{RuleRead}
@@ -164,8 +164,8 @@ module _ {p : List ℕ} {rules : ℕ} {fits chart tables : List ℕ} {k i j mask
           next-some (omega arith) (record {
             numbers = (j - i) ∷ r ∷ B .numbers;
             after = below-moves known h (opened known T S .1)
-                (subst (λ (z : ℕ). After (Row (Packing p) w (j - i) z (of known T S .the .places) i j (budget - 1)) (code (opened known T S .0))
-                (B .numbers)) (set-own known T S) (B .after));
+                (subst (λ (z : ℕ). After (Row (Packing p) w (j - i) z (of known T S .the .places) i j (budget - 1))
+                (code (opened known T S .0)) (B .numbers)) (set-own known T S) (B .after));
             size = omega (arith, B .size);
             here = stands-join buf₀ buf₁ at 1 ((j - i) ∷ r ∷ []) (B .numbers) (omega arith)
                 (stands-first buf₀ at ((j - i) ∷ r ∷ []) (code (opened known T S .0)) (both-stand known T S)) (B .here) (N .kept .before);

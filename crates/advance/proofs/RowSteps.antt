@@ -1,15 +1,15 @@
 -- The steps of a row, with premises as its code gives them.
 -- Assumes nothing.
-use Prim.Native.Nat.{ℕ, suc, _+_, _*_, _-_, _≤_, _<_}
-use mathlib.Core.List.{List, [], _∷_, _++_}
+use Prim.Native.Nat.{ℕ, _+_, _*_, _-_, _≤_, _<_}
+use mathlib.Core.List.{List, _++_}
 use mathlib.Core.Path.{_≡_, refl, sym, subst}
 use native.Mathlib.Omega.{arith}
-use lib.ListN.{length, getD, length-append}
-use Rattle.cfg.specs.Grammar.{Symbol, nonterminal}
-use Rattle.cfg.specs.Tree.{Forest, nodes, code}
+use lib.ListN.{length, length-append}
+use Rattle.cfg.specs.Grammar.{Symbol}
+use Rattle.cfg.specs.Tree.{Forest, code}
 use Rattle.listing.proofs.Unique.{length-code}
 use Rattle.enumeration.specs.Rows.{Row}
-use Rattle.enumeration.specs.Order.{After, Last}
+use Rattle.enumeration.specs.Order.{Last}
 use Rattle.choices.proofs.Stands.{leaf-opened}
 use Rattle.choices.proofs.NextRow.{end-ends, leaf-moves, leaf-ends, rest-stands, rest-moves}
 use Rattle.packed.proofs.Laws.{places-end}
@@ -122,8 +122,8 @@ module _ {p : List ℕ} {rules : ℕ} {fits chart tables : List ℕ} {r i j mask
             let (x, y, o) = opened-here buf₀ at S known l (row-as p r q D R) d in
             let z = size-here Z S o room in
             let size : length (code x) ≡ 2 * s = omega (arith, length-code x) in
-            let A = N .exact w G known y (rest-stands known o z) (stands-second buf₀ at (code x) (code y) s size (both-stand buf₀ at S o))
-            .some m in
+            let T = stands-second buf₀ at (code x) (code y) s size (both-stand buf₀ at S o) in
+            let A = N .exact w G known y (rest-stands known o z) T .some m in
             next-as p r q D (next-some (omega arith) (record {
               numbers = code x ++ A .numbers;
               after = rest-moves known o z {e = A .numbers} (A .after);
@@ -152,8 +152,8 @@ module _ {p : List ℕ} {rules : ℕ} {fits chart tables : List ℕ} {r i j mask
             let (x, y, o) = opened-here buf₀ at S known l (row-as p r q D R) d in
             let z = size-here Z S o room in
             let size : length (code x) ≡ 2 * s = omega (arith, length-code x) in
-            let rest = N .exact w G known y (rest-stands known o z) (stands-second buf₀ at (code x) (code y) s size (both-stand buf₀ at S o))
-            .none none in
+            let T = stands-second buf₀ at (code x) (code y) s size (both-stand buf₀ at S o) in
+            let rest = N .exact w G known y (rest-stands known o z) T .none none in
             next-as p r q D (C .exact w G known c f x y o
             (subst (λ (v : ℕ). Last (Row (Packing p) w (j - i) mask (tailIn p r (q + 1)) b j (budget - v)) (code y)) z rest)
             (stands-same buf₀ buf₁ at (code x) (kept-same none (N .kept)) (child-here buf₀ at S o)))

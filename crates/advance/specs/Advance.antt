@@ -2,7 +2,7 @@
 -- promised of the input is promised where the tables are right for it and a forest of the set stands in the buffer.
 -- Assumes nothing.
 use Prim.Native.Nat.{ℕ, _+_, _*_, _-_, _≤_, _<_}
-use mathlib.Core.List.{List, [], _∷_}
+use mathlib.Core.List.{List, _∷_}
 use mathlib.Core.Path.{_≡_}
 use lib.ListN.{length, getD}
 use Rattle.sizes.specs.Sizes.{nonterminals, tooMany, side}
@@ -39,7 +39,8 @@ pub record Frame (p : List ℕ) (rules : ℕ) (fits chart tables : List ℕ) (r 
   pub costs : getD full 0 0 ≤ tooMany → RowsPut p r fits tables full i j rows
 
 -- they are made, and `rest` is the cost of the places of rule r behind q, from b on
-pub record RestMade (p : List ℕ) (rules : ℕ) (fits chart tables : List ℕ) (r i j mask q b : ℕ) (full rows : List ℕ) (rest : ℕ) : Type 0 where
+pub record RestMade (p : List ℕ) (rules : ℕ) (fits chart tables : List ℕ) (r i j mask q b : ℕ) (full rows : List ℕ) (rest : ℕ)
+    : Type 0 where
   pub made : Made p rules fits chart tables r i j mask full rows
   pub here : rest ≡ getD rows (side * (q + 1) + b) 0
 

@@ -30,8 +30,8 @@ pub fn later_rule(
     buf: &mut [u16],
     at: usize,
 ) -> usize
-    requires { ⌜ (rules ≤ 128) × (r < 128) × (i ≤ j) × (j < 65) × (4225 ≤ length (now chart)) × (at + budget ≤ 512)
-        × (1024 ≤ length (now buf)) × Frame (now p) rules (now fits) (now chart) (now tables) r i j own (now full) (now rows) ⌝ }
+    requires { ⌜ ((rules ≤ 128) × (r < 128) × (i ≤ j) × (j < 65) × (4225 ≤ length (now chart)) × (at + budget ≤ 512)
+        × (1024 ≤ length (now buf))) × Frame (now p) rules (now fits) (now chart) (now tables) r i j own (now full) (now rows) ⌝ }
     ensures { λ n. ⌜ LaterRule (now (p .entry)) rules (now (fits .entry)) (now (chart .entry)) (now (tables .entry)) r k i j own budget at
         (now (buf .entry)) (now (buf .exit)) n ⌝ }
 {

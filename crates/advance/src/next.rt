@@ -1,5 +1,5 @@
 // The tree or row after the one that stands, in place. A row first tries its later places, then its first node, then a wider one; a node
-// the row below it, then a later rule. Nothing is written until the successor is certain, and the frame of a node is made when it is needed.
+// the row below it, then a later rule. Nothing is written until the successor is certain. The frame of a node is made when it is needed.
 use super::frame::rest_of;
 use super::later::later_rule;
 use super::look::Step;
@@ -105,8 +105,8 @@ pub fn row(
     buf: &mut [u16],
     at: usize,
 ) -> usize
-    requires { ⌜ (rules ≤ 128) × (r < 128) × (q ≤ 8) × (i ≤ a) × (a ≤ j) × (j < 65) × (4225 ≤ length (now chart)) × (at + budget ≤ 512)
-        × (1024 ≤ length (now buf)) × Frame (now p) rules (now fits) (now chart) (now tables) r i j mask (now full) (now rows) ⌝ }
+    requires { ⌜ ((rules ≤ 128) × (r < 128) × (q ≤ 8) × (i ≤ a) × (a ≤ j) × (j < 65) × (4225 ≤ length (now chart)) × (at + budget ≤ 512)
+        × (1024 ≤ length (now buf))) × Frame (now p) rules (now fits) (now chart) (now tables) r i j mask (now full) (now rows) ⌝ }
     ensures { λ n. ⌜ RowNext (now (p .entry)) rules (now (fits .entry)) (now (chart .entry)) (now (tables .entry)) r q a i j mask budget at
         (now (buf .entry)) (now (full .exit)) (now (rows .exit)) (now (buf .exit)) n ⌝ }
 {
@@ -199,8 +199,8 @@ pub fn child(
     buf: &mut [u16],
     at: usize,
 ) -> usize
-    requires { ⌜ (rules ≤ 128) × (r < 128) × (q < 8) × (i ≤ a) × (a ≤ b) × (b ≤ j) × (j < 65) × (4225 ≤ length (now chart))
-        × (at + budget ≤ 512) × (1024 ≤ length (now buf))
+    requires { ⌜ ((rules ≤ 128) × (r < 128) × (q < 8) × (i ≤ a) × (a ≤ b) × (b ≤ j) × (j < 65) × (4225 ≤ length (now chart))
+        × (at + budget ≤ 512) × (1024 ≤ length (now buf)))
         × Frame (now p) rules (now fits) (now chart) (now tables) r i j mask (now full) (now rows) ⌝ }
     ensures { λ n. ⌜ ChildNext (now (p .entry)) rules (now (fits .entry)) (now (chart .entry)) (now (tables .entry)) r q k a b i j mask
         budget at (now (buf .entry)) (now (full .exit)) (now (rows .exit)) (now (buf .exit)) n ⌝ }

@@ -90,127 +90,107 @@ row-calls t = (look-reads.Asked, look-reads.Learnt, row-below t, row.Post, child
 
 -- ---- child
 
-child-returns : (t : ℕ) → child-lts.Need-returns (child-calls t) (child-at t) child.Post
-child-returns t c = child-dear (omega arith) (omega arith) (omega arith) (c .before .rest-of .ensures) (omega arith)
-
-child-node-requires : (t : ℕ) → child-lts.Need-node-requires (child-calls t) (child-at t) child.Post
-child-node-requires t c κs =
-    let x = c .before .before .before .before .before .before .before .before .pre in
-    omega arith
-
 child-moved-requires : (t : ℕ) → child-lts.Need-moved-requires (child-calls t) (child-at t) child.Post
 child-moved-requires t c κs =
-    let x = c .before .before .before .before .before .before .before .before .before .before .before .before .before .before .pre in
-    let y = c .before .before .before .before .before .node .ensures .kept .few in
-    let z = c .before .before .before .before .before .node .ensures .kept .long in
+    let d = c .before .before .before .before .before in
+    let x = d .before .before .before .before .before .before .before .before .before .pre in
+    let y = d .node .ensures .kept .few in
+    let z = d .node .ensures .kept .long in
     omega arith
 
 child-returns-2 : (t : ℕ) → child-lts.Need-returns-2 (child-calls t) (child-at t) child.Post
 child-returns-2 t c =
-    let x = c .before .before .before .before .before .before .before .before .before .before .before .before .before .before .before .before .before .pre in
     let d = c .before .before .before .before .before .before .before .before in
+    let x = d .before .before .before .before .before .before .before .before .before .pre in
     let y = d .before .before .before .if1 .left in
     child-moved (omega arith) (omega arith) (omega arith) (d .before .before .before .before .rest-of .ensures) (omega arith)
     (d .before .before .child-set .ensures) (d .node .ensures) (c .before .before .moved .ensures)
 
 -- ---- node
 
-node-returns : (t : ℕ) → node-lts.Need-returns (node-calls t) (node-at t) node.Post
-node-returns t c = node-none (omega arith) (c .before .rule-at .ensures) (omega arith)
-
-node-sub-row : (t : ℕ) → node-lts.Need-sub-row (node-calls t) (node-at t) node.Post
-node-sub-row t c = c .before .before .before .before .rule-at .ensures .room (omega arith)
-
 node-row-requires : (t : ℕ) → node-lts.Need-row-requires (node-calls t) (node-at t) node.Post
 node-row-requires t c κs =
     let o = c .before .before .before .before .before .rule-at .ensures .room (omega arith) in
-    (omega arith, (omega arith, omega arith, omega arith, omega arith, omega arith, omega arith, omega arith, omega arith, omega arith, frame-unmade (search needs)))
+    (omega arith, (omega arith, frame-unmade (search needs)))
 
 node-add-result : (t : ℕ) → node-lts.Need-add-result (node-calls t) (node-at t) node.Post
-node-add-result t c = omega (arith, c .before .before .before .before .before .before .before .before .before .before .before .before .before .pre, c .before .before .before .row .ensures .kept .few)
+node-add-result t c =
+    let x = c .before .before .before .before .before .before .before .before .before .before .before .before .before .pre in
+    omega (arith, c .before .before .before .row .ensures .kept .few)
 
 node-returns-2 : (t : ℕ) → node-lts.Need-returns-2 (node-calls t) (node-at t) node.Post
 node-returns-2 t c =
-    let x = c .before .before .before .before .before .before .before .before .before .before .before .before .before .pre in
     let d = c .before .before .before .before .before .before .before in
+    let x = d .before .before .before .before .before .before .pre in
     let y = d .before .if1 .left in
     node-below-moves (omega arith) (d .before .before .rule-at .ensures) (d .own-set .ensures) (omega arith)
     (c .before .before .before .row .ensures) (omega arith)
 
 node-later-rule-requires : (t : ℕ) → node-lts.Need-later-rule-requires (node-calls t) (node-at t) node.Post
 node-later-rule-requires t c κs =
-    let x = c .before .before .before .before .before .before .before .before .before .before .before .before .before .before .before .before .pre in
-    let y = c .before .before .before .before .before .before .before .before .before .before .before .if1 .left in
-    let z = c .before .before .before .before .before .before .row .ensures .kept .long in
-    (omega arith, omega arith, omega arith, omega arith, omega arith, omega arith, omega arith, c .before .before .before .before .before .before .row .ensures .frame)
+    let d = c .before .before .before .before .before .before in
+    let x = d .before .before .before .before .before .before .before .before .before .before .pre in
+    let y = d .before .before .before .before .before .if1 .left in
+    let z = d .row .ensures .kept .long in
+    (omega arith, d .row .ensures .frame)
 
 node-returns-3 : (t : ℕ) → node-lts.Need-returns-3 (node-calls t) (node-at t) node.Post
 node-returns-3 t c =
-    let x = c .before .before .before .before .before .before .before .before .before .before .before .before .before .before .before .before .before .before .before .pre in
-    let d = c .before .before .before .before .before .before .before .before .before .before .before .before .before in
-    let y = d .before .if1 .left in
+    let d = c .before .before .before .before .before .before .before .before .before in
+    let e = d .before .before .before .before in
+    let x = e .before .before .before .before .before .before .pre in
+    let y = e .before .if1 .left in
     let z = c .before .before .before .before .before .before .if2 .left in
-    node-later (omega arith) (d .before .before .rule-at .ensures) (d .own-set .ensures) (omega arith) (c .before .before .before .before .before .before .before .before .before .row .ensures)
-    (omega arith) (c .before .before .later-rule .ensures)
+    node-later (omega arith) (e .before .before .rule-at .ensures) (e .own-set .ensures) (omega arith) (d .row .ensures) (omega arith)
+    (c .before .before .later-rule .ensures)
 
 -- ---- row
 
 row-row-requires : (t : ℕ) → row-lts.Need-row-requires (row-calls t) (row-at t) row.Post
 row-row-requires t c κs =
-    let x = byte-room (c .before .before .before .before .before .look .ensures) (c .before .before .before .enum-told3 .given .1) in
-    let y = c .before .before .before .before .before .before .before .before .before .pre in
-    (omega arith, (omega arith, omega arith, omega arith, omega arith, omega arith, omega arith, omega arith, omega arith, omega arith, y .1 .9))
-
-row-sub-row : (t : ℕ) → row-lts.Need-sub-row (row-calls t) (row-at t) row.Post
-row-sub-row t c =
-    let x = node-room (c .before .before .before .before .before .look .ensures) (c .before .before .before .step .given .1) in
-    omega arith
-
-row-add-row-4 : (t : ℕ) → row-lts.Need-add-row-4 (row-calls t) (row-at t) row.Post
-row-add-row-4 t c =
-    let x = node-room (c .before .before .before .before .before .before .look .ensures) (c .before .before .before .before .step .given .1) in
-    omega arith
+    let d = c .before .before .before .before .before in
+    let x = byte-room (d .look .ensures) (c .before .before .before .enum-told3 .given .1) in
+    let y = d .before .before .before .before .pre in
+    (omega arith, (omega arith, y .1 .1))
 
 row-row-requires-2 : (t : ℕ) → row-lts.Need-row-requires-2 (row-calls t) (row-at t) row.Post
 row-row-requires-2 t c κs =
-    let x = node-room (c .before .before .before .before .before .before .look .ensures) (c .before .before .before .before .step .given .1) in
-    let y = c .before .before .before .before .before .before .before .before .before .before .pre in
-    (omega arith, (omega arith, omega arith, omega arith, omega arith, omega arith, omega arith, omega arith, omega arith, omega arith, y .1 .9))
+    let d = c .before .before .before .before .before .before in
+    let x = node-room (d .look .ensures) (c .before .before .before .before .step .given .1) in
+    let y = d .before .before .before .before .pre in
+    (omega arith, (omega arith, y .1 .1))
 
 row-add-result : (t : ℕ) → row-lts.Need-add-result (row-calls t) (row-at t) row.Post
 row-add-result t c =
-    let w = c .before .before .before .before .before .before .before .before .before .before .before .before .before .before .pre in
-    let x = node-room (c .before .before .before .before .before .before .before .before .before .before .look .ensures) (c .before .before .before .before .before .before .before .before .step .given .1) in
+    let d = c .before .before .before .before .before .before .before .before .before .before in
+    let w = d .before .before .before .before .pre in
+    let x = node-room (d .look .ensures) (c .before .before .before .before .before .before .before .before .step .given .1) in
     let y = c .before .before .before .row2 .ensures .kept .few in
     omega arith
 
 row-returns : (t : ℕ) → row-lts.Need-returns (row-calls t) (row-at t) row.Post
 row-returns t c =
-    let w = c .before .before .before .before .before .before .before .before .before .before .before .before .before .before .pre in
-    row-rest (omega arith) (omega arith) (c .before .before .before .row2 .ensures) (c .before .before .before .before .before .before .before .before .before .before .look .ensures) (c .before .before .before .before .before .before .before .before .step .given .1) (omega arith)
+    let d = c .before .before .before .before .before .before .before .before .before .before in
+    let w = d .before .before .before .before .pre in
+    row-rest (omega arith) (omega arith) (c .before .before .before .row2 .ensures) (d .look .ensures)
+    (c .before .before .before .before .before .before .before .before .step .given .1) (omega arith)
 
 row-child-requires : (t : ℕ) → row-lts.Need-child-requires (row-calls t) (row-at t) row.Post
 row-child-requires t c κs =
-    let w = c .before .before .before .before .before .before .before .before .before .before .before .before .before .before .before .before .before .pre in
-    let x = node-room (c .before .before .before .before .before .before .before .before .before .before .before .before .before .look .ensures) (c .before .before .before .before .before .before .before .before .before .before .before .step .given .1) in
-    let z = c .before .before .before .before .before .before .row2 .ensures .kept .long in
-    (omega arith, (omega arith, omega arith, omega arith, omega arith, omega arith, omega arith, omega arith, omega arith, omega arith, omega arith, c .before .before .before .before .before .before .row2 .ensures .frame))
-
-row-returns-2 : (t : ℕ) → row-lts.Need-returns-2 (row-calls t) (row-at t) row.Post
-row-returns-2 t c = row-none (omega arith) (omega arith) (c .before .before .before .before .before .before .pre .1 .9) (c .before .before .look .ensures) (c .enum-told .given .1)
-
-row-returns-3 : (t : ℕ) → row-lts.Need-returns-3 (row-calls t) (row-at t) row.Post
-row-returns-3 t c = row-end (omega arith) (omega arith) (c .before .before .before .before .before .before .pre .1 .9) (c .before .before .look .ensures) (c .enum-told2 .given .1)
-
-row-returns-4 : (t : ℕ) → row-lts.Need-returns-4 (row-calls t) (row-at t) row.Post
-row-returns-4 t c = row-byte (omega arith) (omega arith) (c .before .before .before .before .before .before .before .before .look .ensures) (c .before .before .before .before .before .before .enum-told3 .given .1) (c .before .before .row .ensures)
+    let d = c .before .before .before .before .before .before in
+    let e = d .before .before .before .before .before .before .before in
+    let w = e .before .before .before .before .pre in
+    let x = node-room (e .look .ensures) (d .before .before .before .before .before .step .given .1) in
+    let z = d .row2 .ensures .kept .long in (omega arith, (omega arith, d .row2 .ensures .frame))
 
 row-returns-5 : (t : ℕ) → row-lts.Need-returns-5 (row-calls t) (row-at t) row.Post
 row-returns-5 t c =
-    let w = c .before .before .before .before .before .before .before .before .before .before .before .before .before .before .before .before .before .before .before .before .pre in
+    let d = c .before .before .before .before .before .before .before .before .before in
+    let e = d .before .before .before .before .before .before .before in
+    let w = e .before .before .before .before .pre in
     let y = c .before .before .before .before .before .before .if1 .left in
-    row-child (omega arith) (omega arith) (c .before .before .before .before .before .before .before .before .before .row2 .ensures) (c .before .before .before .before .before .before .before .before .before .before .before .before .before .before .before .before .look .ensures) (c .before .before .before .before .before .before .before .before .before .before .before .before .before .before .step .given .1) (omega arith)
-    (c .before .before .child .ensures)
+    row-child (omega arith) (omega arith) (d .row2 .ensures) (e .look .ensures) (d .before .before .before .before .before .step .given .1)
+    (omega arith) (c .before .before .child .ensures)
 
 pub +child+node+row-spec : {M : Type 1} → statement M
 +child+node+row-spec = close μ-child μ-node μ-row (λ t. child-lts.spec
@@ -218,11 +198,9 @@ pub +child+node+row-spec : {M : Type 1} → statement M
     (child-at t)
     child.Post
     (λ c κs. search needs)
-    (child-returns t)
-    (λ c. search needs)
-    (λ c. search needs)
-    (λ c κs. search needs)
-    (child-node-requires t)
+    (λ c. child-dear (omega arith) (omega arith) (omega arith) (c .before .rest-of .ensures) (omega arith))
+    (λ c. search needs) (λ c. search needs) (λ c κs. search needs)
+    (λ c κs. omega arith)
     (child-moved-requires t)
     (λ c. search needs)
     (child-returns-2 t))
@@ -230,11 +208,10 @@ pub +child+node+row-spec : {M : Type 1} → statement M
     (node-calls t)
     (node-at t)
     node.Post
+    (λ c κs. search needs) (λ c. search needs)
+    (λ c. node-none (omega arith) (c .before .rule-at .ensures) (omega arith))
     (λ c κs. search needs)
-    (λ c. search needs)
-    (node-returns t)
-    (λ c κs. search needs)
-    (node-sub-row t)
+    (λ c. c .before .before .before .before .rule-at .ensures .room (omega arith))
     (λ c. search needs)
     (node-row-requires t)
     (node-add-result t)
@@ -247,27 +224,29 @@ pub +child+node+row-spec : {M : Type 1} → statement M
     (row-calls t)
     (row-at t)
     row.Post
-    (λ c κs. search needs)
-    (λ c. search needs)
-    (λ c. search needs)
-    (λ c. search needs)
-    (λ c. search needs)
+    (λ c κs. search needs) (λ c. search needs) (λ c. search needs) (λ c. search needs) (λ c. search needs)
     (λ c. search needs)
     (row-row-requires t)
-    (λ c. search needs)
-    (λ c. search needs)
-    (row-sub-row t)
-    (row-add-row-4 t)
+    (λ c. search needs) (λ c. search needs)
+    (λ c. omega (arith, node-room (c .before .before .before .before .before .look .ensures) (c .before .before .before .step .given .1)))
+    (λ c. omega (
+      arith,
+      node-room (c .before .before .before .before .before .before .look .ensures)
+          (c .before .before .before .before .step .given .1),
+    ))
     (row-row-requires-2 t)
     (row-add-result t)
     (λ c. search needs)
     (row-returns t)
     (row-child-requires t)
     (λ c. search needs)
-    (row-returns-2 t)
+    (λ c. row-none (omega arith) (omega arith) (c .before .before .before .before .before .before .pre .1 .1)
+    (c .before .before .look .ensures) (c .enum-told .given .1))
     (λ c. search needs)
-    (row-returns-3 t)
+    (λ c. row-end (omega arith) (omega arith) (c .before .before .before .before .before .before .pre .1 .1)
+    (c .before .before .look .ensures) (c .enum-told2 .given .1))
     (λ c. search needs)
-    (row-returns-4 t)
+    (λ c. row-byte (omega arith) (omega arith) (c .before .before .before .before .before .before .before .before .look .ensures)
+    (c .before .before .before .before .before .before .enum-told3 .given .1) (c .before .before .row .ensures))
     (λ c. search needs)
     (row-returns-5 t)

@@ -20,7 +20,8 @@ returns-2 c =
     let x = d .before .before .before .before .before .before .before .pre in
     let y = d .before .before .before .if1 .left in
     widen-some (omega arith) (omega arith) (omega arith) (d .before .before .before .before .choose-end .ensures) (omega arith)
-    (d .before .before .child-set .ensures) (d .wide .ensures) (c .before .before .before .before .before .before .node .ensures) (c .before .before .row .ensures)
+    (d .before .before .child-set .ensures) (d .wide .ensures) (c .before .before .before .before .before .before .node .ensures)
+    (c .before .before .row .ensures)
 
 pub widen-spec : {M : Type 1} → statement M
 widen-spec =
