@@ -22,7 +22,7 @@ use Rattle.standing.specs.Standing.{StandsAt}
 use Rattle.tables.specs.Layout.{costIn, fullIn}
 use Rattle.tables.specs.Exact.{Packing}
 use Rattle.suffixes.specs.Within.{tailIn, rowAt}
-use Rattle.descend.specs.Chosen.{EndChosen}
+use Rattle.choose.specs.Chosen.{EndChosen}
 use Rattle.descend.specs.Descend.{Given, Below, FirstAt, NodeFirst, RowFirst}
 use Rattle.descend.proofs.Codes.{kept-none, kept-join}
 use Rattle.descend.proofs.RowSteps.{rests}
@@ -58,7 +58,7 @@ module _ {p : List ℕ} {rules : ℕ} {fits chart tables full rows : List ℕ} {
     exact = λ M w G known c f x y o last own s child.
         let B = made-below G (omega arith) known M in
         next-none (row-ends (B .solved) h (all-rests B q c h (omega arith)) o s refl last child
-        (λ z u v. C .early .dear z (omega arith) (omega arith) v));
+        (λ z u v. C .early .beyond z (omega arith) (omega arith) v));
   }
 
   module _ {e set v n s : ℕ} {buf₀ buf₁ buf : List ℕ} (C : EndChosen tables full k i a (b + 1) j rows (side * (q + 1)) budget e)
@@ -92,7 +92,7 @@ module _ {p : List ℕ} {rules : ℕ} {fits chart tables full rows : List ℕ} {
         record {
           numbers = F .code ++ L .code;
           after = cover-widens (B .solved) h (all-rests B q c h (omega arith)) o own refl last child n (omega arith) d
-              (λ z x y. C .early .dear z (omega arith) y (omega arith)) S
+              (λ z x y. C .early .beyond z (omega arith) y (omega arith)) S
               (subst (λ (z : ℕ). Min (Tree (Packing p) w (e - a) set k a e (budget - z)) (F .code)) g (F .first)) (F .size) (L .first);
           size = omega (arith, length-append (F .code) (L .code), F .size, L .size);
           here = stands-join buf₁ buf at n (F .code) (L .code) (F .size) (first-stands F) (first-stands L) (R .kept .before);

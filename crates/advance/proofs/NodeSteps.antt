@@ -5,6 +5,7 @@ use mathlib.Core.List.{List, [], _∷_}
 use mathlib.Core.Path.{_≡_, sym, subst, _∙_}
 use native.Mathlib.Omega.{arith}
 use lib.ListN.{length, getD}
+use Rattle.sizes.specs.Sizes.{maxRules, maxNodes}
 use Rattle.sets.specs.Set.{insert}
 use Rattle.cfg.specs.Grammar.{Cfg, Symbol, Of}
 use Rattle.cfg.specs.Tree.{Forest, code}
@@ -49,7 +50,7 @@ second {t = t} buf at T S = S 1 (omega (arith, length-code t, tree-nonempty (T .
 -- ---- a later rule
 
 module _ {p : List ℕ} {rules : ℕ} {fits chart tables : List ℕ} {r k i j own budget : ℕ} {full rows : List ℕ} {s : ℕ}
-    (h : i ≤ j) (small : budget ≤ 512) (O : Opened p rules fits chart tables (r + 1) k i j own budget full rows s) where
+    (h : i ≤ j) (small : budget ≤ maxNodes) (O : Opened p rules fits chart tables (r + 1) k i j own budget full rows s) where
   module _ {w : List ℕ} (G : Given p rules fits chart tables w) (known : j ≤ length w) {mask : ℕ} (e : own ≡ insert k mask) {t f : Forest}
       {o : Of (Packing p) r k} (x : OpenedNode (Packing p) w (j - i) mask k i j budget o t f)
       (last : Last (Row (Packing p) w (j - i) own (o .the .places) i j (budget - 1)) (code f)) where
@@ -62,11 +63,11 @@ module _ {p : List ℕ} {rules : ℕ} {fits chart tables : List ℕ} {r k i j ow
     last-under : Last (Row (Packing p) w (j - i) (insert k mask) (o .the .places) i j (budget - 1)) (code f)
     last-under = subst (λ (z : ℕ). Last (Row (Packing p) w (j - i) z (o .the .places) i j (budget - 1)) (code f)) e last
 
-    none-later : 127 < s → Last (Tree (Packing p) w (j - i) mask k i j budget) (code t)
+    none-later : maxRules ≤ s → Last (Tree (Packing p) w (j - i) mask k i j budget) (code t)
     none-later m = node-ends under x last-under
         (λ q u z. passed-dearer G h known (O .chosen (x .room) .early) q (omega arith) (omega (arith, of-in 0 p q k z .0)) z)
 
-    module _ (m : s ≤ 127) where
+    module _ (m : s < maxRules) where
       left-used : leftIn p s < 32
       left-used =
           let a = O .chosen (x .room) .fits (omega arith) .left in
@@ -94,10 +95,10 @@ module _ {p : List ℕ} {rules : ℕ} {fits chart tables : List ℕ} {r k i j ow
           (subst (λ (z : ℕ). Min (Row (Packing p) w (j - i) z (v .the .places) i j (budget - 1)) y) e
           (subst (λ (z : List Symbol). Min (Row (Packing p) w (j - i) own z i j (budget - 1)) y) (places-of p s k v) M))
 
-  pub later-none : {at : ℕ} {buf : List ℕ} → 127 < s → LaterRule p rules fits chart tables r k i j own budget at buf buf 0
+  pub later-none : {at : ℕ} {buf : List ℕ} → maxRules ≤ s → LaterRule p rules fits chart tables r k i j own budget at buf buf 0
   later-none m = record { kept = kept-none; exact = λ w G known mask e t f o x last. next-none (none-later G known e x last m) }
 
-  pub later-some : {at : ℕ} {buf₀ buf₁ buf : List ℕ} {n : ℕ} → s ≤ 127 → NodePut (j - i) s at buf₀ buf₁
+  pub later-some : {at : ℕ} {buf₀ buf₁ buf : List ℕ} {n : ℕ} → s < maxRules → NodePut (j - i) s at buf₀ buf₁
       → RowFirst p rules fits chart tables full rows s 0 i i j own (budget - 1) (at + 1) buf₁ buf n
       → LaterRule p rules fits chart tables r k i j own budget at buf₀ buf (1 + n)
   later-some {at = at} {buf₁ = buf₁} {buf = buf} m P R = record {
@@ -116,7 +117,7 @@ module _ {p : List ℕ} {rules : ℕ} {fits chart tables : List ℕ} {r k i j ow
 
 module _ {p : List ℕ} {rules : ℕ} {fits chart tables : List ℕ} {k i j mask budget at r : ℕ} {buf₀ : List ℕ} (h : i ≤ j)
     (A : RuleRead buf₀ at budget r) where
-  pub node-none : 127 < r → NodeNext p rules fits chart tables k i j mask budget at buf₀ buf₀ 0
+  pub node-none : maxRules ≤ r → NodeNext p rules fits chart tables k i j mask budget at buf₀ buf₀ 0
   node-none m = record {
     kept = kept-none;
     exact = λ w G known t T S.
@@ -125,7 +126,7 @@ module _ {p : List ℕ} {rules : ℕ} {fits chart tables : List ℕ} {k i j mask
         absurd (omega (arith, of-in 0 p (getD buf₀ (2 * at + 1) 0) k o .0));
   }
 
-  module _ {own : ℕ} (u : k < 32 → own ≡ insert k mask) (m : r ≤ 127) {full rows buf₁ : List ℕ} {n : ℕ}
+  module _ {own : ℕ} (u : k < 32 → own ≡ insert k mask) (m : r < maxRules) {full rows buf₁ : List ℕ} {n : ℕ}
       (N : RowNext p rules fits chart tables r 0 i i j own (budget - 1) (at + 1) buf₀ full rows buf₁ n) where
     -- the tree that stands, opened, and the row below it
     module _ {w : List ℕ} (known : j ≤ length w) {t : Forest} (T : Tree (Packing p) w (j - i) mask k i j budget t)

@@ -6,6 +6,7 @@ use mathlib.Core.List.{List, [], _∷_, _++_}
 use mathlib.Core.Path.{_≡_, refl, sym, ap, subst, _∙_}
 use native.Mathlib.Omega.{arith}
 use lib.ListN.{length, getD}
+use Rattle.sizes.specs.Sizes.{maxPlaces, maxNodes}
 use Rattle.cfg.specs.Grammar.{Cfg, Symbol, nonterminal}
 use Rattle.cfg.specs.Tree.{Forest, nodes, code, Fits, fits-node}
 use Rattle.listing.proofs.Unique.{length-code}
@@ -51,16 +52,16 @@ module _ {p : List ℕ} {r q : ℕ} {buf : List ℕ} {at a j budget m : ℕ} (e 
 
 -- where the row stands next
 module _ {p : List ℕ} {r q : ℕ} {buf : List ℕ} {at a j budget : ℕ} {s : Step} (L : Looked p r q buf at a j budget s) where
-  pub byte-room : s ≡ Byte → (q < 8) × (a < j)
+  pub byte-room : s ≡ Byte → (q < maxPlaces) × (a < j)
   byte-room e = go (subst (Looked p r q buf at a j budget) e L)
     where
-      go : Looked p r q buf at a j budget Byte → (q < 8) × (a < j)
+      go : Looked p r q buf at a j budget Byte → (q < maxPlaces) × (a < j)
       go (at-byte c t m) = (omega (arith, count-le p r), m)
 
-  pub node-room : {k b n : ℕ} → s ≡ Node k b n → (q < 8) × (a ≤ b) × (b ≤ j) × (n ≤ budget) × (at + n ≤ 512)
+  pub node-room : {k b n : ℕ} → s ≡ Node k b n → (q < maxPlaces) × (a ≤ b) × (b ≤ j) × (n ≤ budget) × (at + n ≤ maxNodes)
   node-room {k} {b} {n} e = go (subst (Looked p r q buf at a j budget) e L)
     where
-      go : Looked p r q buf at a j budget (Node k b n) → (q < 8) × (a ≤ b) × (b ≤ j) × (n ≤ budget) × (at + n ≤ 512)
+      go : Looked p r q buf at a j budget (Node k b n) → (q < maxPlaces) × (a ≤ b) × (b ≤ j) × (n ≤ budget) × (at + n ≤ maxNodes)
       go (at-node c t g d Z x y) = (omega (arith, count-le p r), omega arith, x, y, omega (arith, Z .small))
 
 -- ---- what stands
@@ -100,7 +101,7 @@ module _ {G : Cfg} {w : List ℕ} {cover set k : ℕ} {places : List Symbol} {a 
 
 -- the nodes counted are those of the tree
 pub size-here : {p w : List ℕ} {cover set k : ℕ} {places : List Symbol} {a j budget at s b : ℕ} {buf : List ℕ} {f x y : Forest}
-    → Sized p buf at s → StandsAt buf at (code f) → OpenedRow (Packing p) w cover set k places a j budget f b x y → at + budget ≤ 512
+    → Sized p buf at s → StandsAt buf at (code f) → OpenedRow (Packing p) w cover set k places a j budget f b x y → at + budget ≤ maxNodes
     → s ≡ nodes x
 size-here {k = k} {at = at} {buf = buf} {x = x} Z S o room =
     Z .exact k x (o .child .fit) (child-here buf at S o) (omega (arith, o .child .small))

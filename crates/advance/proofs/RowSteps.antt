@@ -5,6 +5,7 @@ use mathlib.Core.List.{List, _++_}
 use mathlib.Core.Path.{_≡_, refl, sym, subst}
 use native.Mathlib.Omega.{arith}
 use lib.ListN.{length, length-append}
+use Rattle.sizes.specs.Sizes.{maxNodes}
 use Rattle.cfg.specs.Grammar.{Symbol}
 use Rattle.cfg.specs.Tree.{Forest, code}
 use Rattle.listing.proofs.Unique.{length-code}
@@ -38,7 +39,7 @@ module _ (p : List ℕ) (r q : ℕ) {w : List ℕ} {cover set a j budget : ℕ} 
       subst (λ (s : List Symbol). NextAt (Row (Packing p) w cover set s a j budget) c buf at n) (sym d) N
 
 -- where nothing stands that is right, no row stands
-module _ {p : List ℕ} {r q a j budget at : ℕ} {buf : List ℕ} (l : a ≤ j) (room : at + budget ≤ 512) where
+module _ {p : List ℕ} {r q a j budget at : ℕ} {buf : List ℕ} (l : a ≤ j) (room : at + budget ≤ maxNodes) where
   none-stands : {w : List ℕ} {cover set : ℕ} {f : Forest} → Looked p r q buf at a j budget No → j ≤ length w
       → Row (Packing p) w cover set (tailIn p r q) a j budget f → StandsAt buf at (code f) → ⊥
   none-stands (no-byte c n m) known R S =
@@ -55,7 +56,7 @@ module _ {p : List ℕ} {r q a j budget at : ℕ} {buf : List ℕ} (l : a ≤ j)
       omega (arith, o .child .small)
 
 module _ {p : List ℕ} {rules : ℕ} {fits chart tables : List ℕ} {r i j mask q a budget at : ℕ} {buf₀ : List ℕ} (l : a ≤ j)
-    (room : at + budget ≤ 512) where
+    (room : at + budget ≤ maxNodes) where
   -- ---- nothing, and the end
 
   pub row-none : {s : Step} {full rows : List ℕ} → Frame p rules fits chart tables r i j mask full rows

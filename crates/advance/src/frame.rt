@@ -9,6 +9,7 @@ use tables::layout::Full;
 use tables::layout::Tables;
 ghost use Prim.Native.Nat.{_<_, _≤_};
 ghost use lib.ListN.{length};
+ghost use Rattle.sizes.specs.Sizes.{maxRules, maxPlaces, side, cells};
 ghost use Rattle.advance.specs.Advance.{Frame, Made, RestMade};
 
 // Makes it, if it is not made.
@@ -25,7 +26,7 @@ pub fn make(
     full: &mut Full,
     rows: &mut Rows,
 )
-    requires { ⌜ (rules ≤ 128) × (r < 128) × (i ≤ j) × (j < 65) × (4225 ≤ length (now chart))
+    requires { ⌜ (rules ≤ maxRules) × (r < maxRules) × (i ≤ j) × (j < side) × (cells ≤ length (now chart))
         × Frame (now p) rules (now fits) (now chart) (now tables) r i j mask (now full) (now rows) ⌝ }
     ensures { λ _. ⌜ Made (now (p .entry)) rules (now (fits .entry)) (now (chart .entry)) (now (tables .entry)) r i j mask
         (now (full .exit)) (now (rows .exit)) ⌝ }
@@ -52,7 +53,7 @@ pub fn rest_of(
     full: &mut Full,
     rows: &mut Rows,
 ) -> usize
-    requires { ⌜ (rules ≤ 128) × (r < 128) × (i ≤ j) × (j < 65) × (4225 ≤ length (now chart)) × (q < 8) × (b < 65)
+    requires { ⌜ (rules ≤ maxRules) × (r < maxRules) × (i ≤ j) × (j < side) × (cells ≤ length (now chart)) × (q < maxPlaces) × (b < side)
         × Frame (now p) rules (now fits) (now chart) (now tables) r i j mask (now full) (now rows) ⌝ }
     ensures { λ rest. ⌜ RestMade (now (p .entry)) rules (now (fits .entry)) (now (chart .entry)) (now (tables .entry)) r i j mask q b
         (now (full .exit)) (now (rows .exit)) rest ⌝ }

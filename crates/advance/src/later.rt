@@ -9,6 +9,7 @@ use tables::layout::Full;
 use tables::layout::Tables;
 ghost use Prim.Native.Nat.{_+_, _<_, _≤_};
 ghost use lib.ListN.{length};
+ghost use Rattle.sizes.specs.Sizes.{maxRules, side, cells, maxNodes, outputSize};
 ghost use Rattle.advance.specs.Advance.{Frame, LaterRule};
 
 // Writes the first tree of k over the span from i to j whose rule is beyond r. The result is the number of its nodes, 0 if there is none
@@ -30,8 +31,8 @@ pub fn later_rule(
     buf: &mut [u16],
     at: usize,
 ) -> usize
-    requires { ⌜ ((rules ≤ 128) × (r < 128) × (i ≤ j) × (j < 65) × (4225 ≤ length (now chart)) × (at + budget ≤ 512)
-        × (1024 ≤ length (now buf))) × Frame (now p) rules (now fits) (now chart) (now tables) r i j own (now full) (now rows) ⌝ }
+    requires { ⌜ ((rules ≤ maxRules) × (r < maxRules) × (i ≤ j) × (j < side) × (cells ≤ length (now chart)) × (at + budget ≤ maxNodes)
+        × (outputSize ≤ length (now buf))) × Frame (now p) rules (now fits) (now chart) (now tables) r i j own (now full) (now rows) ⌝ }
     ensures { λ n. ⌜ LaterRule (now (p .entry)) rules (now (fits .entry)) (now (chart .entry)) (now (tables .entry)) r k i j own budget at
         (now (buf .entry)) (now (buf .exit)) n ⌝ }
 {
@@ -50,7 +51,7 @@ pub fn later_rule(
         full,
         rows,
     );
-    if s > 127 {
+    if s >= sizes::MAX_RULES {
         return 0;
     }
     put_node(j - i, s, buf, at);

@@ -3,6 +3,7 @@ use numbers::wide;
 use packed::Packed;
 ghost use Prim.Native.Nat.{_+_, _<_, _≤_};
 ghost use lib.ListN.{length};
+ghost use Rattle.sizes.specs.Sizes.{maxRules, maxPlaces, side, maxNodes, outputSize};
 ghost use Rattle.advance.specs.Looked.{Looked, RuleRead};
 
 // What stands in a row: nothing that is right, its end, a byte, or a node of a nonterminal up to an end, with the nodes of its tree.
@@ -24,7 +25,7 @@ pub fn look(
     j: usize,
     budget: usize,
 ) -> Step
-    requires { ⌜ (r < 128) × (q ≤ 8) × (a ≤ j) × (j < 65) × (at + budget ≤ 512) × (1024 ≤ length (now buf)) ⌝ }
+    requires { ⌜ (r < maxRules) × (q ≤ maxPlaces) × (a ≤ j) × (j < side) × (at + budget ≤ maxNodes) × (outputSize ≤ length (now buf)) ⌝ }
     ensures { λ s. ⌜ Looked (now (p .entry)) r q (now (buf .entry)) at a j budget s ⌝ }
 {
     if packed::count(p, r) <= q {
@@ -48,7 +49,7 @@ pub fn look(
 
 // The rule of node `at`; 128 if there is none there, or the budget has no node.
 pub fn rule_at(buf: &[u16], at: usize, budget: usize) -> usize
-    requires { ⌜ (at + budget ≤ 512) × (1024 ≤ length (now buf)) ⌝ }
+    requires { ⌜ (at + budget ≤ maxNodes) × (outputSize ≤ length (now buf)) ⌝ }
     ensures { λ r. ⌜ RuleRead (now (buf .entry)) at budget r ⌝ }
 {
     if budget == 0 {

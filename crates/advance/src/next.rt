@@ -17,6 +17,7 @@ use tables::layout::ROWS_SIZE;
 use tables::layout::Tables;
 ghost use Prim.Native.Nat.{_+_, _<_, _≤_};
 ghost use lib.ListN.{length};
+ghost use Rattle.sizes.specs.Sizes.{maxRules, maxPlaces, side, cells, maxNodes, outputSize};
 ghost use Rattle.advance.specs.Advance.{Frame, NodeNext, RowNext, ChildNext};
 
 // Writes the tree of k over the span from i to j after the one that stands at node `at`. The result is the number of its nodes, 0 if there
@@ -35,12 +36,13 @@ pub fn node(
     buf: &mut [u16],
     at: usize,
 ) -> usize
-    requires { ⌜ (rules ≤ 128) × (i ≤ j) × (j < 65) × (4225 ≤ length (now chart)) × (at + budget ≤ 512) × (1024 ≤ length (now buf)) ⌝ }
+    requires { ⌜ (rules ≤ maxRules) × (i ≤ j) × (j < side) × (cells ≤ length (now chart)) × (at + budget ≤ maxNodes)
+        × (outputSize ≤ length (now buf)) ⌝ }
     ensures { λ n. ⌜ NodeNext (now (p .entry)) rules (now (fits .entry)) (now (chart .entry)) (now (tables .entry)) k i j mask budget at
         (now (buf .entry)) (now (buf .exit)) n ⌝ }
 {
     let r = rule_at(buf, at, budget);
-    if r > 127 {
+    if r >= sizes::MAX_RULES {
         return 0;
     }
     let own = own_set(mask, k);
@@ -105,8 +107,9 @@ pub fn row(
     buf: &mut [u16],
     at: usize,
 ) -> usize
-    requires { ⌜ ((rules ≤ 128) × (r < 128) × (q ≤ 8) × (i ≤ a) × (a ≤ j) × (j < 65) × (4225 ≤ length (now chart)) × (at + budget ≤ 512)
-        × (1024 ≤ length (now buf))) × Frame (now p) rules (now fits) (now chart) (now tables) r i j mask (now full) (now rows) ⌝ }
+    requires { ⌜ ((rules ≤ maxRules) × (r < maxRules) × (q ≤ maxPlaces) × (i ≤ a) × (a ≤ j) × (j < side)
+        × (cells ≤ length (now chart)) × (at + budget ≤ maxNodes) × (outputSize ≤ length (now buf)))
+        × Frame (now p) rules (now fits) (now chart) (now tables) r i j mask (now full) (now rows) ⌝ }
     ensures { λ n. ⌜ RowNext (now (p .entry)) rules (now (fits .entry)) (now (chart .entry)) (now (tables .entry)) r q a i j mask budget at
         (now (buf .entry)) (now (full .exit)) (now (rows .exit)) (now (buf .exit)) n ⌝ }
 {
@@ -199,8 +202,8 @@ pub fn child(
     buf: &mut [u16],
     at: usize,
 ) -> usize
-    requires { ⌜ ((rules ≤ 128) × (r < 128) × (q < 8) × (i ≤ a) × (a ≤ b) × (b ≤ j) × (j < 65) × (4225 ≤ length (now chart))
-        × (at + budget ≤ 512) × (1024 ≤ length (now buf)))
+    requires { ⌜ ((rules ≤ maxRules) × (r < maxRules) × (q < maxPlaces) × (i ≤ a) × (a ≤ b) × (b ≤ j) × (j < side)
+        × (cells ≤ length (now chart)) × (at + budget ≤ maxNodes) × (outputSize ≤ length (now buf)))
         × Frame (now p) rules (now fits) (now chart) (now tables) r i j mask (now full) (now rows) ⌝ }
     ensures { λ n. ⌜ ChildNext (now (p .entry)) rules (now (fits .entry)) (now (chart .entry)) (now (tables .entry)) r q k a b i j mask
         budget at (now (buf .entry)) (now (full .exit)) (now (rows .exit)) (now (buf .exit)) n ⌝ }

@@ -1,5 +1,5 @@
 // The first row with a wider first node than the one that stands, and what follows a first node that has moved.
-use descend::choose::choose_end;
+use choose::ends::choose_end;
 use descend::first;
 use descend::open::child_set;
 use fit::FitTable;
@@ -10,6 +10,7 @@ use tables::layout::Full;
 use tables::layout::Tables;
 ghost use Prim.Native.Nat.{_+_, _<_, _≤_};
 ghost use lib.ListN.{length};
+ghost use Rattle.sizes.specs.Sizes.{maxRules, maxPlaces, side, cells, maxNodes, outputSize};
 ghost use Rattle.advance.specs.Advance.{Widened, Moved};
 
 // Writes the first row of the places of rule r from q on, from a to j inside a span from i to j, whose node of k ends beyond b. The
@@ -34,8 +35,8 @@ fn widen(
     buf: &mut [u16],
     at: usize,
 ) -> usize
-    requires { ⌜ (rules ≤ 128) × (r < 128) × (q < 8) × (i ≤ a) × (a ≤ b) × (b ≤ j) × (j < 65) × (4225 ≤ length (now chart))
-        × (at + budget ≤ 512) × (1024 ≤ length (now buf)) ⌝ }
+    requires { ⌜ (rules ≤ maxRules) × (r < maxRules) × (q < maxPlaces) × (i ≤ a) × (a ≤ b) × (b ≤ j) × (j < side)
+        × (cells ≤ length (now chart)) × (at + budget ≤ maxNodes) × (outputSize ≤ length (now buf)) ⌝ }
     ensures { λ n. ⌜ Widened (now (p .entry)) rules (now (fits .entry)) (now (chart .entry)) (now (tables .entry)) (now (full .entry))
         (now (rows .entry)) r q k a b i j mask budget at (now (buf .entry)) (now (buf .exit)) n ⌝ }
 {
@@ -101,8 +102,8 @@ pub fn moved(
     buf: &mut [u16],
     at: usize,
 ) -> usize
-    requires { ⌜ (rules ≤ 128) × (r < 128) × (q < 8) × (i ≤ a) × (a ≤ b) × (b ≤ j) × (j < 65) × (4225 ≤ length (now chart))
-        × (at + budget ≤ 512) × (m ≤ budget) × (1024 ≤ length (now buf)) ⌝ }
+    requires { ⌜ (rules ≤ maxRules) × (r < maxRules) × (q < maxPlaces) × (i ≤ a) × (a ≤ b) × (b ≤ j) × (j < side)
+        × (cells ≤ length (now chart)) × (at + budget ≤ maxNodes) × (m ≤ budget) × (outputSize ≤ length (now buf)) ⌝ }
     ensures { λ n. ⌜ Moved (now (p .entry)) rules (now (fits .entry)) (now (chart .entry)) (now (tables .entry)) (now (full .entry))
         (now (rows .entry)) r q k a b i j mask budget at m (now (buf .entry)) (now (buf .exit)) n ⌝ }
 {

@@ -20,7 +20,8 @@ pub kept-none : {budget at : ℕ} {out : List ℕ} → Kept budget at 0 out out
 kept-none = record { long = refl; few = omega arith; before = λ x l. refl; after = λ x l. refl }
 
 -- the same nodes in another set of forests
-pub first-same : {P Q : Forest → Type 0} {out : List ℕ} {at n : ℕ} → ((e : List ℕ) → Min P e → Min Q e) → FirstAt P out at n → FirstAt Q out at n
+pub first-same : {P Q : Forest → Type 0} {out : List ℕ} {at n : ℕ} → ((e : List ℕ) → Min P e → Min Q e) → FirstAt P out at n
+    → FirstAt Q out at n
 first-same f F = record { code = F .code; first = f (F .code) (F .first); size = F .size; here = F .here }
 
 -- ---- m nodes and n nodes behind them

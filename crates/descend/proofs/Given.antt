@@ -23,7 +23,7 @@ use Rattle.suffixes.specs.Within.{tailIn, rowAt, Inside as Suffix}
 use Rattle.suffixes.specs.Rows.{RowsPut}
 use Rattle.solve.specs.Solve.{Solved, RuleOver}
 use Rattle.solve.proofs.Trees.{solved-full}
-use Rattle.descend.specs.Chosen.{RulesPassed}
+use Rattle.choose.specs.Chosen.{RulesPassed}
 use Rattle.descend.specs.Descend.{Given}
 
 -- a nonterminal that has a tree has a rule
@@ -46,7 +46,8 @@ module _ {p : List ℕ} {rules : ℕ} {fits chart tables w : List ℕ} (G : Give
     rising = h;
     known = l;
     inside = inside;
-    exact = solved-full S (fitsAt w) (bytesOf w) (costIn tables) (tells-input w) (G .past) (λ m. G .exact .ready i j m l) inside (G .cells i j h l);
+    exact = solved-full S (fitsAt w) (bytesOf w) (costIn tables) (tells-input w) (G .past) (λ m. G .exact .ready i j m l) inside
+        (G .cells i j h l);
   }
 
   pub rule-lowest : {r v : ℕ} {full : List ℕ} → RuleOver p r full tables i j v → leftIn p r < 32
@@ -59,7 +60,7 @@ module _ {p : List ℕ} {rules : ℕ} {fits chart tables w : List ℕ} (G : Give
       → (v : ℕ) × Lowest (NodeCost (fitsAt w) (fullIn full) (costIn tables) (o .the .places) i j) v × (budget < v)
   passed-dearer {k = k} {full = full} P s n m o =
       let (u, c, d, f) = of-in 0 p s k o in
-      let (v, R, b) = P .dear s n m (before u d) .cost c in (
+      let (v, R, b) = P .beyond s n m (before u d) .cost c in (
         v,
         subst (λ (z : List Symbol). Lowest (NodeCost (fitsAt w) (fullIn full) (costIn tables) z i j) v) (sym f) (rule-lowest R d),
         b,

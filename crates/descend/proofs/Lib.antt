@@ -1,5 +1,4 @@
--- Laws of the choices and of the codes written, by the tests that the code makes.
-pub mod Chosen
+-- Laws of what a node and a row write, by the tests that the code makes.
 pub mod Opening
 pub mod Codes
 pub mod Given

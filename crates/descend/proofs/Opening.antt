@@ -1,15 +1,14 @@
 -- What is made for a node, by the tests that the code makes.
 -- Assumes nothing.
-use Prim.Native.Nat.{ℕ, _≤_, _<_}
+use Prim.Native.Nat.{ℕ, _≤_}
 use mathlib.Core.List.{List}
 use mathlib.Core.Path.{_≡_}
 use native.Mathlib.Omega.{arith}
 use lib.ListN.{getD, replicate, getD-replicate}
 use Rattle.sizes.specs.Sizes.{maxRules, tooMany}
 use Rattle.chart.specs.Cell.{cell}
-use Rattle.suffixes.specs.Rows.{RowsPut}
 use Rattle.solve.specs.Solve.{Solved}
-use Rattle.descend.specs.Chosen.{RuleChosen}
+use Rattle.choose.specs.Chosen.{RuleChosen}
 use Rattle.descend.specs.Descend.{MaybeSolved, Opened}
 
 -- costs of which the first is more than any cost are not made
@@ -31,6 +30,6 @@ module _ {p : List ℕ} {rules : ℕ} {fits chart tables : List ℕ} {from k i j
     costs = λ l. absurd (omega arith);
   }
 
-  pub opened-none : {r : ℕ} → 127 < r → Solved p rules (cell chart i j) own tables i j full → RuleChosen p rules from k full tables i j budget r
-      → Opened p rules fits chart tables from k i j own budget full rows r
+  pub opened-none : {r : ℕ} → maxRules ≤ r → Solved p rules (cell chart i j) own tables i j full
+      → RuleChosen p rules from k full tables i j budget r → Opened p rules fits chart tables from k i j own budget full rows r
   opened-none l S C = record { room = λ m. absurd (omega arith); solved = λ _. S; chosen = λ _. C; costs = λ m. absurd (omega arith) }

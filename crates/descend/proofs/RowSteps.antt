@@ -6,7 +6,7 @@ use mathlib.Core.List.{List, [], _∷_}
 use mathlib.Core.Path.{_≡_, sym, ap, subst, _∙_}
 use native.Mathlib.Omega.{arith}
 use lib.ListN.{getD}
-use Rattle.sizes.specs.Sizes.{side}
+use Rattle.sizes.specs.Sizes.{side, maxNodes}
 use Rattle.chart.specs.Cell.{fitsAt}
 use Rattle.cfg.specs.Grammar.{Symbol, nonterminal, terminal}
 use Rattle.costs.specs.Cut.{LeastCut, within}
@@ -20,9 +20,9 @@ use Rattle.packed.proofs.Fitting.{symbol-nonterminal, symbol-terminal}
 use Rattle.tables.specs.Layout.{costIn, fullIn}
 use Rattle.tables.specs.Exact.{Packing}
 use Rattle.suffixes.specs.Within.{tailIn, rowAt}
-use Rattle.descend.specs.declared.choose.Step.{Step}
-use Rattle.descend.specs.declared.choose.Step.the-variants.{No, End, Byte, Node}
-use Rattle.descend.specs.Chosen.{EndChosen, Looked, at-end, at-byte, no-byte, at-node, no-node}
+use Rattle.choose.specs.declared.look.Step.{Step}
+use Rattle.choose.specs.declared.look.Step.the-variants.{No, End, Byte, Node}
+use Rattle.choose.specs.Chosen.{EndChosen, Looked, at-end, at-byte, no-byte, at-node, no-node}
 use Rattle.descend.specs.Descend.{Below, FirstAt, NodeFirst, RowFirst}
 use Rattle.descend.proofs.Codes.{first-none, kept-none, first-same, kept-join, first-join}
 
@@ -40,7 +40,7 @@ module _ (p : List ℕ) (r q : ℕ) (c : q < countIn p r) where
   tail-nonterminal {k} n e = tail-cons (nonterminal k) (symbol-nonterminal p r q n ∙ ap (λ (x : ℕ). nonterminal x) (sym e))
 
 module _ {p : List ℕ} {rules : ℕ} {fits chart tables full rows : List ℕ} {r i j mask : ℕ} (q a budget : ℕ) (h : i ≤ a) (l : a ≤ j)
-    (room : budget ≤ 512) where
+    (room : budget ≤ maxNodes) where
   module _ {w : List ℕ} (B : Below p rules fits chart tables full rows r i j mask w) where
     -- the least cost of the places from q on, as another list
     cost-of : {places : List Symbol} → tailIn p r q ≡ places → q ≤ countIn p r
@@ -58,13 +58,13 @@ module _ {p : List ℕ} {rules : ℕ} {fits chart tables full rows : List ℕ} {
         (B .costs (q + 1) x (omega arith) (omega arith) n)
 
     -- where nothing comes next, the least cost is not within the budget
-    none-dear : Looked p r q tables full rows i a j budget No → getD rows (rowAt 0 q a) 0 ≤ budget → ⊥
-    none-dear (no-byte c n m) v =
+    none-within : Looked p r q tables full rows i a j budget No → getD rows (rowAt 0 q a) 0 ≤ budget → ⊥
+    none-within (no-byte c n m) v =
         let (x, _) = terminal-fits (cost-of (tail-terminal p r q c n) (omega arith)) v (omega arith) in
         omega arith
-    none-dear (no-node {k} {b} c n e C m) v =
+    none-within (no-node {k} {b} c n e C m) v =
         let (x, y, z, u) = end-exists (rests c) (cost-of (tail-nonterminal p r q c n e) (omega arith)) v (omega arith) in
-        let d = C .early .dear x y (omega arith) z in
+        let d = C .early .beyond x y (omega arith) z in
         omega arith
 
   -- ---- nothing, and the end
@@ -73,12 +73,13 @@ module _ {p : List ℕ} {rules : ℕ} {fits chart tables full rows : List ℕ} {
       → RowFirst p rules fits chart tables full rows r q a i j mask budget at out out 0
   row-none L e = record {
     kept = kept-none;
-    exact = λ w B c v. absurd (none-dear B (subst (Looked p r q tables full rows i a j budget) e L) v);
+    exact = λ w B c v. absurd (none-within B (subst (Looked p r q tables full rows i a j budget) e L) v);
   }
 
   pub row-end : {at : ℕ} {s : Step} {out : List ℕ} → Looked p r q tables full rows i a j budget s → s ≡ End
       → RowFirst p rules fits chart tables full rows r q a i j mask budget at out out 0
-  row-end {at} {out = out} L e = record { kept = kept-none; exact = λ w B c v. go w B c v (subst (Looked p r q tables full rows i a j budget) e L) }
+  row-end {at} {out = out} L e =
+      record { kept = kept-none; exact = λ w B c v. go w B c v (subst (Looked p r q tables full rows i a j budget) e L) }
     where
       go : (w : List ℕ) → Below p rules fits chart tables full rows r i j mask w → q ≤ countIn p r → getD rows (rowAt 0 q a) 0 ≤ budget
           → Looked p r q tables full rows i a j budget End → FirstAt (Row (Packing p) w (j - i) mask (tailIn p r q) a j budget) out at 0
@@ -126,7 +127,7 @@ module _ {p : List ℕ} {rules : ℕ} {fits chart tables full rows : List ℕ} {
         (child-least (B .solved) h y x s) (omega arith) in
         let L = R .exact w B (omega arith) (omega arith) in
         first-join F L (R .kept) (λ u v M size Q. row-step (B .solved) m h y x (rests B c)
-        (λ z α β. C .early .dear z α β (omega arith)) s
+        (λ z α β. C .early .beyond z α β (omega arith)) s
         (subst (λ (z : ℕ). Min (Tree (Packing p) w (b - a) set k a b z) u) e M) size Q)
 
     pub row-node : {t : Step} → Looked p r q tables full rows i a j budget t → t ≡ Node k b share

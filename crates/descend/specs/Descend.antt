@@ -18,7 +18,7 @@ use Rattle.tables.specs.Exact.{Packing, PastLast, FitTold, ChartTrue, Exact}
 use Rattle.suffixes.specs.Within.{tailIn, Inside, rowAt}
 use Rattle.suffixes.specs.Rows.{RowsPut}
 use Rattle.solve.specs.Solve.{Solved}
-use Rattle.descend.specs.Chosen.{RuleChosen}
+use Rattle.choose.specs.Chosen.{RuleChosen}
 
 -- what is given of the input w: the number behind its last rule, its fit table, its chart and its tables
 pub record Given (p : List ℕ) (rules : ℕ) (fits chart tables w : List ℕ) : Type 0 where
@@ -77,7 +77,8 @@ pub record MaybeSolved (p : List ℕ) (rules cell mask : ℕ) (tables : List ℕ
   pub made : getD full 0 0 ≤ tooMany → Solved p rules cell mask tables i j full
 
 -- what is made for a node within a budget: the costs over its span, its rule, the first from `from` on, and the costs of its places
-pub record Opened (p : List ℕ) (rules : ℕ) (fits chart tables : List ℕ) (from k i j own budget : ℕ) (full rows : List ℕ) (r : ℕ) : Type 0 where
+pub record Opened (p : List ℕ) (rules : ℕ) (fits chart tables : List ℕ) (from k i j own budget : ℕ) (full rows : List ℕ) (r : ℕ)
+    : Type 0 where
   pub room : r < maxRules → 0 < budget
   pub solved : 0 < budget → Solved p rules (cell chart i j) own tables i j full
   pub chosen : 0 < budget → RuleChosen p rules from k full tables i j budget r

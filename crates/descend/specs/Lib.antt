@@ -1,3 +1,2 @@
 -- The first derivation below a node, by the tables.
-pub mod Chosen
 pub mod Descend

@@ -1,11 +1,7 @@
 // The first derivation below a node, written from the left: a node calls the row of its rule's places, which calls the nodes below it.
-use super::choose::Step;
-use super::choose::look;
-use super::open::UNMADE;
-use super::open::child_set;
-use super::open::open_node;
-use super::open::own_set;
-use super::open::put_node;
+use super::open;
+use choose::look::Step;
+use choose::look::look;
 use fit::FitTable;
 use packed::Packed;
 use suffixes::rows::Rows;
@@ -14,6 +10,7 @@ use tables::layout::ROWS_SIZE;
 use tables::layout::Tables;
 ghost use Prim.Native.Nat.{_+_, _<_, _≤_};
 ghost use lib.ListN.{length};
+ghost use Rattle.sizes.specs.Sizes.{maxRules, maxPlaces, side, cells, maxNodes, outputSize};
 ghost use Rattle.descend.specs.Descend.{NodeFirst, RowFirst};
 
 // Writes the first tree of the nonterminal k over the span from i to j within the budget, in which no nonterminal of the mask stands over
@@ -32,14 +29,15 @@ pub fn node(
     out: &mut [u16],
     at: usize,
 ) -> usize
-    requires { ⌜ (rules ≤ 128) × (i ≤ j) × (j < 65) × (4225 ≤ length (now chart)) × (at + budget ≤ 512) × (1024 ≤ length (now out)) ⌝ }
+    requires { ⌜ (rules ≤ maxRules) × (i ≤ j) × (j < side) × (cells ≤ length (now chart)) × (at + budget ≤ maxNodes)
+        × (outputSize ≤ length (now out)) ⌝ }
     ensures { λ n. ⌜ NodeFirst (now (p .entry)) rules (now (fits .entry)) (now (chart .entry)) (now (tables .entry)) k i j mask budget at
         (now (out .entry)) (now (out .exit)) n ⌝ }
 {
-    let own = own_set(mask, k);
-    let mut full = [UNMADE; sizes::NONTERMINALS];
+    let own = open::own_set(mask, k);
+    let mut full = [open::UNMADE; sizes::NONTERMINALS];
     let mut rows = [0u16; ROWS_SIZE];
-    let r = open_node(
+    let r = open::open_node(
         p,
         rules,
         fits,
@@ -54,10 +52,10 @@ pub fn node(
         &mut full,
         &mut rows,
     );
-    if r > 127 {
+    if r >= sizes::MAX_RULES {
         return 0;
     }
-    put_node(j - i, r, out, at);
+    open::put_node(j - i, r, out, at);
     1
         + row(
             p,
@@ -79,8 +77,7 @@ pub fn node(
         )
 }
 
-// Writes the first row of the places of rule r from q on, from a to j inside a span from i to j, within the budget. The result is the
-// number of its nodes.
+// Writes the first row of the places of rule r from q on, from a to j inside i to j, within the budget. The result is its number of nodes.
 pub fn row(
     p: &Packed,
     rules: usize,
@@ -99,8 +96,8 @@ pub fn row(
     out: &mut [u16],
     at: usize,
 ) -> usize
-    requires { ⌜ (rules ≤ 128) × (r < 128) × (q ≤ 8) × (i ≤ a) × (a ≤ j) × (j < 65) × (4225 ≤ length (now chart)) × (at + budget ≤ 512)
-        × (1024 ≤ length (now out)) ⌝ }
+    requires { ⌜ (rules ≤ maxRules) × (r < maxRules) × (q ≤ maxPlaces) × (i ≤ a) × (a ≤ j) × (j < side) × (cells ≤ length (now chart))
+        × (at + budget ≤ maxNodes) × (outputSize ≤ length (now out)) ⌝ }
     ensures { λ n. ⌜ RowFirst (now (p .entry)) rules (now (fits .entry)) (now (chart .entry)) (now (tables .entry)) (now (full .entry))
         (now (rows .entry)) r q a i j mask budget at (now (out .entry)) (now (out .exit)) n ⌝ }
 {
@@ -127,7 +124,7 @@ pub fn row(
             at,
         ),
         Step::Node(k, b, share) => {
-            let set = child_set(j - i, mask, b - a);
+            let set = open::child_set(j - i, mask, b - a);
             let m = node(p, rules, fits, chart, tables, k, a, b, set, share, out, at);
             m
                 + row(
@@ -150,35 +147,4 @@ pub fn row(
                 )
         }
     }
-}
-
-// Writes the first derivation of the input of n bytes from the nonterminal `start`. The result is the number of its nodes.
-pub fn first_of(
-    p: &Packed,
-    rules: usize,
-    fits: &FitTable,
-    chart: &[u32],
-    tables: &Tables,
-    start: usize,
-    n: usize,
-    out: &mut [u16],
-) -> usize
-    requires { ⌜ (rules ≤ 128) × (n < 65) × (4225 ≤ length (now chart)) × (1024 ≤ length (now out)) ⌝ }
-    ensures { λ m. ⌜ NodeFirst (now (p .entry)) rules (now (fits .entry)) (now (chart .entry)) (now (tables .entry)) start 0 n 0 512 0
-        (now (out .entry)) (now (out .exit)) m ⌝ }
-{
-    node(
-        p,
-        rules,
-        fits,
-        chart,
-        tables,
-        start,
-        0,
-        n,
-        0,
-        sizes::MAX_NODES,
-        out,
-        0,
-    )
 }

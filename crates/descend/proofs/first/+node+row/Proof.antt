@@ -15,7 +15,7 @@ use Rattle.descend.proofs.first.+node+row.Lts-node as node-lts
 use Rattle.descend.proofs.first.row.Reads as row
 use Rattle.descend.proofs.first.row.Kinds as row-kinds
 use Rattle.descend.proofs.first.+node+row.Lts-row as row-lts
-use Rattle.descend.proofs.choose.look.Reads as look-reads
+use Rattle.choose.proofs.look.look.Reads as look-reads
 use Rattle.descend.proofs.open.child_set.Reads as child-set-reads
 use Rattle.descend.proofs.open.open_node.Reads as open-node-reads
 use Rattle.descend.proofs.open.own_set.Reads as own-set-reads
@@ -70,15 +70,14 @@ row-calls t = (
 
 node-returns : (t : ℕ) → node-lts.Need-returns (node-calls t) (node-at t) node.Post
 node-returns t c =
-    node-none (search needs) (omega arith) (c .before .before .before .before .own-set .ensures) (c .before .open-node .ensures) (omega arith)
+    node-none (search needs) (omega arith) (c .before .before .before .before .own-set .ensures) (c .before .open-node .ensures)
+    (omega arith)
 
 node-put-node-requires : (t : ℕ) → node-lts.Need-put-node-requires (node-calls t) (node-at t) node.Post
-node-put-node-requires t c κs =
-    let o = c .before .before .open-node .ensures .room (omega arith) in
-    omega arith
+node-put-node-requires t c κs = let o = c .before .before .open-node .ensures .room (omega arith) in omega arith
 
 node-sub-row : (t : ℕ) → node-lts.Need-sub-row (node-calls t) (node-at t) node.Post
-node-sub-row t c = c .before .before .before .before .before .before .before .open-node .ensures .room (omega arith)
+node-sub-row t c = omega (arith, c .before .before .before .before .before .before .before .open-node .ensures .room (omega arith))
 
 node-row-requires : (t : ℕ) → node-lts.Need-row-requires (node-calls t) (node-at t) node.Post
 node-row-requires t c κs =
@@ -87,24 +86,25 @@ node-row-requires t c κs =
     omega arith
 
 node-add-result : (t : ℕ) → node-lts.Need-add-result (node-calls t) (node-at t) node.Post
-node-add-result t c = omega (arith, c .before .before .before .before .before .before .before .before .before .before .before .before .before .before .before .before .before .pre, c .before .before .row .ensures .kept .few)
+node-add-result t c =
+    let d = c .before .before .before .before .before .before .before .before in
+    let x = d .before .before .before .before .before .before .before .before .before .pre in
+    omega (arith, c .before .before .row .ensures .kept .few)
 
 node-returns-2 : (t : ℕ) → node-lts.Need-returns-2 (node-calls t) (node-at t) node.Post
 node-returns-2 t c =
-    let x = c .before .before .before .before .before .before .before .before .before .before .before .before .before .before .before .before .before .pre in
-    let l = c .before .before .before .before .before .before .before .before .before .before .if1 .left in
-    node-some (omega arith) (omega arith) (c .before .before .before .before .before .before .before .before .before .before .before .before .before .before .own-set .ensures) (c .before .before .before .before .before .before .before .before .before .before .before .open-node .ensures) (omega arith)
-    (c .before .before .before .before .before .before .before .before .put-node .ensures) (c .before .before .row .ensures)
+    let d = c .before .before .before .before .before .before .before .before in
+    let e = d .before .before .before in
+    let x = e .before .before .before .before .before .before .pre in
+    let l = d .before .before .if1 .left in
+    node-some (omega arith) (omega arith) (e .before .before .before .own-set .ensures) (e .open-node .ensures) (omega arith)
+    (d .put-node .ensures) (c .before .before .row .ensures)
 
 row-row-requires : (t : ℕ) → row-lts.Need-row-requires (row-calls t) (row-at t) row.Post
-row-row-requires t c κs =
-    let x = byte-room (c .before .before .before .look .ensures) (c .before .enum-told3 .given .1) in
-    omega arith
+row-row-requires t c κs = let x = byte-room (c .before .before .before .look .ensures) (c .before .enum-told3 .given .1) in omega arith
 
 row-sub-child-set-2 : (t : ℕ) → row-lts.Need-sub-child-set-2 (row-calls t) (row-at t) row.Post
-row-sub-child-set-2 t c =
-    let x = node-room (c .before .before .before .look .ensures) (c .before .step .given .1) in
-    omega arith
+row-sub-child-set-2 t c = let x = node-room (c .before .before .before .look .ensures) (c .before .step .given .1) in omega arith
 
 row-node-requires : (t : ℕ) → row-lts.Need-node-requires (row-calls t) (row-at t) row.Post
 row-node-requires t c κs =
@@ -113,27 +113,31 @@ row-node-requires t c κs =
 
 row-sub-row : (t : ℕ) → row-lts.Need-sub-row (row-calls t) (row-at t) row.Post
 row-sub-row t c =
-    let x = node-room (c .before .before .before .before .before .before .before .before .look .ensures) (c .before .before .before .before .before .before .step .given .1) in
+    let d = c .before .before .before .before .before .before in
+    let x = node-room (d .before .before .look .ensures) (d .step .given .1) in
     let y = c .before .before .node .ensures .kept .few in
     omega arith
 
 row-add-row-4 : (t : ℕ) → row-lts.Need-add-row-4 (row-calls t) (row-at t) row.Post
 row-add-row-4 t c =
-    let x = node-room (c .before .before .before .before .before .before .before .before .before .look .ensures) (c .before .before .before .before .before .before .before .step .given .1) in
+    let d = c .before .before .before .before .before .before .before in
+    let x = node-room (d .before .before .look .ensures) (d .step .given .1) in
     let y = c .before .before .before .node .ensures .kept .few in
     omega arith
 
 row-row-requires-2 : (t : ℕ) → row-lts.Need-row-requires-2 (row-calls t) (row-at t) row.Post
 row-row-requires-2 t c κs =
-    let x = node-room (c .before .before .before .before .before .before .before .before .before .look .ensures) (c .before .before .before .before .before .before .before .step .given .1) in
+    let d = c .before .before .before .before .before .before .before in
+    let x = node-room (d .before .before .look .ensures) (d .step .given .1) in
     let y = c .before .before .before .node .ensures .kept .few in
     let z = c .before .before .before .node .ensures .kept .long in
     omega arith
 
 row-add-result : (t : ℕ) → row-lts.Need-add-result (row-calls t) (row-at t) row.Post
 row-add-result t c =
-    let w = c .before .before .before .before .before .before .before .before .before .before .before .before .before .before .before .pre in
-    let x = node-room (c .before .before .before .before .before .before .before .before .before .before .before .before .look .ensures) (c .before .before .before .before .before .before .before .before .before .before .step .given .1) in
+    let d = c .before .before .before .before .before .before .before .before .before .before in
+    let w = d .before .before .before .before .before .pre in
+    let x = node-room (d .before .before .look .ensures) (d .step .given .1) in
     let y = c .before .before .before .before .before .before .node .ensures .kept .few in
     let z = c .before .before .row2 .ensures .kept .few in
     omega arith
@@ -148,14 +152,17 @@ row-returns-2 t c =
 
 row-returns-3 : (t : ℕ) → row-lts.Need-returns-3 (row-calls t) (row-at t) row.Post
 row-returns-3 t c =
-    row-byte _ _ _ (search needs) (search needs) (omega arith) (c .before .before .before .before .before .before .look .ensures) (c .before .before .before .before .enum-told3 .given .1)
+    let d = c .before .before .before .before in
+    row-byte _ _ _ (search needs) (search needs) (omega arith) (d .before .before .look .ensures) (d .enum-told3 .given .1)
     (c .before .before .row .ensures)
 
 row-returns-4 : (t : ℕ) → row-lts.Need-returns-4 (row-calls t) (row-at t) row.Post
 row-returns-4 t c =
-    let x = c .before .before .before .before .before .before .before .before .before .before .before .before .before .before .before .pre in
-    row-node _ _ _ (omega arith) (omega arith) (omega arith) (c .before .before .before .before .before .before .before .before .child-set .ensures) (c .before .before .before .before .before .before .node .ensures)
-    (c .before .before .row2 .ensures) (c .before .before .before .before .before .before .before .before .before .before .before .before .look .ensures) (c .before .before .before .before .before .before .before .before .before .before .step .given .1)
+    let d = c .before .before .before .before .before .before .before .before .before .before in
+    let x = d .before .before .before .before .before .pre in
+    let e = c .before .before .before .before .before .before in
+    row-node _ _ _ (omega arith) (omega arith) (omega arith) (e .before .before .child-set .ensures) (e .node .ensures)
+    (c .before .before .row2 .ensures) (d .before .before .look .ensures) (d .step .given .1)
 
 pub +node+row-spec : {M : Type 1} → statement M
 +node+row-spec = close μ-node μ-row (λ t. node-lts.spec (node-calls t)

@@ -1,12 +1,12 @@
--- `descend::choose::choose_end` meets its contract. The loop's invariant: up to each end passed the costs are more than the budget. The
+-- `choose::ends::choose_end` meets its contract. The loop's invariant: up to each end passed the costs are more than the budget. The
 -- measure is what is left of the ends.
 -- Assumes nothing.
 use Prim.Native.Nat.{_+_, _-_, _≤_}
 use borrow.Author.Needs.{needs}
-use Rattle.descend.specs.Chosen.{EndsPassed}
-use Rattle.descend.proofs.Chosen.{ends-none, ends-more, end-found, end-none}
-use Rattle.descend.proofs.choose.choose_end.Statement.{statement}
-use Rattle.descend.proofs.choose.choose_end.Tie as tie
+use Rattle.choose.specs.Chosen.{EndsPassed}
+use Rattle.choose.proofs.Chosen.{ends-none, ends-more, end-found, end-none}
+use Rattle.choose.proofs.ends.choose_end.Statement.{statement}
+use Rattle.choose.proofs.ends.choose_end.Tie as tie
 
 abbrev Inv-loop : tie.InvT-loop
 Inv-loop tables full k i a from j rows at budget b₀ b =

@@ -4,7 +4,7 @@ use Prim.Native.Nat.{ℕ, _+_, _*_, _-_, _≤_, _<_}
 use mathlib.Core.Bool.{Bool, true, false}
 use mathlib.Core.List.{List}
 use mathlib.Core.Logic.{_≢_}
-use mathlib.Core.Path.{_≡_, sym, ap, subst, _∙_}
+use mathlib.Core.Path.{_≡_, sym, ap, _∙_}
 use native.Mathlib.Decide.{ℕ-discrete}
 use native.Mathlib.Omega.{arith}
 use borrow.Author.Tests.{leb-true, leb-false}
@@ -16,15 +16,15 @@ use Rattle.costs.proofs.Within.{within-whole, within-part}
 use Rattle.packed.specs.Packed.{leftIn, countIn, isNonterminalIn, valueIn}
 use Rattle.tables.specs.Layout.{costIn, fullIn}
 use Rattle.solve.specs.Solve.{RuleOver}
-use Rattle.descend.specs.Chosen.{Dear, Weighed, RulesPassed, RuleChosen, EndsPassed, EndChosen, sumAt}
-use Rattle.descend.specs.Chosen.{Looked, at-end, at-byte, no-byte, at-node, no-node}
-use Rattle.descend.specs.declared.choose.Step.the-variants.{No, End, Byte, Node}
+use Rattle.choose.specs.Chosen.{RuleBeyond, RuleTested, RulesPassed, RuleChosen, EndsPassed, EndChosen, sumAt}
+use Rattle.choose.specs.Chosen.{Looked, at-end, at-byte, no-byte, at-node, no-node}
+use Rattle.choose.specs.declared.look.Step.the-variants.{No, End, Byte, Node}
 
 -- ---- a rule
 
 module _ {p : List ℕ} {k : ℕ} {full tables : List ℕ} {i j budget : ℕ} where
-  pub weighed-other : {r l : ℕ} → l ≡ leftIn p r → l ≢ k → Weighed p k full tables i j budget r false
-  weighed-other e n = record {
+  pub tested-other : {r l : ℕ} → l ≡ leftIn p r → l ≢ k → RuleTested p k full tables i j budget r false
+  tested-other e n = record {
     yes = λ q. absurd (false≢true q);
     no = λ _. record { cost = λ q. absurd (n (e ∙ q)) };
   }
@@ -32,33 +32,34 @@ module _ {p : List ℕ} {k : ℕ} {full tables : List ℕ} {i j budget : ℕ} wh
       false≢true : false ≡ true → ⊥
       false≢true q = let z : _≡_ {A = ℕ} 0 1 = cc in omega arith
 
-  pub weighed-cost : {r l v n : ℕ} → l ≡ leftIn p r → l ≡ k → RuleOver p r full tables i j v → n ≡ v
-      → Weighed p k full tables i j budget r (leb n budget)
-  weighed-cost {r} {l} {v} {n} e q c f = record {
+  pub tested-cost : {r l v n : ℕ} → l ≡ leftIn p r → l ≡ k → RuleOver p r full tables i j v → n ≡ v
+      → RuleTested p k full tables i j budget r (leb n budget)
+  tested-cost {r} {l} {v} {n} e q c f = record {
     yes = λ t. record { left = sym e ∙ q; cost = v; over = c; within = let h = leb-true n budget t in omega arith };
     no = λ t. record { cost = λ _. (v, c, let h = leb-false n budget t in omega arith) };
   }
 
   pub passed-none : {rules from : ℕ} → RulesPassed p rules from k full tables i j budget from
-  passed-none = record { start = omega arith; dear = λ s u l _. absurd (omega arith) }
+  passed-none = record { start = omega arith; beyond = λ s u l _. absurd (omega arith) }
 
   module _ {rules from r : ℕ} where
-    pub passed-more : {b : Bool} → Weighed p k full tables i j budget r b → b ≡ false → RulesPassed p rules from k full tables i j budget r
-        → RulesPassed p rules from k full tables i j budget (r + 1)
-    passed-more W e P = record { start = omega (arith, P .start); dear = λ s u l m. go s u l m (ℕ-discrete s r) }
+    pub passed-more : {b : Bool} → RuleTested p k full tables i j budget r b → b ≡ false
+        → RulesPassed p rules from k full tables i j budget r → RulesPassed p rules from k full tables i j budget (r + 1)
+    passed-more W e P = record { start = omega (arith, P .start); beyond = λ s u l m. go s u l m (ℕ-discrete s r) }
       where
-        go : (s : ℕ) → from ≤ s → s < r + 1 → s < rules → Dec (s ≡ r) → Dear p k full tables i j budget s
+        go : (s : ℕ) → from ≤ s → s < r + 1 → s < rules → Dec (s ≡ r) → RuleBeyond p k full tables i j budget s
         go s u l m (yes q) = rw q (W .no e)
-        go s u l m (no n) = let x : ¬ (s ≡ r) = n in P .dear s u (omega arith) m
+        go s u l m (no n) = let x : ¬ (s ≡ r) = n in P .beyond s u (omega arith) m
 
-    pub rule-found : {b : Bool} → Weighed p k full tables i j budget r b → b ≡ true → RulesPassed p rules from k full tables i j budget r
+    pub rule-found : {b : Bool} → RuleTested p k full tables i j budget r b → b ≡ true → RulesPassed p rules from k full tables i j budget r
         → RuleChosen p rules from k full tables i j budget r
     rule-found W e P = record { fits = λ _. W .yes e; early = P }
 
-    pub rule-none : rules ≤ r → from ≤ maxRules → RulesPassed p rules from k full tables i j budget r → RuleChosen p rules from k full tables i j budget maxRules
+    pub rule-none : rules ≤ r → from ≤ maxRules → RulesPassed p rules from k full tables i j budget r
+        → RuleChosen p rules from k full tables i j budget maxRules
     rule-none h f P = record {
       fits = λ l. absurd (omega arith);
-      early = record { start = f; dear = λ s u _ m. P .dear s u (omega arith) m };
+      early = record { start = f; beyond = λ s u _ m. P .beyond s u (omega arith) m };
     }
 
 -- ---- an end
@@ -79,21 +80,24 @@ module _ (tables full : List ℕ) (k i a j b : ℕ) where
 
 module _ {tables full : List ℕ} {k i a from j : ℕ} {rows : List ℕ} {at budget : ℕ} where
   pub ends-none : EndsPassed tables full k i a from j rows at budget from
-  ends-none = record { dear = λ c l m n. absurd (omega arith) }
+  ends-none = record { beyond = λ c l m n. absurd (omega arith) }
 
   -- v is the cost up to b, n that with the places behind
   module _ {b v n : ℕ} (e : v ≡ within i j (fullIn full) (costIn tables) k a b) (f : n ≡ v + getD rows (at + b) 0) where
-    pub ends-more : budget < n → EndsPassed tables full k i a from j rows at budget b → EndsPassed tables full k i a from j rows at budget (b + 1)
-    ends-more l P = record { dear = λ c x y z. go c x y z (ℕ-discrete c b) }
+    pub ends-more : budget < n → EndsPassed tables full k i a from j rows at budget b
+        → EndsPassed tables full k i a from j rows at budget (b + 1)
+    ends-more l P = record { beyond = λ c x y z. go c x y z (ℕ-discrete c b) }
       where
         go : (c : ℕ) → from ≤ c → c < b + 1 → c ≤ j → Dec (c ≡ b) → budget < sumAt tables full k i a j rows at c
         go c x y z (yes q) = rw q (omega arith)
-        go c x y z (no d) = let w : ¬ (c ≡ b) = d in P .dear c x (omega arith) z
+        go c x y z (no d) = let w : ¬ (c ≡ b) = d in P .beyond c x (omega arith) z
 
-    pub end-found : from ≤ b → n ≤ budget → EndsPassed tables full k i a from j rows at budget b → EndChosen tables full k i a from j rows at budget b
+    pub end-found : from ≤ b → n ≤ budget → EndsPassed tables full k i a from j rows at budget b
+        → EndChosen tables full k i a from j rows at budget b
     end-found h l P = record { start = h; fits = λ _. omega arith; early = P }
 
-  pub end-none : {b : ℕ} → from ≤ b → j < b → EndsPassed tables full k i a from j rows at budget b → EndChosen tables full k i a from j rows at budget b
+  pub end-none : {b : ℕ} → from ≤ b → j < b → EndsPassed tables full k i a from j rows at budget b
+      → EndChosen tables full k i a from j rows at budget b
   end-none h l P = record { start = h; fits = λ m. absurd (omega arith); early = P }
 
 -- ---- what comes next
@@ -111,7 +115,8 @@ module _ {p : List ℕ} {r q : ℕ} {tables full rows : List ℕ} {i a j budget 
 
     module _ {k b : ℕ} (y : t ≡ true) (g : k ≡ valueIn p r q) (C : EndChosen tables full k i a a j rows (side * (q + 1)) budget b) where
       -- n is the cost of the places behind
-      pub look-node : {n : ℕ} → b ≤ j → n ≡ getD rows (side * (q + 1) + b) 0 → Looked p r q tables full rows i a j budget (Node k b (budget - n))
+      pub look-node : {n : ℕ} → b ≤ j → n ≡ getD rows (side * (q + 1) + b) 0
+          → Looked p r q tables full rows i a j budget (Node k b (budget - n))
       look-node l d = at-node (omega arith) (sym f ∙ y) g C l (ap (λ (x : ℕ). budget - x) d)
 
       pub look-none : j < b → Looked p r q tables full rows i a j budget No

@@ -1,9 +1,9 @@
--- `descend::choose::piece` meets its contract.
+-- `choose::ends::piece` meets its contract.
 -- Assumes nothing.
 use borrow.Author.Needs.{needs}
-use Rattle.descend.proofs.Chosen.{piece-later, piece-short, piece-whole}
-use Rattle.descend.proofs.choose.piece.Statement.{statement}
-use Rattle.descend.proofs.choose.piece.Tie as tie
+use Rattle.choose.proofs.Chosen.{piece-later, piece-short, piece-whole}
+use Rattle.choose.proofs.ends.piece.Statement.{statement}
+use Rattle.choose.proofs.ends.piece.Tie as tie
 
 pub piece-spec : {M : Type 1} → statement M
 piece-spec =

@@ -1,0 +1,2 @@
+-- Which rule and which end are chosen.
+pub mod Chosen
