@@ -1,4 +1,4 @@
-// Where a child ends: at the first position up to which it costs, together with the places behind it, at most the budget.
+// Where a child ends: at the first position, from one on, up to which it costs, together with the places behind it, at most the budget.
 use numbers::wide;
 use suffixes::rows::Rows;
 use tables::layout::Full;
@@ -33,7 +33,7 @@ fn sum(a: u16, b: u16) -> usize
     wide(a) + wide(b)
 }
 
-// The smallest end from a on such that the nonterminal k up to it and the places behind it cost at most the budget together; j + 1 if
+// The smallest end from `from` on such that the nonterminal k up to it and the places behind it cost at most the budget together; j + 1 if
 // there is none up to j. The costs of those places stand in `rows` from `at` on.
 pub fn choose_end(
     tables: &Tables,
@@ -41,15 +41,16 @@ pub fn choose_end(
     k: usize,
     i: usize,
     a: usize,
+    from: usize,
     j: usize,
     rows: &Rows,
     at: usize,
     budget: usize,
 ) -> usize
-    requires { ⌜ (i ≤ a) × (a ≤ j) × (j < side) × (at + side ≤ rowsSize) ⌝ }
-    ensures { λ b. ⌜ EndChosen (now (tables .entry)) (now (full .entry)) k i a j (now (rows .entry)) at budget b ⌝ }
+    requires { ⌜ (i ≤ a) × (a ≤ from) × (from ≤ j + 1) × (j < side) × (at + side ≤ rowsSize) ⌝ }
+    ensures { λ b. ⌜ EndChosen (now (tables .entry)) (now (full .entry)) k i a from j (now (rows .entry)) at budget b ⌝ }
 {
-    let mut b = a;
+    let mut b = from;
     while b <= j {
         if sum(piece(tables, full, k, i, a, j, b), rows[at + b]) <= budget {
             return b;

@@ -44,6 +44,7 @@ pub fn look(
             k,
             i,
             a,
+            a,
             j,
             rows,
             sizes::SIDE * (q + 1),

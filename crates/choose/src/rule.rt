@@ -1,4 +1,4 @@
-// Which rule a node has: the first that costs at most the budget.
+// Which rule a node has: the first from a number on that costs at most the budget.
 use numbers::wide;
 use packed::Packed;
 use solve::rule_over;
@@ -28,10 +28,11 @@ fn within_budget(
     wide(rule_over(p, r, full, tables, i, j)) <= budget
 }
 
-// The smallest rule of k below `rules` that costs at most the budget over the span; 128 if there is none.
+// The smallest rule of k from `from` on and below `rules` that costs at most the budget over the span; 128 if there is none.
 pub fn choose_rule(
     p: &Packed,
     rules: usize,
+    from: usize,
     k: usize,
     full: &Full,
     tables: &Tables,
@@ -39,10 +40,10 @@ pub fn choose_rule(
     j: usize,
     budget: usize,
 ) -> usize
-    requires { ⌜ (rules ≤ maxRules) × (i ≤ j) × (j < side) ⌝ }
-    ensures { λ r. ⌜ RuleChosen (now (p .entry)) rules k (now (full .entry)) (now (tables .entry)) i j budget r ⌝ }
+    requires { ⌜ (rules ≤ maxRules) × (from ≤ maxRules) × (i ≤ j) × (j < side) ⌝ }
+    ensures { λ r. ⌜ RuleChosen (now (p .entry)) rules from k (now (full .entry)) (now (tables .entry)) i j budget r ⌝ }
 {
-    let mut r = 0;
+    let mut r = from;
     while r < rules {
         if within_budget(p, k, full, tables, i, j, budget, r) {
             return r;

@@ -3,7 +3,6 @@
 use Prim.Native.Nat.{ℕ, _+_, _-_, _≤_, _<_}
 use mathlib.Core.List.{List, _∷_}
 use mathlib.Core.Path.{_≡_, sym, subst, _∙_}
-use native.Mathlib.Decide.{decLt}
 use native.Mathlib.Omega.{arith}
 use lib.ListN.{length, getD}
 use Rattle.sizes.specs.Sizes.{maxRules, maxNodes}
@@ -11,8 +10,6 @@ use Rattle.sets.specs.Set.{insert}
 use Rattle.cfg.specs.Grammar.{Symbol}
 use Rattle.chart.specs.Cell.{fitsAt}
 use Rattle.costs.specs.Cut.{LeastCut, within}
-use Rattle.costs.specs.Lowest.{Lowest}
-use Rattle.costs.specs.Rule.{NodeCost}
 use Rattle.costs.specs.Span.{bytesOf, FreeTree, Least}
 use Rattle.enumeration.specs.Rows.{Row, Tree}
 use Rattle.enumeration.specs.Order.{Min}
@@ -25,11 +22,11 @@ use Rattle.tables.specs.Exact.{Packing}
 use Rattle.suffixes.specs.Within.{tailIn, rowAt}
 use Rattle.descend.specs.Descend.{Given, Below, NodePut, NodeFirst, RowFirst, Opened}
 use Rattle.descend.proofs.Codes.{kept-none, kept-open, first-open}
-use Rattle.descend.proofs.Given.{node-used, span-solved, rule-lowest, rows-right}
+use Rattle.descend.proofs.Given.{node-used, span-solved, rule-lowest, passed-dearer, rows-right}
 
 module _ {p : List ℕ} {rules : ℕ} {fits chart tables : List ℕ} {k i j mask own budget : ℕ} {full rows : List ℕ} {r : ℕ}
     (h : i ≤ j) (small : budget ≤ maxNodes) (e : k < 32 → own ≡ insert k mask)
-    (O : Opened p rules fits chart tables k i j own budget full rows r) where
+    (O : Opened p rules fits chart tables 0 k i j own budget full rows r) where
   -- ---- for an input with a tree within the budget
 
   module _ (w : List ℕ) (G : Given p rules fits chart tables w) (known : j ≤ length w) {x : ℕ}
@@ -48,21 +45,7 @@ module _ {p : List ℕ} {rules : ℕ} {fits chart tables : List ℕ} {k i j mask
 
     -- each rule of k before the one chosen costs more than the budget
     dearer : Dearer (Packing p) (fitsAt w) i j (fullIn full) (costIn tables) k budget r
-    dearer s m o =
-        let (u, c, d, f) = of-in 0 p s k o in
-        let (v, R, b) = O .chosen room .early .beyond s m (before s u d) .cost c in (
-          v,
-          subst (λ (z : List Symbol). Lowest (NodeCost (fitsAt w) (fullIn full) (costIn tables) z i j) v) (sym f)
-              (rule-lowest G h known R d),
-          b,
-        )
-      where
-        before : (s : ℕ) → s < 128 → leftIn p s < 32 → s < rules
-        before s u d = go (decLt s rules)
-          where
-            go : Dec (s < rules) → s < rules
-            go (yes q) = q
-            go (no n) = let z = G .past s (omega arith) u in absurd (omega arith)
+    dearer s m o = passed-dearer G h known (O .chosen room .early) s (omega arith) m o
 
     -- so a rule is chosen
     chosen-exists : maxRules ≤ r → ⊥

@@ -33,10 +33,10 @@ module _ (p : List ℕ) (r q : ℕ) (c : q < countIn p r) where
       let i : suc q ≡ q + 1 = omega arith in
       places-step p r q c ∙ ap (λ (x : Symbol). x ∷ tailIn p r (suc q)) e ∙ ap (λ (x : ℕ). s ∷ tailIn p r x) i
 
-  tail-terminal : isNonterminalIn p r q ≡ false → tailIn p r q ≡ terminal (terminalIn p r q) ∷ tailIn p r (q + 1)
+  pub tail-terminal : isNonterminalIn p r q ≡ false → tailIn p r q ≡ terminal (terminalIn p r q) ∷ tailIn p r (q + 1)
   tail-terminal n = tail-cons (terminal (terminalIn p r q)) (symbol-terminal p r q n)
 
-  tail-nonterminal : {k : ℕ} → isNonterminalIn p r q ≡ true → k ≡ valueIn p r q → tailIn p r q ≡ nonterminal k ∷ tailIn p r (q + 1)
+  pub tail-nonterminal : {k : ℕ} → isNonterminalIn p r q ≡ true → k ≡ valueIn p r q → tailIn p r q ≡ nonterminal k ∷ tailIn p r (q + 1)
   tail-nonterminal {k} n e = tail-cons (nonterminal k) (symbol-nonterminal p r q n ∙ ap (λ (x : ℕ). nonterminal x) (sym e))
 
 module _ {p : List ℕ} {rules : ℕ} {fits chart tables full rows : List ℕ} {r i j mask : ℕ} (q a budget : ℕ) (h : i ≤ a) (l : a ≤ j)
@@ -50,7 +50,7 @@ module _ {p : List ℕ} {rules : ℕ} {fits chart tables full rows : List ℕ} {
         (B .costs q a c h l)
 
     -- the least costs of the places behind q, from each start on
-    rests : q < countIn p r → Rests (fitsAt w) (within i j (fullIn full) (costIn tables)) (tailIn p r (q + 1)) a j
+    pub rests : q < countIn p r → Rests (fitsAt w) (within i j (fullIn full) (costIn tables)) (tailIn p r (q + 1)) a j
         (λ (c : ℕ). getD rows (side * (q + 1) + c) 0)
     rests c x m n =
         let e : rowAt 0 (q + 1) x ≡ side * (q + 1) + x = omega arith in
@@ -114,7 +114,7 @@ module _ {p : List ℕ} {rules : ℕ} {fits chart tables full rows : List ℕ} {
       (N : NodeFirst p rules fits chart tables k a b set share at out₀ out₁ m)
       (R : RowFirst p rules fits chart tables full rows r (q + 1) b i j mask (budget - m) (at + m) out₁ out n) where
     node-and-row : (w : List ℕ) → Below p rules fits chart tables full rows r i j mask w → q < countIn p r
-        → EndChosen tables full k i a j rows (side * (q + 1)) budget b → b ≤ j → share ≡ budget - getD rows (side * (q + 1) + b) 0
+        → EndChosen tables full k i a a j rows (side * (q + 1)) budget b → b ≤ j → share ≡ budget - getD rows (side * (q + 1) + b) 0
         → FirstAt (Row (Packing p) w (j - i) mask (nonterminal k ∷ tailIn p r (q + 1)) a j budget) out at (m + n)
     node-and-row w B c C x e =
         let f = C .fits x in

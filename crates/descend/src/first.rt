@@ -35,7 +35,7 @@ pub fn node(
         (now (out .entry)) (now (out .exit)) n ⌝ }
 {
     let own = open::own_set(mask, k);
-    let mut full = [0u16; sizes::NONTERMINALS];
+    let mut full = [open::UNMADE; sizes::NONTERMINALS];
     let mut rows = [0u16; ROWS_SIZE];
     let r = open::open_node(
         p,
@@ -43,6 +43,7 @@ pub fn node(
         fits,
         chart,
         tables,
+        0,
         k,
         i,
         j,
