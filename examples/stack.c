@@ -15,9 +15,10 @@
 enum { KIB = 1024, PAGE = 4096, LARGE = 4096 * KIB, KNOWN = 100 * KIB, PAINT = 0xA5 };
 
 static uint8_t book[2563], plate[FILBOZSEG_BYTES];
-static uint16_t full[FILBOZSEG_ROW], deep[FILBOZSEG_ROW], left[FILBOZSEG_ROW], hand[FILBOZSEG_HAND], nested[1024];
+static uint16_t full[FILBOZSEG_ROW], deep[FILBOZSEG_ROW], wide[FILBOZSEG_ROW], left[FILBOZSEG_ROW], hand[FILBOZSEG_HAND];
+static uint16_t nested[FILBOZSEG_OUTPUT], output[FILBOZSEG_OUTPUT];
 static uint32_t chart[FILBOZSEG_CELLS], code;
-static size_t offset, size;
+static size_t offset, size, nodes;
 static int32_t tenths;
 static ucontext_t home, away;
 
@@ -46,6 +47,19 @@ static void build_deep(void)
 {
     code = filbozseg_same_build(deep, plate, 64, nested, 1024, nested, 1024, chart, FILBOZSEG_CELLS);
 }
+static void first_in(const uint16_t *grammar)
+{
+    nodes = 0;
+    code = filbozseg_first(grammar, plate, 64, chart, FILBOZSEG_CELLS, output, FILBOZSEG_OUTPUT, &nodes);
+}
+/* 512 nodes nested 512 deep: those of `nested`. */
+static void first_deep(void)
+{
+    first_in(deep);
+    if (code == 1 && (nodes != 512 || memcmp(output, nested, sizeof nested) != 0))
+        code = ~0u;
+}
+static void first_wide(void) { first_in(wide); }
 
 /* What is to be answered, and within how many bytes. The first is no call of the library: it shows that the measuring measures. */
 static const struct {
@@ -62,6 +76,8 @@ static const struct {
     {"check full", check_full, 0, FILBOZSEG_CHECK_STACK},
     {"length", length_deep, 1, FILBOZSEG_LENGTH_STACK},
     {"same build", build_deep, 1, FILBOZSEG_SAME_BUILD_STACK},
+    {"first deep", first_deep, 1, FILBOZSEG_FIRST_STACK},
+    {"first full", first_wide, 1, FILBOZSEG_FIRST_STACK},
 };
 enum { CALLS = sizeof calls / sizeof calls[0] };
 
@@ -91,7 +107,7 @@ static int within(int n)
 {
     size_t need = used(calls[n].call, LARGE), limit = calls[n].limit;
     int right = code == calls[n].answer;
-    printf("%-10s %6zu bytes of %6zu (%3zu KiB), code %u\n", calls[n].name, need, limit, (need + KIB - 1) / KIB, code);
+    printf("%-10s %7zu bytes of %7zu (%4zu KiB), code %u\n", calls[n].name, need, limit, (need + KIB - 1) / KIB, code);
     fflush(stdout);
     if (!right || need > limit) {
         printf("%s: %s\n", calls[n].name, right ? "MORE THAN THE HEADER SAYS" : "A WRONG ANSWER");
@@ -141,11 +157,26 @@ static int load_full(void)
     return filbozseg_load(book, size, full, &offset) == 1;
 }
 
+/* 128 rules of 8 places: in a quarter of them every place holds a terminal, in the others every second one. 64 bytes have derivations. */
+static int load_wide(void)
+{
+    size_t k, q;
+    size = 0;
+    put((uint8_t[]){0x10, 0}, 2);
+    for (k = 0; k < 128; k++) {
+        put((uint8_t[]){0x20, k % 32, 1, 0}, 4);
+        for (q = 0; q < 8; q++)
+            put(q % 2 || k / 32 == 3 ? (uint8_t[]){0x40, 'A'} : (uint8_t[]){0x30, (k + 5 * q) % 32}, 2);
+    }
+    put((uint8_t[]){0x50}, 1);
+    return filbozseg_load(book, size, wide, &offset) == 1;
+}
+
 int main(void)
 {
     int n, good = 0;
     memset(plate, 'A', sizeof plate);
-    if (!load_deep() || !load_full()) {
+    if (!load_deep() || !load_full() || !load_wide()) {
         puts("a book is not loaded");
         return 1;
     }

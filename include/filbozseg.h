@@ -3,7 +3,7 @@
  *
  * Every function returns a code:
  *     0          no
- *     1          yes; loaded; measured
+ *     1          yes; loaded; measured; handed out
  *     256 + n    refusal n of document 01, 1 <= n <= 15
  * and no other. None allocates, keeps anything between calls, or needs anything of a C library but memcpy and memset. Calls from several
  * threads at once are fine as long as what is lent for writing is lent to one of them alone.
@@ -16,8 +16,9 @@
  * else may read or write it until the call returns. What is lent for reading may overlap.
  *
  * What is written. A lent number is written only with an answer that carries it: an offset with a refused book, the tenths with a measured
- * derivation; with any other answer it is left as found. What is left of a row, a hand and a chart stands at each call; cells from 4225 on
- * are never touched. What a lent place holds before a call decides nothing, except the hand and the chart at filbozseg_take.
+ * derivation, the nodes with one handed out; with any other answer it is left as found. What is left of a row, a hand, a chart and an
+ * output stands at each call; cells from 4225 on are never touched. What a lent place holds before a call decides nothing, except the hand
+ * and the chart at filbozseg_take.
  *
  * Words: a grammar is a loaded book, an input a plate, a hand a plate in hand, a mark one of its bytes, a chart a sheet, a derivation a
  * reading, a node a part.
@@ -35,19 +36,23 @@
 extern "C" {
 #endif
 
-/* The numbers of a grammar's row, the numbers of a hand's row, the used cells of a chart, and the most bytes that an input has. */
+/* The numbers of a grammar's row, the numbers of a hand's row, the used cells of a chart, the most bytes that an input has, and the numbers
+   that an output has at least: two for each of the 512 nodes that a derivation has at most. */
 #define FILBOZSEG_ROW 2435
 #define FILBOZSEG_HAND 65
 #define FILBOZSEG_CELLS 4225
 #define FILBOZSEG_BYTES 64
+#define FILBOZSEG_OUTPUT 1024
 
-/* How many bytes of stack a call needs, up to whole pages of 4 KiB. A thread with 256 KiB is enough for each of them. */
+/* How many bytes of stack a call needs, up to whole pages of 4 KiB. A thread with 256 KiB is enough for each of them but the last, whose
+   tables lie on the stack: its macro is a bound, within the 2 MiB that a thread of Rust has by default. */
 #define FILBOZSEG_LOAD_STACK (16 * 1024)
 #define FILBOZSEG_OPEN_STACK (48 * 1024)
 #define FILBOZSEG_TAKE_STACK (48 * 1024)
 #define FILBOZSEG_CHECK_STACK (136 * 1024)
 #define FILBOZSEG_LENGTH_STACK (140 * 1024)
 #define FILBOZSEG_SAME_BUILD_STACK (140 * 1024)
+#define FILBOZSEG_FIRST_STACK (1900 * 1024)
 
 /*
  * The row of a grammar, numbers of 16 bits: the start symbol, the number of rules, the nullable depth, and then 19 numbers for each of 128
@@ -113,6 +118,17 @@ uint32_t filbozseg_length(const uint16_t grammar[FILBOZSEG_ROW], const uint8_t *
 uint32_t filbozseg_same_build(const uint16_t grammar[FILBOZSEG_ROW], const uint8_t *input, size_t input_length,
                               const uint16_t *a, size_t a_length, const uint16_t *b, size_t b_length,
                               uint32_t *chart, size_t chart_length);
+
+/*
+ * Hands out the first derivation of the input, as filbozseg_check takes it: the smallest by the first number in which two differ. Returns 1
+ * and leaves it in the first 2 * nodes numbers of the output, the others as found, and how many nodes it has, 1 to 512, at nodes; or 0 if
+ * the input has none because it has no tree at all. Refusals, in this order: 8, 9, 10 as at filbozseg_check; 11 an output of fewer than
+ * 1024 numbers; 13 the input has trees, but none of at most 512 nodes. With 0 and refused, it leaves output and nodes as found; refused
+ * with 8 to 11, the chart too, else the chart is filled for the input.
+ * Stack: FILBOZSEG_FIRST_STACK.
+ */
+uint32_t filbozseg_first(const uint16_t grammar[FILBOZSEG_ROW], const uint8_t *input, size_t input_length,
+                         uint32_t *chart, size_t chart_length, uint16_t *output, size_t output_length, size_t *nodes);
 
 #ifdef __cplusplus
 }

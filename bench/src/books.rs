@@ -265,6 +265,53 @@ pub fn bush() -> (Vec<u8>, Vec<u8>, Vec<u16>) {
     (book, vec![b'A'], reading)
 }
 
+/// The deepest with four marks a turn: 31 → A A A A 0, 31 → A A A A; A × 64 has one reading, of 512 parts nested 512 deep.
+pub fn deepest_of_64() -> Vec<u8> {
+    chain(&[&[A, A, A, A, N(0)], &[A, A, A, A]])
+}
+
+/// The complete unit graph with its way out at the last kind, and 0 → 0 0: each mark has a chain of 11 units.
+pub fn unit_graph_of_pairs() -> Vec<u8> {
+    let mut book = Book::new(0);
+    for i in 0..11 {
+        (0..11).filter(|&j| j != i).for_each(|j| {
+            book.rule(i, &[N(j)]);
+        });
+    }
+    book.rule(10, &[A]).rule(0, &[N(0), N(0)]).bytes()
+}
+
+/// A wide rule for each kind: k → eight of k+1, 31 → nothing, and k → A for each k if `marks`. Every kind is nullable, by
+/// trees of more than 512 parts but for the last ones.
+pub fn wide(marks: bool) -> Vec<u8> {
+    let mut book = Book::new(0);
+    (0..31).for_each(|k| {
+        book.rule(k, &[N(k + 1); 8]);
+    });
+    book.rule(31, &[]).rule(31, &[A]);
+    (0..if marks { 32 } else { 0 }).for_each(|k| {
+        book.rule(k, &[A]);
+    });
+    book.bytes()
+}
+
+/// The least tree of 2 runs through 1, which may not stand below 1 again; the other way is dear, so that the limit of 512
+/// parts lets seven of eight take it.
+pub fn forbidden() -> Vec<u8> {
+    let mut dear = [N(4); 8];
+    dear[0] = A;
+    Book::new(0)
+        .rule(0, &[N(1); 8])
+        .rule(1, &[N(2)])
+        .rule(2, &[N(1)])
+        .rule(2, &[N(3)])
+        .rule(1, &[A])
+        .rule(3, &dear)
+        .rule(4, &[N(5); 8])
+        .rule(5, &[])
+        .bytes()
+}
+
 /// A random book of full size and its input of 64 marks. The styles differ in how many kinds and marks there are, how
 /// many rules are short, and how many are nullable.
 pub fn random_full(random: &mut Random) -> (Vec<u8>, Vec<u8>) {

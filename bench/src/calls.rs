@@ -1,7 +1,8 @@
 //! The calls that are timed, once over the proved library and once over the plain code, with the same arguments: a
-//! grammar is a flat row, which each call reads anew, and an answer is a number: 0 no; 1 yes, loaded or measured; 256
-//! + n refusal n.
+//! grammar is a flat row, which each call reads anew, and an answer is a number: 0 no; 1 yes, loaded, measured or handed
+//! out; 256 + n refusal n.
 
+use crate::plain::enumerator;
 use crate::plain::flat::{self, FLAT};
 pub use crate::plain::hand::Hand;
 use crate::plain::hand::{self, HAND};
@@ -16,6 +17,7 @@ pub trait Reader {
     fn check(flat: &Flat, input: &[u8], offered: &[u16], chart: &mut [u32]) -> u32;
     fn length(flat: &Flat, input: &[u8], offered: &[u16], chart: &mut [u32], tenths: &mut i32) -> u32;
     fn same_build(flat: &Flat, input: &[u8], a: &[u16], b: &[u16], chart: &mut [u32]) -> u32;
+    fn first(flat: &Flat, input: &[u8], chart: &mut [u32], out: &mut [u16], nodes: &mut usize) -> u32;
 
     /// Opening, and then taking each byte of the input: the answers.
     fn feed(flat: &Flat, input: &[u8], hand: &mut Hand, chart: &mut [u32]) -> [u32; INPUT + 1] {
@@ -62,6 +64,16 @@ mod c {
             b_length: usize,
             chart: *mut u32,
             length: usize,
+        ) -> u32;
+        pub fn filbozseg_first(
+            grammar: *const u16,
+            input: *const u8,
+            input_length: usize,
+            chart: *mut u32,
+            length: usize,
+            out: *mut u16,
+            out_length: usize,
+            nodes: *mut usize,
         ) -> u32;
     }
 }
@@ -110,6 +122,11 @@ impl Reader for Proved {
             let (g, sheet) = (flat.as_ptr(), chart.as_mut_ptr());
             c::filbozseg_same_build(g, w, input.len(), x, a.len(), y, b.len(), sheet, chart.len())
         }
+    }
+
+    fn first(flat: &Flat, input: &[u8], chart: &mut [u32], out: &mut [u16], nodes: &mut usize) -> u32 {
+        let (w, sheet, e) = (input.as_ptr(), chart.as_mut_ptr(), out.as_mut_ptr());
+        unsafe { c::filbozseg_first(flat.as_ptr(), w, input.len(), sheet, chart.len(), e, out.len(), nodes) }
     }
 }
 
@@ -168,6 +185,17 @@ impl Reader for Plain {
 
     fn same_build(flat: &Flat, input: &[u8], a: &[u16], b: &[u16], chart: &mut [u32]) -> u32 {
         code(checker::same_build(&flat::read(flat), input, a, b, chart))
+    }
+
+    fn first(flat: &Flat, input: &[u8], chart: &mut [u32], out: &mut [u16], nodes: &mut usize) -> u32 {
+        match enumerator::first(&flat::read(flat), input, chart, out) {
+            Ok(Some(handed)) => {
+                *nodes = handed;
+                1
+            }
+            Ok(None) => 0,
+            Err(r) => refusal(r),
+        }
     }
 }
 

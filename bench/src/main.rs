@@ -4,6 +4,7 @@
 
 mod books;
 mod calls;
+mod firsts;
 mod plain;
 mod random;
 mod timing;
@@ -379,13 +380,16 @@ fn sweep(count: usize) {
 }
 
 fn main() {
-    let count = std::env::args().nth(1).map_or(200, |n| n.parse().expect("usage: bench [BOOKS IN THE SWEEP]"));
+    let count = std::env::args().nth(1).map_or(200, |n| n.parse().expect("usage: bench [BOOKS IN THE SWEEP [first]]"));
     println!(
         "The proved library (C functions of libfilbozseg.a) beside the same algorithms in plain Rust. Load average {}.",
         load_average()
     );
     println!("Times are wall clock, a call: the median over batches run in turn, then the least batch; ratio = proved / plain.");
     println!("On a machine that does other work too, go by the least.");
+    if std::env::args().nth(2).is_some_and(|only| only == "first") {
+        return firsts::firsts(count / 10);
+    }
     loads();
     println!("\nBOOKS of the fill, 64 marks each; results are equal on both sides");
     let list = cases();
@@ -393,6 +397,7 @@ fn main() {
     takes(&list[..2]);
     overheads(&list);
     checks();
+    firsts::firsts(count / 10);
     if count > 0 {
         sweep(count);
     }

@@ -3,11 +3,13 @@
 //! is the same.
 
 pub mod checker;
+pub mod enumerator;
 pub mod flat;
 pub mod hand;
 pub mod loader;
 pub mod packed;
 pub mod recognizer;
+pub mod tables;
 
 pub const RULES: usize = 128;
 pub const PLACES: usize = 8;
@@ -49,7 +51,9 @@ pub enum Refusal {
     InvalidGrammar = 8,
     InputLength = 9,
     ChartTooShort = 10,
+    OutputTooShort = 11,
     NotADerivation = 12,
+    OnlyLargerTrees = 13,
     InvalidRecognizer = 14,
     RecognizerFull = 15,
 }

@@ -18,14 +18,18 @@ pub const CELLS: usize = 4225;
 /// How many bytes an input and a recognizer have at most.
 pub const BYTES: usize = 64;
 
+/// How many numbers an output has at least, two for each node that a derivation has at most. A shorter output is refused.
+pub const OUTPUT: usize = 1024;
+
 /// How many numbers the row of a recognizer has: its bytes, and then their count.
 pub const HAND: usize = BYTES + 1;
 
 // What a lent place holds before the library writes it. None of them is a result, so that a place left unwritten passes for none: a row or
-// a hand of such numbers is refused (8, 14), and no book has such an offset and no derivation such a length.
+// a hand of such numbers is refused (8, 14), and no book has such an offset and no derivation such a length or so many nodes.
 const NO_NUMBER: u16 = u16::MAX;
 const NO_OFFSET: usize = usize::MAX;
 const NO_TENTHS: i32 = i32::MIN;
+const NO_NODES: usize = usize::MAX / 2;
 
 /// A grammar, as the row of numbers in which it crosses: start symbol, number of rules, nullable depth, and 19 numbers for each of 128
 /// rules (left side, length in two's complement, number of places, and a tag and a value for each of 8 places; tag 0 is a nonterminal, 1 a
@@ -178,4 +182,33 @@ pub fn same_build(grammar: &Grammar, input: &[u8], a: &[u16], b: &[u16], chart: 
             chart.len(),
         )
     })
+}
+
+/// The first derivation of the input, the smallest by the first number in which two differ: for each node, in preorder, how many bytes it
+/// covers and the number of its rule. None if the input has no tree at all. It stands at the front of the output, whose rest is left as
+/// found, and all of it where the call is refused or there is none. The chart is filled for the input, also where all its trees have more
+/// than 512 nodes (13); refused with 8, 9, 10 or 11, it is left as found.
+///
+/// The call needs up to 1,900 KiB of stack, as `include/filbozseg.h` says; a thread of Rust has 2 MiB by default.
+pub fn first<'a>(
+    grammar: &Grammar,
+    input: &[u8],
+    chart: &mut [u32],
+    output: &'a mut [u16],
+) -> Result<Option<&'a [u16]>, Refusal> {
+    let mut nodes = NO_NODES;
+    // Safety: as in `open`; the output is borrowed for writing too.
+    let code = unsafe {
+        sys::filbozseg_first(
+            grammar.row(),
+            input.as_ptr(),
+            input.len(),
+            chart.as_mut_ptr(),
+            chart.len(),
+            output.as_mut_ptr(),
+            output.len(),
+            &mut nodes,
+        )
+    };
+    Ok(answer(code)?.then_some(output).map(|output| &output[..2 * nodes]))
 }

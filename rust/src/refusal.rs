@@ -21,9 +21,11 @@ pub enum Refusal {
     InputLength = 9,
     /// The chart has fewer than 4,225 cells.
     ChartTooShort = 10,
+    /// The output has fewer than 1,024 numbers.
     OutputTooShort = 11,
     /// An offered derivation is none of the input.
     NotADerivation = 12,
+    /// The input has trees, but none of at most 512 nodes.
     OnlyLargerTrees = 13,
     /// The recognizer's count is over 64, or one of the bytes that it has taken is over 255.
     InvalidRecognizer = 14,

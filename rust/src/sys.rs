@@ -55,4 +55,15 @@ extern "C" {
         chart: *mut u32,
         chart_length: usize,
     ) -> u32;
+
+    pub fn filbozseg_first(
+        grammar: *const [u16; ROW],
+        input: *const u8,
+        input_length: usize,
+        chart: *mut u32,
+        chart_length: usize,
+        output: *mut u16,
+        output_length: usize,
+        nodes: *mut usize,
+    ) -> u32;
 }

@@ -152,6 +152,51 @@ fn offered_rows_are_checked_measured_and_compared() {
     assert_eq!(same_build(&recess, b"A", &[1, 0], &[1, 1], &mut chart), Ok(false));
 }
 
+/// Numbers of an output past those that are asked for, and what they all hold before a call.
+const UNWRITTEN: [u16; OUTPUT + 2] = [9; OUTPUT + 2];
+
+#[test]
+fn the_first_derivation_is_handed_out_or_none() {
+    let (grammar, mut chart, mut output) = (load(T).unwrap(), chart(), UNWRITTEN);
+    for (input, due) in [("A", [1, 0, 0, 1, 1, 2]), ("AA", [2, 0, 1, 2, 1, 2])] {
+        let handed = first(&grammar, input.as_bytes(), &mut chart, &mut output).unwrap().unwrap();
+        assert_eq!(handed, due);
+        assert_eq!(check(&grammar, input.as_bytes(), &due, &mut chart), Ok(true));
+        assert_eq!((&output[..6], &output[6..]), (&due[..], &UNWRITTEN[6..]));
+    }
+    output = UNWRITTEN;
+    for input in ["AAA", "B"] {
+        assert_eq!(first(&grammar, input.as_bytes(), &mut chart, &mut output), Ok(None));
+    }
+    assert_eq!((output, &chart[CELLS..]), (UNWRITTEN, &[FOUND; PAST][..]));
+    let mut filled = self::chart();
+    check(&grammar, b"B", &[], &mut filled).unwrap();
+    assert_eq!(chart, filled);
+}
+
+#[test]
+fn a_refused_first_leaves_the_output() {
+    let (grammar, mut chart, mut output) = (load(T).unwrap(), chart(), UNWRITTEN);
+    let short = OUTPUT - 1;
+    assert_eq!(first(&changed(0, 32), b"", &mut [], &mut []), Err(Refusal::InvalidGrammar));
+    assert_eq!(first(&grammar, b"", &mut [], &mut []), Err(Refusal::InputLength));
+    assert_eq!(first(&grammar, b"", &mut chart, &mut output), Err(Refusal::InputLength));
+    assert_eq!(first(&grammar, &[b'A'; 65], &mut chart, &mut output), Err(Refusal::InputLength));
+    assert_eq!(first(&grammar, b"A", &mut chart[..CELLS - 1], &mut []), Err(Refusal::ChartTooShort));
+    assert_eq!(first(&grammar, b"A", &mut chart, &mut output[..short]), Err(Refusal::OutputTooShort));
+    assert_eq!(chart, self::chart());
+    // 0 -> A and seven of 1, 1 -> eight of 2, 2 -> eight of 3, 3 -> nothing: 512 nodes, and 513 below 4 -> 0
+    let mut book = b"\x10\x00\x20\x00\x00\x00\x40A".to_vec();
+    book.extend([0x30, 1].repeat(7));
+    book.extend([&[0x20, 1, 0, 0][..], &[0x30, 2].repeat(8), &[0x20, 2, 0, 0], &[0x30, 3].repeat(8)].concat());
+    book.extend(b"\x20\x03\x00\x00\x20\x04\x00\x00\x30\x00\x50");
+    assert_eq!(first(&load(&book).unwrap(), b"A", &mut chart, &mut output).unwrap().unwrap().len(), OUTPUT);
+    assert_eq!(output[OUTPUT..], [9; 2]);
+    (book[1], output) = (4, UNWRITTEN);
+    assert_eq!(first(&load(&book).unwrap(), b"A", &mut chart, &mut output), Err(Refusal::OnlyLargerTrees));
+    assert_eq!((output, chart[1] >> 4 & 1), (UNWRITTEN, 1));
+}
+
 #[test]
 fn refusals_and_numbers_agree() {
     assert!((1..=15).all(|n| Refusal::of_number(n).unwrap().number() == n));

@@ -487,3 +487,36 @@ pub fn book(seed: u64) -> Book {
     }
     Book { style, bytes, inputs }
 }
+
+/// A full book of a seed with an input of 64 marks: 32 kinds, each with a rule, and
+/// 128 rules of 8 places but for some that are empty or one place long. The styles
+/// differ in how many those are, how rare marks are, and in that most places hold one
+/// of four nullable kinds.
+pub fn full_book(seed: u64) -> Book {
+    let rng = &mut Rng::new(seed ^ 0xF011);
+    let (rare, empty, single) = (rng.pick(&[2, 3, 5, 9]), rng.within(0, 6), rng.pick(&[8, 24, 40, 56]));
+    let marks: &[u8] = rng.pick(&[&[A][..], &[A], &[A, B], &[A, A, A, B]]);
+    let blank = seed % 3 == 0;
+    let mut draft = Draft::new(0);
+    for rule in 0..128 {
+        let count = match rule {
+            28..=31 if blank => 0,
+            _ if rule % 32 < empty && rule < 64 => 0,
+            _ if rule % 32 >= empty && rule % 32 < 8 + single / 3 => 1,
+            _ => 8,
+        };
+        let row: Vec<Sym> = (0..count)
+            .map(|_| match (rng.one_in(if count == 1 { 2 } else { rare }), rng.below(4)) {
+                (true, _) => T(rng.pick(marks)),
+                (false, 1..) if blank && count > 1 => N(28 + rng.below(4) as u8),
+                (false, _) => N(rng.below(32) as u8),
+            })
+            .collect();
+        draft.rule(if rule < 32 { rule as u8 } else { rng.below(32) as u8 }, &row);
+    }
+    for i in (1..128).rev() {
+        draft.rules.swap(i, rng.below(i + 1));
+    }
+    let input = (0..64).map(|_| rng.pick(marks)).collect();
+    Book { style: "full", bytes: draft.bytes(), inputs: vec![input] }
+}

@@ -1,6 +1,7 @@
 //! The comparison of a reader with the lister over one book and its inputs. The
 //! first difference is handed back as a text; what came up is counted.
 
+mod firsts;
 mod grammars;
 mod hands;
 mod lent;

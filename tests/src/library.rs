@@ -49,6 +49,21 @@ fn lend<T: Copy>(place: &mut T, call: impl FnOnce(*mut T) -> u32) -> u32 {
     code
 }
 
+/// Ends the run, saying so, if the call takes longer than 20 s: a search that blows up fails, and does not hang.
+fn capped<T>(call: impl FnOnce() -> T) -> T {
+    let (done, waited) = std::sync::mpsc::channel::<()>();
+    let watch = std::thread::spawn(move || {
+        if waited.recv_timeout(std::time::Duration::from_secs(20)) == Err(std::sync::mpsc::RecvTimeoutError::Timeout) {
+            eprintln!("a call takes longer than 20 s");
+            std::process::abort();
+        }
+    });
+    let answer = call();
+    drop(done);
+    watch.join().expect("the watch ends");
+    answer
+}
+
 // Safety, of each call: the pointers are those of live values of these lengths, and those that are written overlap nothing.
 impl Reader for Library {
     fn load(&self, book: &[u8], grammar: &mut FlatGrammar, offset: &mut usize) -> Answer {
@@ -87,6 +102,24 @@ impl Reader for Library {
 
     fn same_build(&self, grammar: &FlatGrammar, input: &[u8], one: &[u16], other: &[u16], chart: &mut [u32]) -> Answer {
         told(filbozseg::same_build(&Grammar::from_row(grammar), input, one, other, chart))
+    }
+
+    fn first(
+        &self,
+        grammar: &FlatGrammar,
+        input: &[u8],
+        chart: &mut [u32],
+        out: &mut [u16],
+        nodes: &mut usize,
+    ) -> Answer {
+        let ((w, n), (c, m), (o, l)) =
+            ((input.as_ptr(), input.len()), (chart.as_mut_ptr(), chart.len()), (out.as_mut_ptr(), out.len()));
+        let call = |nodes| unsafe { sys::filbozseg_first(grammar, w, n, c, m, o, l, nodes) };
+        match said(capped(|| lend(nodes, call))) {
+            Answer::Yes => Answer::Nodes(*nodes),
+            Answer::No => Answer::NoDerivation,
+            refused => refused,
+        }
     }
 
     fn lists(&self) -> bool {

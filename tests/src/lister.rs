@@ -67,12 +67,13 @@ pub fn has_tree(grammar: &Grammar, input: &[u8]) -> bool {
     chart::derives(grammar, input)[0][usize::from(grammar.start)] >> input.len() & 1 == 1
 }
 
-/// The answer for what first, next or count gives; a row goes to the front of the output.
-fn answered(given: Given, out: &mut [u16]) -> Answer {
+/// The answer for what first, next or count gives; a row goes to the front of the output, and with it how many nodes it has.
+fn answered(given: Given, out: &mut [u16], nodes: &mut usize) -> Answer {
     match given {
         Given::Row(row) => {
             out[..row.len()].copy_from_slice(&row);
-            Answer::Nodes(row.len() / 2)
+            *nodes = row.len() / 2;
+            Answer::Nodes(*nodes)
         }
         Given::NoDerivation => Answer::NoDerivation,
         Given::NoneLeft => Answer::NoneLeft,
@@ -154,27 +155,39 @@ impl Reader for Lister {
         }
     }
 
-    fn lists(&self) -> bool {
+    fn by_listing(&self) -> bool {
         true
     }
 
-    fn first(&self, flat: &FlatGrammar, input: &[u8], chart: &mut [u32], out: &mut [u16]) -> Answer {
+    fn first(&self, flat: &FlatGrammar, input: &[u8], chart: &mut [u32], out: &mut [u16], nodes: &mut usize) -> Answer {
         match judged(flat, input, chart.len(), out.len()) {
             Err(refused) => refused,
             Ok(grammar) => {
                 chart::fill(&grammar, input, chart);
                 let (list, tree) = listed(&grammar, input);
-                answered(walk::first(&list, tree), out)
+                answered(walk::first(&list, tree), out, nodes)
             }
         }
     }
 
-    fn next(&self, flat: &FlatGrammar, input: &[u8], offered: &[u16], chart: &mut [u32], out: &mut [u16]) -> Answer {
+    fn lists(&self) -> bool {
+        true
+    }
+
+    fn next(
+        &self,
+        flat: &FlatGrammar,
+        input: &[u8],
+        offered: &[u16],
+        chart: &mut [u32],
+        out: &mut [u16],
+        nodes: &mut usize,
+    ) -> Answer {
         match judged(flat, input, chart.len(), out.len()) {
             Err(refused) => refused,
             Ok(grammar) => {
                 chart::fill(&grammar, input, chart);
-                answered(walk::next(&listed(&grammar, input).0, offered), out)
+                answered(walk::next(&listed(&grammar, input).0, offered), out, nodes)
             }
         }
     }
@@ -184,7 +197,7 @@ impl Reader for Lister {
             Err(refused) => refused,
             Ok(grammar) => {
                 let (list, tree) = listed(&grammar, input);
-                answered(walk::count(&list, tree), &mut [])
+                answered(walk::count(&list, tree), &mut [], &mut 0)
             }
         }
     }

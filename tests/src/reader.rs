@@ -73,11 +73,23 @@ pub trait Reader {
     ) -> Answer;
     fn same_build(&self, grammar: &FlatGrammar, input: &[u8], one: &[u16], other: &[u16], chart: &mut [u32]) -> Answer;
 
-    /// Whether the three calls below are there.
-    fn lists(&self) -> bool;
-    fn first(&self, _grammar: &FlatGrammar, _input: &[u8], _chart: &mut [u32], _out: &mut [u16]) -> Answer {
-        unimplemented!("lists() is false")
+    /// Writes the output's front and the number of nodes with `Nodes` only.
+    fn first(
+        &self,
+        grammar: &FlatGrammar,
+        input: &[u8],
+        chart: &mut [u32],
+        out: &mut [u16],
+        nodes: &mut usize,
+    ) -> Answer;
+    /// Whether first makes the whole list, so that it cannot be asked where that is too large.
+    fn by_listing(&self) -> bool {
+        false
     }
+
+    /// Whether the two calls below are there.
+    fn lists(&self) -> bool;
+    /// Writes as first does.
     fn next(
         &self,
         _grammar: &FlatGrammar,
@@ -85,6 +97,7 @@ pub trait Reader {
         _offered: &[u16],
         _chart: &mut [u32],
         _out: &mut [u16],
+        _nodes: &mut usize,
     ) -> Answer {
         unimplemented!("lists() is false")
     }

@@ -1,9 +1,10 @@
 //! The plates from the drawer (document 01) and the named cases, with the results
 //! written out by hand, run on the reader under test.
 
+#[allow(dead_code)] // not all of it is called from here
 mod calls;
 
-use calls::{check, complete, fault, length, loaded, row, same_build};
+use calls::{book, check, complete, deepest, deepest_row, fault, first, length, loaded, row, same_build};
 use outside_tests::books::{Draft, Rng, Sym};
 use outside_tests::compare::{rubbish, Comparison, Counts};
 use outside_tests::lister::{self, trees, walk::Given};
@@ -16,23 +17,6 @@ const T: [u8; 21] = [
     0x41, 0x50,
 ];
 
-/// A book from rules like "0: 0 A": numbers are kinds, letters marks, nothing is nothing.
-fn book(start: u8, rules: &[&str]) -> Vec<u8> {
-    let mut draft = Draft::new(start);
-    for rule in rules {
-        let (left, places) = rule.split_once(':').expect("a rule has a colon");
-        let places: Vec<Sym> = places
-            .split_whitespace()
-            .map(|place| match place.parse() {
-                Ok(kind) => Sym::N(kind),
-                Err(_) => Sym::T(place.as_bytes()[0]),
-            })
-            .collect();
-        draft.rule(left.trim().parse().expect("a left side"), &places);
-    }
-    draft.bytes()
-}
-
 /// Everything that the random comparison does, on this book and input.
 fn compared(book: &[u8], input: &[u8]) {
     let mut counts = Counts::default();
@@ -41,8 +25,9 @@ fn compared(book: &[u8], input: &[u8]) {
     comparison.input(&flat, input).expect("no difference");
 }
 
-/// All readings of the input, from the lister, each one checked by the reader; the
-/// number of them for a reader that lists is its own count, and it hands them out.
+/// All readings of the input, from the lister, each one checked by the reader, which
+/// hands out the first; the number of them for a reader that lists is its own count,
+/// and it hands out the others too.
 fn listed(book: &[u8], input: &[u8]) -> Vec<Vec<u16>> {
     let (flat, reader) = (loaded(book), reader_under_test());
     let grammar = lister::grammar::from_flat(&flat).expect("loaded");
@@ -51,6 +36,7 @@ fn listed(book: &[u8], input: &[u8]) -> Vec<Vec<u16>> {
     for reading in &list {
         assert_eq!(check(&flat, input, reading), Answer::Yes);
     }
+    assert_eq!(first(&flat, input), lister::walk::first(&list, tree));
     if reader.lists() {
         let mut chart = rubbish(&mut Rng::new(5), CELLS);
         let due = match lister::walk::count(&list, tree) {
@@ -59,18 +45,16 @@ fn listed(book: &[u8], input: &[u8]) -> Vec<Vec<u16>> {
             _ => Answer::Refused(13),
         };
         assert_eq!(reader.count(&flat, input, chart.part_mut()), due);
-        let mut out = [7; OUTPUT];
-        let mut answer = reader.first(&flat, input, chart.part_mut(), &mut out);
+        let (mut out, mut nodes) = ([7; OUTPUT], 0);
         for (at, reading) in list.iter().enumerate().take(20) {
-            assert_eq!(answer, Answer::Nodes(reading.len() / 2));
-            assert_eq!(&out[..reading.len()], &reading[..]);
-            if at < 19 {
-                answer = reader.next(&flat, input, reading, chart.part_mut(), &mut out);
+            let answer = reader.next(&flat, input, reading, chart.part_mut(), &mut out, &mut nodes);
+            match list.get(at + 1) {
+                Some(next) => {
+                    assert_eq!((answer, nodes), (Answer::Nodes(next.len() / 2), next.len() / 2));
+                    assert_eq!(&out[..next.len()], &next[..]);
+                }
+                None => assert_eq!(answer, Answer::NoneLeft),
             }
-        }
-        if list.len() < 20 {
-            let end = if list.is_empty() { Answer::NoDerivation } else { Answer::NoneLeft };
-            assert_eq!(answer, if list.is_empty() && tree { Answer::Refused(13) } else { end });
         }
     }
     list
@@ -154,22 +138,6 @@ fn the_limit_of_512() {
     assert_eq!(check(&loaded(&over), b"A", &row513), Answer::No);
     assert_eq!(length(&loaded(&over), b"A", &row513), Err(12));
     compared(&over, b"A");
-}
-
-/// k -> k + 1 for k of 0 to 30, 31 -> A 0, 31 -> A.
-fn deepest() -> Vec<u8> {
-    let mut rules: Vec<String> = (0..31).map(|k| format!("{k}: {}", k + 1)).collect();
-    rules.extend(["31: A 0".to_string(), "31: A".to_string()]);
-    let rules: Vec<&str> = rules.iter().map(String::as_str).collect();
-    book(0, &rules)
-}
-
-/// The row of its one tree over n marks, by hand: covers n down to 1, each 32 deep.
-fn deepest_row(n: u16) -> Vec<u16> {
-    (1..=n)
-        .rev()
-        .flat_map(|cover| (0..32).flat_map(move |k| [cover, if (cover, k) == (1, 31) { 32 } else { k }]))
-        .collect()
 }
 
 #[test]

@@ -52,7 +52,7 @@ fn all_caught<T: Sync>(cases: &[(String, T)], try_one: impl Fn(&T) -> Option<(u6
 fn every_fault_is_caught() {
     let faults: Vec<(String, Faults)> =
         Faults::one_by_one().into_iter().map(|(name, faults)| (name.to_string(), faults)).collect();
-    assert!(faults.len() >= 80);
+    assert!(faults.len() >= 100);
     all_caught(&faults, |faults| {
         set_faults(*faults);
         caught(&faulty::Lister)

@@ -77,6 +77,14 @@ const DUE: &[(&str, u64)] = &[
     ("same build: refused 9", 2000),
     ("same build: refused 10", 500),
     ("same build: refused 12", 5000),
+    // First.
+    ("first: handed out", 2000),
+    ("first: no reading", 1000),
+    ("first: refused 8", 3000),
+    ("first: refused 9", 2000),
+    ("first: refused 10", 500),
+    ("first: refused 11", 300),
+    ("first: refused 13", 50),
     // Styles.
     ("style: plain", 40),
     ("style: nullable", 40),
@@ -110,13 +118,15 @@ const OUT_OF_RANGE: &[(&str, u64)] = &[
 /// A mark up to 255 is in range, so is the low byte of any, and one over is 256.
 const NO_SUCH: &[&str] = &["a mark, up to 255", "a mark, 256", "a mark, low byte out of range"];
 
+/// The same for a reader that hands out the first without listing.
+const DUE_UNLISTED: &[(&str, u64)] = &[("first, too many to list: handed out", 80)];
+
 /// The same for a reader that lists.
 const DUE_LISTING: &[(&str, u64)] = &[
     ("walk: First", 3000),
     ("walk: NextWithCopy", 5000),
     ("walk: NextWithNoDerivation", 800),
     ("walk: Count", 1000),
-    ("first: refused 11", 300),
     ("next: refused 11", 300),
     ("count: refused 10", 500),
 ];
@@ -145,7 +155,8 @@ fn random_books() {
         println!("{count:8}  {name}");
     }
     let listing = if reader_under_test().lists() { DUE_LISTING } else { &[] };
-    for (name, due) in DUE.iter().chain(listing) {
+    let unlisted = if reader_under_test().by_listing() { &[] } else { DUE_UNLISTED };
+    for (name, due) in DUE.iter().chain(unlisted).chain(listing) {
         assert!(counts.get(name) >= *due, "{name}: came up {} times, due {due}", counts.get(name));
     }
     for (number, (how, due)) in JUDGED.iter().flat_map(|number| OUT_OF_RANGE.iter().map(move |how| (number, how))) {

@@ -54,3 +54,26 @@ fn both_sides_judge_a_hand_whole_and_leave_a_refused_one() {
         assert!(h == k && x == y && (code == 0) == (h != found), "{found:?}");
     }
 }
+
+#[test]
+fn both_sides_hand_out_the_same_first_reading() {
+    let mut random = crate::random::Random::new(11);
+    let mut seen = [0; 3];
+    for _ in 0..24 {
+        let (book, input) = crate::books::random_full(&mut random);
+        let (mut row, mut offset) = ([9; FLAT], 9);
+        assert_eq!(Proved::load(&book, &mut row, &mut offset), 1);
+        for (input, numbers) in [(&input[..], 1024), (&input[..5], 1030), (&input[..1], 1023), (&[], 1024)] {
+            let (mut x, mut y, mut m, mut n) = (chart(), chart(), 9, 9);
+            let (mut a, mut b) = (vec![7u16; numbers], vec![7u16; numbers]);
+            let code = Proved::first(&row, input, &mut x, &mut a, &mut m);
+            assert_eq!(code, Plain::first(&row, input, &mut y, &mut b, &mut n));
+            assert!(
+                x == y && a == b && m == n && a[if code == 1 { 2 * m } else { 0 }..].iter().all(|&number| number == 7)
+            );
+            assert!(code == 1 || m == 9);
+            seen[code.min(2) as usize] += 1;
+        }
+    }
+    assert!(seen[0] > 5 && seen[1] > 5 && seen[2] >= 48, "{seen:?}");
+}

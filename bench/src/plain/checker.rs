@@ -61,7 +61,8 @@ pub fn is_derivation(p: &Packed, start: usize, w: &[u8], e: &[u16]) -> bool {
     Walk { p, w, e }.node(w.len(), 0, start, 0, 0, w.len()) == Some(e.len() / 2)
 }
 
-fn judge(g: &Grammar, input: &[u8], chart: &[u32]) -> Result<(), Refusal> {
+/// Checks 8 to 10.
+pub fn judge(g: &Grammar, input: &[u8], chart: &[u32]) -> Result<(), Refusal> {
     if !g.valid() {
         return Err(Refusal::InvalidGrammar);
     }
@@ -74,7 +75,7 @@ fn judge(g: &Grammar, input: &[u8], chart: &[u32]) -> Result<(), Refusal> {
     Ok(())
 }
 
-fn filled(g: &Grammar, input: &[u8], chart: &mut [u32]) -> Packed {
+pub fn filled(g: &Grammar, input: &[u8], chart: &mut [u32]) -> Packed {
     let p = Packed::new(g);
     fill(&p, input, chart);
     p

@@ -3,7 +3,8 @@
 
 use super::packed::Packed;
 use super::recognizer::{fill, write_column};
-use super::{checker, flat, loader, Grammar, Rule, Symbol, CHART};
+use super::{checker, enumerator, flat, loader, Grammar, Refusal, Rule, Symbol, CHART};
+use crate::books;
 use crate::random::Random;
 
 fn small_grammar(random: &mut Random) -> Grammar {
@@ -165,6 +166,56 @@ fn readings_are_checked_yes_and_damaged_rows_as_trees_say() {
         }
     }
     assert!(yes > 2000 && no > 1000 && skipped < 1000, "{yes} yes, {no} no, {skipped} skipped");
+}
+
+#[test]
+fn the_first_reading_is_the_smallest_of_the_list() {
+    let mut random = Random::new(5);
+    let (mut handed, mut none, mut empty, mut skipped) = (0, 0, 0, 0);
+    for _ in 0..4000 {
+        let g = small_grammar(&mut random);
+        let w: Vec<u8> = (0..random.below(5)).map(|_| b'A' + random.below(2) as u8).collect();
+        let mut lister = Lister { g: &g, w: &w, steps: 0 };
+        let list = lister.trees(0, 0, w.len(), &[]);
+        if lister.steps > 20_000 {
+            skipped += 1;
+            continue;
+        }
+        let due = list.iter().filter(|e| e.len() <= 1024).min();
+        let (p, mut chart, mut out) = (Packed::new(&g), [0u32; CHART], [7u16; 1026]);
+        fill(&p, &w, &mut chart);
+        let got = enumerator::first_filled(&p, 0, &w, &chart, &mut out);
+        match due {
+            Some(e) => {
+                assert_eq!(got, Ok(Some(e.len() / 2)), "{g:?} {w:?}");
+                assert!(out[..e.len()] == e[..], "{g:?} {w:?}");
+                handed += 1;
+                empty += w.is_empty() as u32;
+            }
+            None => {
+                assert_eq!(got, if list.is_empty() { Ok(None) } else { Err(Refusal::OnlyLargerTrees) }, "{g:?} {w:?}");
+                none += 1;
+            }
+        }
+        assert!(out[due.map_or(0, Vec::len)..].iter().all(|&number| number == 7), "{g:?} {w:?}");
+    }
+    assert!(handed > 800 && none > 500 && empty > 100 && skipped < 1500, "{handed} {none} {empty} {skipped}");
+}
+
+#[test]
+fn the_limit_of_512_parts_decides_what_is_first() {
+    let first = |book: &[u8], n: usize| {
+        let (g, mut chart, mut out) = (loader::load(book).unwrap(), [0; CHART], [7; 1024]);
+        enumerator::first(&g, &vec![b'A'; n], &mut chart, &mut out).map(|n| n.map(|n| out[..2 * n].to_vec()))
+    };
+    for (book, input, reading) in [books::deepest(), books::bush()] {
+        assert_eq!(first(&book, input.len()), Ok(Some(reading)));
+    }
+    assert_eq!(first(&books::deepest().0, 17), Err(Refusal::OnlyLargerTrees));
+    assert_eq!(first(&books::wide(false), 64), Err(Refusal::OnlyLargerTrees));
+    assert_eq!(first(&books::wide(true), 64).unwrap().unwrap().len(), 2 * 73);
+    let dear = [&[1, 1, 1, 3, 1, 5][..], &[&[0, 6][..], &[0, 7].repeat(8)].concat().repeat(7)].concat();
+    assert_eq!(first(&books::forbidden(), 8), Ok(Some([&[8, 0][..], &dear.repeat(7), &[1, 4]].concat())));
 }
 
 #[test]

@@ -11,7 +11,7 @@ use native.Mathlib.Omega.{arith}
 use lib.ListN.{getD}
 use borrow.Author.Tests.{lt-ltb, le-ltb}
 use Rattle.sets.specs.Set.{has}
-use Rattle.cfg.specs.Grammar.{Cfg, Terminal, Of}
+use Rattle.cfg.specs.Grammar.{Cfg, Terminal}
 use Rattle.chart.specs.Cell.{cell}
 use Rattle.chart.specs.Column.{column}
 use Rattle.chart.specs.Closed.{joint, Closed}

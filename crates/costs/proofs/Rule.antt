@@ -63,8 +63,8 @@ node-same {fit} {full} {least} {least'} {places} {i} {j} f =
         → NodeCost fit full from places i j u → NodeCost fit full to places i j u
     go from to g p = record {
       under = p .under;
-      cut = cut-map i j (p .under) (λ _ _ _ _ q. q) (λ k a c h l m _. within-least full from to i j k a c h l m (g k a c h l m)) (omega arith)
-          (omega arith) (p .cut);
+      cut = cut-map i j (p .under) (λ _ _ _ _ q. q) (λ k a c h l m _. within-least full from to i j k a c h l m (g k a c h l m))
+          (omega arith) (omega arith) (p .cut);
       sum = p .sum;
     }
 

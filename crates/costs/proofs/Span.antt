@@ -37,6 +37,12 @@ module _ {bytes : ℕ → ℕ → Type 0} where
       let e : suc a + length u ≡ a + length (m ∷ u) = omega arith in
       (reads-byte p (subst (λ (x : ℕ). Reads bytes x (suc a) u) e s), subst (λ (x : ℕ). Reads bytes b x v) e t)
 
+  -- what may stand where these bytes may, may stand where others may that include them
+  pub reads-map : {others : ℕ → ℕ → Type 0} → ((a m : ℕ) → bytes a m → others a m) → {a b : ℕ} {u : List ℕ} → Reads bytes b a u
+      → Reads others b a u
+  reads-map f (reads-end e) = reads-end e
+  reads-map f {a} (reads-byte {m = m} p r) = reads-byte (f a m p) (reads-map f r)
+
   -- nothing stands in an empty span
   pub reads-nil : {a : ℕ} {u : List ℕ} → Reads bytes a a u → u ≡ []
   reads-nil (reads-end e) = refl

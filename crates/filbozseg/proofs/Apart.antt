@@ -5,8 +5,8 @@ use native.Mathlib.Omega.{arith}
 use mathlib.Core.Bool.{Bool, true, false}
 use mathlib.Core.Path.{_≡_, refl, ap}
 use lib.IntN.{ℤ}
-use Rattle.results.specs.Answer.{Answer, refused, answered, LoadAnswer, refusedAt, loaded}
-use Rattle.filbozseg.specs.Code.{verdictCode, loadCode, offsetLeft, lengthCode, tenthsLeft}
+use Rattle.results.specs.Answer.{Answer, refused, answered, Handing, handed, nothing, LoadAnswer, refusedAt, loaded}
+use Rattle.filbozseg.specs.Code.{verdictCode, loadCode, offsetLeft, lengthCode, tenthsLeft, handingCode, nodesLeft}
 
 pub verdict-apart : (a b : Answer Bool) → verdictCode a ≡ verdictCode b → a ≡ b
 verdict-apart (refused m) (refused n) e = ap refused (omega arith)
@@ -30,3 +30,14 @@ length-apart (refused m) (refused n) found e t = ap refused (omega arith)
 length-apart (refused m) (answered y) found e t = absurd (omega arith)
 length-apart (answered z) (refused n) found e t = absurd (omega arith)
 length-apart (answered z) (answered y) found e t = ap answered t
+
+pub handing-apart : (a b : Answer Handing) (found : ℕ) → handingCode a ≡ handingCode b → nodesLeft a found ≡ nodesLeft b found → a ≡ b
+handing-apart (refused m) (refused n) found e t = ap refused (omega arith)
+handing-apart (refused m) (answered (handed n)) found e t = absurd (omega arith)
+handing-apart (refused m) (answered nothing) found e t = absurd (omega arith)
+handing-apart (answered (handed m)) (refused n) found e t = absurd (omega arith)
+handing-apart (answered nothing) (refused n) found e t = absurd (omega arith)
+handing-apart (answered (handed m)) (answered (handed n)) found e t = ap (λ (x : ℕ). answered (handed x)) t
+handing-apart (answered (handed m)) (answered nothing) found e t = absurd (omega arith)
+handing-apart (answered nothing) (answered (handed n)) found e t = absurd (omega arith)
+handing-apart (answered nothing) (answered nothing) found e t = refl

@@ -14,10 +14,13 @@ use Rattle.grammar.specs.Number.{numberOf}
 use Rattle.checker.specs.declared.Measured.{Measured}
 use Rattle.checker.specs.declared.Measured.the-variants as M
 use Rattle.checker.specs.Calls.{measuredOf}
+use Rattle.first.specs.declared.Handed.{Handed}
+use Rattle.first.specs.declared.Handed.the-variants as F
+use Rattle.first.specs.Answer.{handingOf}
 use Rattle.hand.specs.Hand.{rowOf}
 use Rattle.recognizer.specs.Verdict.{verdictOf}
 use Rattle.results.specs.Recognize.{State}
-use Rattle.filbozseg.specs.Code.{verdictCode, rowLeft, lengthCode, tenthsLeft}
+use Rattle.filbozseg.specs.Code.{verdictCode, rowLeft, lengthCode, tenthsLeft, handingCode, nodesLeft}
 
 module _ (r : Refusal) (c : ℕ) (code : c ≡ 256 + numberOf r) where
   pub verdict-refused : (a : Verdict) → a ≡ C.Refused r → c ≡ verdictCode (verdictOf a)
@@ -25,6 +28,9 @@ module _ (r : Refusal) (c : ℕ) (code : c ≡ 256 + numberOf r) where
 
   pub length-refused : (a : Measured) → a ≡ M.Refused r → c ≡ lengthCode (measuredOf a)
   length-refused a e = code ∙ ap (λ (x : Measured). lengthCode (measuredOf x)) (sym e)
+
+  pub handing-refused : (a : Handed) → a ≡ F.Refused r → c ≡ handingCode (handingOf a)
+  handing-refused a e = code ∙ ap (λ (x : Handed). handingCode (handingOf x)) (sym e)
 
 -- ---- taking
 
@@ -56,3 +62,21 @@ module _ (a : Measured) where
 
   pub tenths-refused : (r : Refusal) (found : ℤ) → a ≡ M.Refused r → found ≡ tenthsLeft (measuredOf a) found
   tenths-refused r found e = ap (λ (x : Measured). tenthsLeft (measuredOf x) found) (sym e)
+
+-- ---- first
+
+module _ (a : Handed) where
+  pub code-handed : (n : ℕ) → a ≡ F.Nodes n → 1 ≡ handingCode (handingOf a)
+  code-handed n e = ap (λ (x : Handed). handingCode (handingOf x)) (sym e)
+
+  pub code-nothing : a ≡ F.Nothing → 0 ≡ handingCode (handingOf a)
+  code-nothing e = ap (λ (x : Handed). handingCode (handingOf x)) (sym e)
+
+  pub nodes-handed : (n found : ℕ) → a ≡ F.Nodes n → n ≡ nodesLeft (handingOf a) found
+  nodes-handed n found e = ap (λ (x : Handed). nodesLeft (handingOf x) found) (sym e)
+
+  pub nodes-nothing : (found : ℕ) → a ≡ F.Nothing → found ≡ nodesLeft (handingOf a) found
+  nodes-nothing found e = ap (λ (x : Handed). nodesLeft (handingOf x) found) (sym e)
+
+  pub nodes-refused : (r : Refusal) (found : ℕ) → a ≡ F.Refused r → found ≡ nodesLeft (handingOf a) found
+  nodes-refused r found e = ap (λ (x : Handed). nodesLeft (handingOf x) found) (sym e)

@@ -3,8 +3,8 @@
 use Prim.Native.Nat.{ℕ, zero, suc, _+_, _*_, _-_, _≤_, _<_}
 use native.Mathlib.Omega.{arith}
 use mathlib.Core.Bool.{Bool, true, false, cond, _&&_, _||_}
-use mathlib.Core.List.{List, [], _∷_}
-use mathlib.Core.Path.{_≡_, refl, sym, ap, _∙_, subst}
+use mathlib.Core.List.{List}
+use mathlib.Core.Path.{_≡_, refl, _∙_}
 use lib.Dec.{eqb, ltb}
 use lib.IntN.{ℤ, pos, negℤ}
 use lib.ListN.{getD, set, replicate, length-set}
@@ -19,7 +19,7 @@ use Rattle.grammar.specs.declared.Rule.{Rule}
 use Rattle.grammar.specs.declared.Grammar.{Grammar}
 use Rattle.grammar.specs.Tagged.{valueOf}
 use Rattle.grammar.specs.Zero.{zeroPlace, zeroRule, zeroGrammar, noRule}
-use Rattle.results.specs.Load.{signed, openRule, withStart, withRule, withPlace, after, Fault, commandChecks, Step, stop, next, done, step}
+use Rattle.results.specs.Load.{signed, openRule, withStart, withRule, withPlace, after, commandChecks, Step, stop, next, done, step}
 use Rattle.results.proofs.Decide.{decide-either}
 use Rattle.results.proofs.Loading.Lists.{set-each, replicate-each}
 use Rattle.results.specs.Load.{Loading, refusedLoad, acceptedLoad, run, loadOf}

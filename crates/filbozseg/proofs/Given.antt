@@ -21,10 +21,11 @@ use Rattle.loader.specs.declared.Outcome.{Outcome}
 use Rattle.loader.specs.declared.Outcome.the-variants as O
 use Rattle.loader.specs.Answer.{answerOf, loadingOf}
 use Rattle.results.specs.Check.{Checking}
+use Rattle.results.specs.Enumerate.{Enumeration}
 use Rattle.results.specs.Load.{Loading, loadOf}
 use Rattle.results.specs.Recognize.{State, Recognition}
-use Rattle.filbozseg.specs.Code.{verdictCode, rowLeft, loadCode, offsetLeft, lengthCode, tenthsLeft}
-use Rattle.filbozseg.specs.Calls.{Loads, Opens, Takes, Checks, Measures}
+use Rattle.filbozseg.specs.Code.{verdictCode, rowLeft, loadCode, offsetLeft, lengthCode, tenthsLeft, handingCode, nodesLeft}
+use Rattle.filbozseg.specs.Calls.{Loads, Opens, Takes, Checks, Measures, Hands}
 use Rattle.filbozseg.proofs.Fits.{load-fits}
 
 -- ---- loading
@@ -102,4 +103,15 @@ module _ {g h : Grammar} (read : g ≡ h) where
         returned = c ∙ ap (λ (x : Checking ℤ). lengthCode (x .answer)) d;
         left = ap (λ (x : Checking ℤ). x .chart) d;
         measured = t ∙ ap (λ (x : Checking ℤ). tenthsLeft (x .answer) found) d;
+      }
+
+  pub hands-of : (f : Grammar → Enumeration) (v : Enumeration) (found code nodes : ℕ) → v ≡ f g → code ≡ handingCode (v .answer)
+      → nodes ≡ nodesLeft (v .answer) found → Hands (f h) found code (v .chart) (v .output) nodes
+  hands-of f v found code nodes e c t =
+      let d : v ≡ f h = e ∙ ap f read in
+      record {
+        returned = c ∙ ap (λ (x : Enumeration). handingCode (x .answer)) d;
+        left = ap (λ (x : Enumeration). x .chart) d;
+        written = ap (λ (x : Enumeration). x .output) d;
+        counted = t ∙ ap (λ (x : Enumeration). nodesLeft (x .answer) found) d;
       }

@@ -12,9 +12,10 @@ use Rattle.flat.specs.Flat.{grammarIn, flatOf}
 use Rattle.grammar.specs.View.{wholeOf}
 use Rattle.hand.specs.Hand.{rowOf}
 use Rattle.results.specs.Check.{Checking}
+use Rattle.results.specs.Enumerate.{Enumeration}
 use Rattle.results.specs.Load.{loadOf}
 use Rattle.results.specs.Recognize.{Recognition}
-use Rattle.filbozseg.specs.Code.{verdictCode, rowLeft, loadCode, offsetLeft, lengthCode, tenthsLeft}
+use Rattle.filbozseg.specs.Code.{verdictCode, rowLeft, loadCode, offsetLeft, lengthCode, tenthsLeft, handingCode, nodesLeft}
 
 -- the nullable depth that stands in a row
 abbrev pub depthIn : List ℕ → ℕ
@@ -51,3 +52,10 @@ pub record Measures (k : Checking ℤ) (found : ℤ) (code : ℕ) (chart : List 
   pub returned : code ≡ lengthCode (k .answer)
   pub left : chart ≡ k .chart
   pub measured : tenths ≡ tenthsLeft (k .answer) found
+
+-- first, a number being found where the nodes go: what is returned, the chart and the output left, and the number left
+pub record Hands (x : Enumeration) (found : ℕ) (code : ℕ) (chart output : List ℕ) (nodes : ℕ) : Type 0 where
+  pub returned : code ≡ handingCode (x .answer)
+  pub left : chart ≡ x .chart
+  pub written : output ≡ x .output
+  pub counted : nodes ≡ nodesLeft (x .answer) found

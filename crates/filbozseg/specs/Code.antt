@@ -1,12 +1,12 @@
--- The numbers in which an answer is returned: the code of each kind of answer, and what is left in a place that was lent, by what was found
--- there. A code is 0 for no; 1 for yes, loaded and measured; 256 and the number of a refusal.
+-- The numbers in which an answer is returned: the code of each kind of answer, and what is left in a place that was lent, by what was
+-- found there. A code is 0 for no and none; 1 for yes, loaded, measured and handed out; 256 and the number of a refusal.
 -- Assumes nothing.
 use Prim.Native.Nat.{ℕ, _+_}
 use mathlib.Core.Bool.{Bool, true, false}
 use mathlib.Core.List.{List}
-use lib.IntN.{ℤ, pos}
+use lib.IntN.{ℤ}
 use Rattle.hand.specs.Hand.{rowOf}
-use Rattle.results.specs.Answer.{Answer, refused, answered, LoadAnswer, refusedAt, loaded}
+use Rattle.results.specs.Answer.{Answer, refused, answered, Handing, handed, nothing, LoadAnswer, refusedAt, loaded}
 use Rattle.results.specs.Recognize.{State}
 
 -- opening, taking, check and same build
@@ -39,3 +39,15 @@ lengthCode (answered z) = 1
 abbrev pub tenthsLeft : Answer ℤ → ℤ → ℤ
 tenthsLeft (refused n) found = found
 tenthsLeft (answered z) found = z
+
+-- first
+abbrev pub handingCode : Answer Handing → ℕ
+handingCode (refused n) = 256 + n
+handingCode (answered (handed n)) = 1
+handingCode (answered nothing) = 0
+
+-- first: the nodes of the derivation handed out; a call that hands out none leaves the number found
+abbrev pub nodesLeft : Answer Handing → ℕ → ℕ
+nodesLeft (refused n) found = found
+nodesLeft (answered (handed n)) found = n
+nodesLeft (answered nothing) found = found

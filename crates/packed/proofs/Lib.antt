@@ -3,3 +3,4 @@ pub mod Laws
 pub mod Fitting
 pub mod Row
 pub mod Rows
+pub mod Used

@@ -1,7 +1,7 @@
 -- A packed grammar has as many bytes for each of 128 rules: the left side (32 or more: no rule of this number), the number of places,
 -- and for each of 8 places a tag (0 a nonterminal, else a terminal) and a value. What such bytes mean.
 -- Assumes nothing.
-use Prim.Native.Nat.{ℕ, zero, suc, _+_, _*_, min}
+use Prim.Native.Nat.{ℕ, zero, suc, _+_, _*_, _<_, min}
 use mathlib.Core.Bool.{Bool, false, cond}
 use mathlib.Core.List.{List, [], _∷_}
 use mathlib.Core.Option.{Option, none, some}
@@ -22,6 +22,10 @@ packedSize = maxRules * ruleBytes
 -- the byte of rule r's left side
 unfoldable pub leftIn : List ℕ → ℕ → ℕ
 leftIn p r = getD p (ruleBytes * r) 0
+
+-- the rules that are used are below a number
+abbrev pub Used : List ℕ → ℕ → Type 0
+Used p rules = (r : ℕ) → r < maxRules → leftIn p r < 32 → r < rules
 
 -- the number of places of rule r, 8 at most; none where there is no such rule
 unfoldable pub countIn : List ℕ → ℕ → ℕ

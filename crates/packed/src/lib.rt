@@ -11,7 +11,7 @@ ghost use Rattle.sets.specs.Set.{has as inSet};
 ghost use Rattle.cfg.specs.Grammar.{rule as ruleOfNumber};
 ghost use Rattle.grammar.specs.Valid.{validRule, validGrammar};
 ghost use Rattle.grammar.specs.View.{grammarOf};
-ghost use Rattle.packed.specs.Packed.{leftIn, countIn, isNonterminalIn, valueIn, symbolIn, cfgIn, fitsPlace, packedSize};
+ghost use Rattle.packed.specs.Packed.{leftIn, Used, countIn, isNonterminalIn, valueIn, symbolIn, cfgIn, fitsPlace, packedSize};
 ghost use Rattle.packed.specs.Place.{RulePut};
 
 // The bytes of a rule (its left side, its count, and two for each place), and of a packed grammar.
@@ -33,6 +33,21 @@ pub fn left(p: &Packed, r: usize) -> usize
     ensures { λ k. ⌜ k ≡ leftIn (now (p .entry)) r ⌝ }
 {
     wide_byte(p[RULE_BYTES * r])
+}
+
+// A number that no used rule reaches: one past the last of them.
+pub fn rule_count(p: &Packed) -> usize
+    ensures { λ m. ⌜ (m ≤ 128) × Used (now (p .entry)) m ⌝ }
+{
+    let mut m = sizes::MAX_RULES;
+    while m > 0 {
+        let k = left(p, m - 1);
+        if k < sizes::NONTERMINALS {
+            return m;
+        }
+        m -= 1;
+    }
+    m
 }
 
 // How many places rule r has: none where there is no such rule, so that loops pass it over.

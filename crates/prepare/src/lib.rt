@@ -62,6 +62,6 @@ pub fn fill(g: Grammar, input: &[u8], chart: &mut [u32]) -> Packed
         × ((r : ℕ) → ruleOfNumber (cfgIn (g .start) p) r ≡ ruleOfNumber (grammarOf g) r) ⌝ }
 {
     let p = packed::pack(g);
-    recognizer::columns::fill(&p, input, chart);
+    columns::fill(&p, input, chart);
     p
 }

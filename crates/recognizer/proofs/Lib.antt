@@ -1,12 +1,3 @@
 -- Laws that the proofs of the functions cite.
-pub mod Bits
-pub mod Owned
-pub mod First
-pub mod Inner
-pub mod Mask
-pub mod Passing
-pub mod Cell
-pub mod Column
-pub mod Rule
-pub mod Filling
+pub mod Copied
 pub mod Calls

@@ -1,7 +1,4 @@
 // The recognizer (document 01: the plate in hand): opening, and taking a byte.
-mod begins;
-pub mod columns;
-mod passes;
 mod state;
 
 use columns::complete;

@@ -8,6 +8,7 @@ use native.Mathlib.Decide.{ℕ-discrete}
 use native.Mathlib.Omega.{arith}
 use lib.ListN.{length, getD}
 use Rattle.sets.specs.Set.{has}
+use Rattle.sets.proofs.Laws.{has-empty}
 use Rattle.costs.specs.Cut.{Fit}
 use Rattle.packed.specs.Packed.{countIn, isNonterminalIn, valueIn}
 use Rattle.packed.proofs.Laws.{count-le}
@@ -51,7 +52,9 @@ module _ (p fits tables full : List ℕ) (i j : ℕ) where
     right fit F r x (no e) L q y =
         let d : ¬ (r ≡ m) = e in
         let c = count-le p r in
-        let g : getD rows (placeAt r q i) 0 ≡ getD rows' (placeAt r q i) 0 = sym (other-rules m rows rows' (omega arith) P r q d (omega arith)) in
+        let g : getD rows (placeAt r q i) 0 ≡ getD rows' (placeAt r q i) 0 =
+        sym (other-rules m rows rows' (omega arith) P r q d (omega arith))
+        in
         subst (λ (v : ℕ). Inside fit tables full i j (tailIn p r q) i v) g (S .exact fit F r (omega arith) L q y)
 
     pub starts-step : StartsPut p (m + 1) fits tables full i j rows₀ rows'
@@ -76,6 +79,15 @@ module _ (p fits tables full : List ℕ) (i j : ℕ) where
       exact = λ fit F r h L U. absurd (omega arith);
     }
 
+    -- the empty set has none
+    pub suffixes-none : (m : ℕ) (rows : List ℕ) → length rows ≡ allRows → cell ≡ 0 → SuffixesPut p m fits tables full cell i j rows rows
+    suffixes-none m rows e z = record {
+      long = e;
+      other = λ r q c x y z d. refl;
+      later = λ r q x y z. refl;
+      exact = λ fit F r h L U. U (record { none = λ q x t. rw z (has-empty (valueIn p r q)) });
+    }
+
     module _ (m rules : ℕ) (rows₀ rows : List ℕ) (b : i ≤ j) (l : j < 65) (h : m < rules) (o : rules ≤ 128)
         (S : SuffixesPut p m fits tables full cell i j rows₀ rows) where
       -- one that has none
@@ -85,7 +97,9 @@ module _ (p fits tables full : List ℕ) (i j : ℕ) where
             → (Untouched p r cell → StartRight fit p r tables full i j rows₀) → StartRight fit p r tables full i j rows
         stay fit F r x (yes e) L U q y =
             let c = count-le p r in
-            let g : getD rows₀ (placeAt r q i) 0 ≡ getD rows (placeAt r q i) 0 = sym (S .later r q (omega arith) (omega arith) (omega arith)) in
+            let g : getD rows₀ (placeAt r q i) 0 ≡ getD rows (placeAt r q i) 0 =
+            sym (S .later r q (omega arith) (omega arith) (omega arith))
+            in
             subst (λ (v : ℕ). Inside fit tables full i j (tailIn p r q) i v) g (U (rw e (N n)) q y)
         stay fit F r x (no e) L U q y = let d : ¬ (r ≡ m) = e in S .exact fit F r (omega arith) L U q y
 

@@ -1,16 +1,14 @@
 -- The tables written number by number.
 -- Assumes nothing.
 use Prim.Native.Nat.{ℕ, suc, _+_, _*_, _≤_, _<_, min}
-use mathlib.Core.Bool.{cond}
 use mathlib.Core.List.{List}
 use mathlib.Core.Path.{_≡_, refl, sym, ap, _∙_}
 use native.Mathlib.Decide.{ℕ-discrete, decLt}
 use native.Mathlib.Omega.{arith}
-use lib.Dec.{ltb}
 use lib.ListN.{length, set, getD, replicate, length-set, getD-replicate}
 use lib.Seq.{getD-set-same, getD-set-other}
-use Rattle.sizes.specs.Sizes.{nonterminals, tooMany}
-use Rattle.tables.specs.Layout.{leastSize, baresAt, bareAt, bareIn, tablesSize, costIn, fullIn}
+use Rattle.sizes.specs.Sizes.{tooMany}
+use Rattle.tables.specs.Layout.{bareAt, bareIn, tablesSize, costIn, fullIn}
 use Rattle.tables.proofs.Entries.{cost-read, cost-none, full-read, full-none}
 use Rattle.tables.proofs.Bares.{bare-behind, bare-inside, bare-apart}
 use Rattle.tabulate.specs.Writes.{placeAt, Nothing, LeastBefore, LeastPut, BaresPut}
@@ -19,7 +17,8 @@ use Rattle.tabulate.specs.Writes.{placeAt, Nothing, LeastBefore, LeastPu
 
 -- a cost is one number
 pub cost-same : (tables₀ tables : List ℕ) (k a b : ℕ)
-    → (k < 32 → getD tables (4225 * k + 65 * a + b) 0 ≡ getD tables₀ (4225 * k + 65 * a + b) 0) → costIn tables k a b ≡ costIn tables₀ k a b
+    → (k < 32 → getD tables (4225 * k + 65 * a + b) 0 ≡ getD tables₀ (4225 * k + 65 * a + b) 0)
+    → costIn tables k a b ≡ costIn tables₀ k a b
 cost-same tables₀ tables k a b f = go (decLt k 32)
   where
     go : Dec (k < 32) → costIn tables k a b ≡ costIn tables₀ k a b
@@ -72,8 +71,9 @@ module _ (i j : ℕ) (rows : List ℕ) where
   pub bares-start : (tables : List ℕ) → length tables ≡ tablesSize → BaresPut 0 i j rows tables tables
   bares-start tables e = record { long = e; here = λ r h. absurd (omega arith); other = λ a b r h l m d. refl; front = λ n h. refl }
 
-  module _ (m rules : ℕ) (tables₀ tables : List ℕ) {at v w : ℕ} (h : i < j) (l : j < 65) (y : m < rules) (z : rules ≤ 128) (e : at ≡ bareAt i j m)
-      (f : w ≡ getD rows (585 * m + i) 0) (g : v ≡ min (suc w) tooMany) (S : BaresPut m i j rows tables₀ tables) where
+  module _ (m rules : ℕ) (tables₀ tables : List ℕ) {at v w : ℕ} (h : i < j) (l : j < 65) (y : m < rules) (z : rules ≤ 128)
+      (e : at ≡ bareAt i j m) (f : w ≡ getD rows (585 * m + i) 0) (g : v ≡ min (suc w) tooMany)
+      (S : BaresPut m i j rows tables₀ tables) where
     abbrev put : List ℕ
     put = set tables at v
 

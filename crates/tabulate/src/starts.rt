@@ -71,6 +71,9 @@ pub fn put_suffixes(
         ⌜ SuffixesPut (now (p .entry)) rules (now (fits .entry)) (now (tables .entry)) (now (full .entry)) cell i j
         (now (rows .entry)) (now (rows .exit)) ⌝ }
 {
+    if cell == 0 {
+        return;
+    }
     let mut r = 0;
     while r < rules {
         if touched(p, r, cell) {

@@ -28,7 +28,7 @@ impl Counts {
 }
 
 /// A row to lend, with canaries on both sides.
-#[derive(Clone)]
+#[derive(Clone, PartialEq)]
 pub struct Lent<T> {
     pub(super) all: Vec<T>,
 }
@@ -95,7 +95,7 @@ pub(super) fn hand(rng: &mut Rng) -> Hand {
     std::array::from_fn(|_| number(rng))
 }
 
-/// Rubbish for an offset: larger than any book here.
+/// Rubbish for an offset or a number of nodes: larger than any here.
 pub(super) fn offset(rng: &mut Rng) -> usize {
     1 << 40 | rng.next() as usize
 }

@@ -1,4 +1,4 @@
-//! The refusals 8 to 12, 14 and 15: which one comes first, and what they leave.
+//! The refusals 8 to 12, 14 and 15 (13 is in `firsts`): which one comes first, and what they leave.
 
 use super::hands::{opened, taken};
 use super::lent::{self, same, Lent};
@@ -46,9 +46,7 @@ impl Comparison<'_> {
                 _ => vec![65; self.rng.pick(&[65, 66, 128, 320, 1000])],
             };
             self.refused_rows(&grammar, &input, &chart)?;
-            if self.reader.lists() {
-                self.listing_refusals(&grammar, &input, &chart)?;
-            }
+            self.listing_refusals(&grammar, &input, &chart)?;
         }
         Ok(())
     }
@@ -76,26 +74,29 @@ impl Comparison<'_> {
         Ok(())
     }
 
-    /// Refusals 8 to 11 of first, next and count; calls that would list are left out.
+    /// Refusals 8 to 11 of first, next and count, as far as these are there; calls that would list are left out.
     fn listing_refusals(&mut self, flat: &FlatGrammar, input: &[u8], chart: &Lent<u32>) -> Result<(), String> {
         let length = self.rng.pick(&[0, 1, OUTPUT - 1, OUTPUT, OUTPUT + 1]);
         let out = Lent::filled(length, || self.rng.next() as u16);
-        for name in ["first", "next", "count"] {
-            let output = if name == "count" { OUTPUT } else { length };
+        let found = lent::offset(&mut self.rng);
+        let names = ["first", "next", "count"];
+        for name in &names[..if self.reader.lists() { 3 } else { 1 }] {
+            let output = if *name == "count" { OUTPUT } else { length };
             if judged(flat, input, chart.part().len(), output).is_ok() {
                 continue;
             }
             let call = |r: &dyn Reader, g: &FlatGrammar, c: &mut [u32]| {
-                let mut out = out.clone();
-                let answer = match name {
-                    "first" => r.first(g, input, c, out.part_mut()),
-                    "next" => r.next(g, input, &[1, 0], c, out.part_mut()),
+                let (mut out, mut nodes) = (out.clone(), found);
+                let answer = match *name {
+                    "first" => r.first(g, input, c, out.part_mut(), &mut nodes),
+                    "next" => r.next(g, input, &[1, 0], c, out.part_mut(), &mut nodes),
                     _ => r.count(g, input, c),
                 };
-                (answer, out.all)
+                (answer, nodes, out.all)
             };
-            let ((answer, _), after) = self.both(name, flat, chart, call)?;
+            let ((answer, nodes, left), after) = self.both(name, flat, chart, call)?;
             self.seen(name, answer, chart, &after)?;
+            same(&format!("{name} refused: nodes and output as found"), nodes == found && left == out.all, true)?;
         }
         Ok(())
     }

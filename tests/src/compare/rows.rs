@@ -1,5 +1,6 @@
 //! Rows offered to check, length and same build.
 
+use super::firsts::First;
 use super::lent::{self, same, Lent};
 use super::{Comparison, WIDER};
 use crate::lister::grammar::Grammar;
@@ -87,6 +88,7 @@ impl Comparison<'_> {
             });
             self.offered(flat, Offer { input, filled, one, other }, "same build", due, None)?;
         }
+        self.first(flat, grammar, input, filled, First { list: list.as_deref(), tree, offered: &offered })?;
         if self.reader.lists() && derivations(grammar, input, LIMIT, STEPS / 10).is_ok() {
             self.walk(
                 flat,

@@ -1,6 +1,6 @@
 //! The walk of demand 3, for a reader that lists.
 
-use super::lent::{same, Lent};
+use super::lent::{offset, same, Lent};
 use super::Comparison;
 use crate::lister::trees::Row;
 use crate::lister::walk::{Call, Given, Walk};
@@ -35,10 +35,13 @@ impl Comparison<'_> {
             let mut out = Lent::filled(length, || self.rng.next() as u16);
             let (mut due_chart, mut due_out) = (chart.clone(), out.clone());
             due_chart.part_mut()[..CELLS].copy_from_slice(filled);
+            let found = offset(&mut self.rng);
+            let (mut nodes, mut due_nodes) = (found, found);
             let given = walk.call(call);
             let due = match &given {
                 Given::Row(row) => {
                     due_out.part_mut()[..row.len()].copy_from_slice(row);
+                    due_nodes = row.len() / 2;
                     Answer::Nodes(row.len() / 2)
                 }
                 Given::NoDerivation => Answer::NoDerivation,
@@ -49,12 +52,14 @@ impl Comparison<'_> {
             };
             let (lent_chart, lent_out) = (chart.part_mut(), out.part_mut());
             let got = match call {
-                Call::First => self.reader.first(&mine, input, lent_chart, lent_out),
-                Call::NextWithCopy => self.reader.next(&mine, input, &copy, lent_chart, lent_out),
-                Call::NextWithNoDerivation => self.reader.next(&mine, input, stranger, lent_chart, lent_out),
+                Call::First => self.reader.first(&mine, input, lent_chart, lent_out, &mut nodes),
+                Call::NextWithCopy => self.reader.next(&mine, input, &copy, lent_chart, lent_out, &mut nodes),
+                Call::NextWithNoDerivation => {
+                    self.reader.next(&mine, input, stranger, lent_chart, lent_out, &mut nodes)
+                }
                 Call::Count => self.reader.count(&mine, input, lent_chart),
             };
-            same(&format!("walk, {call:?}"), got, due)?;
+            same(&format!("walk, {call:?}: answer and nodes"), (got, nodes), (due, due_nodes))?;
             chart.against(&due_chart, &format!("walk, {call:?}: chart"))?;
             out.against(&due_out, &format!("walk, {call:?}: output"))?;
             if let Given::Row(row) = given {

@@ -1,14 +1,48 @@
 //! Single calls on the reader under test, each with rubbish in what it is lent.
 
-use outside_tests::books::Rng;
-use outside_tests::compare::rubbish;
-use outside_tests::reader::{Answer, FlatGrammar, Reader, CELLS, FLAT, HAND, INPUT};
+use outside_tests::books::{Draft, Rng, Sym};
+use outside_tests::compare::{rubbish, Lent};
+use outside_tests::lister::walk::Given;
+use outside_tests::reader::{Answer, FlatGrammar, Reader, CELLS, FLAT, HAND, INPUT, OUTPUT};
 use outside_tests::reader_under_test;
 
 /// What lent numbers hold before a call: no result here is one of them.
 const FOUND: u16 = 0xABCD;
 const FOUND_AT: usize = 0xABCD_ABCD;
 const FOUND_TENTHS: i32 = -0x0BCD_ABCD;
+
+/// A book from rules like "0: 0 A": numbers are kinds, letters marks, nothing is nothing.
+pub fn book(start: u8, rules: &[&str]) -> Vec<u8> {
+    let mut draft = Draft::new(start);
+    for rule in rules {
+        let (left, places) = rule.split_once(':').expect("a rule has a colon");
+        let places: Vec<Sym> = places
+            .split_whitespace()
+            .map(|place| match place.parse() {
+                Ok(kind) => Sym::N(kind),
+                Err(_) => Sym::T(place.as_bytes()[0]),
+            })
+            .collect();
+        draft.rule(left.trim().parse().expect("a left side"), &places);
+    }
+    draft.bytes()
+}
+
+/// k -> k + 1 for k of 0 to 30, 31 -> A 0, 31 -> A.
+pub fn deepest() -> Vec<u8> {
+    let mut rules: Vec<String> = (0..31).map(|k| format!("{k}: {}", k + 1)).collect();
+    rules.extend(["31: A 0".to_string(), "31: A".to_string()]);
+    let rules: Vec<&str> = rules.iter().map(String::as_str).collect();
+    book(0, &rules)
+}
+
+/// The row of its one tree over n marks, by hand: covers n down to 1, each 32 deep.
+pub fn deepest_row(n: u16) -> Vec<u16> {
+    (1..=n)
+        .rev()
+        .flat_map(|cover| (0..32).flat_map(move |k| [cover, if (cover, k) == (1, 31) { 32 } else { k }]))
+        .collect()
+}
 
 /// Number and offset of a book, None if it is loaded; and the row left.
 pub fn fault(book: &[u8]) -> (Option<(u8, usize)>, FlatGrammar) {
@@ -69,4 +103,29 @@ pub fn length(flat: &FlatGrammar, input: &[u8], offered: &[u16]) -> Result<i32, 
 
 pub fn same_build(flat: &FlatGrammar, input: &[u8], one: &[u16], other: &[u16]) -> Answer {
     reader_under_test().same_build(flat, input, one, other, rubbish(&mut Rng::new(4), CELLS).part_mut())
+}
+
+/// The first reading, "no reading", or a refusal. The output's rest, and without a
+/// reading all of it and the number of nodes, have to be left as found.
+pub fn first(flat: &FlatGrammar, input: &[u8]) -> Given {
+    let (mut chart, mut nodes, mut rng) = (rubbish(&mut Rng::new(6), CELLS), FOUND_AT, Rng::new(7));
+    let mut out = Lent::filled(OUTPUT + 3, || rng.next() as u16);
+    let mut due = out.clone();
+    let given = match reader_under_test().first(flat, input, chart.part_mut(), out.part_mut(), &mut nodes) {
+        Answer::Nodes(n) => {
+            assert_eq!(nodes, n);
+            due.part_mut()[..2 * n].copy_from_slice(&out.part()[..2 * n]);
+            Given::Row(out.part()[..2 * n].to_vec())
+        }
+        answer => {
+            assert_eq!(nodes, FOUND_AT);
+            match answer {
+                Answer::Refused(number) => Given::Refused(number),
+                Answer::NoDerivation => Given::NoDerivation,
+                _ => panic!("first answered {answer:?}"),
+            }
+        }
+    };
+    assert!(out == due, "the output is not as found behind the reading");
+    given
 }

@@ -19,6 +19,7 @@ pub enum Forgets {
     ComparedChart,
     ListedChart,
     Output,
+    Nodes,
     Everything,
     /// Nothing: this one is the lister.
     Nothing,
@@ -26,7 +27,7 @@ pub enum Forgets {
 
 impl Forgets {
     /// Every one that forgets something.
-    pub const ALL: [Forgets; 13] = [
+    pub const ALL: [Forgets; 14] = [
         Forgets::Row,
         Forgets::Offset,
         Forgets::OpenedHand,
@@ -39,6 +40,7 @@ impl Forgets {
         Forgets::ComparedChart,
         Forgets::ListedChart,
         Forgets::Output,
+        Forgets::Nodes,
         Forgets::Everything,
     ];
 
@@ -94,19 +96,42 @@ impl Reader for Forgets {
         self.slice(Forgets::ComparedChart, chart, |c| Lister.same_build(grammar, input, one, other, c))
     }
 
+    fn by_listing(&self) -> bool {
+        true
+    }
+
+    fn first(
+        &self,
+        grammar: &FlatGrammar,
+        input: &[u8],
+        chart: &mut [u32],
+        out: &mut [u16],
+        nodes: &mut usize,
+    ) -> Answer {
+        self.slice(Forgets::ListedChart, chart, |c| {
+            self.slice(Forgets::Output, out, |o| {
+                self.place(Forgets::Nodes, nodes, |n| Lister.first(grammar, input, c, o, n))
+            })
+        })
+    }
+
     fn lists(&self) -> bool {
         true
     }
 
-    fn first(&self, grammar: &FlatGrammar, input: &[u8], chart: &mut [u32], out: &mut [u16]) -> Answer {
+    fn next(
+        &self,
+        grammar: &FlatGrammar,
+        input: &[u8],
+        offered: &[u16],
+        chart: &mut [u32],
+        out: &mut [u16],
+        nodes: &mut usize,
+    ) -> Answer {
         self.slice(Forgets::ListedChart, chart, |c| {
-            self.slice(Forgets::Output, out, |o| Lister.first(grammar, input, c, o))
-        })
-    }
-
-    fn next(&self, grammar: &FlatGrammar, input: &[u8], offered: &[u16], chart: &mut [u32], out: &mut [u16]) -> Answer {
-        self.slice(Forgets::ListedChart, chart, |c| {
-            self.slice(Forgets::Output, out, |o| Lister.next(grammar, input, offered, c, o))
+            self.slice(Forgets::Output, out, |o| {
+                self.place(Forgets::Nodes, nodes, |n| Lister.next(grammar, input, offered, c, o, n))
+            })
         })
     }
 

@@ -56,10 +56,13 @@ pub fn judged(flat: &FlatGrammar, input: &[u8], cells: usize, output: usize) -> 
     if input.is_empty() || input.len() > INPUT {
         return Err(Answer::Refused(9));
     }
+    if faults().eleven_before_ten && output < OUTPUT {
+        return Err(Answer::Refused(11));
+    }
     if cells < CELLS {
         return Err(Answer::Refused(10));
     }
-    if output < OUTPUT {
+    if output < OUTPUT - usize::from(faults().eleven_passes_1023) {
         return Err(Answer::Refused(11));
     }
     Ok(grammar)
@@ -76,8 +79,19 @@ pub fn has_tree(grammar: &Grammar, input: &[u8]) -> bool {
     chart::derives(grammar, input)[0][usize::from(grammar.start)] >> input.len() & 1 == 1
 }
 
-/// The answer for what first, next or count gives; a row goes to the front of the output.
-fn answered(given: Given, out: &mut [u16]) -> Answer {
+/// The answer for what first, next or count gives; a row goes to the front of the output, and with it how many nodes it has.
+fn answered(given: Given, out: &mut [u16], nodes: &mut usize) -> Answer {
+    let zero = match given {
+        Given::NoDerivation => (faults().output_zero_without_a_reading, faults().nodes_zero_without_a_reading),
+        Given::Refused(13) => (faults().output_zero_with_thirteen, faults().nodes_zero_with_thirteen),
+        _ => (false, false),
+    };
+    if zero.0 && !out.is_empty() {
+        out[0] = 0;
+    }
+    if zero.1 {
+        *nodes = 0;
+    }
     match given {
         Given::Row(row) => {
             let fits = row.len().min(out.len());
@@ -85,6 +99,10 @@ fn answered(given: Given, out: &mut [u16]) -> Answer {
             if faults().output_cleared_behind {
                 out[fits..].fill(0);
             }
+            if faults().one_number_too_many && fits < out.len() {
+                out[fits] = 0;
+            }
+            *nodes = row.len() / if faults().nodes_counts_numbers { 1 } else { 2 };
             Answer::Nodes(row.len() / 2)
         }
         Given::NoDerivation => Answer::NoDerivation,
@@ -237,27 +255,44 @@ impl Reader for Lister {
         }
     }
 
-    fn lists(&self) -> bool {
+    fn by_listing(&self) -> bool {
         true
     }
 
-    fn first(&self, flat: &FlatGrammar, input: &[u8], chart: &mut [u32], out: &mut [u16]) -> Answer {
+    fn first(&self, flat: &FlatGrammar, input: &[u8], chart: &mut [u32], out: &mut [u16], nodes: &mut usize) -> Answer {
         match judged(flat, input, chart.len(), out.len()) {
-            Err(refused) => refused,
+            Err(refused) => {
+                if faults().nodes_zero_when_refused {
+                    *nodes = 0;
+                }
+                refused
+            }
             Ok(grammar) => {
                 chart::fill(&grammar, input, chart);
                 let (list, tree) = listed(&grammar, input);
-                answered(walk::first(&list, tree), out)
+                answered(walk::first(&list, tree), out, nodes)
             }
         }
     }
 
-    fn next(&self, flat: &FlatGrammar, input: &[u8], offered: &[u16], chart: &mut [u32], out: &mut [u16]) -> Answer {
+    fn lists(&self) -> bool {
+        true
+    }
+
+    fn next(
+        &self,
+        flat: &FlatGrammar,
+        input: &[u8],
+        offered: &[u16],
+        chart: &mut [u32],
+        out: &mut [u16],
+        nodes: &mut usize,
+    ) -> Answer {
         match judged(flat, input, chart.len(), out.len()) {
             Err(refused) => refused,
             Ok(grammar) => {
                 chart::fill(&grammar, input, chart);
-                answered(walk::next(&listed(&grammar, input).0, offered), out)
+                answered(walk::next(&listed(&grammar, input).0, offered), out, nodes)
             }
         }
     }
@@ -267,7 +302,7 @@ impl Reader for Lister {
             Err(refused) => refused,
             Ok(grammar) => {
                 let (list, tree) = listed(&grammar, input);
-                answered(walk::count(&list, tree), &mut [])
+                answered(walk::count(&list, tree), &mut [], &mut 0)
             }
         }
     }

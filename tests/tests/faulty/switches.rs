@@ -111,6 +111,20 @@ switches! {
     opened_hand_without_its_count,
     refused_opening_leaves_the_hand,
     taken_hand_without_its_count,
+    // first
+    greatest_rule_first,
+    largest_cover_first,
+    first_hands_out_the_second,
+    thirteen_without_a_tree,
+    eleven_passes_1023,
+    eleven_before_ten,
+    one_number_too_many,
+    nodes_counts_numbers,
+    nodes_zero_when_refused,
+    nodes_zero_without_a_reading,
+    nodes_zero_with_thirteen,
+    output_zero_without_a_reading,
+    output_zero_with_thirteen,
 }
 
 std::thread_local! {

@@ -17,10 +17,21 @@ pub enum Given {
 
 /// First. `list` is document 01's L; `tree` says whether the input has a tree of any size.
 pub fn first(list: &[Row], tree: bool) -> Given {
-    match list.first() {
+    // The first in another order: covers stand at the even places, rules at the odd ones.
+    let by = |covers: bool, rules: bool| {
+        let key = move |(at, x): (usize, &u16)| if if at % 2 == 0 { covers } else { rules } { !*x } else { *x };
+        list.iter().min_by_key(|row| row.iter().enumerate().map(key).collect::<Vec<u16>>())
+    };
+    let first = match faults() {
+        f if f.greatest_rule_first => by(false, true),
+        f if f.largest_cover_first => by(true, false),
+        f if f.first_hands_out_the_second => list.get(1).or(list.first()),
+        _ => list.first(),
+    };
+    match first {
         _ if faults().first_never_looks => Given::NoDerivation,
         Some(row) => Given::Row(row.clone()),
-        None if tree && !faults().thirteen_forgotten => Given::Refused(13),
+        None if (tree || faults().thirteen_without_a_tree) && !faults().thirteen_forgotten => Given::Refused(13),
         None => Given::NoDerivation,
     }
 }

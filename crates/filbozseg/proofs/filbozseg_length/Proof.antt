@@ -1,7 +1,5 @@
 -- `filbozseg::filbozseg_length` meets its contract.
 -- Assumes nothing.
-use mathlib.Core.Path.{_∙_}
-use mir.Facts.{toZ-ofZ}
 use Rattle.grammar.specs.declared.Grammar.{Grammar}
 use Rattle.results.specs.Measure.{lengthOf}
 use Rattle.filbozseg.proofs.Codes.{length-refused, code-measured, tenths-measured, tenths-refused}

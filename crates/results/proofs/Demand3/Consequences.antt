@@ -23,7 +23,7 @@ use Rattle.results.specs.Check.{Checking}
 use Rattle.results.specs.Enumerate.{Enumeration, figure, firstIn, countIn, firstOf, countOf}
 use Rattle.results.specs.Walk.{Call, hands, handedOut, nexts, NoFirst}
 use Rattle.results.specs.Walk as Walk
-use Rattle.results.specs.History.{Made, first, which, AllAllowed, history}
+use Rattle.results.specs.History.{first, which, AllAllowed, history}
 use Rattle.results.specs.Demand3.{LastFirst, nextCalls, Larger}
 use Rattle.results.proofs.Goes.{first-passed, count-passed}
 use Rattle.results.proofs.Answers.{refused-apart, answered-apart, handed-apart, figures-apart}

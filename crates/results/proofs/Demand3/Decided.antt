@@ -18,7 +18,7 @@ use Rattle.chart.proofs.Derived.{Bounded}
 use Rattle.chart.proofs.Truth.{complete-tree}
 use Rattle.results.specs.Answer.{refused, answered, handed, nothing, counted, check}
 use Rattle.results.specs.Measure.{unlisted}
-use Rattle.results.specs.Enumerate.{treeIn, handingOut, headOf, afterIn, figure, firstIn, nextIn, countIn}
+use Rattle.results.specs.Enumerate.{treeIn, handingOut, afterIn, figure, firstIn, nextIn, countIn}
 use Rattle.results.proofs.Decide.{decide-first, decide-passed}
 use Rattle.results.proofs.Demand3.Rows.{head-some, head-none, member-listed, not-member-listed}
 

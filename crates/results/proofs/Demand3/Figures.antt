@@ -7,7 +7,7 @@ use mathlib.Core.List.{List, _∷_}
 use mathlib.Core.Path.{_≡_, refl}
 use lib.Dec.{leb}
 use borrow.Author.Tests.{le-leb, lt-leb}
-use Rattle.results.specs.Answer.{answered, Figure, counted, more, most}
+use Rattle.results.specs.Answer.{answered, counted, more, most}
 use Rattle.results.specs.Enumerate.{figure}
 use Rattle.results.specs.Walk.{Said, counts, saysCount, handedOut}
 use Rattle.results.specs.Walk as Walk

@@ -18,7 +18,7 @@ use Rattle.chart.proofs.Derived.{Bounded}
 use Rattle.listing.proofs.Exact.{listed→derivation}
 use Rattle.results.specs.Walk.{Said, Move, handsOut, hands, noDerivation, noneLeft, refuses, counts, N, reading, walk}
 use Rattle.results.specs.Walk as Walk
-use Rattle.results.specs.Answer.{Answer, refused, answered, Handing, nothing, Figure, counted}
+use Rattle.results.specs.Answer.{Answer, refused, answered, Handing, nothing, counted}
 use Rattle.results.specs.Enumerate.{Enumeration, handingOut, headOf, afterIn, firstIn, nextIn, countIn}
 use Rattle.results.specs.History.{Made, first, nextCopy, nextOther, count, which, Allowed, saidOf, countSaid, saysIn}
 use Rattle.results.proofs.Demand3.Rows.{at-member, head-some, head-none, after-next, after-last}

@@ -1,6 +1,6 @@
 -- `recognizer::state::with_byte` meets its contract. The loop's invariant: the bytes passed are copied, and zeros stand behind them.
 -- The measure is what is left of the count. Assumes nothing.
-use Rattle.recognizer.proofs.Filling.{bytes-step, bytes-done}
+use Rattle.recognizer.proofs.Copied.{bytes-step, bytes-done}
 use lib.ListN.{take, drop, replicate, length-map}
 use native.Mathlib.Omega.{arith}
 use mathlib.Core.Path.{_≡_, refl}

@@ -4,7 +4,7 @@ use Prim.Native.Nat.{_-_, _≤_}
 use mathlib.Core.Logic.{⊎-elim}
 use borrow.Author.Needs.{needs}
 use Rattle.tabulate.specs.Starts.{SuffixesPut}
-use Rattle.tabulate.proofs.Columns.{suffixes-start, suffixes-take, suffixes-skip, suffixes-end}
+use Rattle.tabulate.proofs.Columns.{suffixes-none, suffixes-start, suffixes-take, suffixes-skip, suffixes-end}
 use Rattle.tabulate.proofs.starts.put_suffixes.Statement.{statement}
 use Rattle.tabulate.proofs.starts.put_suffixes.Tie as tie
 
@@ -16,7 +16,7 @@ abbrev μ-loop : tie.MeasureT-loop
 
 loop-again : tie.Need-loop-again Inv-loop μ-loop
 loop-again c =
-    ⊎-elim (λ w. (search needs, search (needs, suffixes-take))) (λ w. (search needs, search (needs, suffixes-skip))) (c .if1 .came)
+    ⊎-elim (λ w. (search needs, search (needs, suffixes-take))) (λ w. (search needs, search (needs, suffixes-skip))) (c .if2 .came)
 
 pub put-suffixes-spec : {M : Type 1} → statement M
 put-suffixes-spec =
@@ -24,6 +24,7 @@ put-suffixes-spec =
     (tie.spec
     Inv-loop
     μ-loop
+    (λ c. search (needs, suffixes-none))
     (λ c. search (needs, suffixes-start))
     (λ c κs. search needs)
     (λ c. search needs)

@@ -1,0 +1,189 @@
+//! The tables of the enumerator: least numbers of nodes, at most 513, which stands for none. They are made once for a
+//! call, from the packed grammar, the fit table and the chart filled for the same input.
+
+use super::packed::{contains, Packed, Place, Rule};
+use super::{CHART, INPUT, PLACES, RULES};
+
+/// One more than the nodes of any reading.
+pub const NONE: u16 = 513;
+const KINDS: usize = 32;
+pub const SIDE: usize = INPUT + 1;
+
+/// Bit q of entry [i][r]: place q of rule r is a terminal that fits position i.
+pub type Fit = [[u8; RULES]; INPUT];
+
+pub fn fit_table(p: &Packed, w: &[u8]) -> Fit {
+    let mut fit = [[0; RULES]; INPUT];
+    for (&mark, entries) in w.iter().zip(&mut fit) {
+        for (rule, entry) in p.used().iter().zip(entries) {
+            for (q, place) in rule.places().iter().enumerate() {
+                *entry |= u8::from(place.fits(mark)) << q;
+            }
+        }
+    }
+    fit
+}
+
+/// One array, on the stack: the least nodes of each kind over each span, the last index the end; behind them for each
+/// rule and place a node beside its child there, all its other children being empty; behind those for each span that is
+/// not empty and each rule a node without a child over the whole of the span.
+pub type Tables = [u16; TABLES];
+pub const TABLES: usize = BARES + INPUT / 2 * SIDE * RULES;
+const ALONES: usize = KINDS * CHART;
+const BARES: usize = ALONES + RULES * PLACES;
+
+/// One number for each kind, over one span.
+pub type Full = [u16; KINDS];
+/// The suffixes of one rule up to one end: [q][a] for the places q.. from a on.
+pub type Rows = [[u16; SIDE]; PLACES + 1];
+
+/// The costs of kind k from a on, one for each end.
+pub fn costs(t: &Tables, k: usize, a: usize) -> &[u16] {
+    &t[CHART * k + SIDE * a..][..SIDE]
+}
+
+fn alone(t: &Tables, r: usize) -> &[u16] {
+    &t[ALONES + PLACES * r..][..PLACES]
+}
+
+/// Where the cost of rule r without a child over the whole of i..j stands: two starts share a row.
+fn bare(r: usize, i: usize, j: usize) -> usize {
+    let span = if i < INPUT / 2 { SIDE * i + (j - i - 1) } else { SIDE * (INPUT - 1 - i) + j };
+    BARES + RULES * span + r
+}
+
+/// What the costs are made from.
+#[derive(Clone, Copy)]
+pub struct Given<'a> {
+    pub rules: &'a [Rule],
+    pub fit: &'a Fit,
+    pub chart: &'a [u32],
+}
+
+impl Given<'_> {
+    fn cell(&self, i: usize, j: usize) -> u32 {
+        self.chart[SIDE * i + j]
+    }
+
+    /// Writes the suffixes of rule r from a to j, those from later starts standing. A child over the whole of i..j
+    /// costs `full`, any other what the least table says.
+    #[allow(clippy::too_many_arguments)]
+    pub fn put_column(&self, r: usize, t: &Tables, full: &Full, i: usize, a: usize, j: usize, rows: &mut Rows) {
+        let places = self.rules[r].places();
+        rows[places.len()][a] = if a == j { 0 } else { NONE };
+        for (q, place) in places.iter().enumerate().rev() {
+            let rests = &rows[q + 1];
+            rows[q][a] = if place.is_nonterminal() {
+                let k = place.value as usize;
+                let costs = costs(t, k, a);
+                let last = if a == i { full[k] } else { costs[j] };
+                let inner = costs[a..j].iter().zip(&rests[a..j]).map(|(x, y)| x + y).min();
+                inner.unwrap_or(NONE).min(last + rests[j]).min(NONE)
+            } else if a < j && self.fit[a][r] >> q & 1 == 1 {
+                rests[a + 1]
+            } else {
+                NONE
+            };
+        }
+    }
+
+    /// The cost of a node of rule r over i..j.
+    pub fn cost(&self, r: usize, t: &Tables, full: &Full, i: usize, j: usize) -> u16 {
+        let places = self.rules[r].places();
+        if i == j {
+            return (total(places, full) + 1).min(NONE);
+        }
+        let (bare, alone) = (t[bare(r, i, j)], alone(t, r));
+        if alone.iter().all(|&beside| beside == NONE) {
+            return bare;
+        }
+        let through = places.iter().zip(alone).filter(|(place, _)| place.is_nonterminal());
+        through.map(|(place, beside)| beside + full[place.value as usize]).fold(bare, u16::min)
+    }
+
+    /// The least nodes of each kind over i..j where the kinds of `mask` may not stand over all of it: passes over the
+    /// rules until one lowers nothing.
+    pub fn solve(&self, t: &Tables, i: usize, j: usize, mask: u32) -> Full {
+        let mut full = [NONE; KINDS];
+        let kinds = self.cell(i, j) & !mask;
+        let mut changed = kinds != 0;
+        while changed {
+            changed = false;
+            for (r, rule) in self.rules.iter().enumerate() {
+                let k = rule.left as usize;
+                if contains(kinds, k) {
+                    let cost = self.cost(r, t, &full, i, j);
+                    if cost < full[k] {
+                        full[k] = cost;
+                        changed = true;
+                    }
+                }
+            }
+        }
+        full
+    }
+
+    /// Makes the tables of an input of n marks, all NONE before: for each end the starts from the last to the first.
+    pub fn make(&self, n: usize, t: &mut Tables) {
+        let mut rows: [Rows; RULES] = [[[NONE; SIDE]; PLACES + 1]; RULES];
+        let rows = &mut rows[..self.rules.len()];
+        let kinds: Vec<u32> = self.rules.iter().map(kinds_below).collect();
+        for j in 0..=n {
+            let empty = self.solve(t, j, j, 0);
+            put_least(t, &empty, j, j);
+            if j == 0 {
+                self.put_alone(t, &empty);
+            }
+            for (r, rows) in rows.iter_mut().enumerate() {
+                self.put_column(r, t, &empty, j, j, j, rows);
+            }
+            for i in (0..j).rev() {
+                for (r, rows) in rows.iter_mut().enumerate() {
+                    self.put_column(r, t, &[NONE; KINDS], i, i, j, rows);
+                    t[bare(r, i, j)] = (rows[0][i] + 1).min(NONE);
+                }
+                let full = self.solve(t, i, j, 0);
+                put_least(t, &full, i, j);
+                for (r, rows) in rows.iter_mut().enumerate() {
+                    if kinds[r] & self.cell(i, j) != 0 {
+                        self.put_column(r, t, &full, i, i, j, rows);
+                    }
+                }
+            }
+        }
+    }
+
+    fn put_alone(&self, t: &mut Tables, empty: &Full) {
+        for (rule, row) in self.rules.iter().zip(t[ALONES..].chunks_exact_mut(PLACES)) {
+            let sum = total(rule.places(), empty);
+            for (place, beside) in rule.places().iter().zip(row) {
+                if place.is_nonterminal() {
+                    *beside = (sum - single(place, empty) + 1).min(NONE);
+                }
+            }
+        }
+    }
+}
+
+fn put_least(t: &mut Tables, full: &Full, i: usize, j: usize) {
+    for (k, &nodes) in full.iter().enumerate() {
+        t[CHART * k + SIDE * i + j] = nodes;
+    }
+}
+
+fn kinds_below(rule: &Rule) -> u32 {
+    rule.places().iter().filter(|place| place.is_nonterminal()).fold(0, |set, place| set | 1 << place.value)
+}
+
+/// What places cost that are all empty.
+fn total(places: &[Place], full: &Full) -> u16 {
+    places.iter().map(|place| single(place, full)).sum()
+}
+
+fn single(place: &Place, full: &Full) -> u16 {
+    if place.is_nonterminal() {
+        full[place.value as usize]
+    } else {
+        NONE
+    }
+}

@@ -1,0 +1,68 @@
+-- Clearing the chart, opening it, and taking the bytes of an input one after the other.
+-- Assumes nothing.
+use Prim.Native.Nat.{ℕ, suc, _+_, _-_, _≤_, _<_}
+use mathlib.Core.List.{List, [], _∷_, _++_}
+use mathlib.Core.Path.{_≡_, refl, sym, ap, _∙_, subst}
+use native.Mathlib.Numerals.{add-one}
+use native.Mathlib.Omega.{arith}
+use lib.ListN.{length, getD, take, drop, set, replicate, length-replicate, replicate-append-replicate}
+use lib.Seq.{append-snoc, set-at, drop-cons, take-suc, take-all, length-take-le}
+use Rattle.sizes.specs.Sizes.{cells}
+use Rattle.chart.specs.Cell.{fitsAt}
+use Rattle.chart.specs.Column.{written, opened, extended, extendedBy, filled}
+use Rattle.chart.proofs.Filled.{extendedBy-append}
+use Rattle.packed.specs.Packed.{cfgIn}
+use Rattle.columns.specs.Columns.{columnOf}
+
+-- a store at the end of what was stored so far
+pub set-next : (pre l : List ℕ) (i b : ℕ) → length pre ≡ i → i < length l → set (pre ++ drop i l) i b ≡ (pre ++ (b ∷ [])) ++ drop (i + 1) l
+set-next pre l i b e h =
+    ap (λ (x : List ℕ). set (pre ++ x) i b) (drop-cons l i 0 h)
+    ∙ set-at pre (getD l i 0) (drop (suc i) l) b i e
+    ∙ sym (append-snoc pre b (drop (suc i) l))
+    ∙ ap (λ (x : ℕ). (pre ++ (b ∷ [])) ++ drop x l) (sym (add-one i))
+
+-- ---- clearing
+
+pub clear-step : (l chart : List ℕ) (i : ℕ) → i < length l → chart ≡ replicate i 0 ++ drop i l
+    → set chart i 0 ≡ replicate (i + 1) 0 ++ drop (i + 1) l
+clear-step l chart i h e =
+    ap (λ (x : List ℕ). set x i 0) e
+    ∙ set-next (replicate i 0) l i 0 (length-replicate {A = ℕ} i 0) h
+    ∙ ap (λ (x : List ℕ). x ++ drop (i + 1) l) (replicate-append-replicate {A = ℕ} i 1 0)
+
+pub clear-done : (l chart : List ℕ) (i : ℕ) → i ≤ cells → cells ≤ i → chart ≡ replicate i 0 ++ drop i l
+    → chart ≡ replicate cells 0 ++ drop cells l
+clear-done l chart i h m e =
+    let d : i ≡ cells = omega arith in
+    subst (λ (x : ℕ). chart ≡ replicate x 0 ++ drop x l) d e
+
+-- ---- opening and filling
+
+pub opened-is : (p chart chart₁ chart₂ : List ℕ) → chart₁ ≡ replicate cells 0 ++ drop cells chart → chart₂ ≡ columnOf p [] 0 chart₁
+    → chart₂ ≡ opened (cfgIn 0 p) chart
+unfolding opened
+opened-is p chart chart₁ chart₂ e f = f ∙ ap (written (cfgIn 0 p) (fitsAt []) 0) e
+
+pub fill-start : (p start : List ℕ) → start ≡ extendedBy (cfgIn 0 p) [] [] start
+unfolding extendedBy
+fill-start p start = refl
+
+module _ (p w start : List ℕ) where
+  pub fill-step : (m m' : ℕ) (chart chart' : List ℕ) → m' ≡ m + 1 → m < length w → chart ≡ extendedBy (cfgIn 0 p) [] (take m w) start
+      → chart' ≡ columnOf p (take m' w) m' chart → chart' ≡ extendedBy (cfgIn 0 p) [] (take m' w) start
+  unfolding extendedBy extended
+  fill-step m m' chart chart' s h e f =
+      let t : take m' w ≡ take m w ++ (getD w m 0 ∷ []) = ap (λ (x : ℕ). take x w) (s ∙ add-one m) ∙ take-suc w m 0 h in
+      let l : m' ≡ length (take m' w) = sym (length-take-le m' w (omega arith)) in
+      f ∙ ap (λ (x : ℕ). columnOf p (take m' w) x chart) l
+      ∙ ap (extended (cfgIn 0 p) (take m' w)) e
+      ∙ ap (λ (x : List ℕ). extended (cfgIn 0 p) x (extendedBy (cfgIn 0 p) [] (take m w) start)) t
+      ∙ sym (extendedBy-append (cfgIn 0 p) [] (take m w) (getD w m 0 ∷ []) start)
+      ∙ ap (λ (x : List ℕ). extendedBy (cfgIn 0 p) [] x start) (sym t)
+
+  pub fill-done : (m : ℕ) (chart found : List ℕ) → length w ≤ m → start ≡ opened (cfgIn 0 p) found
+      → chart ≡ extendedBy (cfgIn 0 p) [] (take m w) start → chart ≡ filled (cfgIn 0 p) w found
+  unfolding filled
+  fill-done m chart found h e f = f ∙ ap (λ (x : List ℕ). extendedBy (cfgIn 0 p) [] x start) (take-all m w h)
+      ∙ ap (extendedBy (cfgIn 0 p) [] w) e

@@ -1,0 +1,56 @@
+-- `columns::clear` meets its contract. The loop's invariant: the cells passed are zero, and the others as found.
+-- The measure is what is left of the cells. Assumes nothing.
+use Rattle.sizes.specs.Sizes.{cells}
+use Rattle.columns.proofs.Filling.{clear-step, clear-done}
+use lib.ListN.{length, drop, replicate, length-set}
+use native.Mathlib.Omega.{arith}
+use mathlib.Core.Path.{_≡_, refl}
+use mathlib.Core.List.{_++_}
+use Prim.Native.Nat.{_≤_, _-_}
+use Rattle.columns.proofs.clear.Statement.{statement}
+use Rattle.columns.proofs.clear.Tie as tie
+
+abbrev Inv-loop : tie.InvT-loop
+Inv-loop chart₀ i₀ chart i = (i ≤ cells) × (length chart ≡ length chart₀) × (chart ≡ replicate i 0 ++ drop i chart₀)
+
+abbrev μ-loop : tie.MeasureT-loop
+μ-loop chart₀ i₀ chart i = cells - i
+
+loop-holds : tie.Need-loop-holds Inv-loop μ-loop
+loop-holds c = (omega arith, refl, refl)
+
+mul-chart : tie.Need-mul-chart Inv-loop μ-loop
+mul-chart c = omega arith
+
+slice-write-chart : tie.Need-slice-write-chart Inv-loop μ-loop
+slice-write-chart c = omega arith
+
+add-i : tie.Need-add-i Inv-loop μ-loop
+add-i c = omega arith
+
+loop-less : tie.Need-loop-less Inv-loop μ-loop
+loop-less c = omega arith
+
+loop-again : tie.Need-loop-again Inv-loop μ-loop
+loop-again c = (omega arith, simp length-set (c .before .loop .inv .1), clear-step _ _ _ (omega arith) (c .before .loop .inv .2))
+
+same-length : tie.Need-same-length Inv-loop μ-loop
+same-length c = c .before .loop .inv .1
+
+returns : tie.Need-returns Inv-loop μ-loop
+returns c = clear-done _ _ (c .before .loop .i) (omega arith) (omega arith) (c .before .loop .inv .2)
+
+pub clear-spec : {M : Type 1} → statement M
+clear-spec =
+    tie.close
+    (tie.spec
+    Inv-loop
+    μ-loop
+    loop-holds
+    mul-chart
+    slice-write-chart
+    add-i
+    loop-less
+    loop-again
+    same-length
+    returns)

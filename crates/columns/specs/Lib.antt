@@ -1,0 +1,2 @@
+-- A column of the chart, written cell by cell.
+pub mod Columns

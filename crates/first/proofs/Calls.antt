@@ -1,0 +1,56 @@
+-- What first answers, from the checks and what is answered over the filled chart.
+-- Assumes nothing.
+use Prim.Native.Nat.{ℕ, _≤_}
+use mathlib.Core.List.{List}
+use mathlib.Core.Path.{_≡_, sym, _∙_}
+use lib.ListN.{length}
+use Rattle.sizes.specs.Sizes.{cells, outputSize}
+use Rattle.cfg.specs.Grammar.{rule}
+use Rattle.chart.specs.Column.{filled, complete}
+use Rattle.chart.proofs.Truth.{filled-length}
+use Rattle.costs.specs.Span.{bytesOf}
+use Rattle.grammar.specs.declared.Grammar.{Grammar}
+use Rattle.grammar.specs.declared.Refusal.{Refusal}
+use Rattle.grammar.specs.Number.{numberOf}
+use Rattle.grammar.specs.View.{grammarOf}
+use Rattle.packed.specs.Packed.{cfgIn}
+use Rattle.prepare.specs.declared.Judged.{Judged}
+use Rattle.prepare.specs.declared.Judged.the-variants.{Passed, Refused}
+use Rattle.prepare.specs.Judging.{JudgingOutput}
+use Rattle.prepare.proofs.Deciding.{output-refused, output-passed}
+use Rattle.prepare.proofs.Judging.{output-ready}
+use Rattle.prepare.proofs.Packing.{list-packed}
+use Rattle.results.specs.Answer.{Answer, Handing, refused}
+use Rattle.results.specs.Enumerate.{treeIn, onOutput, firstIn, firstOf}
+use Rattle.tables.specs.Exact.{ChartTrue}
+use Rattle.first.specs.Answer.{enumerationOf, firstFilled}
+use Rattle.first.proofs.Chart.{chart-packed}
+
+-- the chart was filled, and the packed bytes have the rules of the grammar
+abbrev Filling : Grammar → List ℕ → List ℕ → List ℕ → List ℕ → Type 0
+Filling g p w chart chart' =
+    (chart' ≡ filled (grammarOf g) w chart) × ((r : ℕ) → rule (cfgIn (g .start) p) r ≡ rule (grammarOf g) r)
+
+-- what answering over the filled chart asks
+pub filled-ready : (g : Grammar) (p w chart chart' : List ℕ) (k : ℕ) (j : Judged) → JudgingOutput g (length w) (length chart) k j
+    → j ≡ Passed → Filling g p w chart chart'
+    → (length w ≤ 64) × (cells ≤ length chart') × (outputSize ≤ k) × ChartTrue p (bytesOf w) chart' (length w)
+filled-ready g p w chart chart' k j judging is filling =
+    let ((v, a, b), c) = output-ready g (length w) (length chart) k j judging is in
+    (a, rw (filling .0, filled-length (grammarOf g) w chart b) b, c, chart-packed g p w chart chart' a b filling)
+
+module _ (g : Grammar) (w chart out : List ℕ) (j : Judged) (judging : JudgingOutput g (length w) (length chart) (length out) j) where
+  pub first-refused : (r : Refusal) → j ≡ Refused r → enumerationOf (refused (numberOf r)) chart out ≡ firstOf g w chart out
+  unfolding firstOf onOutput
+  first-refused r h = sym (output-refused g w chart _ _ out j judging r h)
+
+  module _ (is : j ≡ Passed) (p chart' : List ℕ) (filling : Filling g p w chart chart') (s : ℕ) (start : s ≡ g .start) where
+    -- over the grammar that was packed
+    over-packed : firstFilled (cfgIn s p) w chart' out ≡ firstIn (grammarOf g) w chart out
+    unfolding firstIn treeIn complete cfgIn
+    over-packed = rw (filling .0, list-packed g p w (filling .1) s start, start)
+
+    pub first-answered : (a : Answer Handing) (out' : List ℕ) → enumerationOf a chart' out' ≡ firstFilled (cfgIn s p) w chart' out
+        → enumerationOf a chart' out' ≡ firstOf g w chart out
+    unfolding firstOf onOutput
+    first-answered a out' d = d ∙ over-packed ∙ sym (output-passed g w chart _ _ out j judging is)

@@ -1,0 +1,25 @@
+-- `first::first_tree` meets its contract: the tables are made for the input, so what they hand out is its first derivation.
+-- Assumes nothing.
+use Prim.Native.Nat.{ℕ}
+use lib.ListN.{length-replicate}
+use borrow.Author.Needs.{needs}
+use Rattle.tables.specs.Layout.{tablesSize}
+use Rattle.first.proofs.Handing.{made-tree}
+use Rattle.first.proofs.first_tree.Statement.{statement}
+use Rattle.first.proofs.first_tree.Tie as tie
+
+build-requires : tie.Need-build-requires
+build-requires c κs = (search needs, search needs, length-replicate {A = ℕ} tablesSize 0, search needs, search needs)
+
+returns : tie.Need-returns
+returns c = search (needs, made-tree)
+
+pub first-tree-spec : {M : Type 1} → statement M
+first-tree-spec =
+    tie.close
+    (tie.spec
+    (λ c κs. search needs)
+    build-requires
+    (λ c κs. search needs)
+    (λ c. search needs)
+    returns)

@@ -1,0 +1,68 @@
+// The first derivation (reading) of an input.
+use grammar::Grammar;
+use grammar::Refusal;
+use numbers::wide_byte;
+use packed::Packed;
+use prepare::Judged;
+use tables::layout::TABLES_SIZE;
+ghost use mathlib.Core.Path.{_≡_};
+ghost use Prim.Native.Nat.{_≤_};
+ghost use lib.ListN.{length};
+ghost use Rattle.sizes.specs.Sizes.{cells, outputSize};
+ghost use Rattle.costs.specs.Span.{bytesOf};
+ghost use Rattle.packed.specs.Packed.{cfgIn};
+ghost use Rattle.results.specs.Enumerate.{firstOf};
+ghost use Rattle.tables.specs.Exact.{ChartTrue};
+ghost use Rattle.first.specs.Answer.{handingOf, enumerationOf, firstTree, firstFilled};
+
+pub mod made;
+
+// How many nodes the derivation handed out has, that there is none, or why the call was refused.
+pub enum Handed {
+    Nodes(usize),
+    Nothing,
+    Refused(Refusal),
+}
+
+// The first derivation, where the chart is filled and trees exist. The tables are this function's own.
+fn first_tree(p: &Packed, start: usize, input: &[u8], chart: &[u32], out: &mut [u16]) -> Handed
+    requires { ⌜ (length (now input) ≤ 64) × (cells ≤ length (now chart)) × (outputSize ≤ length (now out))
+        × ChartTrue (now p) (bytesOf (now input)) (now chart) (length (now input)) ⌝ }
+    ensures { λ a. ⌜ enumerationOf (handingOf a) (now (chart .entry)) (now (out .exit))
+        ≡ firstTree (cfgIn start (now (p .entry))) (now (input .entry)) (now (chart .entry)) (now (out .entry)) ⌝ }
+{
+    let fits = fit::table(p, input);
+    let mut tables = [0u16; TABLES_SIZE];
+    let rules = made::build(p, input, &fits, chart, &mut tables);
+    made::first_made(p, rules, &fits, chart, &tables, start, input.len(), out)
+}
+
+// The first derivation, where the chart is filled.
+fn first_filled(p: &Packed, start: usize, input: &[u8], chart: &[u32], out: &mut [u16]) -> Handed
+    requires { ⌜ (length (now input) ≤ 64) × (cells ≤ length (now chart)) × (outputSize ≤ length (now out))
+        × ChartTrue (now p) (bytesOf (now input)) (now chart) (length (now input)) ⌝ }
+    ensures { λ a. ⌜ enumerationOf (handingOf a) (now (chart .entry)) (now (out .exit))
+        ≡ firstFilled (cfgIn start (now (p .entry))) (now (input .entry)) (now (chart .entry)) (now (out .entry)) ⌝ }
+{
+    if columns::complete(start, input.len(), chart) {
+        first_tree(p, start, input, chart, out)
+    } else {
+        Handed::Nothing
+    }
+}
+
+// ---- the exported call
+
+// The first derivation of the input, written to the front of the output. Refusals 8 to 11 and 13.
+pub fn first(g: Grammar, input: &[u8], chart: &mut [u32], out: &mut [u16]) -> Handed
+    ensures { λ a. ⌜ enumerationOf (handingOf a) (now (chart .exit)) (now (out .exit))
+        ≡ firstOf g (now (input .entry)) (now (chart .entry)) (now (out .entry)) ⌝ }
+{
+    match prepare::judge_output(g, input.len(), chart.len(), out.len()) {
+        Judged::Refused(r) => Handed::Refused(r),
+        Judged::Passed => {
+            let p = prepare::fill(g, input, chart);
+            first_filled(&p, wide_byte(g.start), input, chart, out)
+        }
+    }
+}

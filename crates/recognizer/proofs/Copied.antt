@@ -1,0 +1,46 @@
+-- The bytes of the state, copied one by one.
+-- Assumes nothing.
+use Prim.Native.Nat.{ℕ, zero, suc, _+_, _-_, _≤_, _<_}
+use mathlib.Core.List.{List, [], _∷_, _++_}
+use mathlib.Core.Path.{_≡_, sym, ap, _∙_, subst}
+use native.Mathlib.Numerals.{add-one}
+use native.Mathlib.Omega.{arith}
+use lib.ListN.{length, getD, take, drop, set, replicate, length-append}
+use lib.Seq.{take-suc, length-take-le}
+use Rattle.columns.proofs.Filling.{set-next}
+use Rattle.results.specs.Recognize.{State, stateOf}
+
+drop-replicate : (k m a : ℕ) → drop k (replicate m a) ≡ replicate (m - k) a
+drop-replicate zero m a =
+    let e : m ≡ m - 0 = omega arith in
+    ap (λ (x : ℕ). replicate x a) e
+drop-replicate (suc k) zero a =
+    let e : 0 ≡ 0 - suc k = omega arith in
+    ap (λ (x : ℕ). replicate x a) e
+drop-replicate (suc k) (suc m) a =
+    let e : m - k ≡ suc m - suc k = omega arith in
+    drop-replicate k m a ∙ ap (λ (x : ℕ). replicate x a) e
+
+module _ (old : List ℕ) (long : length old ≡ 64) where
+  pub bytes-step : (i : ℕ) (bytes : List ℕ) → i < 64 → bytes ≡ take i old ++ drop i (replicate 64 0)
+      → set bytes i (getD old i 0) ≡ take (i + 1) old ++ drop (i + 1) (replicate 64 0)
+  bytes-step i bytes h e =
+      ap (λ (x : List ℕ). set x i (getD old i 0)) e
+      ∙ set-next (take i old) (replicate 64 0) i (getD old i 0) (length-take-le i old (omega arith)) h
+      ∙ ap (λ (x : List ℕ). x ++ drop (i + 1) (replicate 64 0))
+      (sym (take-suc old i 0 (omega arith)) ∙ ap (λ (x : ℕ). take x old) (sym (add-one i)))
+
+  pub bytes-done : (i n b : ℕ) (bytes : List ℕ) → i ≤ n → n ≤ i → n < 64 → bytes ≡ take i old ++ drop i (replicate 64 0)
+      → _≡_ {A = State} (record { bytes = set bytes n b; count = n + 1 }) (stateOf (take n old ++ (b ∷ [])))
+  unfolding stateOf
+  bytes-done i n b bytes h l m e =
+      let d : i ≡ n = omega arith in
+      let s : length (take n old ++ (b ∷ [])) ≡ n + 1 =
+      length-append (take n old) (b ∷ []) ∙ ap (λ (x : ℕ). x + 1) (length-take-le n old (omega arith)) in
+      let q : set bytes n b ≡ (take n old ++ (b ∷ [])) ++ replicate (64 - length (take n old ++ (b ∷ []))) 0 =
+      ap (λ (x : List ℕ). set x n b) (subst (λ (x : ℕ). bytes ≡ take x old ++ drop x (replicate 64 0)) d e)
+      ∙ set-next (take n old) (replicate 64 0) n b (length-take-le n old (omega arith)) m
+      ∙ ap (λ (x : List ℕ). (take n old ++ (b ∷ [])) ++ x) (drop-replicate (n + 1) 64 0)
+      ∙ ap (λ (x : ℕ). (take n old ++ (b ∷ [])) ++ replicate (64 - x) 0) (sym s) in
+      let t : n + 1 ≡ length (take n old ++ (b ∷ [])) = sym s in
+      λ j. record { bytes = q j; count = t j }

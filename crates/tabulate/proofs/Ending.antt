@@ -1,0 +1,135 @@
+-- The spans of one end, from the last start to the first, and all ends.
+-- Assumes nothing.
+use Prim.Native.Nat.{ℕ, _+_, _*_, _-_, _≤_, _<_}
+use mathlib.Core.List.{List}
+use mathlib.Core.Path.{_≡_, subst}
+use native.Mathlib.Omega.{arith}
+use lib.ListN.{length, getD}
+use Rattle.costs.specs.Cut.{Fit}
+use Rattle.costs.specs.Span.{Tells}
+use Rattle.costs.proofs.Plain.{least-unmasked}
+use Rattle.packed.proofs.Laws.{count-le}
+use Rattle.tables.specs.Layout.{tablesSize, fullIn}
+use Rattle.tables.specs.Rule.{AlonesFilled}
+use Rattle.tables.specs.Exact.{PastLast, ChartTrue, Exact}
+use Rattle.solve.specs.Solve.{Solved}
+use Rattle.solve.proofs.Trees.{solved-full}
+use Rattle.tabulate.specs.Writes.{allRows}
+use Rattle.tabulate.specs.Sofar.{Standing, Given, EmptyTrue, Sofar}
+use Rattle.tabulate.specs.Spans.{SpanPut, EmptyPut, EndFrom, EndPut, EndsBefore, EndsPut, Tabulated}
+use Rattle.tabulate.proofs.Kept.{ready-by}
+
+module _ (p : List ℕ) (rules : ℕ) (fits chart : List ℕ) where
+  -- ---- one end
+
+  module _ (j : ℕ) where
+    pub end-start : (tables rows : List ℕ) → length tables ≡ tablesSize → length rows ≡ allRows
+        → EndFrom p rules fits chart j j tables rows tables rows
+    end-start tables rows e f = record { long = e; wide = f; exact = λ fit can G C S. S }
+
+    pub end-back : (n : ℕ) {tables₀ rows₀ tables₁ rows₁ tables rows : List ℕ} → 0 < n → n ≤ j
+        → EndFrom p rules fits chart n j tables₀ rows₀ tables₁ rows₁
+        → SpanPut p rules fits (getD chart (65 * (n - 1) + j) 0) (n - 1) j tables₁ rows₁ tables rows
+        → EndFrom p rules fits chart (n - 1) j tables₀ rows₀ tables rows
+    end-back n {tables₁ = tables₁} {rows₁} h l S P = record {
+      long = P .long;
+      wide = P .wide;
+      exact = λ fit can G C R.
+          let e : n ≡ n - 1 + 1 = omega arith in
+          P .exact fit can G (C (n - 1) (omega arith))
+          (subst (λ (x : ℕ). Sofar fit (Standing can) p rules x j tables₁ rows₁) e (S .exact fit can G C R));
+    }
+
+    pub end-put : (empty : List ℕ) {i : ℕ} {tables₀ rows₀ tables₁ rows₁ tables rows : List ℕ} → i ≤ 0
+        → EmptyPut p rules fits empty j tables₀ rows₀ tables₁ rows₁ → EndFrom p rules fits chart i j tables₁ rows₁ tables rows
+        → EndPut p rules fits chart empty j tables₀ rows₀ tables rows
+    end-put empty {i} {tables = tables} {rows} h D S = record {
+      long = S .long;
+      wide = S .wide;
+      exact = λ fit can G E C R.
+          let e : i ≡ 0 = omega arith in
+          subst (λ (x : ℕ). Sofar fit (Standing can) p rules x j tables rows) e
+          (S .exact fit can G C (D .exact fit can (G .told) E R));
+    }
+
+  -- ---- all ends
+
+  -- the spans that end at j are before the next end, whatever the rows hold
+  next-end : {fit : Fit} {bytes : ℕ → ℕ → Type 0} {j : ℕ} {tables rows : List ℕ} → j < 65 → Sofar fit bytes p rules 0 j tables rows
+      → Sofar fit bytes p rules (j + 1 + 1) (j + 1) tables rows
+  next-end l S = record {
+    empty = S .empty;
+    none = S .none;
+    beside = S .beside;
+    least = λ k a b x y d. S .least k a b x y (omega arith);
+    without = λ a b r x y d m. S .without a b r x y (omega arith) m;
+    starts = λ r q c x y z w. absurd (omega arith);
+  }
+
+  -- what is given up to n is given up to j
+  given-less : {fit : Fit} {bytes : ℕ → ℕ → Type 0} {n j : ℕ} → j ≤ n → Given fit bytes p rules fits n → Given fit bytes p rules fits j
+  given-less l G = record { tells = G .tells; past = G .past; told = λ a r q h. G .told a r q (omega arith) }
+
+  module _ (empty : List ℕ) (n : ℕ) where
+    pub ends-start : (tables rows : List ℕ) → length tables ≡ tablesSize → length rows ≡ allRows
+        → EndsBefore p rules fits chart empty n 0 tables tables rows
+    ends-start tables rows e f = record {
+      long = e;
+      wide = f;
+      exact = λ fit can G E C A.
+          record {
+            empty = fullIn empty;
+            none = E;
+            beside = A;
+            least = λ k a b x y d. absurd (omega arith);
+            without = λ a b r x y d m. absurd (omega arith);
+            starts = λ r q c x y z w. absurd (omega arith);
+          };
+    }
+
+    pub ends-step : {j : ℕ} {tables₀ tables₁ rows₁ tables rows : List ℕ} → j ≤ n → n < 65
+        → EndsBefore p rules fits chart empty n j tables₀ tables₁ rows₁ → EndPut p rules fits chart empty j tables₁ rows₁ tables rows
+        → EndsBefore p rules fits chart empty n (j + 1) tables₀ tables rows
+    ends-step {j} h l S P = record {
+      long = P .long;
+      wide = P .wide;
+      exact = λ fit can G E C A.
+          next-end (omega arith)
+          (P .exact fit can (given-less h G) E (λ a x. C a j (omega arith) h) (S .exact fit can G E C A));
+    }
+
+    pub ends-end : {j : ℕ} {tables₀ tables rows : List ℕ} → n < j → j ≤ n + 1 → n < 65
+        → EndsBefore p rules fits chart empty n j tables₀ tables rows → EndsPut p rules fits chart empty n tables₀ tables
+    ends-end {j} {tables₀} {tables} {rows} h m l S = record {
+      long = S .long;
+      exact = λ fit can G E C A. done (S .exact fit can G E C A) (G .past);
+    }
+      where
+        done : {fit : Fit} {bytes : ℕ → ℕ → Type 0} → Sofar fit bytes p rules (j + 1) j tables rows → PastLast p rules
+            → Exact fit bytes p n tables
+        done R past = record {
+          long = S .long;
+          least = λ k a b x y. R .least k a b x (omega arith) (omega arith);
+          ready = λ a b x y.
+              ready-by R past a b (omega arith) (omega arith) (omega arith) (omega arith)
+              (λ r z. R .without a b r x (omega arith) (omega arith) z);
+        }
+
+  -- ---- the tables
+
+  module _ (empty : List ℕ) (n : ℕ) {tables₀ tables₁ tables : List ℕ} (X : Solved p rules (getD chart 0 0) 0 tables₀ 0 0 empty)
+      (A : AlonesFilled p empty 128 tables₁) (P : EndsPut p rules fits chart empty n tables₁ tables) where
+    empties : (fit : Fit) (bytes : ℕ → ℕ → Type 0) → Tells fit bytes → PastLast p rules → ChartTrue p bytes chart n
+        → EmptyTrue p bytes empty
+    empties fit bytes T past C k =
+        least-unmasked
+        (solved-full X fit bytes (λ _ _ _. 0) T past (λ h. absurd (omega arith))
+        (record { at = λ k a b x y z s. absurd (omega arith) }) (C 0 0 (omega arith) (omega arith)) .at k)
+
+    pub tabulated : Tabulated p rules fits chart n tables
+    tabulated = record {
+      long = P .long;
+      exact = λ fit can T past F C.
+          P .exact fit can (record { tells = T; past = past; told = F }) (empties fit (Standing can) T past C) C
+          (λ r h q m. let c = count-le p r in A .here r q h (omega arith));
+    }

@@ -1,0 +1,42 @@
+-- `tabulate::ends::put_end` meets its contract. The loop's invariant: the spans from the starts passed are done. The measure is the start.
+-- Assumes nothing.
+use Prim.Native.Nat.{_≤_}
+use borrow.Author.Needs.{needs}
+use Rattle.tabulate.specs.Spans.{EndFrom}
+use Rattle.tabulate.proofs.Ending.{end-start, end-back, end-put}
+use Rattle.tabulate.proofs.ends.put_end.Statement.{statement}
+use Rattle.tabulate.proofs.ends.put_end.Tie as tie
+
+abbrev Inv-loop : tie.InvT-loop
+Inv-loop p rules fits chart empty nothing j tables₀ rows₀ i₀ tables rows i =
+    (i ≤ j) × EndFrom p rules fits chart i j tables₀ rows₀ tables rows
+
+abbrev μ-loop : tie.MeasureT-loop
+μ-loop p rules fits chart empty nothing j tables₀ rows₀ i₀ tables rows i = i
+
+loop-holds : tie.Need-loop-holds Inv-loop μ-loop
+loop-holds c = search (needs, end-start)
+
+loop-again : tie.Need-loop-again Inv-loop μ-loop
+loop-again c = search (needs, end-back)
+
+returns : tie.Need-returns Inv-loop μ-loop
+returns c = search (needs, end-put)
+
+pub put-end-spec : {M : Type 1} → statement M
+put-end-spec =
+    tie.close
+    (tie.spec
+    Inv-loop
+    μ-loop
+    (λ c κs. search needs)
+    loop-holds
+    (λ c. search needs)
+    (λ c. search needs)
+    (λ c. search needs)
+    (λ c. search needs)
+    (λ c. search needs)
+    (λ c κs. search needs)
+    (λ c. search needs)
+    loop-again
+    returns)

@@ -1,0 +1,19 @@
+-- `tabulate::ends::tabulate` meets its contract.
+-- Assumes nothing.
+use borrow.Author.Needs.{needs}
+use Rattle.tabulate.proofs.Ending.{tabulated}
+use Rattle.tabulate.proofs.ends.tabulate.Statement.{statement}
+use Rattle.tabulate.proofs.ends.tabulate.Tie as tie
+
+returns : tie.Need-returns
+returns c = search (needs, tabulated)
+
+pub tabulate-spec : {M : Type 1} → statement M
+tabulate-spec =
+    tie.close
+    (tie.spec
+    (λ c. search needs)
+    (λ c κs. search needs)
+    (λ c κs. search needs)
+    (λ c κs. search needs)
+    returns)

@@ -1,0 +1,75 @@
+-- What the functions do that make the tables span by span: from what was right before to what is right after. The bytes that may stand at
+-- a position are told by a test.
+-- Assumes nothing.
+use Prim.Native.Nat.{ℕ, _+_, _<_}
+use mathlib.Core.Bool.{Bool}
+use mathlib.Core.List.{List}
+use mathlib.Core.Path.{_≡_}
+use lib.ListN.{length}
+use Rattle.sizes.specs.Sizes.{maxRules}
+use Rattle.chart.specs.Cell.{cell}
+use Rattle.costs.specs.Cut.{Fit}
+use Rattle.costs.specs.Span.{Tells}
+use Rattle.tables.specs.Layout.{tablesSize, fullIn}
+use Rattle.tables.specs.Rule.{Alones}
+use Rattle.tables.specs.Exact.{PastLast, FitTold, CellTrue, ChartTrue, Exact}
+use Rattle.tabulate.specs.Writes.{allRows}
+use Rattle.tabulate.specs.Sofar.{Standing, Given, EmptyTrue, Sofar, Opened}
+
+-- the costs over the span from i to j that need no numbers of the whole of it are made
+pub record SpanOpened (p : List ℕ) (rules : ℕ) (fits : List ℕ) (i j : ℕ) (tables₀ rows₀ tables rows : List ℕ) : Type 0 where
+  pub long : length tables ≡ tablesSize
+  pub wide : length rows ≡ allRows
+  pub exact : (fit : Fit) (can : ℕ → ℕ → Bool) → FitTold fit p fits j → Sofar fit (Standing can) p rules (i + 1) j tables₀ rows₀
+      → Opened fit (Standing can) p rules i j tables rows
+
+-- the span from i to j is done
+pub record SpanPut (p : List ℕ) (rules : ℕ) (fits : List ℕ) (set i j : ℕ) (tables₀ rows₀ tables rows : List ℕ) : Type 0 where
+  pub long : length tables ≡ tablesSize
+  pub wide : length rows ≡ allRows
+  pub exact : (fit : Fit) (can : ℕ → ℕ → Bool) → Given fit (Standing can) p rules fits j → CellTrue p (Standing can) i j set
+      → Sofar fit (Standing can) p rules (i + 1) j tables₀ rows₀ → Sofar fit (Standing can) p rules i j tables rows
+
+-- the empty span at j is done
+pub record EmptyPut (p : List ℕ) (rules : ℕ) (fits empty : List ℕ) (j : ℕ) (tables₀ rows₀ tables rows : List ℕ) : Type 0 where
+  pub long : length tables ≡ tablesSize
+  pub wide : length rows ≡ allRows
+  pub exact : (fit : Fit) (can : ℕ → ℕ → Bool) → FitTold fit p fits j → EmptyTrue p (Standing can) empty
+      → Sofar fit (Standing can) p rules (j + 1) j tables₀ rows₀ → Sofar fit (Standing can) p rules j j tables rows
+
+-- the spans that end at j and start from i on are done, the empty one having been
+pub record EndFrom (p : List ℕ) (rules : ℕ) (fits chart : List ℕ) (i j : ℕ) (tables₀ rows₀ tables rows : List ℕ) : Type 0 where
+  pub long : length tables ≡ tablesSize
+  pub wide : length rows ≡ allRows
+  pub exact : (fit : Fit) (can : ℕ → ℕ → Bool) → Given fit (Standing can) p rules fits j
+      → ((a : ℕ) → a < j → CellTrue p (Standing can) a j (cell chart a j))
+      → Sofar fit (Standing can) p rules j j tables₀ rows₀ → Sofar fit (Standing can) p rules i j tables rows
+
+-- all spans that end at j are done
+pub record EndPut (p : List ℕ) (rules : ℕ) (fits chart empty : List ℕ) (j : ℕ) (tables₀ rows₀ tables rows : List ℕ) : Type 0 where
+  pub long : length tables ≡ tablesSize
+  pub wide : length rows ≡ allRows
+  pub exact : (fit : Fit) (can : ℕ → ℕ → Bool) → Given fit (Standing can) p rules fits j → EmptyTrue p (Standing can) empty
+      → ((a : ℕ) → a < j → CellTrue p (Standing can) a j (cell chart a j))
+      → Sofar fit (Standing can) p rules (j + 1) j tables₀ rows₀ → Sofar fit (Standing can) p rules 0 j tables rows
+
+-- the spans that end before j are done
+pub record EndsBefore (p : List ℕ) (rules : ℕ) (fits chart empty : List ℕ) (n j : ℕ) (tables₀ tables rows : List ℕ) : Type 0 where
+  pub long : length tables ≡ tablesSize
+  pub wide : length rows ≡ allRows
+  pub exact : (fit : Fit) (can : ℕ → ℕ → Bool) → Given fit (Standing can) p rules fits n → EmptyTrue p (Standing can) empty
+      → ChartTrue p (Standing can) chart n → ((r : ℕ) → r < maxRules → Alones (fullIn empty) p r tables₀)
+      → Sofar fit (Standing can) p rules (j + 1) j tables rows
+
+-- all spans up to n are done
+pub record EndsPut (p : List ℕ) (rules : ℕ) (fits chart empty : List ℕ) (n : ℕ) (tables₀ tables : List ℕ) : Type 0 where
+  pub long : length tables ≡ tablesSize
+  pub exact : (fit : Fit) (can : ℕ → ℕ → Bool) → Given fit (Standing can) p rules fits n → EmptyTrue p (Standing can) empty
+      → ChartTrue p (Standing can) chart n → ((r : ℕ) → r < maxRules → Alones (fullIn empty) p r tables₀)
+      → Exact fit (Standing can) p n tables
+
+-- the tables are right for every span up to n
+pub record Tabulated (p : List ℕ) (rules : ℕ) (fits chart : List ℕ) (n : ℕ) (tables : List ℕ) : Type 0 where
+  pub long : length tables ≡ tablesSize
+  pub exact : (fit : Fit) (can : ℕ → ℕ → Bool) → Tells fit (Standing can) → PastLast p rules → FitTold fit p fits n
+      → ChartTrue p (Standing can) chart n → Exact fit (Standing can) p n tables

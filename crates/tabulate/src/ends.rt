@@ -1,0 +1,96 @@
+// All spans: for each end, from the empty span there to the start of the input.
+use super::spans::put_empty;
+use super::spans::put_span;
+use super::writes::ALL_ROWS;
+use super::writes::AllRows;
+use super::writes::nothing;
+use fit::FitTable;
+use packed::Packed;
+use solve::solve;
+use tables::alone::fill_alone;
+use tables::layout::Full;
+use tables::layout::Tables;
+ghost use mathlib.Core.Path.{_≡_};
+ghost use Prim.Native.Nat.{_<_, _≤_};
+ghost use lib.ListN.{length};
+ghost use Rattle.sizes.specs.Sizes.{cells};
+ghost use Rattle.tables.specs.Layout.{tablesSize};
+ghost use Rattle.tabulate.specs.Writes.{allRows, Nothing};
+ghost use Rattle.tabulate.specs.Spans.{EndPut, EndsPut, Tabulated};
+
+// The spans that end at j, those that end before being done.
+fn put_end(
+    p: &Packed,
+    rules: usize,
+    fits: &FitTable,
+    chart: &[u32],
+    empty: &Full,
+    nothing: &Full,
+    j: usize,
+    tables: &mut Tables,
+    rows: &mut AllRows,
+)
+    requires { ⌜ (rules ≤ 128) × (cells ≤ length (now chart)) × Nothing (now nothing) × (j < 65)
+        × (length (now tables) ≡ tablesSize) × (length (now rows) ≡ allRows) ⌝ }
+    ensures { λ _.
+        ⌜ EndPut (now (p .entry)) rules (now (fits .entry)) (now (chart .entry)) (now (empty .entry)) j
+        (now (tables .entry)) (now (rows .entry)) (now (tables .exit)) (now (rows .exit)) ⌝ }
+{
+    put_empty(p, rules, fits, empty, j, tables, rows);
+    let mut i = j;
+    while i > 0 {
+        i -= 1;
+        put_span(
+            p,
+            rules,
+            fits,
+            chart[sizes::SIDE * i + j],
+            nothing,
+            i,
+            j,
+            tables,
+            rows,
+        );
+    }
+}
+
+// The spans up to n; `empty` has the numbers of the empty ones.
+fn put_ends(
+    p: &Packed,
+    rules: usize,
+    fits: &FitTable,
+    chart: &[u32],
+    empty: &Full,
+    n: usize,
+    tables: &mut Tables,
+)
+    requires { ⌜ (rules ≤ 128) × (cells ≤ length (now chart)) × (n < 65) × (length (now tables) ≡ tablesSize) ⌝ }
+    ensures { λ _.
+        ⌜ EndsPut (now (p .entry)) rules (now (fits .entry)) (now (chart .entry)) (now (empty .entry)) n
+        (now (tables .entry)) (now (tables .exit)) ⌝ }
+{
+    let none = nothing();
+    let mut rows = [0u16; ALL_ROWS];
+    let mut j = 0;
+    while j <= n {
+        put_end(p, rules, fits, chart, empty, &none, j, tables, &mut rows);
+        j += 1;
+    }
+}
+
+// The tables for the rules below a number, the fit table and the filled chart of an input of n bytes.
+pub fn tabulate(
+    p: &Packed,
+    rules: usize,
+    fits: &FitTable,
+    chart: &[u32],
+    n: usize,
+    tables: &mut Tables,
+)
+    requires { ⌜ (rules ≤ 128) × (n < 65) × (cells ≤ length (now chart)) × (length (now tables) ≡ tablesSize) ⌝ }
+    ensures { λ _. ⌜ Tabulated (now (p .entry)) rules (now (fits .entry)) (now (chart .entry)) n (now (tables .exit)) ⌝ }
+{
+    let empty = solve(p, rules, chart[0], 0, tables, 0, 0);
+    fill_alone(p, &empty, tables);
+    put_ends(p, rules, fits, chart, &empty, n, tables);
+}

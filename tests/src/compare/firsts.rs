@@ -1,0 +1,96 @@
+//! First on an input that passes the checks: the answer, the number of nodes, the
+//! output and the chart.
+
+use super::lent::{offset, same, Lent};
+use super::Comparison;
+use crate::lister::grammar::Grammar;
+use crate::lister::trees::{self, Row, LIMIT};
+use crate::lister::walk::{self, Given};
+use crate::reader::{Answer, FlatGrammar, CELLS, OUTPUT};
+
+/// What is known of an input: all its derivations, unless they are too many to list;
+/// whether it has a tree of any size; and rows, some of which may be derivations.
+pub(super) struct First<'a> {
+    pub list: Option<&'a [Row]>,
+    pub tree: bool,
+    pub offered: &'a [Row],
+}
+
+impl Comparison<'_> {
+    /// Calls first on the reader. What is lent holds rubbish; of the output only the
+    /// front is written, and nothing of it without a derivation.
+    pub(super) fn first(
+        &mut self,
+        flat: &FlatGrammar,
+        grammar: &Grammar,
+        input: &[u8],
+        filled: &[u32],
+        known: First,
+    ) -> Result<(), String> {
+        if known.list.is_none() && self.reader.by_listing() {
+            return Ok(());
+        }
+        let (mine, mut chart, found) = (self.either(flat), self.chart(), offset(&mut self.rng));
+        let length = OUTPUT + self.rng.pick(&[0, 0, 1, 40]);
+        let mut out = Lent::filled(length, || self.rng.next() as u16);
+        let (mut due_chart, mut due_out, mut nodes) = (chart.clone(), out.clone(), found);
+        due_chart.part_mut()[..CELLS].copy_from_slice(filled);
+        let (input, before) = (Lent::of(input, 0x41), Lent::of(input, 0x41));
+        let answer = self.reader.first(&mine, input.part(), chart.part_mut(), out.part_mut(), &mut nodes);
+        let given = match known.list {
+            Some(list) => walk::first(list, known.tree),
+            None => self.unlisted(flat, grammar, input.part(), &known, answer, out.part())?,
+        };
+        let due = match &given {
+            Given::Row(row) => {
+                due_out.part_mut()[..row.len()].copy_from_slice(row);
+                (Answer::Nodes(row.len() / 2), row.len() / 2)
+            }
+            Given::Refused(number) => (Answer::Refused(*number), found),
+            _ => (Answer::NoDerivation, found),
+        };
+        same("first: answer and nodes", (answer, nodes), due)?;
+        chart.against(&due_chart, "first: chart")?;
+        out.against(&due_out, "first: output")?;
+        input.against(&before, "first: the input lent")?;
+        let which = if known.list.is_some() { "first" } else { "first, too many to list" };
+        self.counts.add(&match given {
+            Given::Row(_) => format!("{which}: handed out"),
+            Given::Refused(number) => format!("{which}: refused {number}"),
+            _ => format!("{which}: no reading"),
+        });
+        Ok(())
+    }
+
+    /// Where the list is too large to make: what is handed out has to be a derivation,
+    /// by the lister and by the reader's own check, and no derivation at hand may
+    /// stand before it; with 13 there may be none at hand.
+    fn unlisted(
+        &mut self,
+        flat: &FlatGrammar,
+        grammar: &Grammar,
+        input: &[u8],
+        known: &First,
+        answer: Answer,
+        out: &[u16],
+    ) -> Result<Given, String> {
+        let mut at_hand = known.offered.iter().filter(|row| trees::is_derivation(grammar, input, row));
+        match answer {
+            Answer::Nodes(nodes) if (1..=LIMIT).contains(&nodes) && known.tree => {
+                let row = out[..2 * nodes].to_vec();
+                same("first: a derivation, by the lister", trees::is_derivation(grammar, input, &row), true)?;
+                let own = self.reader.check(flat, input, &row, self.chart().part_mut());
+                same("first: a derivation, by the reader's own check", own, Answer::Yes)?;
+                match at_hand.find(|other| **other < row) {
+                    None => Ok(Given::Row(row)),
+                    Some(other) => Err(format!("first: {row:?} handed out, and {other:?} stands before it")),
+                }
+            }
+            Answer::Refused(13) if known.tree => match at_hand.next() {
+                None => Ok(Given::Refused(13)),
+                Some(row) => Err(format!("first: refused 13, and {row:?} is a derivation")),
+            },
+            answer => Err(format!("first: {answer:?}, where trees are: {}", known.tree)),
+        }
+    }
+}
