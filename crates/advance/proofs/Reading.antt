@@ -2,16 +2,15 @@
 -- Assumes nothing.
 use Prim.Native.Nat.{ℕ, _+_, _*_, _≤_, _<_}
 use mathlib.Core.Bool.{Bool, true, false}
-use mathlib.Core.List.{List, [], _∷_, _++_}
+use mathlib.Core.List.{List, _∷_, _++_}
 use mathlib.Core.Path.{_≡_, refl, sym, ap, subst, _∙_}
 use native.Mathlib.Omega.{arith}
 use lib.ListN.{length, getD}
 use Rattle.sizes.specs.Sizes.{maxPlaces, maxNodes}
 use Rattle.cfg.specs.Grammar.{Cfg, Symbol, nonterminal}
-use Rattle.cfg.specs.Tree.{Forest, nodes, code, Fits, fits-node}
+use Rattle.cfg.specs.Tree.{Forest, nodes, code}
 use Rattle.listing.proofs.Unique.{length-code}
-use Rattle.enumeration.specs.Rows.{Row, Tree}
-use Rattle.enumeration.specs.Order.{Min}
+use Rattle.enumeration.specs.Rows.{Row}
 use Rattle.choices.specs.Opened.{OpenedRow}
 use Rattle.choices.proofs.Stands.{row-opened}
 use Rattle.packed.specs.Packed.{countIn, isNonterminalIn, valueIn}
@@ -19,6 +18,7 @@ use Rattle.packed.proofs.Laws.{count-le}
 use Rattle.standing.specs.Standing.{StandsAt, Sized}
 use Rattle.standing.proofs.Stands.{stands-first}
 use Rattle.tables.specs.Exact.{Packing}
+use Rattle.beyond.proofs.Codes.{tree-nonempty}
 use Rattle.advance.specs.declared.look.Step.{Step}
 use Rattle.advance.specs.declared.look.Step.the-variants.{No, End, Byte, Node}
 use Rattle.advance.specs.Looked.{Looked, at-end, at-byte, no-byte, at-node, no-room, no-node}
@@ -65,19 +65,6 @@ module _ {p : List ℕ} {r q : ℕ} {buf : List ℕ} {at a j budget : ℕ} {s : 
       go (at-node c t g d Z x y) = (omega (arith, count-le p r), omega arith, x, y, omega (arith, Z .small))
 
 -- ---- what stands
-
--- a tree has a node
-pub tree-nonempty : {G : Cfg} {k : ℕ} {x : Forest} → Fits G (nonterminal k ∷ []) x → 0 < nodes x
-unfolding nodes
-tree-nonempty (fits-node o b f) = omega arith
-
--- so has the first one of a set of trees
-pub first-nonempty : {G : Cfg} {w : List ℕ} {cover set k a b budget m : ℕ} {e : List ℕ} → Min (Tree G w cover set k a b budget) e
-    → length e ≡ 2 * m → 0 < m
-first-nonempty {e = e} M size =
-    let t = M .found .forest in
-    let d : length (code t) ≡ length e = ap length (M .found .coded) in
-    omega (arith, length-code t, tree-nonempty (M .found .member .fit))
 
 module _ {G : Cfg} {w : List ℕ} {cover set k : ℕ} {places : List Symbol} {a j budget : ℕ} {f : Forest} (buf : List ℕ) (at : ℕ)
     (S : StandsAt buf at (code f)) where

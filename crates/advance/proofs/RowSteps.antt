@@ -24,9 +24,10 @@ use Rattle.descend.proofs.RowSteps.{tail-terminal, tail-nonterminal}
 use Rattle.advance.specs.declared.look.Step.{Step}
 use Rattle.advance.specs.declared.look.Step.the-variants.{No, End, Byte, Node}
 use Rattle.advance.specs.Looked.{Looked, at-end, at-byte, no-byte, at-node, no-room, no-node}
-use Rattle.advance.specs.Advance.{Frame, NextAt, RowNext, ChildNext}
-use Rattle.advance.proofs.Codes.{stands-join, stands-same, kept-same, kept-behind, kept-then, next-none, next-some, next-same}
-use Rattle.advance.proofs.Reading.{tree-nonempty, opened-here, both-stand, child-here, size-here}
+use Rattle.beyond.specs.Beyond.{Frame, NextAt}
+use Rattle.advance.specs.Advance.{RowNext, ChildNext}
+use Rattle.beyond.proofs.Codes.{tree-nonempty, stands-join, stands-same, kept-same, kept-behind, kept-then, next-none, next-some, next-same}
+use Rattle.advance.proofs.Reading.{opened-here, both-stand, child-here, size-here}
 
 -- the rows of the places from q on, as those of another list
 module _ (p : List ℕ) (r q : ℕ) {w : List ℕ} {cover set a j budget : ℕ} {places : List Symbol} (d : tailIn p r q ≡ places) where

@@ -1,7 +1,7 @@
 // The row after the one that stands, where the places behind its first node are last: that node moves, or its end.
-use super::frame::rest_of;
-use super::moved::moved;
 use super::next::node;
+use beyond::frame::rest_of;
+use beyond::moved::moved;
 use descend::open::child_set;
 use fit::FitTable;
 use packed::Packed;
@@ -11,7 +11,8 @@ use tables::layout::Tables;
 ghost use Prim.Native.Nat.{_+_, _<_, _≤_};
 ghost use lib.ListN.{length};
 ghost use Rattle.sizes.specs.Sizes.{maxRules, maxPlaces, side, cells, maxNodes, outputSize};
-ghost use Rattle.advance.specs.Advance.{Frame, ChildNext};
+ghost use Rattle.beyond.specs.Beyond.{Frame};
+ghost use Rattle.advance.specs.Advance.{ChildNext};
 
 // Writes the row of the places of rule r from q on, from a to j inside a span from i to j, after the one that stands at node `at`, where a
 // node of k up to b stands at place q and the places behind it are last.

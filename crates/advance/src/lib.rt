@@ -1,9 +1,5 @@
 // The derivation after the one that stands in a buffer (document 01: next reading), with the tables made.
 mod child;
-mod frame;
-mod later;
 mod look;
-mod moved;
 pub mod next;
 mod row;
-mod wider;

@@ -1,8 +1,8 @@
 // The tree after the one that stands, in place: the row below it moves first, then its rule. Nothing is written until the successor is
 // certain, and the frame of a node is made when it is needed.
-use super::later::later_rule;
 use super::look::rule_at;
 use super::row::row;
+use beyond::later::later_rule;
 use descend::open::UNMADE;
 use descend::open::own_set;
 use fit::FitTable;

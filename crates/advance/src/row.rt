@@ -10,7 +10,8 @@ use tables::layout::Tables;
 ghost use Prim.Native.Nat.{_+_, _<_, _≤_};
 ghost use lib.ListN.{length};
 ghost use Rattle.sizes.specs.Sizes.{maxRules, maxPlaces, side, cells, maxNodes, outputSize};
-ghost use Rattle.advance.specs.Advance.{Frame, RowNext};
+ghost use Rattle.beyond.specs.Beyond.{Frame};
+ghost use Rattle.advance.specs.Advance.{RowNext};
 
 // Writes the row of the places of rule r from q on, from a to j inside a span from i to j, after the one that stands at node `at`.
 pub fn row(

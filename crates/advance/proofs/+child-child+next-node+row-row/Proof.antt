@@ -6,7 +6,7 @@ use native.Mathlib.Omega.{arith}
 use borrow.Author.Needs.{needs}
 use borrow.Fn.Kinds.{In}
 use borrow.Fn.PlainCycle.{Measures, is, falls, and}
-use Rattle.advance.proofs.Frames.{frame-unmade}
+use Rattle.beyond.proofs.Frames.{frame-unmade}
 use Rattle.advance.proofs.Reading.{byte-room, node-room}
 use Rattle.advance.proofs.RowSteps.{row-none, row-end, row-byte, row-rest, row-child}
 use Rattle.advance.proofs.ChildSteps.{child-dear, child-moved}
@@ -20,11 +20,11 @@ use Rattle.advance.proofs.+child-child+next-node+row-row.Lts-next-node 
 use Rattle.advance.proofs.row.row.Reads as row
 use Rattle.advance.proofs.row.row.Kinds as row-kinds
 use Rattle.advance.proofs.+child-child+next-node+row-row.Lts-row-row as row-lts
-use Rattle.advance.proofs.frame.rest_of.Reads as rest-of-reads
-use Rattle.advance.proofs.later.later_rule.Reads as later-rule-reads
+use Rattle.beyond.proofs.frame.rest_of.Reads as rest-of-reads
+use Rattle.beyond.proofs.later.later_rule.Reads as later-rule-reads
 use Rattle.advance.proofs.look.look.Reads as look-reads
 use Rattle.advance.proofs.look.rule_at.Reads as rule-at-reads
-use Rattle.advance.proofs.moved.moved.Reads as moved-reads
+use Rattle.beyond.proofs.moved.moved.Reads as moved-reads
 use Rattle.descend.proofs.open.child_set.Reads as child-set-reads
 use Rattle.descend.proofs.open.own_set.Reads as own-set-reads
 use Rattle.advance.proofs.+child-child+next-node+row-row.{statement}

@@ -1,9 +1,9 @@
--- `advance::frame::make` meets its contract.
+-- `beyond::frame::make` meets its contract.
 -- Assumes nothing.
 use borrow.Author.Needs.{needs}
-use Rattle.advance.proofs.Frames.{made-new, made-found}
-use Rattle.advance.proofs.frame.make.Statement.{statement}
-use Rattle.advance.proofs.frame.make.Tie as tie
+use Rattle.beyond.proofs.Frames.{made-new, made-found}
+use Rattle.beyond.proofs.frame.make.Statement.{statement}
+use Rattle.beyond.proofs.frame.make.Tie as tie
 
 pub make-spec : {M : Type 1} → statement M
 make-spec =

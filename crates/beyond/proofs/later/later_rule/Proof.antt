@@ -1,10 +1,10 @@
--- `advance::later::later_rule` meets its contract.
+-- `beyond::later::later_rule` meets its contract.
 -- Assumes nothing.
 use native.Mathlib.Omega.{arith}
 use borrow.Author.Needs.{needs}
-use Rattle.advance.proofs.NodeSteps.{later-none, later-some}
-use Rattle.advance.proofs.later.later_rule.Statement.{statement}
-use Rattle.advance.proofs.later.later_rule.Tie as tie
+use Rattle.beyond.proofs.LaterRules.{later-none, later-some}
+use Rattle.beyond.proofs.later.later_rule.Statement.{statement}
+use Rattle.beyond.proofs.later.later_rule.Tie as tie
 
 returns : tie.Need-returns
 returns c = later-none (omega arith) (omega arith) (c .before .open-node .ensures) (omega arith)

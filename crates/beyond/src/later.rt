@@ -10,7 +10,7 @@ use tables::layout::Tables;
 ghost use Prim.Native.Nat.{_+_, _<_, _≤_};
 ghost use lib.ListN.{length};
 ghost use Rattle.sizes.specs.Sizes.{maxRules, side, cells, maxNodes, outputSize};
-ghost use Rattle.advance.specs.Advance.{Frame, LaterRule};
+ghost use Rattle.beyond.specs.Beyond.{Frame, LaterRule};
 
 // Writes the first tree of k over the span from i to j whose rule is beyond r. The result is the number of its nodes, 0 if there is none
 // within the budget.

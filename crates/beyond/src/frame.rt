@@ -10,7 +10,7 @@ use tables::layout::Tables;
 ghost use Prim.Native.Nat.{_<_, _≤_};
 ghost use lib.ListN.{length};
 ghost use Rattle.sizes.specs.Sizes.{maxRules, maxPlaces, side, cells};
-ghost use Rattle.advance.specs.Advance.{Frame, Made, RestMade};
+ghost use Rattle.beyond.specs.Beyond.{Frame, Made, RestMade};
 
 // Makes it, if it is not made.
 pub fn make(

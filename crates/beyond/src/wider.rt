@@ -11,7 +11,7 @@ use tables::layout::Tables;
 ghost use Prim.Native.Nat.{_+_, _<_, _≤_};
 ghost use lib.ListN.{length};
 ghost use Rattle.sizes.specs.Sizes.{maxRules, maxPlaces, side, cells, maxNodes, outputSize};
-ghost use Rattle.advance.specs.Advance.{Widened};
+ghost use Rattle.beyond.specs.Beyond.{Widened};
 
 // Writes the first row of the places of rule r from q on, from a to j inside a span from i to j, whose node of k ends beyond b. The
 // result is the number of its nodes, 0 if there is none within the budget.

@@ -9,7 +9,7 @@ use tables::layout::Tables;
 ghost use Prim.Native.Nat.{_+_, _<_, _≤_};
 ghost use lib.ListN.{length};
 ghost use Rattle.sizes.specs.Sizes.{maxRules, maxPlaces, side, cells, maxNodes, outputSize};
-ghost use Rattle.advance.specs.Advance.{Moved};
+ghost use Rattle.beyond.specs.Beyond.{Moved};
 
 // What follows the node of k from a to b at place q, which has moved and has m nodes: the first row of the places behind it. Where m is 0
 // it is as found and last, and a wider one is written.

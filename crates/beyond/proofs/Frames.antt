@@ -12,7 +12,7 @@ use Rattle.suffixes.specs.Rows.{RowsPut}
 use Rattle.solve.specs.Solve.{Solved}
 use Rattle.descend.specs.Descend.{Given, Below, MaybeSolved}
 use Rattle.descend.proofs.Given.{span-solved, rows-right}
-use Rattle.advance.specs.Advance.{Made, Frame}
+use Rattle.beyond.specs.Beyond.{Made, Frame}
 
 module _ {p : List ℕ} {rules : ℕ} {fits chart tables : List ℕ} {r i j mask : ℕ} where
   pub frame-unmade : {rows : List ℕ} → length rows ≡ rowsSize → Frame p rules fits chart tables r i j mask (replicate 32 65535) rows

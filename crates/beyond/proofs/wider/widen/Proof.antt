@@ -1,10 +1,10 @@
--- `advance::wider::widen` meets its contract.
+-- `beyond::wider::widen` meets its contract.
 -- Assumes nothing.
 use native.Mathlib.Omega.{arith}
 use borrow.Author.Needs.{needs}
-use Rattle.advance.proofs.ChildSteps.{widen-none, widen-some}
-use Rattle.advance.proofs.wider.widen.Statement.{statement}
-use Rattle.advance.proofs.wider.widen.Tie as tie
+use Rattle.beyond.proofs.WiderNodes.{widen-none, widen-some}
+use Rattle.beyond.proofs.wider.widen.Statement.{statement}
+use Rattle.beyond.proofs.wider.widen.Tie as tie
 
 returns : tie.Need-returns
 returns c = widen-none (search needs) (search needs) (search needs) (c .before .choose-end .ensures) (search needs)

@@ -7,11 +7,14 @@ use native.Mathlib.Decide.{ℕ-discrete, decLt}
 use native.Mathlib.Omega.{arith}
 use lib.ListN.{length, getD, length-append, List·getD-append}
 use lib.Seq.{getD-append-add}
-use Rattle.cfg.specs.Tree.{Forest}
-use Rattle.enumeration.specs.Order.{After, Last}
+use Rattle.cfg.specs.Grammar.{Cfg, nonterminal}
+use Rattle.cfg.specs.Tree.{Forest, nodes, code, Fits, fits-node}
+use Rattle.listing.proofs.Unique.{length-code}
+use Rattle.enumeration.specs.Rows.{Tree}
+use Rattle.enumeration.specs.Order.{Min, After, Last}
 use Rattle.standing.specs.Standing.{StandsAt}
 use Rattle.descend.specs.Descend.{FirstAt, Kept, NodePut}
-use Rattle.advance.specs.Advance.{AfterAt, NextAt}
+use Rattle.beyond.specs.Beyond.{AfterAt, NextAt}
 
 -- ---- what stands
 
@@ -48,6 +51,21 @@ put-stands {c} {r} {at} {buf = buf} P y h = go (ℕ-discrete y 0)
         let z : ¬ (y ≡ 0) = n in
         let e : y ≡ 1 = omega arith in
         ap (λ (x : ℕ). getD buf (2 * at + x) 0) e ∙ P .rule ∙ ap (λ (x : ℕ). getD (c ∷ r ∷ []) x 0) (sym e)
+
+-- ---- trees are not empty
+
+-- a tree has a node
+pub tree-nonempty : {G : Cfg} {k : ℕ} {x : Forest} → Fits G (nonterminal k ∷ []) x → 0 < nodes x
+unfolding nodes
+tree-nonempty (fits-node o b f) = omega arith
+
+-- so has the first one of a set of trees
+pub first-nonempty : {G : Cfg} {w : List ℕ} {cover set k a b budget m : ℕ} {e : List ℕ} → Min (Tree G w cover set k a b budget) e
+    → length e ≡ 2 * m → 0 < m
+first-nonempty {e = e} M size =
+    let t = M .found .forest in
+    let d : length (code t) ≡ length e = ap length (M .found .coded) in
+    omega (arith, length-code t, tree-nonempty (M .found .member .fit))
 
 -- ---- what is kept
 

@@ -1,0 +1,2 @@
+-- What comes beyond the derivation that stands.
+pub mod Beyond
