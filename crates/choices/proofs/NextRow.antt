@@ -4,7 +4,7 @@
 use Prim.Native.Nat.{ℕ, _+_, _-_, _*_, _≤_, _<_}
 use mathlib.Core.Bool.{Bool}
 use mathlib.Core.List.{List, [], _∷_, _++_}
-use mathlib.Core.Path.{_≡_, refl, sym, ap, subst}
+use mathlib.Core.Path.{_≡_, refl, sym, subst}
 use native.Mathlib.Omega.{arith}
 use lib.ListN.{length}
 use Rattle.cfg.specs.Grammar.{Cfg, Symbol, nonterminal, terminal, Terminal}
@@ -22,14 +22,6 @@ use Rattle.choices.specs.Opened.{OpenedLeaf, OpenedRow}
 use Rattle.choices.proofs.Ties.{suffix-atleast}
 use Rattle.choices.proofs.Row.{end-skipped, end-share}
 use Rattle.choices.proofs.Stands.{end-stands}
-
--- the row after another one has no more nodes than the budget
-pub next-within : {G : Cfg} {w : List ℕ} {cover set a b budget : ℕ} {places : List Symbol} {d e : List ℕ} (n : ℕ)
-    → After (Row G w cover set places a b budget) d e → length e ≡ 2 * n → n ≤ budget
-next-within {e = e} n m size =
-    let t = m .found .forest in
-    let d : length (code t) ≡ length e = ap length (m .found .coded) in
-    omega (arith, length-code t, m .found .member .small)
 
 -- ---- no places, and a terminal
 

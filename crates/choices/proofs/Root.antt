@@ -16,7 +16,7 @@ use Rattle.chart.proofs.SameRules.{SameRules, same-sym}
 use Rattle.chart.proofs.SameTrees.{fits-same-rules, has-same-rules, superfluous-same-rules}
 use Rattle.costs.specs.Span.{bytesOf, FreeRow, Least}
 use Rattle.costs.specs.Span.{Tree as SpanTree}
-use Rattle.costs.proofs.Span.{least-same, least-below}
+use Rattle.costs.proofs.Span.{least-below}
 use Rattle.enumeration.specs.Rows.{Row, Tree, Root}
 use Rattle.enumeration.specs.Order.{Min}
 use Rattle.enumeration.proofs.Prefixed.{Prefixed, prefixed-first}
@@ -52,12 +52,6 @@ module _ (G G' : Cfg) (same : SameRules G G') where
         up = λ t r. record { forest = t; member = row-same G G' same r; coded = refl };
         down = λ t r. (t, row-same G' G (same-sym G G' same) r, refl);
       }
-
-  pub least-same-rules : {bytes : ℕ → ℕ → Type 0} {M n : ℕ} {places : List Symbol} {a b v : ℕ}
-      → Least (FreeRow G bytes M n places a b) v → Least (FreeRow G' bytes M n places a b) v
-  least-same-rules = least-same
-      (λ t R. (t, free-same G G' same R, omega arith))
-      (λ t R. (t, free-same G' G (same-sym G G' same) R, omega arith))
 
   -- ---- the list L
 

@@ -4,14 +4,12 @@
 use Prim.Native.Nat.{ℕ, suc, _+_, _-_, _*_, _≤_, _<_}
 use mathlib.Core.Bool.{Bool, true}
 use mathlib.Core.List.{List, [], _∷_, _++_}
-use mathlib.Core.Path.{_≡_, sym, ap, subst}
+use mathlib.Core.Path.{_≡_, sym, subst}
 use native.Mathlib.Omega.{arith}
 use lib.ListN.{length}
 use Rattle.sizes.specs.Sizes.{tooMany}
 use Rattle.sets.specs.Set.{empty}
 use Rattle.cfg.specs.Grammar.{Cfg, Symbol, nonterminal, terminal, Terminal, fits}
-use Rattle.cfg.specs.Tree.{code}
-use Rattle.listing.proofs.Unique.{length-code}
 use Rattle.costs.specs.Cut.{Cut, cut-end, cut-leaf, cut-node, LeastCut, within}
 use Rattle.costs.specs.Span.{bytesOf, FreeTree, Least}
 use Rattle.costs.proofs.Within.{within-cases}
@@ -55,14 +53,6 @@ module _ {fit : ℕ → Terminal → Bool} {cost : ℕ → ℕ → ℕ → ℕ} 
       go : {u : ℕ} → u ≤ budget → Cut fit cost j (nonterminal k ∷ places) a u
           → (c : ℕ) × (a ≤ c) × (c ≤ j) × (cost k a c + rest c ≤ budget)
       go h (cut-node {v = later} c x y d e) = (c, x, y, let b = R c x y .below later d in omega arith)
-
--- the first row has no more nodes than the budget
-pub first-within : {G : Cfg} {w : List ℕ} {cover set a b budget : ℕ} {places : List Symbol} {e : List ℕ} (n : ℕ)
-    → Min (Row G w cover set places a b budget) e → length e ≡ 2 * n → n ≤ budget
-first-within {e = e} n m size =
-    let t = m .found .forest in
-    let d : length (code t) ≡ length e = ap length (m .found .coded) in
-    omega (arith, length-code t, m .found .member .small)
 
 module _ {G : Cfg} {w : List ℕ} {fit : ℕ → Terminal → Bool} {M i j : ℕ} {full : ℕ → ℕ} {least : ℕ → ℕ → ℕ → ℕ}
     (S : SpanCosts G w fit M i j full least) where

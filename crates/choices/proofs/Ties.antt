@@ -12,7 +12,7 @@ use Rattle.cfg.specs.Tree.{Forest, yield, nodes}
 use Rattle.costs.specs.Cut.{LeastCut, within}
 use Rattle.costs.specs.Span.{bytesOf, FreeTree}
 use Rattle.costs.specs.Solve.{PlainRow}
-use Rattle.costs.proofs.Span.{reads-slice, slice-reads, least-below}
+use Rattle.costs.proofs.Span.{slice-reads, least-below}
 use Rattle.costs.proofs.Within.{within-cases}
 use Rattle.costs.proofs.Rows.{leastcut-least}
 use Rattle.enumeration.specs.Rows.{Row, Tree}
@@ -28,10 +28,6 @@ module _ {G : Cfg} {w : List ℕ} {cover set : ℕ} {places : List Symbol} {a b 
     ),
     r .small,
   )
-
-  pub plain→row : PlainRow G (bytesOf w) set cover places a b f → nodes f ≤ budget → Row G w cover set places a b budget f
-  plain→row ((R, F), P) l =
-      record { fit = R .fitted; covers = reads-slice w known (R .reads); plain = P; free = F .none; small = l }
 
 module _ {G : Cfg} {w : List ℕ} {fit : ℕ → Terminal → Bool} {M i j : ℕ} {full : ℕ → ℕ} {least : ℕ → ℕ → ℕ → ℕ}
     (S : SpanCosts G w fit M i j full least) where

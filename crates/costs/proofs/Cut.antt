@@ -12,13 +12,6 @@ use Rattle.costs.specs.Lowest.{Lowest, None, Seen, seen-first, seen-at}
 use Rattle.costs.specs.Cut.{Cut, cut-end, cut-leaf, cut-node, First, LeastCut}
 use Rattle.costs.proofs.Lowest.{lowest-none, lowest-at, lowest-same, seen-step}
 
--- a cut goes forward
-pub cut-forward : {fit : ℕ → Terminal → Bool} {cost : ℕ → ℕ → ℕ → ℕ} {b : ℕ} {places : List Symbol} {a v : ℕ}
-    → Cut fit cost b places a v → a ≤ b
-cut-forward (cut-end e) = omega arith
-cut-forward (cut-leaf l q c) = omega arith
-cut-forward (cut-node c l m d e) = omega arith
-
 module _ {fit : ℕ → Terminal → Bool} {cost : ℕ → ℕ → ℕ → ℕ} {b : ℕ} where
   -- ---- no places
 

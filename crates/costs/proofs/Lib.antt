@@ -10,4 +10,3 @@ pub mod Rule
 pub mod Solve
 pub mod Plain
 pub mod Nodes
-pub mod Root

@@ -7,7 +7,7 @@ use mathlib.Core.List.{List, [], _∷_, append-nil}
 use mathlib.Core.Logic.{dite}
 use mathlib.Core.Option.{Option·some-injective}
 use mathlib.Core.Path.{_≡_, refl, sym, ap, _∙_, subst}
-use native.Mathlib.Decide.{ℕ-discrete, decLt}
+use native.Mathlib.Decide.{ℕ-discrete}
 use native.Mathlib.Omega.{arith}
 use lib.ListN.{length}
 use Rattle.sizes.specs.Sizes.{tooMany}
@@ -22,7 +22,7 @@ use Rattle.costs.specs.Lowest.{Lowest}
 use Rattle.costs.specs.Span.{Tells, Reads, Free, FreeTree, Least, Inside, Full}
 use Rattle.costs.specs.Rule.{NodeCost}
 use Rattle.costs.specs.Solve.{PlainRow, PlainTree}
-use Rattle.costs.proofs.Span.{reads-length, least-by, least-reached, least-below}
+use Rattle.costs.proofs.Span.{reads-length, least-reached, least-below}
 use Rattle.costs.proofs.Rows.{cut→row, row→cut}
 use Rattle.costs.proofs.Solve.{free-node, row→tree, tree-whole}
 use Rattle.costs.proofs.Plain.{row-shrinks, least-plain}
@@ -110,30 +110,6 @@ module _ {G : Cfg} {fit : ℕ → Terminal → Bool} {bytes : ℕ → ℕ → Ty
       let (u, c, m) = row→cut G tells (insert k M) i j full least inside (nodes below) (λ x t S _. least-below (exact .at x) t S)
       (R .fitted) i (R .reads) F (omega arith) (omega arith) in
       (suc u, record { under = u; cut = c; sum = refl }, omega arith)
-
-  -- the cost of a rule under the larger mask is the least number of nodes of a tree that has it at the top
-  pub rule-least : {r v : ℕ} (o : Of G r k) → has k M ≡ false → Lowest (NodeCost fit full least (o .the .places) i j) v
-      → Least (PlainNode G bytes M (j - i) r k i j) v
-  rule-least {r} {v} o e L = least-by (L .capped) (λ l. cost→node o e l (L .reached l)) below
-    where
-      at : (t f : Forest) → t ≡ node r f end → PlainTree G bytes M (j - i) k i j t → v ≤ nodes t
-      at t f q T =
-          let (u, p, m) = node→cost o (subst (PlainTree G bytes M (j - i) k i j) q T) in
-          let b = L .below u p in
-          let d : nodes t ≡ nodes (node r f end) = ap nodes q in
-          omega arith
-
-      below : (t : Forest) → PlainNode G bytes M (j - i) r k i j t → v ≤ nodes t
-      below t (T, (f, q)) = at t f q T
-
-  -- no rule costs less than the nonterminal does
-  pub rule-above : {r v x : ℕ} (o : Of G r k) → has k M ≡ false → Least (FreeTree G bytes M (j - i) k i j) x
-      → Lowest (NodeCost fit full least (o .the .places) i j) v → x ≤ v
-  rule-above {v = v} {x} o e X L = go (decLt v tooMany)
-    where
-      go : Dec (v < tooMany) → x ≤ v
-      go (yes l) = let (t, N, m) = cost→node o e l (L .reached l) in let b = least-below X t (N .0 .0) in omega arith
-      go (no l) = let c = X .capped in omega arith
 
   -- and one costs no more, where the nonterminal has a tree of few enough nodes
   pub rule-reaches : {x : ℕ} → Least (FreeTree G bytes M (j - i) k i j) x → x < tooMany

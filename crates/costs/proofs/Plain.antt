@@ -35,9 +35,6 @@ module _ {G : Cfg} {bytes : ℕ → ℕ → Type 0} {M n : ℕ} {places : List S
   pub least-plain : {v : ℕ} → Least (FreeRow G bytes M n places a b) v → Least (PlainRow G bytes M n places a b) v
   least-plain = least-same row-shrinks (λ f P. (f, P .0, omega arith))
 
-  pub plain-least : {v : ℕ} → Least (PlainRow G bytes M n places a b) v → Least (FreeRow G bytes M n places a b) v
-  plain-least = least-same (λ f P. (f, P .0, omega arith)) row-shrinks
-
 -- ---- without a mask
 
 pub free-empty : (G : Cfg) (n : ℕ) (f : Forest) → Free G empty n f

@@ -13,7 +13,7 @@ use Rattle.sizes.specs.Sizes.{tooMany}
 use Rattle.cfg.specs.Grammar.{Symbol, nonterminal, terminal, Terminal}
 use Rattle.costs.specs.Lowest.{Lowest, seen-first, seen-at}
 use Rattle.costs.specs.Cut.{Cut, LeastCut, within}
-use Rattle.costs.specs.Rule.{NodeCost, BareCost, single, together, others, alone, Through, Costs}
+use Rattle.costs.specs.Rule.{NodeCost, single, together, others, alone, Through, Costs}
 use Rattle.costs.proofs.Lowest.{lowest-same, lowest-capped, seen-skip, seen-step}
 use Rattle.costs.proofs.Cut.{cut-map}
 use Rattle.costs.proofs.Within.{within-whole, within-least}
@@ -111,15 +111,6 @@ module _ (fit : ℕ → Terminal → Bool) (full : ℕ → ℕ) (least : ℕ →
     pub rule-span : {v : ℕ} → Lowest (Costs fit empty full least places i j (length places)) v
         → Lowest (NodeCost fit full least places i j) v
     rule-span = lowest-same costs→node (λ u l p. (u, omega arith, node→costs u l p))
-
-    -- where no place can stand alone, a rule costs what it costs without a child over the whole span
-    pub rule-bare : {v : ℕ} → ((q k : ℕ) → getElem? places q ≡ some (nonterminal k) → tooMany ≤ alone empty places q + full k)
-        → Lowest (BareCost fit least places i j) v → Lowest (NodeCost fit full least places i j) v
-    rule-bare {v} n L = rule-span (lowest-same (λ u _ p. seen-first p) (λ u l c. (u, omega arith, only u l c)) L)
-      where
-        only : (u : ℕ) → u < tooMany → Costs fit empty full least places i j (length places) u → BareCost fit least places i j u
-        only u l (seen-first p) = p
-        only u l (seen-at q _ _ p) = let e = p .sum in absurd (omega (arith, n q (p .child) (p .place)))
 
 -- ---- the steps of the loop over the places; it starts at the cost without a child over the whole span, by `seen-start`
 

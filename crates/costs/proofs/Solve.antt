@@ -27,18 +27,6 @@ pub tree-whole : {G : Cfg} {k n : ℕ} {t : Forest} → Fits G (nonterminal k �
 unfolding yield
 tree-whole (fits-node {below = below} o g fits-end) e = has-here o (sym (ap length (append-nil (yield below))) ∙ e)
 
--- numbers that are none are sound
-pub sound-none : {G : Cfg} {bytes : ℕ → ℕ → Type 0} {M i j k v : ℕ} → tooMany ≤ v → SoundAt G bytes M i j k v
-sound-none l = record { reached = λ m. absurd (omega arith) }
-
--- a number of a nonterminal of the mask is none
-pub sound-masked : {G : Cfg} {bytes : ℕ → ℕ → Type 0} {M i j k v : ℕ} → has k M ≡ true → SoundAt G bytes M i j k v → tooMany ≤ v
-sound-masked {M = M} {i} {j} {k} {v} e S = go (decLt v tooMany)
-  where
-    go : Dec (v < tooMany) → tooMany ≤ v
-    go (yes l) = let (t, (R, F), _) = S .reached l in absurd (F .none k e (tree-whole (R .fitted) (omega (arith, reads-length (R .reads)))))
-    go (no l) = omega arith
-
 -- no lower number than the lowest
 pub settled-by : {fit : ℕ → Terminal → Bool} {full : ℕ → ℕ} {least : ℕ → ℕ → ℕ → ℕ} {places : List Symbol} {i j v x : ℕ}
     → Lowest (NodeCost fit full least places i j) v → x ≤ v → (u : ℕ) → NodeCost fit full least places i j u → x ≤ u

@@ -17,7 +17,7 @@ use Rattle.chart.specs.Cell.{fitsAt}
 use Rattle.chart.proofs.Slices.{slice-nil, slice-head}
 use Rattle.chart.proofs.Trees.{fits-at, at-fits}
 use Rattle.costs.proofs.Lowest.{lowest-unique}
-use Rattle.costs.specs.Span.{bytesOf, Tells, Reads, reads-end, reads-byte, Tree, Least, Inside}
+use Rattle.costs.specs.Span.{bytesOf, Tells, Reads, reads-end, reads-byte, Tree, Least}
 
 module _ {bytes : ℕ → ℕ → Type 0} where
   pub reads-length : {a b : ℕ} {u : List ℕ} → Reads bytes b a u → a + length u ≡ b
@@ -128,7 +128,3 @@ least-moved {a = a} b = least-same (λ t T. (t, tree-empty b T, omega arith)) (�
 pub least-empty : {G : Cfg} {bytes : ℕ → ℕ → Type 0} {k a b u v : ℕ} → Least (Tree G bytes k a a) u → Least (Tree G bytes k b b) v
     → u ≡ v
 least-empty {b = b} L M = lowest-unique (least-moved b L) M
-
-pub inside-empty : {G : Cfg} {bytes : ℕ → ℕ → Type 0} {i j b k e : ℕ} {least : ℕ → ℕ → ℕ → ℕ} → Inside G bytes i j least → i < j
-    → Least (Tree G bytes k b b) e → (a : ℕ) → i ≤ a → a ≤ j → least k a a ≡ e
-inside-empty {k = k} I h L a l m = least-empty (I .at k a a l (omega arith) m (omega arith)) L

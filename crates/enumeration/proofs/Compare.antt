@@ -13,7 +13,7 @@ use Rattle.cfg.specs.Grammar.{Cfg, Symbol}
 use Rattle.cfg.specs.Tree.{Forest, yield, code, Fits}
 use Rattle.cfg.specs.Derivation.{_≺_, first-less, first-same}
 use Rattle.listing.proofs.Order.{≺-asymmetric, ≺-append}
-use Rattle.listing.proofs.Unique.{row-unique, tree-unique}
+use Rattle.listing.proofs.Unique.{row-unique}
 
 -- ---- lists
 
@@ -74,9 +74,6 @@ module _ (G : Cfg) {places : List Symbol} {t u : Forest} (f : Fits G places t) (
     -- over the same bytes
     pub forests-compared : Ordered t u
     forests-compared = forests-ordered [] [] (ap (λ (l : List ℕ). l ++ []) e)
-
-    pub forests-same : code t ≡ code u → t ≡ u
-    forests-same = tree-unique G t u f g e
 
 -- ---- a first part and a rest
 

@@ -12,10 +12,10 @@ use Rattle.cfg.specs.Tree.{end, code}
 use Rattle.cfg.specs.Derivation.{_≺_}
 use Rattle.enumeration.specs.Rows.{Row, Tree, Below, Skipped, Share, SameSpan}
 use Rattle.enumeration.specs.Order.{None, Min}
-use Rattle.enumeration.proofs.Prefixed.{prefixed-first, prefixed-none}
+use Rattle.enumeration.proofs.Prefixed.{prefixed-first}
 use Rattle.enumeration.proofs.Layered.{layered-first, layered-none}
 use Rattle.enumeration.proofs.Joined.{joined-first}
-use Rattle.enumeration.proofs.Rows.{row-own, row-end, end-row, leaf-row, leaf-prefixed}
+use Rattle.enumeration.proofs.Rows.{row-own, row-end, end-row, leaf-prefixed}
 use Rattle.enumeration.proofs.Cuts.{row-layered, row-joined, skipped-none}
 use Rattle.enumeration.proofs.Nodes.{node-layered, rule-prefixed, rule-none}
 
@@ -29,10 +29,6 @@ module _ (G : Cfg) (w : List ℕ) (cover set from to budget : ℕ) (known : to �
   pub own-first : {c own : ℕ} (places : List Symbol) {e : List ℕ} → SameSpan cover set c own → c ≤ cover → from + c ≡ to
       → Min (Row G w c own places from to budget) e → Min (Row G w cover set places from to budget) e
   own-first places s l q = prefixed-first (row-own G w s l q known)
-
-  pub own-none : {c own : ℕ} (places : List Symbol) → SameSpan cover set c own → c ≤ cover → from + c ≡ to
-      → None (Row G w c own places from to budget) → None (Row G w cover set places from to budget)
-  own-none places s l q = prefixed-none (row-own G w s l q known)
 
   -- ---- no places
 
@@ -52,12 +48,6 @@ module _ (G : Cfg) (w : List ℕ) (cover set from to budget : ℕ) (known : to �
     pub leaf-first : (t : Terminal) {e : List ℕ} → from < to → fits t (getD w from 0) ≡ true
         → Min (Row G w cover set places (from + 1) to budget) e → Min (Row G w cover set (terminal t ∷ places) from to budget) e
     leaf-first t h f = prefixed-first (leaf-prefixed G w cover set from to budget places rising known t h f)
-
-    pub leaf-none : (t : Terminal) → (from < to → fits t (getD w from 0) ≡ true → None (Row G w cover set places (from + 1) to budget))
-        → None (Row G w cover set (terminal t ∷ places) from to budget)
-    leaf-none t n v r =
-        let x = leaf-row G w cover set from to budget places rising known t v r in
-        n (x .more) (x .fit) (x .rest) (x .row)
 
     -- ---- a nonterminal and the rest
 

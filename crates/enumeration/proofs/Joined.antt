@@ -11,7 +11,7 @@ use Rattle.cfg.specs.Tree.{Forest, nodes, code}
 use Rattle.cfg.specs.Derivation.{_≺_}
 use Rattle.listing.proofs.Order.{≺-asymmetric, ≺-append, ≺-after}
 use Rattle.listing.proofs.Unique.{length-code}
-use Rattle.enumeration.specs.Order.{Coded, None, Min, After, Last}
+use Rattle.enumeration.specs.Order.{Coded, Min, After, Last}
 use Rattle.enumeration.proofs.Compare.{Ordered, joined-cases}
 
 -- a code of a first part and a rest
@@ -33,11 +33,6 @@ pub coded-nodes : {P : Forest → Type 0} {e : List ℕ} {n : ℕ} (c : Coded P 
 coded-nodes c l = omega (arith, length-code (c .forest), ap length (c .coded))
 
 module _ {X Z : Forest → Type 0} {Y : ℕ → Forest → Type 0} (s : Joined X Y Z) where
-  pub joined-none : ((x y : Forest) → X x → Y (nodes x) y → ⊥) → None Z
-  joined-none n z q =
-      let p = s .split z q in
-      n (p .first) (p .rest) (p .first-in) (p .rest-in)
-
   module _ {d : List ℕ} {n : ℕ} (c : Coded X d) (size : length d ≡ 2 * n) where
     -- what completes the first part has the budget that its nodes leave
     in-rest : (x y : Forest) → Y (nodes x) y → x ≡ c .forest → Y n y

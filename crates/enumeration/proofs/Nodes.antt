@@ -2,7 +2,7 @@
 -- the nodes in layers by their rules.
 -- Assumes nothing.
 use Prim.Native.Nat.{ℕ, _+_, _-_, _≤_, _<_}
-use mathlib.Core.Bool.{true, false, true≢false}
+use mathlib.Core.Bool.{false}
 use mathlib.Core.List.{List, [], _∷_, append-nil}
 use mathlib.Core.Path.{_≡_, refl, sym, ap, subst, _∙_}
 use native.Mathlib.Omega.{arith}
@@ -113,11 +113,3 @@ module _ (G : Cfg) (w : List ℕ) (c set k from to budget : ℕ) where
     rule-none r n t a =
         let x = rule-opened r t a in
         n (x .of) (x .below) (x .row)
-
-    pub barred-none : has k set ≡ true → None (Tree G w c set k from to budget)
-    barred-none h t a = true≢false (sym h ∙ node-opened t a .fresh)
-
-    pub no-room-none : budget ≡ 0 → None (Tree G w c set k from to budget)
-    no-room-none e t a =
-        let x = node-opened t a .room in
-        omega arith

@@ -6,7 +6,7 @@ use mathlib.Core.Path.{_≡_, ap, _∙_}
 use Rattle.cfg.specs.Tree.{Forest, code}
 use Rattle.cfg.specs.Derivation.{_≺_}
 use Rattle.listing.proofs.Order.{≺-after}
-use Rattle.enumeration.specs.Order.{Coded, None, Min, After, Last}
+use Rattle.enumeration.specs.Order.{Coded, Min, After, Last}
 use Rattle.enumeration.proofs.Compare.{≺-cancel}
 
 -- the codes of Q are those of P with p before them
@@ -19,16 +19,6 @@ module _ {p : List ℕ} {P Q : Forest → Type 0} (s : Prefixed p P Q) where
   prefixed-coded c =
       let d = s .up (c .forest) (c .member) in
       record { forest = d .forest; member = d .member; coded = d .coded ∙ ap (λ (x : List ℕ). p ++ x) (c .coded) }
-
-  pub prefixed-none : None P → None Q
-  prefixed-none n u q =
-      let d = s .down u q in
-      n (d .0) (d .1)
-
-  pub none-prefixed : None Q → None P
-  none-prefixed n t q =
-      let c = s .up t q in
-      n (c .forest) (c .member)
 
   pub prefixed-first : {e : List ℕ} → Min P e → Min Q (p ++ e)
   prefixed-first {e} m = record { found = prefixed-coded (m .found); least = least }

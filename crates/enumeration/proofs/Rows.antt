@@ -12,7 +12,6 @@ use Rattle.cfg.specs.Grammar.{Cfg, Symbol, terminal, Terminal, fits}
 use Rattle.cfg.specs.Tree.{Forest, end, leaf, yield, nodes, code, Fits, fits-end, fits-leaf}
 use Rattle.cfg.specs.Derivation.{Superfluous}
 use Rattle.chart.proofs.Slices.{slice-nil, slice-head}
-use Rattle.shrinking.proofs.Shrink.{shrink}
 use Rattle.enumeration.specs.Rows.{Free, Row, SameSpan}
 use Rattle.enumeration.proofs.Prefixed.{Prefixed}
 use Rattle.enumeration.proofs.Free.{free-narrow, free-empty, end-plain, end-free, leaf-plain, leaf-free, after-plain, after-free}
@@ -27,23 +26,6 @@ module _ (G : Cfg) (w : List ℕ) where
   pub row-budget : {cover set from to budget other : ℕ} {places : List Symbol} {t : Forest} → Row G w cover set places from to budget t
       → nodes t ≤ other → Row G w cover set places from to other t
   row-budget r l = record { fit = r .fit; covers = r .covers; plain = r .plain; free = r .free; small = l }
-
-  -- a row that fits, and is free of the set, can be had without superfluous recursion
-  pub row-shrunk : {cover set from to budget : ℕ} {places : List Symbol} {t : Forest} → Fits G places t → yield t ≡ slice from to w
-      → Free G cover set t → nodes t ≤ budget → (u : Forest) × Row G w cover set places from to budget u × (nodes u ≤ nodes t)
-  row-shrunk {cover} f c z l =
-      let s = shrink G f in
-      let m = s .fewer in (
-        s .row,
-        record {
-          fit = s .fitted;
-          covers = s .same ∙ c;
-          plain = s .plain;
-          free = λ k h i. z k h (s .from k cover i);
-          small = omega arith;
-        },
-        m,
-      )
 
   -- ---- what matters of the set for a row over c bytes
 

@@ -6,17 +6,9 @@ use mathlib.Core.Path.{_≡_, ap, _∙_}
 use native.Mathlib.Omega.{arith}
 use lib.ListN.{length, getD, length-append, List·getD-append}
 use lib.Seq.{getD-append-add}
-use Rattle.cfg.specs.Tree.{Forest, nodes, code}
-use Rattle.listing.proofs.Unique.{length-code}
 use Rattle.standing.specs.Standing.{StandsAt}
 
 module _ (buf : List ℕ) (at : ℕ) where
-  -- the first node of what stands there, and what stands behind it
-  pub stands-cover : (c r : ℕ) (e : List ℕ) → StandsAt buf at (c ∷ r ∷ e) → getD buf (2 * at) 0 ≡ c
-  stands-cover c r e s =
-      let d : 2 * at ≡ 2 * at + 0 = omega arith in
-      ap (λ (x : ℕ). getD buf x 0) d ∙ s 0 (omega arith)
-
   pub stands-rule : (c r : ℕ) (e : List ℕ) → StandsAt buf at (c ∷ r ∷ e) → getD buf (2 * at + 1) 0 ≡ r
   stands-rule c r e s = s 1 (omega arith)
 
@@ -35,7 +27,3 @@ module _ (buf : List ℕ) (at : ℕ) where
   stands-second e f n l s y h =
       let d : 2 * (at + n) + y ≡ 2 * at + (length e + y) = omega arith in
       ap (λ (x : ℕ). getD buf x 0) d ∙ s (length e + y) (omega (arith, length-append e f)) ∙ getD-append-add e f y 0
-
-  -- the second of two forests stands as many nodes behind as the first has
-  pub stands-beside : (x : Forest) (f : List ℕ) → StandsAt buf at (code x ++ f) → StandsAt buf (at + nodes x) f
-  stands-beside x f = stands-second (code x) f (nodes x) (length-code x)
