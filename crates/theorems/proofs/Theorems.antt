@@ -16,7 +16,20 @@
 --   count-exact, count-more           N up to 4,096, "more" exactly above                              demand 3, third sentence
 --   no-derivation-exact, ..-larger    "no reading" exactly without a tree; 13 exactly with larger ones demand 3, last sentence
 --
--- That the code gives and leaves what openOf, takeOf, checkOf and the others say is each exported function's contract, in `src/`.
+-- That the code gives and leaves what these definitions say is each exported function's contract, an equality without a condition:
+--
+--   loader/src/lib.rt      load         loadOf
+--   recognizer/src/lib.rt  open         openOf
+--   recognizer/src/lib.rt  take         takeOf
+--   checker/src/lib.rt     check        checkOf
+--   checker/src/lib.rt     length       lengthOf
+--   checker/src/lib.rt     same_build   sameBuildOf
+--   first/src/lib.rt       first        firstOf
+--   next/src/lib.rt        next         nextOf
+--   count/src/lib.rt       count        countOf
+--
+-- `tools/trace-check` reads this table and fails if a call lacks its equality or has a `requires`. With the last three, demand-3 is a claim
+-- about the code's first, next and count.
 -- Assumes nothing.
 use Prim.Native.Nat.{ℕ, suc, _+_, _-_, _≤_, _<_}
 use mathlib.Core.Bool.{true, false}
