@@ -15,7 +15,7 @@ put-node-requires c κs =
     omega arith
 
 sub-row : tie.Need-sub-row
-sub-row c = c .before .before .before .before .before .before .before .open-node .ensures .room (omega arith)
+sub-row c = omega (arith, c .before .before .before .before .before .before .before .open-node .ensures .room (omega arith))
 
 row-requires : tie.Need-row-requires
 row-requires c κs =
