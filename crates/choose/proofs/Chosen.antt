@@ -4,7 +4,7 @@ use Prim.Native.Nat.{ℕ, _+_, _*_, _-_, _≤_, _<_}
 use mathlib.Core.Bool.{Bool, true, false}
 use mathlib.Core.List.{List}
 use mathlib.Core.Logic.{_≢_}
-use mathlib.Core.Path.{_≡_, sym, ap, subst, _∙_}
+use mathlib.Core.Path.{_≡_, sym, ap, _∙_}
 use native.Mathlib.Decide.{ℕ-discrete}
 use native.Mathlib.Omega.{arith}
 use borrow.Author.Tests.{leb-true, leb-false}
@@ -16,15 +16,15 @@ use Rattle.costs.proofs.Within.{within-whole, within-part}
 use Rattle.packed.specs.Packed.{leftIn, countIn, isNonterminalIn, valueIn}
 use Rattle.tables.specs.Layout.{costIn, fullIn}
 use Rattle.solve.specs.Solve.{RuleOver}
-use Rattle.choose.specs.Chosen.{Dear, Weighed, RulesPassed, RuleChosen, EndsPassed, EndChosen, sumAt}
+use Rattle.choose.specs.Chosen.{RuleBeyond, RuleTested, RulesPassed, RuleChosen, EndsPassed, EndChosen, sumAt}
 use Rattle.choose.specs.Chosen.{Looked, at-end, at-byte, no-byte, at-node, no-node}
 use Rattle.choose.specs.declared.look.Step.the-variants.{No, End, Byte, Node}
 
 -- ---- a rule
 
 module _ {p : List ℕ} {k : ℕ} {full tables : List ℕ} {i j budget : ℕ} where
-  pub weighed-other : {r l : ℕ} → l ≡ leftIn p r → l ≢ k → Weighed p k full tables i j budget r false
-  weighed-other e n = record {
+  pub tested-other : {r l : ℕ} → l ≡ leftIn p r → l ≢ k → RuleTested p k full tables i j budget r false
+  tested-other e n = record {
     yes = λ q. absurd (false≢true q);
     no = λ _. record { cost = λ q. absurd (n (e ∙ q)) };
   }
@@ -32,33 +32,34 @@ module _ {p : List ℕ} {k : ℕ} {full tables : List ℕ} {i j budget : ℕ} wh
       false≢true : false ≡ true → ⊥
       false≢true q = let z : _≡_ {A = ℕ} 0 1 = cc in omega arith
 
-  pub weighed-cost : {r l v n : ℕ} → l ≡ leftIn p r → l ≡ k → RuleOver p r full tables i j v → n ≡ v
-      → Weighed p k full tables i j budget r (leb n budget)
-  weighed-cost {r} {l} {v} {n} e q c f = record {
+  pub tested-cost : {r l v n : ℕ} → l ≡ leftIn p r → l ≡ k → RuleOver p r full tables i j v → n ≡ v
+      → RuleTested p k full tables i j budget r (leb n budget)
+  tested-cost {r} {l} {v} {n} e q c f = record {
     yes = λ t. record { left = sym e ∙ q; cost = v; over = c; within = let h = leb-true n budget t in omega arith };
     no = λ t. record { cost = λ _. (v, c, let h = leb-false n budget t in omega arith) };
   }
 
-  pub passed-none : {rules : ℕ} → RulesPassed p rules k full tables i j budget 0
-  passed-none = record { dear = λ s l _. absurd (omega arith) }
+  pub passed-none : {rules from : ℕ} → RulesPassed p rules from k full tables i j budget from
+  passed-none = record { start = omega arith; beyond = λ s u l _. absurd (omega arith) }
 
-  module _ {rules r : ℕ} where
-    pub passed-more : {b : Bool} → Weighed p k full tables i j budget r b → b ≡ false → RulesPassed p rules k full tables i j budget r
-        → RulesPassed p rules k full tables i j budget (r + 1)
-    passed-more W e P = record { dear = λ s l m. go s l m (ℕ-discrete s r) }
+  module _ {rules from r : ℕ} where
+    pub passed-more : {b : Bool} → RuleTested p k full tables i j budget r b → b ≡ false
+        → RulesPassed p rules from k full tables i j budget r → RulesPassed p rules from k full tables i j budget (r + 1)
+    passed-more W e P = record { start = omega (arith, P .start); beyond = λ s u l m. go s u l m (ℕ-discrete s r) }
       where
-        go : (s : ℕ) → s < r + 1 → s < rules → Dec (s ≡ r) → Dear p k full tables i j budget s
-        go s l m (yes q) = rw q (W .no e)
-        go s l m (no n) = let x : ¬ (s ≡ r) = n in P .dear s (omega arith) m
+        go : (s : ℕ) → from ≤ s → s < r + 1 → s < rules → Dec (s ≡ r) → RuleBeyond p k full tables i j budget s
+        go s u l m (yes q) = rw q (W .no e)
+        go s u l m (no n) = let x : ¬ (s ≡ r) = n in P .beyond s u (omega arith) m
 
-    pub rule-found : {b : Bool} → Weighed p k full tables i j budget r b → b ≡ true → RulesPassed p rules k full tables i j budget r
-        → RuleChosen p rules k full tables i j budget r
+    pub rule-found : {b : Bool} → RuleTested p k full tables i j budget r b → b ≡ true → RulesPassed p rules from k full tables i j budget r
+        → RuleChosen p rules from k full tables i j budget r
     rule-found W e P = record { fits = λ _. W .yes e; early = P }
 
-    pub rule-none : rules ≤ r → RulesPassed p rules k full tables i j budget r → RuleChosen p rules k full tables i j budget maxRules
-    rule-none h P = record {
+    pub rule-none : rules ≤ r → from ≤ maxRules → RulesPassed p rules from k full tables i j budget r
+        → RuleChosen p rules from k full tables i j budget maxRules
+    rule-none h f P = record {
       fits = λ l. absurd (omega arith);
-      early = record { dear = λ s _ m. P .dear s (omega arith) m };
+      early = record { start = f; beyond = λ s u _ m. P .beyond s u (omega arith) m };
     }
 
 -- ---- an end
@@ -77,23 +78,26 @@ module _ (tables full : List ℕ) (k i a j b : ℕ) where
       f ∙ sym (ap (λ (x : ℕ). within i j (fullIn full) (costIn tables) k x b) e
       ∙ ap (λ (x : ℕ). within i j (fullIn full) (costIn tables) k i x) d ∙ within-whole i j (fullIn full) (costIn tables) k)
 
-module _ {tables full : List ℕ} {k i a j : ℕ} {rows : List ℕ} {at budget : ℕ} where
-  pub ends-none : EndsPassed tables full k i a j rows at budget a
-  ends-none = record { dear = λ c l m n. absurd (omega arith) }
+module _ {tables full : List ℕ} {k i a from j : ℕ} {rows : List ℕ} {at budget : ℕ} where
+  pub ends-none : EndsPassed tables full k i a from j rows at budget from
+  ends-none = record { beyond = λ c l m n. absurd (omega arith) }
 
   -- v is the cost up to b, n that with the places behind
   module _ {b v n : ℕ} (e : v ≡ within i j (fullIn full) (costIn tables) k a b) (f : n ≡ v + getD rows (at + b) 0) where
-    pub ends-more : budget < n → EndsPassed tables full k i a j rows at budget b → EndsPassed tables full k i a j rows at budget (b + 1)
-    ends-more l P = record { dear = λ c x y z. go c x y z (ℕ-discrete c b) }
+    pub ends-more : budget < n → EndsPassed tables full k i a from j rows at budget b
+        → EndsPassed tables full k i a from j rows at budget (b + 1)
+    ends-more l P = record { beyond = λ c x y z. go c x y z (ℕ-discrete c b) }
       where
-        go : (c : ℕ) → a ≤ c → c < b + 1 → c ≤ j → Dec (c ≡ b) → budget < sumAt tables full k i a j rows at c
+        go : (c : ℕ) → from ≤ c → c < b + 1 → c ≤ j → Dec (c ≡ b) → budget < sumAt tables full k i a j rows at c
         go c x y z (yes q) = rw q (omega arith)
-        go c x y z (no d) = let w : ¬ (c ≡ b) = d in P .dear c x (omega arith) z
+        go c x y z (no d) = let w : ¬ (c ≡ b) = d in P .beyond c x (omega arith) z
 
-    pub end-found : a ≤ b → n ≤ budget → EndsPassed tables full k i a j rows at budget b → EndChosen tables full k i a j rows at budget b
+    pub end-found : from ≤ b → n ≤ budget → EndsPassed tables full k i a from j rows at budget b
+        → EndChosen tables full k i a from j rows at budget b
     end-found h l P = record { start = h; fits = λ _. omega arith; early = P }
 
-  pub end-none : {b : ℕ} → a ≤ b → j < b → EndsPassed tables full k i a j rows at budget b → EndChosen tables full k i a j rows at budget b
+  pub end-none : {b : ℕ} → from ≤ b → j < b → EndsPassed tables full k i a from j rows at budget b
+      → EndChosen tables full k i a from j rows at budget b
   end-none h l P = record { start = h; fits = λ m. absurd (omega arith); early = P }
 
 -- ---- what comes next
@@ -109,7 +113,7 @@ module _ {p : List ℕ} {r q : ℕ} {tables full rows : List ℕ} {i a j budget 
     pub look-short : t ≡ false → j ≤ a → Looked p r q tables full rows i a j budget No
     look-short n l = no-byte (omega arith) (sym f ∙ n) l
 
-    module _ {k b : ℕ} (y : t ≡ true) (g : k ≡ valueIn p r q) (C : EndChosen tables full k i a j rows (side * (q + 1)) budget b) where
+    module _ {k b : ℕ} (y : t ≡ true) (g : k ≡ valueIn p r q) (C : EndChosen tables full k i a a j rows (side * (q + 1)) budget b) where
       -- n is the cost of the places behind
       pub look-node : {n : ℕ} → b ≤ j → n ≡ getD rows (side * (q + 1) + b) 0
           → Looked p r q tables full rows i a j budget (Node k b (budget - n))

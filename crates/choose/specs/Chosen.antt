@@ -14,43 +14,44 @@ use Rattle.choose.specs.declared.look.Step.{Step}
 use Rattle.choose.specs.declared.look.Step.the-variants.{No, End, Byte, Node}
 
 -- rule r is of the nonterminal k and costs at most the budget over the span from i to j
-pub record Affordable (p : List ℕ) (k : ℕ) (full tables : List ℕ) (i j budget r : ℕ) : Type 0 where
+pub record RuleWithin (p : List ℕ) (k : ℕ) (full tables : List ℕ) (i j budget r : ℕ) : Type 0 where
   pub left : leftIn p r ≡ k
   pub cost : ℕ
   pub over : RuleOver p r full tables i j cost
   pub within : cost ≤ budget
 
 -- if rule r is of the nonterminal k, it costs more than the budget
-pub record Dear (p : List ℕ) (k : ℕ) (full tables : List ℕ) (i j budget r : ℕ) : Type 0 where
+pub record RuleBeyond (p : List ℕ) (k : ℕ) (full tables : List ℕ) (i j budget r : ℕ) : Type 0 where
   pub cost : leftIn p r ≡ k → (v : ℕ) × RuleOver p r full tables i j v × (budget < v)
 
 -- b says which of the two
-pub record Weighed (p : List ℕ) (k : ℕ) (full tables : List ℕ) (i j budget r : ℕ) (b : Bool) : Type 0 where
-  pub yes : b ≡ true → Affordable p k full tables i j budget r
-  pub no : b ≡ false → Dear p k full tables i j budget r
+pub record RuleTested (p : List ℕ) (k : ℕ) (full tables : List ℕ) (i j budget r : ℕ) (b : Bool) : Type 0 where
+  pub yes : b ≡ true → RuleWithin p k full tables i j budget r
+  pub no : b ≡ false → RuleBeyond p k full tables i j budget r
 
--- the rules before r, of those below `rules`, have been passed
-pub record RulesPassed (p : List ℕ) (rules k : ℕ) (full tables : List ℕ) (i j budget r : ℕ) : Type 0 where
-  pub dear : (s : ℕ) → s < r → s < rules → Dear p k full tables i j budget s
+-- the rules from `from` on and before r, of those below `rules`, have been passed
+pub record RulesPassed (p : List ℕ) (rules from k : ℕ) (full tables : List ℕ) (i j budget r : ℕ) : Type 0 where
+  pub start : from ≤ r
+  pub beyond : (s : ℕ) → from ≤ s → s < r → s < rules → RuleBeyond p k full tables i j budget s
 
--- r is the first rule below `rules` that is of k and within the budget; no number of a rule where there is none
-pub record RuleChosen (p : List ℕ) (rules k : ℕ) (full tables : List ℕ) (i j budget r : ℕ) : Type 0 where
-  pub fits : r < maxRules → Affordable p k full tables i j budget r
-  pub early : RulesPassed p rules k full tables i j budget r
+-- r is the first rule from `from` on and below `rules` that is of k and within the budget; no number of a rule where there is none
+pub record RuleChosen (p : List ℕ) (rules from k : ℕ) (full tables : List ℕ) (i j budget r : ℕ) : Type 0 where
+  pub fits : r < maxRules → RuleWithin p k full tables i j budget r
+  pub early : RulesPassed p rules from k full tables i j budget r
 
 -- what the nonterminal k from a to c costs together with the places behind it, whose costs stand in `rows` from `at` on
 abbrev pub sumAt : List ℕ → List ℕ → ℕ → ℕ → ℕ → ℕ → List ℕ → ℕ → ℕ → ℕ
 sumAt tables full k i a j rows at c = within i j (fullIn full) (costIn tables) k a c + getD rows (at + c) 0
 
--- up to each end from a on and before b that is more than the budget
-pub record EndsPassed (tables full : List ℕ) (k i a j : ℕ) (rows : List ℕ) (at budget b : ℕ) : Type 0 where
-  pub dear : (c : ℕ) → a ≤ c → c < b → c ≤ j → budget < sumAt tables full k i a j rows at c
+-- up to each end from `from` on and before b that is more than the budget
+pub record EndsPassed (tables full : List ℕ) (k i a from j : ℕ) (rows : List ℕ) (at budget b : ℕ) : Type 0 where
+  pub beyond : (c : ℕ) → from ≤ c → c < b → c ≤ j → budget < sumAt tables full k i a j rows at c
 
--- b is the first end from a on where that is within the budget; no position where there is none up to j
-pub record EndChosen (tables full : List ℕ) (k i a j : ℕ) (rows : List ℕ) (at budget b : ℕ) : Type 0 where
-  pub start : a ≤ b
+-- b is the first end from `from` on where that is within the budget; behind j where there is none up to j
+pub record EndChosen (tables full : List ℕ) (k i a from j : ℕ) (rows : List ℕ) (at budget b : ℕ) : Type 0 where
+  pub start : from ≤ b
   pub fits : b ≤ j → sumAt tables full k i a j rows at b ≤ budget
-  pub early : EndsPassed tables full k i a j rows at budget b
+  pub early : EndsPassed tables full k i a from j rows at budget b
 
 -- what comes next at place q of rule r from a on: the end of the row, a byte, or a node over the first end within the budget, with what
 -- the places behind it leave of the budget; nothing where there is no byte or no such end
@@ -59,7 +60,7 @@ pub data Looked (p : List ℕ) (r q : ℕ) (tables full rows : List ℕ) (i a j 
   at-byte : q < countIn p r → isNonterminalIn p r q ≡ false → a < j → Looked p r q tables full rows i a j budget Byte
   no-byte : q < countIn p r → isNonterminalIn p r q ≡ false → j ≤ a → Looked p r q tables full rows i a j budget No
   at-node : {k b share : ℕ} → q < countIn p r → isNonterminalIn p r q ≡ true → k ≡ valueIn p r q
-      → EndChosen tables full k i a j rows (side * (q + 1)) budget b → b ≤ j → share ≡ budget - getD rows (side * (q + 1) + b) 0
+      → EndChosen tables full k i a a j rows (side * (q + 1)) budget b → b ≤ j → share ≡ budget - getD rows (side * (q + 1) + b) 0
       → Looked p r q tables full rows i a j budget (Node k b share)
   no-node : {k b : ℕ} → q < countIn p r → isNonterminalIn p r q ≡ true → k ≡ valueIn p r q
-      → EndChosen tables full k i a j rows (side * (q + 1)) budget b → j < b → Looked p r q tables full rows i a j budget No
+      → EndChosen tables full k i a a j rows (side * (q + 1)) budget b → j < b → Looked p r q tables full rows i a j budget No

@@ -1,4 +1,4 @@
-// Where a child ends: at the first position up to which it costs, together with the places behind it, at most the budget.
+// Where a child ends: at the first position, from one on, up to which it costs, together with the places behind it, at most the budget.
 use numbers::wide;
 use suffixes::rows::Rows;
 use tables::layout::Full;
@@ -7,13 +7,14 @@ use tables::layout::cost;
 use tables::layout::full_of;
 ghost use mathlib.Core.Path.{_≡_};
 ghost use Prim.Native.Nat.{_+_, _<_, _≤_};
+ghost use Rattle.sizes.specs.Sizes.{side};
 ghost use Rattle.costs.specs.Cut.{within};
 ghost use Rattle.tables.specs.Layout.{costIn, fullIn, rowsSize};
 ghost use Rattle.choose.specs.Chosen.{EndChosen};
 
 // The cost of the nonterminal k from a to b inside a span from i to j: `full` over the whole of it, else what the least table says.
 fn piece(tables: &Tables, full: &Full, k: usize, i: usize, a: usize, j: usize, b: usize) -> u16
-    requires { ⌜ (i ≤ a) × (a ≤ b) × (b ≤ j) × (j < 65) ⌝ }
+    requires { ⌜ (i ≤ a) × (a ≤ b) × (b ≤ j) × (j < side) ⌝ }
     ensures { λ v. ⌜ v ≡ within i j (fullIn (now (full .entry))) (costIn (now (tables .entry))) k a b ⌝ }
 {
     if a != i {
@@ -32,23 +33,24 @@ fn sum(a: u16, b: u16) -> usize
     wide(a) + wide(b)
 }
 
-// The smallest end from a on such that the nonterminal k up to it and the places behind it cost at most the budget together; the
-// position behind the last where there is none up to j. The costs of those places stand in `rows` from `at` on.
+// The smallest end from `from` on such that the nonterminal k up to it and the places behind it cost at most the budget together; j + 1 if
+// there is none up to j. The costs of those places stand in `rows` from `at` on.
 pub fn choose_end(
     tables: &Tables,
     full: &Full,
     k: usize,
     i: usize,
     a: usize,
+    from: usize,
     j: usize,
     rows: &Rows,
     at: usize,
     budget: usize,
 ) -> usize
-    requires { ⌜ (i ≤ a) × (a ≤ j) × (j < 65) × (at + 65 ≤ rowsSize) ⌝ }
-    ensures { λ b. ⌜ EndChosen (now (tables .entry)) (now (full .entry)) k i a j (now (rows .entry)) at budget b ⌝ }
+    requires { ⌜ (i ≤ a) × (a ≤ from) × (from ≤ j + 1) × (j < side) × (at + side ≤ rowsSize) ⌝ }
+    ensures { λ b. ⌜ EndChosen (now (tables .entry)) (now (full .entry)) k i a from j (now (rows .entry)) at budget b ⌝ }
 {
-    let mut b = a;
+    let mut b = from;
     while b <= j {
         if sum(piece(tables, full, k, i, a, j, b), rows[at + b]) <= budget {
             return b;

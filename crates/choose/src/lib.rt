@@ -1,4 +1,4 @@
-// The choices of the first derivation, each decided by costs: which rule, which end, and what of the budget a child may have.
-mod ends;
+// The choices of a derivation, first or next, each decided by costs: which rule, which end, and what of the budget a child may have.
+pub mod ends;
 pub mod look;
 pub mod rule;

@@ -6,6 +6,7 @@ use suffixes::rows::Rows;
 use tables::layout::Full;
 use tables::layout::Tables;
 ghost use Prim.Native.Nat.{_<_, _≤_};
+ghost use Rattle.sizes.specs.Sizes.{maxRules, maxPlaces, side};
 ghost use Rattle.choose.specs.Chosen.{Looked};
 
 // What comes next in a row: nothing, its end, a byte, or a node of a nonterminal up to an end, with its share of the budget.
@@ -29,7 +30,7 @@ pub fn look(
     j: usize,
     budget: usize,
 ) -> Step
-    requires { ⌜ (r < 128) × (q ≤ 8) × (i ≤ a) × (a ≤ j) × (j < 65) ⌝ }
+    requires { ⌜ (r < maxRules) × (q ≤ maxPlaces) × (i ≤ a) × (a ≤ j) × (j < side) ⌝ }
     ensures { λ s. ⌜ Looked (now (p .entry)) r q (now (tables .entry)) (now (full .entry)) (now (rows .entry)) i a j budget s ⌝ }
 {
     if packed::count(p, r) <= q {
@@ -42,6 +43,7 @@ pub fn look(
             full,
             k,
             i,
+            a,
             a,
             j,
             rows,

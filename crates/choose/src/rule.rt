@@ -1,14 +1,15 @@
-// Which rule a node has: the first that costs at most the budget.
+// Which rule a node has: the first from a number on that costs at most the budget.
 use numbers::wide;
 use packed::Packed;
 use solve::rule_over;
 use tables::layout::Full;
 use tables::layout::Tables;
 ghost use Prim.Native.Nat.{_<_, _≤_};
-ghost use Rattle.choose.specs.Chosen.{Weighed, RuleChosen};
+ghost use Rattle.sizes.specs.Sizes.{maxRules, side};
+ghost use Rattle.choose.specs.Chosen.{RuleTested, RuleChosen};
 
 // Whether rule r is of the nonterminal k and costs at most the budget over the span.
-fn affords(
+fn within_budget(
     p: &Packed,
     k: usize,
     full: &Full,
@@ -18,8 +19,8 @@ fn affords(
     budget: usize,
     r: usize,
 ) -> bool
-    requires { ⌜ (r < 128) × (i ≤ j) × (j < 65) ⌝ }
-    ensures { λ b. ⌜ Weighed (now (p .entry)) k (now (full .entry)) (now (tables .entry)) i j budget r b ⌝ }
+    requires { ⌜ (r < maxRules) × (i ≤ j) × (j < side) ⌝ }
+    ensures { λ b. ⌜ RuleTested (now (p .entry)) k (now (full .entry)) (now (tables .entry)) i j budget r b ⌝ }
 {
     if packed::left(p, r) != k {
         return false;
@@ -27,10 +28,11 @@ fn affords(
     wide(rule_over(p, r, full, tables, i, j)) <= budget
 }
 
-// The smallest rule of k below `rules` that costs at most the budget over the span; 128 if there is none.
+// The smallest rule of k from `from` on and below `rules` that costs at most the budget over the span; 128 if there is none.
 pub fn choose_rule(
     p: &Packed,
     rules: usize,
+    from: usize,
     k: usize,
     full: &Full,
     tables: &Tables,
@@ -38,12 +40,12 @@ pub fn choose_rule(
     j: usize,
     budget: usize,
 ) -> usize
-    requires { ⌜ (rules ≤ 128) × (i ≤ j) × (j < 65) ⌝ }
-    ensures { λ r. ⌜ RuleChosen (now (p .entry)) rules k (now (full .entry)) (now (tables .entry)) i j budget r ⌝ }
+    requires { ⌜ (rules ≤ maxRules) × (from ≤ maxRules) × (i ≤ j) × (j < side) ⌝ }
+    ensures { λ r. ⌜ RuleChosen (now (p .entry)) rules from k (now (full .entry)) (now (tables .entry)) i j budget r ⌝ }
 {
-    let mut r = 0;
+    let mut r = from;
     while r < rules {
-        if affords(p, k, full, tables, i, j, budget, r) {
+        if within_budget(p, k, full, tables, i, j, budget, r) {
             return r;
         }
         r += 1;

@@ -2,10 +2,12 @@
 -- Assumes nothing.
 use Prim.Native.Nat.{ℕ, _-_, _≤_, _<_}
 use mathlib.Core.List.{List}
-use mathlib.Core.Path.{_≡_}
+use mathlib.Core.Path.{sym, subst}
+use native.Mathlib.Decide.{decLt}
 use native.Mathlib.Omega.{arith}
 use lib.ListN.{length, getD}
 use Rattle.sizes.specs.Sizes.{tooMany}
+use Rattle.cfg.specs.Grammar.{Symbol, Of}
 use Rattle.chart.specs.Cell.{cell, fitsAt}
 use Rattle.costs.specs.Lowest.{Lowest}
 use Rattle.costs.specs.Span.{bytesOf, FreeTree, Least, Inside}
@@ -21,6 +23,7 @@ use Rattle.suffixes.specs.Within.{tailIn, rowAt, Inside as Suffix}
 use Rattle.suffixes.specs.Rows.{RowsPut}
 use Rattle.solve.specs.Solve.{Solved, RuleOver}
 use Rattle.solve.proofs.Trees.{solved-full}
+use Rattle.choose.specs.Chosen.{RulesPassed}
 use Rattle.descend.specs.Descend.{Given}
 
 -- a nonterminal that has a tree has a rule
@@ -50,6 +53,25 @@ module _ {p : List ℕ} {rules : ℕ} {fits chart tables w : List ℕ} (G : Give
   pub rule-lowest : {r v : ℕ} {full : List ℕ} → RuleOver p r full tables i j v → leftIn p r < 32
       → Lowest (NodeCost (fitsAt w) (fullIn full) (costIn tables) (placesIn p r) i j) v
   rule-lowest O m = O .exact m (fitsAt w) (costIn tables) (λ n. G .exact .ready i j n l)
+
+  -- a rule of k that has been passed costs more than the budget
+  pub passed-dearer : {from k budget r : ℕ} {full : List ℕ} → RulesPassed p rules from k full tables i j budget r → (s : ℕ) → from ≤ s
+      → s < r → (o : Of (Packing p) s k)
+      → (v : ℕ) × Lowest (NodeCost (fitsAt w) (fullIn full) (costIn tables) (o .the .places) i j) v × (budget < v)
+  passed-dearer {k = k} {full = full} P s n m o =
+      let (u, c, d, f) = of-in 0 p s k o in
+      let (v, R, b) = P .beyond s n m (before u d) .cost c in (
+        v,
+        subst (λ (z : List Symbol). Lowest (NodeCost (fitsAt w) (fullIn full) (costIn tables) z i j) v) (sym f) (rule-lowest R d),
+        b,
+      )
+    where
+      before : s < 128 → leftIn p s < 32 → s < rules
+      before u d = go (decLt s rules)
+        where
+          go : Dec (s < rules) → s < rules
+          go (yes q) = q
+          go (no e) = let z = G .past s (omega arith) u in absurd (omega arith)
 
   pub rows-right : {r : ℕ} {full rows : List ℕ} → RowsPut p r fits tables full i j rows → (q c : ℕ) → q ≤ countIn p r → i ≤ c → c ≤ j
       → Suffix (fitsAt w) tables full i j (tailIn p r q) c (getD rows (rowAt 0 q c) 0)

@@ -2,34 +2,31 @@
 -- Assumes nothing.
 use Prim.Native.Nat.{ℕ, _+_, _-_, _≤_, _<_}
 use mathlib.Core.List.{List, _∷_}
-use mathlib.Core.Path.{_≡_, sym, ap, subst, _∙_}
-use native.Mathlib.Decide.{decLt}
+use mathlib.Core.Path.{_≡_, sym, subst, _∙_}
 use native.Mathlib.Omega.{arith}
 use lib.ListN.{length, getD}
+use Rattle.sizes.specs.Sizes.{maxRules, maxNodes}
 use Rattle.sets.specs.Set.{insert}
-use Rattle.cfg.specs.Grammar.{Symbol, Of}
+use Rattle.cfg.specs.Grammar.{Symbol}
 use Rattle.chart.specs.Cell.{fitsAt}
 use Rattle.costs.specs.Cut.{LeastCut, within}
-use Rattle.costs.specs.Lowest.{Lowest}
-use Rattle.costs.specs.Rule.{NodeCost}
 use Rattle.costs.specs.Span.{bytesOf, FreeTree, Least}
 use Rattle.enumeration.specs.Rows.{Row, Tree}
 use Rattle.enumeration.specs.Order.{Min}
 use Rattle.choices.specs.SpanCosts.{SpanCosts, Dearer}
 use Rattle.choices.proofs.Node.{rule-row, node-fresh, node-room, rule-exists, node-step}
-use Rattle.packed.specs.Packed.{leftIn, countIn, placesIn}
+use Rattle.packed.specs.Packed.{leftIn}
 use Rattle.packed.proofs.Laws.{places-start, of-in, in-of, in-of-places}
 use Rattle.tables.specs.Layout.{costIn, fullIn}
 use Rattle.tables.specs.Exact.{Packing}
 use Rattle.suffixes.specs.Within.{tailIn, rowAt}
-use Rattle.choose.specs.Chosen.{RuleChosen}
-use Rattle.descend.specs.Descend.{Given, Below, FirstAt, NodePut, NodeFirst, RowFirst, Opened}
+use Rattle.descend.specs.Descend.{Given, Below, NodePut, NodeFirst, RowFirst, Opened}
 use Rattle.descend.proofs.Codes.{kept-none, kept-open, first-open}
-use Rattle.descend.proofs.Given.{node-used, span-solved, rule-lowest, rows-right}
+use Rattle.descend.proofs.Given.{node-used, span-solved, rule-lowest, passed-dearer, rows-right}
 
 module _ {p : List ℕ} {rules : ℕ} {fits chart tables : List ℕ} {k i j mask own budget : ℕ} {full rows : List ℕ} {r : ℕ}
-    (h : i ≤ j) (small : budget ≤ 512) (e : k < 32 → own ≡ insert k mask)
-    (O : Opened p rules fits chart tables k i j own budget full rows r) where
+    (h : i ≤ j) (small : budget ≤ maxNodes) (e : k < 32 → own ≡ insert k mask)
+    (O : Opened p rules fits chart tables 0 k i j own budget full rows r) where
   -- ---- for an input with a tree within the budget
 
   module _ (w : List ℕ) (G : Given p rules fits chart tables w) (known : j ≤ length w) {x : ℕ}
@@ -48,24 +45,10 @@ module _ {p : List ℕ} {rules : ℕ} {fits chart tables : List ℕ} {k i j mask
 
     -- each rule of k before the one chosen costs more than the budget
     dearer : Dearer (Packing p) (fitsAt w) i j (fullIn full) (costIn tables) k budget r
-    dearer s m o =
-        let (u, c, d, f) = of-in 0 p s k o in
-        let (v, R, b) = O .chosen room .early .dear s m (before s u d) .cost c in (
-          v,
-          subst (λ (z : List Symbol). Lowest (NodeCost (fitsAt w) (fullIn full) (costIn tables) z i j) v) (sym f)
-              (rule-lowest G h known R d),
-          b,
-        )
-      where
-        before : (s : ℕ) → s < 128 → leftIn p s < 32 → s < rules
-        before s u d = go (decLt s rules)
-          where
-            go : Dec (s < rules) → s < rules
-            go (yes q) = q
-            go (no n) = let z = G .past s (omega arith) u in absurd (omega arith)
+    dearer s m o = passed-dearer G h known (O .chosen room .early) s (omega arith) m o
 
     -- so a rule is chosen
-    chosen-exists : 127 < r → ⊥
+    chosen-exists : maxRules ≤ r → ⊥
     chosen-exists m =
         let (s, o, f) = rule-exists mask under X l (omega arith) in
         let (u, c, d, g) = of-in 0 p s k o in
@@ -73,7 +56,7 @@ module _ {p : List ℕ} {rules : ℕ} {fits chart tables : List ℕ} {k i j mask
         let z = f v L in
         omega arith
 
-    module _ (m : r ≤ 127) where
+    module _ (m : r < maxRules) where
       left-used : leftIn p r < 32
       left-used =
           let a = O .chosen room .fits (omega arith) .left in
@@ -103,10 +86,10 @@ module _ {p : List ℕ} {rules : ℕ} {fits chart tables : List ℕ} {k i j mask
 
   -- ---- no rule, and a rule
 
-  pub node-none : {at : ℕ} {out : List ℕ} → 127 < r → NodeFirst p rules fits chart tables k i j mask budget at out out 0
+  pub node-none : {at : ℕ} {out : List ℕ} → maxRules ≤ r → NodeFirst p rules fits chart tables k i j mask budget at out out 0
   node-none m = record { kept = kept-none; exact = λ w G known x X l. absurd (chosen-exists w G known X l m) }
 
-  pub node-some : {at : ℕ} {out₀ out₁ out : List ℕ} {n : ℕ} → r ≤ 127 → NodePut (j - i) r at out₀ out₁
+  pub node-some : {at : ℕ} {out₀ out₁ out : List ℕ} {n : ℕ} → r < maxRules → NodePut (j - i) r at out₀ out₁
       → RowFirst p rules fits chart tables full rows r 0 i i j own (budget - 1) (at + 1) out₁ out n
       → NodeFirst p rules fits chart tables k i j mask budget at out₀ out (1 + n)
   node-some m P R = record {

@@ -6,7 +6,7 @@ use mathlib.Core.List.{List, [], _∷_}
 use mathlib.Core.Path.{_≡_, sym, ap, subst, _∙_}
 use native.Mathlib.Omega.{arith}
 use lib.ListN.{getD}
-use Rattle.sizes.specs.Sizes.{side}
+use Rattle.sizes.specs.Sizes.{side, maxNodes}
 use Rattle.chart.specs.Cell.{fitsAt}
 use Rattle.cfg.specs.Grammar.{Symbol, nonterminal, terminal}
 use Rattle.costs.specs.Cut.{LeastCut, within}
@@ -33,14 +33,14 @@ module _ (p : List ℕ) (r q : ℕ) (c : q < countIn p r) where
       let i : suc q ≡ q + 1 = omega arith in
       places-step p r q c ∙ ap (λ (x : Symbol). x ∷ tailIn p r (suc q)) e ∙ ap (λ (x : ℕ). s ∷ tailIn p r x) i
 
-  tail-terminal : isNonterminalIn p r q ≡ false → tailIn p r q ≡ terminal (terminalIn p r q) ∷ tailIn p r (q + 1)
+  pub tail-terminal : isNonterminalIn p r q ≡ false → tailIn p r q ≡ terminal (terminalIn p r q) ∷ tailIn p r (q + 1)
   tail-terminal n = tail-cons (terminal (terminalIn p r q)) (symbol-terminal p r q n)
 
-  tail-nonterminal : {k : ℕ} → isNonterminalIn p r q ≡ true → k ≡ valueIn p r q → tailIn p r q ≡ nonterminal k ∷ tailIn p r (q + 1)
+  pub tail-nonterminal : {k : ℕ} → isNonterminalIn p r q ≡ true → k ≡ valueIn p r q → tailIn p r q ≡ nonterminal k ∷ tailIn p r (q + 1)
   tail-nonterminal {k} n e = tail-cons (nonterminal k) (symbol-nonterminal p r q n ∙ ap (λ (x : ℕ). nonterminal x) (sym e))
 
 module _ {p : List ℕ} {rules : ℕ} {fits chart tables full rows : List ℕ} {r i j mask : ℕ} (q a budget : ℕ) (h : i ≤ a) (l : a ≤ j)
-    (room : budget ≤ 512) where
+    (room : budget ≤ maxNodes) where
   module _ {w : List ℕ} (B : Below p rules fits chart tables full rows r i j mask w) where
     -- the least cost of the places from q on, as another list
     cost-of : {places : List Symbol} → tailIn p r q ≡ places → q ≤ countIn p r
@@ -50,7 +50,7 @@ module _ {p : List ℕ} {rules : ℕ} {fits chart tables full rows : List ℕ} {
         (B .costs q a c h l)
 
     -- the least costs of the places behind q, from each start on
-    rests : q < countIn p r → Rests (fitsAt w) (within i j (fullIn full) (costIn tables)) (tailIn p r (q + 1)) a j
+    pub rests : q < countIn p r → Rests (fitsAt w) (within i j (fullIn full) (costIn tables)) (tailIn p r (q + 1)) a j
         (λ (c : ℕ). getD rows (side * (q + 1) + c) 0)
     rests c x m n =
         let e : rowAt 0 (q + 1) x ≡ side * (q + 1) + x = omega arith in
@@ -58,13 +58,13 @@ module _ {p : List ℕ} {rules : ℕ} {fits chart tables full rows : List ℕ} {
         (B .costs (q + 1) x (omega arith) (omega arith) n)
 
     -- where nothing comes next, the least cost is not within the budget
-    none-dear : Looked p r q tables full rows i a j budget No → getD rows (rowAt 0 q a) 0 ≤ budget → ⊥
-    none-dear (no-byte c n m) v =
+    none-within : Looked p r q tables full rows i a j budget No → getD rows (rowAt 0 q a) 0 ≤ budget → ⊥
+    none-within (no-byte c n m) v =
         let (x, _) = terminal-fits (cost-of (tail-terminal p r q c n) (omega arith)) v (omega arith) in
         omega arith
-    none-dear (no-node {k} {b} c n e C m) v =
+    none-within (no-node {k} {b} c n e C m) v =
         let (x, y, z, u) = end-exists (rests c) (cost-of (tail-nonterminal p r q c n e) (omega arith)) v (omega arith) in
-        let d = C .early .dear x y (omega arith) z in
+        let d = C .early .beyond x y (omega arith) z in
         omega arith
 
   -- ---- nothing, and the end
@@ -73,7 +73,7 @@ module _ {p : List ℕ} {rules : ℕ} {fits chart tables full rows : List ℕ} {
       → RowFirst p rules fits chart tables full rows r q a i j mask budget at out out 0
   row-none L e = record {
     kept = kept-none;
-    exact = λ w B c v. absurd (none-dear B (subst (Looked p r q tables full rows i a j budget) e L) v);
+    exact = λ w B c v. absurd (none-within B (subst (Looked p r q tables full rows i a j budget) e L) v);
   }
 
   pub row-end : {at : ℕ} {s : Step} {out : List ℕ} → Looked p r q tables full rows i a j budget s → s ≡ End
@@ -114,7 +114,7 @@ module _ {p : List ℕ} {rules : ℕ} {fits chart tables full rows : List ℕ} {
       (N : NodeFirst p rules fits chart tables k a b set share at out₀ out₁ m)
       (R : RowFirst p rules fits chart tables full rows r (q + 1) b i j mask (budget - m) (at + m) out₁ out n) where
     node-and-row : (w : List ℕ) → Below p rules fits chart tables full rows r i j mask w → q < countIn p r
-        → EndChosen tables full k i a j rows (side * (q + 1)) budget b → b ≤ j → share ≡ budget - getD rows (side * (q + 1) + b) 0
+        → EndChosen tables full k i a a j rows (side * (q + 1)) budget b → b ≤ j → share ≡ budget - getD rows (side * (q + 1) + b) 0
         → FirstAt (Row (Packing p) w (j - i) mask (nonterminal k ∷ tailIn p r (q + 1)) a j budget) out at (m + n)
     node-and-row w B c C x e =
         let f = C .fits x in
@@ -127,7 +127,7 @@ module _ {p : List ℕ} {rules : ℕ} {fits chart tables full rows : List ℕ} {
         (child-least (B .solved) h y x s) (omega arith) in
         let L = R .exact w B (omega arith) (omega arith) in
         first-join F L (R .kept) (λ u v M size Q. row-step (B .solved) m h y x (rests B c)
-        (λ z α β. C .early .dear z α β (omega arith)) s
+        (λ z α β. C .early .beyond z α β (omega arith)) s
         (subst (λ (z : ℕ). Min (Tree (Packing p) w (b - a) set k a b z) u) e M) size Q)
 
     pub row-node : {t : Step} → Looked p r q tables full rows i a j budget t → t ≡ Node k b share

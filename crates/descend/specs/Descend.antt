@@ -5,7 +5,7 @@ use mathlib.Core.List.{List}
 use mathlib.Core.Logic.{_≢_}
 use mathlib.Core.Path.{_≡_}
 use lib.ListN.{length, getD}
-use Rattle.sizes.specs.Sizes.{maxRules}
+use Rattle.sizes.specs.Sizes.{maxRules, tooMany}
 use Rattle.cfg.specs.Tree.{Forest}
 use Rattle.chart.specs.Cell.{cell, fitsAt}
 use Rattle.enumeration.specs.Rows.{Row, Tree}
@@ -72,9 +72,14 @@ pub record RowFirst (p : List ℕ) (rules : ℕ) (fits chart tables full rows : 
   pub exact : (w : List ℕ) → Below p rules fits chart tables full rows r i j mask w → q ≤ countIn p r
       → getD rows (rowAt 0 q a) 0 ≤ budget → FirstAt (Row (Packing p) w (j - i) mask (tailIn p r q) a j budget) out at n
 
--- what is made for a node within a budget: the costs over its span, its rule, and the costs of the rule's places
-pub record Opened (p : List ℕ) (rules : ℕ) (fits chart tables : List ℕ) (k i j own budget : ℕ) (full rows : List ℕ) (r : ℕ) : Type 0 where
+-- the costs over the span from i to j under the mask are right, or not made: then the first number is more than any cost
+pub record MaybeSolved (p : List ℕ) (rules cell mask : ℕ) (tables : List ℕ) (i j : ℕ) (full : List ℕ) : Type 0 where
+  pub made : getD full 0 0 ≤ tooMany → Solved p rules cell mask tables i j full
+
+-- what is made for a node within a budget: the costs over its span, its rule, the first from `from` on, and the costs of its places
+pub record Opened (p : List ℕ) (rules : ℕ) (fits chart tables : List ℕ) (from k i j own budget : ℕ) (full rows : List ℕ) (r : ℕ)
+    : Type 0 where
   pub room : r < maxRules → 0 < budget
   pub solved : 0 < budget → Solved p rules (cell chart i j) own tables i j full
-  pub chosen : 0 < budget → RuleChosen p rules k full tables i j budget r
+  pub chosen : 0 < budget → RuleChosen p rules from k full tables i j budget r
   pub costs : r < maxRules → RowsPut p r fits tables full i j rows

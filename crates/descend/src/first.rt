@@ -10,6 +10,7 @@ use tables::layout::ROWS_SIZE;
 use tables::layout::Tables;
 ghost use Prim.Native.Nat.{_+_, _<_, _≤_};
 ghost use lib.ListN.{length};
+ghost use Rattle.sizes.specs.Sizes.{maxRules, maxPlaces, side, cells, maxNodes, outputSize};
 ghost use Rattle.descend.specs.Descend.{NodeFirst, RowFirst};
 
 // Writes the first tree of the nonterminal k over the span from i to j within the budget, in which no nonterminal of the mask stands over
@@ -28,12 +29,13 @@ pub fn node(
     out: &mut [u16],
     at: usize,
 ) -> usize
-    requires { ⌜ (rules ≤ 128) × (i ≤ j) × (j < 65) × (4225 ≤ length (now chart)) × (at + budget ≤ 512) × (1024 ≤ length (now out)) ⌝ }
+    requires { ⌜ (rules ≤ maxRules) × (i ≤ j) × (j < side) × (cells ≤ length (now chart)) × (at + budget ≤ maxNodes)
+        × (outputSize ≤ length (now out)) ⌝ }
     ensures { λ n. ⌜ NodeFirst (now (p .entry)) rules (now (fits .entry)) (now (chart .entry)) (now (tables .entry)) k i j mask budget at
         (now (out .entry)) (now (out .exit)) n ⌝ }
 {
     let own = open::own_set(mask, k);
-    let mut full = [0u16; sizes::NONTERMINALS];
+    let mut full = [open::UNMADE; sizes::NONTERMINALS];
     let mut rows = [0u16; ROWS_SIZE];
     let r = open::open_node(
         p,
@@ -41,6 +43,7 @@ pub fn node(
         fits,
         chart,
         tables,
+        0,
         k,
         i,
         j,
@@ -49,7 +52,7 @@ pub fn node(
         &mut full,
         &mut rows,
     );
-    if r > 127 {
+    if r >= sizes::MAX_RULES {
         return 0;
     }
     open::put_node(j - i, r, out, at);
@@ -74,8 +77,7 @@ pub fn node(
         )
 }
 
-// Writes the first row of the places of rule r from q on, from a to j inside a span from i to j, within the budget. The result is the
-// number of its nodes.
+// Writes the first row of the places of rule r from q on, from a to j inside i to j, within the budget. The result is its number of nodes.
 pub fn row(
     p: &Packed,
     rules: usize,
@@ -94,8 +96,8 @@ pub fn row(
     out: &mut [u16],
     at: usize,
 ) -> usize
-    requires { ⌜ (rules ≤ 128) × (r < 128) × (q ≤ 8) × (i ≤ a) × (a ≤ j) × (j < 65) × (4225 ≤ length (now chart)) × (at + budget ≤ 512)
-        × (1024 ≤ length (now out)) ⌝ }
+    requires { ⌜ (rules ≤ maxRules) × (r < maxRules) × (q ≤ maxPlaces) × (i ≤ a) × (a ≤ j) × (j < side) × (cells ≤ length (now chart))
+        × (at + budget ≤ maxNodes) × (outputSize ≤ length (now out)) ⌝ }
     ensures { λ n. ⌜ RowFirst (now (p .entry)) rules (now (fits .entry)) (now (chart .entry)) (now (tables .entry)) (now (full .entry))
         (now (rows .entry)) r q a i j mask budget at (now (out .entry)) (now (out .exit)) n ⌝ }
 {

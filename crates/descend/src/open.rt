@@ -1,6 +1,7 @@
 // What a node needs before its row is written: the costs over its span, its rule, and the costs of the rule's places.
 use choose::rule::choose_rule;
 use fit::FitTable;
+use numbers::wide;
 use packed::Packed;
 use solve::solve;
 use suffixes::rows::Rows;
@@ -10,14 +11,17 @@ use tables::layout::Tables;
 ghost use mathlib.Core.Path.{_≡_};
 ghost use Prim.Native.Nat.{_-_, _<_, _≤_};
 ghost use lib.ListN.{length};
+ghost use Rattle.sizes.specs.Sizes.{maxRules, nonterminals, side, cells, maxNodes, outputSize};
 ghost use Rattle.sets.specs.Set.{insert};
 ghost use Rattle.enumeration.specs.Rows.{SameSpan};
 ghost use Rattle.tables.specs.Layout.{rowsSize};
-ghost use Rattle.descend.specs.Descend.{NodePut, Opened};
+ghost use Rattle.chart.specs.Cell.{cell};
+ghost use Rattle.solve.specs.Solve.{Solved};
+ghost use Rattle.descend.specs.Descend.{NodePut, MaybeSolved, Opened};
 
 // The mask with the nonterminal k in it.
 pub fn own_set(mask: u32, k: usize) -> u32
-    ensures { λ set. ⌜ (k < 32 → set ≡ insert k mask) ⌝ }
+    ensures { λ set. ⌜ (k < nonterminals → set ≡ insert k mask) ⌝ }
 {
     if k < sizes::NONTERMINALS {
         sets::with(mask, k)
@@ -35,21 +39,46 @@ pub fn child_set(cover: usize, mask: u32, c: usize) -> u32
 
 // Writes the numbers of node `at`: how many bytes it covers, and its rule.
 pub fn put_node(c: usize, r: usize, out: &mut [u16], at: usize)
-    requires { ⌜ (c < 65) × (r < 128) × (at < 512) × (1024 ≤ length (now out)) ⌝ }
+    requires { ⌜ (c < side) × (r < maxRules) × (at < maxNodes) × (outputSize ≤ length (now out)) ⌝ }
     ensures { λ _. ⌜ NodePut c r at (now (out .entry)) (now (out .exit)) ⌝ }
 {
     out[2 * at] = c as u16;
     out[2 * at + 1] = r as u16;
 }
 
-// Makes the costs over the span from i to j under the mask `own`, and those of the places of the first rule of k that they allow within
-// the budget. The result is that rule, 128 if there is none.
+// Stands in front of costs that are not made: no cost is as large.
+pub const UNMADE: u16 = 65535;
+
+// Makes the costs over the span from i to j under the mask, if they are not made.
+pub fn make_costs(
+    p: &Packed,
+    rules: usize,
+    chart: &[u32],
+    mask: u32,
+    tables: &Tables,
+    i: usize,
+    j: usize,
+    full: &mut Full,
+)
+    requires { ⌜ (rules ≤ maxRules) × (i ≤ j) × (j < side) × (cells ≤ length (now chart)) × (length (now full) ≡ nonterminals)
+        × MaybeSolved (now p) rules (cell (now chart) i j) mask (now tables) i j (now full) ⌝ }
+    ensures { λ _.
+        ⌜ Solved (now (p .entry)) rules (cell (now (chart .entry)) i j) mask (now (tables .entry)) i j (now (full .exit)) ⌝ }
+{
+    if wide(full[0]) > sizes::TOO_MANY {
+        *full = solve(p, rules, chart[sizes::SIDE * i + j], mask, tables, i, j);
+    }
+}
+
+// Makes the costs over the span from i to j under the mask `own`, if they are not made, and those of the places of the first rule of k
+// from `from` on that they allow within the budget. The result is that rule, 128 if there is none.
 pub fn open_node(
     p: &Packed,
     rules: usize,
     fits: &FitTable,
     chart: &[u32],
     tables: &Tables,
+    from: usize,
     k: usize,
     i: usize,
     j: usize,
@@ -58,16 +87,18 @@ pub fn open_node(
     full: &mut Full,
     rows: &mut Rows,
 ) -> usize
-    requires { ⌜ (rules ≤ 128) × (i ≤ j) × (j < 65) × (4225 ≤ length (now chart)) × (length (now rows) ≡ rowsSize) ⌝ }
-    ensures { λ r. ⌜ Opened (now (p .entry)) rules (now (fits .entry)) (now (chart .entry)) (now (tables .entry)) k i j own budget
+    requires { ⌜ (rules ≤ maxRules) × (from ≤ maxRules) × (i ≤ j) × (j < side) × (cells ≤ length (now chart))
+        × (length (now full) ≡ nonterminals) × (length (now rows) ≡ rowsSize)
+        × MaybeSolved (now p) rules (cell (now chart) i j) own (now tables) i j (now full) ⌝ }
+    ensures { λ r. ⌜ Opened (now (p .entry)) rules (now (fits .entry)) (now (chart .entry)) (now (tables .entry)) from k i j own budget
         (now (full .exit)) (now (rows .exit)) r ⌝ }
 {
     if budget == 0 {
         return sizes::MAX_RULES;
     }
-    *full = solve(p, rules, chart[sizes::SIDE * i + j], own, tables, i, j);
-    let r = choose_rule(p, rules, k, full, tables, i, j, budget);
-    if r > 127 {
+    make_costs(p, rules, chart, own, tables, i, j, full);
+    let r = choose_rule(p, rules, from, k, full, tables, i, j, budget);
+    if r >= sizes::MAX_RULES {
         return r;
     }
     put_rows(p, r, fits, tables, full, i, j, rows);

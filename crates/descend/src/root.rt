@@ -5,6 +5,8 @@ use packed::Packed;
 use tables::layout::Tables;
 ghost use Prim.Native.Nat.{_<_, _≤_};
 ghost use lib.ListN.{length};
+ghost use Rattle.sizes.specs.Sizes.{maxRules, side, cells, maxNodes, outputSize};
+ghost use Rattle.sets.specs.Set.{empty};
 ghost use Rattle.descend.specs.Descend.{NodeFirst};
 
 // Writes the first derivation of the input of n bytes from the nonterminal `start`. The result is the number of its nodes.
@@ -18,9 +20,9 @@ pub fn first_of(
     n: usize,
     out: &mut [u16],
 ) -> usize
-    requires { ⌜ (rules ≤ 128) × (n < 65) × (4225 ≤ length (now chart)) × (1024 ≤ length (now out)) ⌝ }
-    ensures { λ m. ⌜ NodeFirst (now (p .entry)) rules (now (fits .entry)) (now (chart .entry)) (now (tables .entry)) start 0 n 0 512 0
-        (now (out .entry)) (now (out .exit)) m ⌝ }
+    requires { ⌜ (rules ≤ maxRules) × (n < side) × (cells ≤ length (now chart)) × (outputSize ≤ length (now out)) ⌝ }
+    ensures { λ m. ⌜ NodeFirst (now (p .entry)) rules (now (fits .entry)) (now (chart .entry)) (now (tables .entry))
+        start 0 n empty maxNodes 0 (now (out .entry)) (now (out .exit)) m ⌝ }
 {
     node(
         p,

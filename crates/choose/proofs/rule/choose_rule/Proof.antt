@@ -9,13 +9,13 @@ use Rattle.choose.proofs.rule.choose_rule.Statement.{statement}
 use Rattle.choose.proofs.rule.choose_rule.Tie as tie
 
 abbrev Inv-loop : tie.InvT-loop
-Inv-loop p rules k full tables i j budget r₀ r = RulesPassed p rules k full tables i j budget r
+Inv-loop p rules from k full tables i j budget r₀ r = RulesPassed p rules from k full tables i j budget r
 
 abbrev μ-loop : tie.MeasureT-loop
-μ-loop p rules k full tables i j budget r₀ r = rules - r
+μ-loop p rules from k full tables i j budget r₀ r = rules - r
 
 loop-again : tie.Need-loop-again Inv-loop μ-loop
-loop-again c = passed-more (c .before .affords .ensures) (c .if1 .left) (c .before .before .before .loop .inv)
+loop-again c = passed-more (c .before .within-budget .ensures) (c .if1 .left) (c .before .before .before .loop .inv)
 
 pub choose-rule-spec : {M : Type 1} → statement M
 choose-rule-spec =

@@ -6,6 +6,7 @@ use native.Mathlib.Omega.{arith}
 use borrow.Author.Needs.{needs}
 use borrow.Fn.Kinds.{In}
 use borrow.Fn.PlainCycle.{Measures, is, falls, and}
+use Rattle.descend.proofs.Opening.{maybe-unmade}
 use Rattle.descend.proofs.RowSteps.{row-none, row-end, row-byte, row-node, byte-room, node-room}
 use Rattle.descend.proofs.NodeSteps.{node-none, node-some}
 use Rattle.descend.proofs.first.node.Reads as node
@@ -76,7 +77,7 @@ node-put-node-requires : (t : ℕ) → node-lts.Need-put-node-requires (node-cal
 node-put-node-requires t c κs = let o = c .before .before .open-node .ensures .room (omega arith) in omega arith
 
 node-sub-row : (t : ℕ) → node-lts.Need-sub-row (node-calls t) (node-at t) node.Post
-node-sub-row t c = c .before .before .before .before .before .before .before .open-node .ensures .room (omega arith)
+node-sub-row t c = omega (arith, c .before .before .before .before .before .before .before .open-node .ensures .room (omega arith))
 
 node-row-requires : (t : ℕ) → node-lts.Need-row-requires (node-calls t) (node-at t) node.Post
 node-row-requires t c κs =
@@ -168,7 +169,7 @@ pub +node+row-spec : {M : Type 1} → statement M
     (node-at t)
     node.Post
     (λ c κs. search needs)
-    (λ c κs. search needs)
+    (λ c κs. search (needs, maybe-unmade))
     (node-returns t)
     (λ c. search needs)
     (node-put-node-requires t)

@@ -10,10 +10,6 @@ open-node-spec =
     tie.close
     (tie.spec
     (λ c. search (needs, opened-empty))
-    (λ c. search needs)
-    (λ c. search needs)
-    (λ c. search needs)
-    (λ c. search needs)
     (λ c κs. search needs)
     (λ c κs. search needs)
     (λ c. search (needs, opened-none))

@@ -1,0 +1,107 @@
+-- What stands at a place and at a node, by the tests that the code makes, and what a row that stands there says of it.
+-- Assumes nothing.
+use Prim.Native.Nat.{ℕ, _+_, _*_, _≤_, _<_}
+use mathlib.Core.Bool.{Bool, true, false}
+use mathlib.Core.List.{List, [], _∷_, _++_}
+use mathlib.Core.Path.{_≡_, refl, sym, ap, subst, _∙_}
+use native.Mathlib.Omega.{arith}
+use lib.ListN.{length, getD}
+use Rattle.sizes.specs.Sizes.{maxPlaces, maxNodes}
+use Rattle.cfg.specs.Grammar.{Cfg, Symbol, nonterminal}
+use Rattle.cfg.specs.Tree.{Forest, nodes, code, Fits, fits-node}
+use Rattle.listing.proofs.Unique.{length-code}
+use Rattle.enumeration.specs.Rows.{Row, Tree}
+use Rattle.enumeration.specs.Order.{Min}
+use Rattle.choices.specs.Opened.{OpenedRow}
+use Rattle.choices.proofs.Stands.{row-opened}
+use Rattle.packed.specs.Packed.{countIn, isNonterminalIn, valueIn}
+use Rattle.packed.proofs.Laws.{count-le}
+use Rattle.standing.specs.Standing.{StandsAt, Sized}
+use Rattle.standing.proofs.Stands.{stands-first}
+use Rattle.tables.specs.Exact.{Packing}
+use Rattle.advance.specs.declared.look.Step.{Step}
+use Rattle.advance.specs.declared.look.Step.the-variants.{No, End, Byte, Node}
+use Rattle.advance.specs.Looked.{Looked, at-end, at-byte, no-byte, at-node, no-room, no-node}
+
+-- ---- the tests
+
+module _ {p : List ℕ} {r q : ℕ} {buf : List ℕ} {at a j budget m : ℕ} (e : m ≡ countIn p r) where
+  pub look-end : m ≤ q → Looked p r q buf at a j budget End
+  look-end h = at-end (omega arith)
+
+  module _ {t : Bool} (h : q < m) (f : t ≡ isNonterminalIn p r q) where
+    pub look-byte : t ≡ false → a < j → Looked p r q buf at a j budget Byte
+    look-byte n l = at-byte (omega arith) (sym f ∙ n) l
+
+    pub look-short : t ≡ false → j ≤ a → Looked p r q buf at a j budget No
+    look-short n l = no-byte (omega arith) (sym f ∙ n) l
+
+    pub look-no-room : t ≡ true → budget ≡ 0 → Looked p r q buf at a j budget No
+    look-no-room y l = no-room (omega arith) (sym f ∙ y) l
+
+    -- c is the number of bytes that the node covers, s that of its nodes
+    module _ {c s : ℕ} (y : t ≡ true) (d : c ≡ getD buf (2 * at) 0) (Z : Sized p buf at s) where
+      pub look-node : {k : ℕ} → k ≡ valueIn p r q → a + c ≤ j → s ≤ budget → Looked p r q buf at a j budget (Node k (a + c) s)
+      look-node g l n = at-node (omega arith) (sym f ∙ y) g (ap (λ (x : ℕ). a + x) d) Z l n
+
+      pub look-large : budget < s → Looked p r q buf at a j budget No
+      look-large l = no-node (omega arith) (sym f ∙ y) (ap (λ (x : ℕ). a + x) d) Z (λ _. l)
+
+      pub look-beyond : j < a + c → Looked p r q buf at a j budget No
+      look-beyond l = no-node (omega arith) (sym f ∙ y) (ap (λ (x : ℕ). a + x) d) Z (λ n. absurd (omega arith))
+
+-- where the row stands next
+module _ {p : List ℕ} {r q : ℕ} {buf : List ℕ} {at a j budget : ℕ} {s : Step} (L : Looked p r q buf at a j budget s) where
+  pub byte-room : s ≡ Byte → (q < maxPlaces) × (a < j)
+  byte-room e = go (subst (Looked p r q buf at a j budget) e L)
+    where
+      go : Looked p r q buf at a j budget Byte → (q < maxPlaces) × (a < j)
+      go (at-byte c t m) = (omega (arith, count-le p r), m)
+
+  pub node-room : {k b n : ℕ} → s ≡ Node k b n → (q < maxPlaces) × (a ≤ b) × (b ≤ j) × (n ≤ budget) × (at + n ≤ maxNodes)
+  node-room {k} {b} {n} e = go (subst (Looked p r q buf at a j budget) e L)
+    where
+      go : Looked p r q buf at a j budget (Node k b n) → (q < maxPlaces) × (a ≤ b) × (b ≤ j) × (n ≤ budget) × (at + n ≤ maxNodes)
+      go (at-node c t g d Z x y) = (omega (arith, count-le p r), omega arith, x, y, omega (arith, Z .small))
+
+-- ---- what stands
+
+-- a tree has a node
+pub tree-nonempty : {G : Cfg} {k : ℕ} {x : Forest} → Fits G (nonterminal k ∷ []) x → 0 < nodes x
+unfolding nodes
+tree-nonempty (fits-node o b f) = omega arith
+
+-- so has the first one of a set of trees
+pub first-nonempty : {G : Cfg} {w : List ℕ} {cover set k a b budget m : ℕ} {e : List ℕ} → Min (Tree G w cover set k a b budget) e
+    → length e ≡ 2 * m → 0 < m
+first-nonempty {e = e} M size =
+    let t = M .found .forest in
+    let d : length (code t) ≡ length e = ap length (M .found .coded) in
+    omega (arith, length-code t, tree-nonempty (M .found .member .fit))
+
+module _ {G : Cfg} {w : List ℕ} {cover set k : ℕ} {places : List Symbol} {a j budget : ℕ} {f : Forest} (buf : List ℕ) (at : ℕ)
+    (S : StandsAt buf at (code f)) where
+  -- the first number of a node that stands there says where it ends
+  pub opened-here : {b : ℕ} → j ≤ length w → a ≤ j → Row G w cover set (nonterminal k ∷ places) a j budget f → b ≡ a + getD buf (2 * at) 0
+      → (x y : Forest) × OpenedRow G w cover set k places a j budget f b x y
+  opened-here {b} known l R e =
+      let (x, y, o) = row-opened known l (a + getD (code f) 0 0) R refl in
+      let n = o .counted in
+      let z : 2 * at ≡ 2 * at + 0 = omega arith in
+      let d : getD buf (2 * at) 0 ≡ getD (code f) 0 0 = ap (λ (v : ℕ). getD buf v 0) z
+      ∙ S 0 (omega (arith, length-code f, tree-nonempty (o .child .fit))) in
+      row-opened known l b R (e ∙ ap (λ (v : ℕ). a + v) d)
+
+  module _ {b : ℕ} {x y : Forest} (o : OpenedRow G w cover set k places a j budget f b x y) where
+    pub both-stand : StandsAt buf at (code x ++ code y)
+    both-stand = subst (StandsAt buf at) (o .coded) S
+
+    pub child-here : StandsAt buf at (code x)
+    child-here = stands-first buf at (code x) (code y) both-stand
+
+-- the nodes counted are those of the tree
+pub size-here : {p w : List ℕ} {cover set k : ℕ} {places : List Symbol} {a j budget at s b : ℕ} {buf : List ℕ} {f x y : Forest}
+    → Sized p buf at s → StandsAt buf at (code f) → OpenedRow (Packing p) w cover set k places a j budget f b x y → at + budget ≤ maxNodes
+    → s ≡ nodes x
+size-here {k = k} {at = at} {buf = buf} {x = x} Z S o room =
+    Z .exact k x (o .child .fit) (child-here buf at S o) (omega (arith, o .child .small))

@@ -1,0 +1,160 @@
+-- The steps of a row, with premises as its code gives them.
+-- Assumes nothing.
+use Prim.Native.Nat.{ℕ, _+_, _*_, _-_, _≤_, _<_}
+use mathlib.Core.List.{List, _++_}
+use mathlib.Core.Path.{_≡_, refl, sym, subst}
+use native.Mathlib.Omega.{arith}
+use lib.ListN.{length, length-append}
+use Rattle.sizes.specs.Sizes.{maxNodes}
+use Rattle.cfg.specs.Grammar.{Symbol}
+use Rattle.cfg.specs.Tree.{Forest, code}
+use Rattle.listing.proofs.Unique.{length-code}
+use Rattle.enumeration.specs.Rows.{Row}
+use Rattle.enumeration.specs.Order.{Last}
+use Rattle.choices.proofs.Stands.{leaf-opened}
+use Rattle.choices.proofs.NextRow.{end-ends, leaf-moves, leaf-ends, rest-stands, rest-moves}
+use Rattle.packed.proofs.Laws.{places-end}
+use Rattle.standing.specs.Standing.{StandsAt}
+use Rattle.standing.proofs.Stands.{stands-second}
+use Rattle.tables.specs.Exact.{Packing}
+use Rattle.suffixes.specs.Within.{tailIn}
+use Rattle.descend.specs.Descend.{Given}
+use Rattle.descend.proofs.Codes.{kept-none}
+use Rattle.descend.proofs.RowSteps.{tail-terminal, tail-nonterminal}
+use Rattle.advance.specs.declared.look.Step.{Step}
+use Rattle.advance.specs.declared.look.Step.the-variants.{No, End, Byte, Node}
+use Rattle.advance.specs.Looked.{Looked, at-end, at-byte, no-byte, at-node, no-room, no-node}
+use Rattle.advance.specs.Advance.{Frame, NextAt, RowNext, ChildNext}
+use Rattle.advance.proofs.Codes.{stands-join, stands-same, kept-same, kept-behind, kept-then, next-none, next-some, next-same}
+use Rattle.advance.proofs.Reading.{tree-nonempty, opened-here, both-stand, child-here, size-here}
+
+-- the rows of the places from q on, as those of another list
+module _ (p : List ℕ) (r q : ℕ) {w : List ℕ} {cover set a j budget : ℕ} {places : List Symbol} (d : tailIn p r q ≡ places) where
+  row-as : {f : Forest} → Row (Packing p) w cover set (tailIn p r q) a j budget f → Row (Packing p) w cover set places a j budget f
+  row-as {f} R = subst (λ (s : List Symbol). Row (Packing p) w cover set s a j budget f) d R
+
+  next-as : {c buf : List ℕ} {at n : ℕ} → NextAt (Row (Packing p) w cover set places a j budget) c buf at n
+      → NextAt (Row (Packing p) w cover set (tailIn p r q) a j budget) c buf at n
+  next-as {c} {buf} {at} {n} N =
+      subst (λ (s : List Symbol). NextAt (Row (Packing p) w cover set s a j budget) c buf at n) (sym d) N
+
+-- where nothing stands that is right, no row stands
+module _ {p : List ℕ} {r q a j budget at : ℕ} {buf : List ℕ} (l : a ≤ j) (room : at + budget ≤ maxNodes) where
+  none-stands : {w : List ℕ} {cover set : ℕ} {f : Forest} → Looked p r q buf at a j budget No → j ≤ length w
+      → Row (Packing p) w cover set (tailIn p r q) a j budget f → StandsAt buf at (code f) → ⊥
+  none-stands (no-byte c n m) known R S =
+      let (g, o) = leaf-opened known l (a + 1) (row-as p r q (tail-terminal p r q c n) R) (omega arith) in
+      let x = o .more in
+      omega arith
+  none-stands (no-room c n e) known R S =
+      let (x, y, o) = opened-here buf at S known l (row-as p r q (tail-nonterminal p r q c n refl) R) refl in
+      omega (arith, tree-nonempty (o .child .fit), o .child .small)
+  none-stands (no-node c n e Z d) known R S =
+      let (x, y, o) = opened-here buf at S known l (row-as p r q (tail-nonterminal p r q c n refl) R) e in
+      let s = size-here Z S o room in
+      let z = d (o .inside) in
+      omega (arith, o .child .small)
+
+module _ {p : List ℕ} {rules : ℕ} {fits chart tables : List ℕ} {r i j mask q a budget at : ℕ} {buf₀ : List ℕ} (l : a ≤ j)
+    (room : at + budget ≤ maxNodes) where
+  -- ---- nothing, and the end
+
+  pub row-none : {s : Step} {full rows : List ℕ} → Frame p rules fits chart tables r i j mask full rows
+      → Looked p r q buf₀ at a j budget s → s ≡ No → RowNext p rules fits chart tables r q a i j mask budget at buf₀ full rows buf₀ 0
+  row-none F L e = record {
+    kept = kept-none;
+    frame = F;
+    exact = λ w G known f R S. absurd (none-stands l room (subst (Looked p r q buf₀ at a j budget) e L) known R S);
+  }
+
+  pub row-end : {s : Step} {full rows : List ℕ} → Frame p rules fits chart tables r i j mask full rows
+      → Looked p r q buf₀ at a j budget s → s ≡ End → RowNext p rules fits chart tables r q a i j mask budget at buf₀ full rows buf₀ 0
+  row-end F L e = record {
+    kept = kept-none;
+    frame = F;
+    exact = λ w G known f R S. go known R (subst (Looked p r q buf₀ at a j budget) e L);
+  }
+    where
+      go : {w : List ℕ} {f : Forest} → j ≤ length w → Row (Packing p) w (j - i) mask (tailIn p r q) a j budget f
+          → Looked p r q buf₀ at a j budget End → NextAt (Row (Packing p) w (j - i) mask (tailIn p r q) a j budget) (code f) buf₀ at 0
+      go known R (at-end m) = let d = places-end p r q m in next-as p r q d (next-none (end-ends known l (row-as p r q d R)))
+
+  -- ---- a byte
+
+  pub row-byte : {s : Step} {full rows buf : List ℕ} {n : ℕ} → Looked p r q buf₀ at a j budget s → s ≡ Byte
+      → RowNext p rules fits chart tables r (q + 1) (a + 1) i j mask budget at buf₀ full rows buf n
+      → RowNext p rules fits chart tables r q a i j mask budget at buf₀ full rows buf n
+  row-byte {buf = buf} {n = n} L e N = record {
+    kept = N .kept;
+    frame = N .frame;
+    exact = λ w G known f R S. go G known R S (subst (Looked p r q buf₀ at a j budget) e L);
+  }
+    where
+      go : {w : List ℕ} {f : Forest} → Given p rules fits chart tables w → j ≤ length w
+          → Row (Packing p) w (j - i) mask (tailIn p r q) a j budget f → StandsAt buf₀ at (code f)
+          → Looked p r q buf₀ at a j budget Byte → NextAt (Row (Packing p) w (j - i) mask (tailIn p r q) a j budget) (code f) buf at n
+      go {w} G known R S (at-byte c t m) =
+          let d = tail-terminal p r q c t in
+          let (g, o) = leaf-opened known l (a + 1) (row-as p r q d R) (omega arith) in
+          next-as p r q d (next-same (leaf-ends known o) (λ z. leaf-moves known o)
+          (N .exact w G known g (o .row) (subst (StandsAt buf₀ at) (sym (o .coded)) S)))
+
+  -- ---- a node: the places behind it move, or they are last
+
+  module _ {k b s : ℕ} {full₁ rows₁ buf₁ : List ℕ} {n : ℕ}
+      (N : RowNext p rules fits chart tables r (q + 1) b i j mask (budget - s) (at + s) buf₀ full₁ rows₁ buf₁ n) where
+    pub row-rest : {t : Step} → Looked p r q buf₀ at a j budget t → t ≡ Node k b s → 0 < n
+        → RowNext p rules fits chart tables r q a i j mask budget at buf₀ full₁ rows₁ buf₁ (s + n)
+    row-rest L e m = record {
+      kept = kept-behind (small (subst (Looked p r q buf₀ at a j budget) e L)) (N .kept);
+      frame = N .frame;
+      exact = λ w G known f R S. go G known R S (subst (Looked p r q buf₀ at a j budget) e L);
+    }
+      where
+        small : Looked p r q buf₀ at a j budget (Node k b s) → s ≤ budget
+        small (at-node c t g d Z x y) = y
+
+        go : {w : List ℕ} {f : Forest} → Given p rules fits chart tables w → j ≤ length w
+            → Row (Packing p) w (j - i) mask (tailIn p r q) a j budget f → StandsAt buf₀ at (code f)
+            → Looked p r q buf₀ at a j budget (Node k b s)
+            → NextAt (Row (Packing p) w (j - i) mask (tailIn p r q) a j budget) (code f) buf₁ at (s + n)
+        go {w} G known R S (at-node c t g d Z u v) =
+            let D = tail-nonterminal p r q c t g in
+            let (x, y, o) = opened-here buf₀ at S known l (row-as p r q D R) d in
+            let z = size-here Z S o room in
+            let size : length (code x) ≡ 2 * s = omega (arith, length-code x) in
+            let T = stands-second buf₀ at (code x) (code y) s size (both-stand buf₀ at S o) in
+            let A = N .exact w G known y (rest-stands known o z) T .some m in
+            next-as p r q D (next-some (omega arith) (record {
+              numbers = code x ++ A .numbers;
+              after = rest-moves known o z {e = A .numbers} (A .after);
+              size = omega (arith, length-append (code x) (A .numbers), A .size);
+              here = stands-join buf₀ buf₁ at s (code x) (A .numbers) size (child-here buf₀ at S o) (A .here) (N .kept .before);
+            }))
+
+    pub row-child : {t : Step} {full rows buf : List ℕ} {m : ℕ} → Looked p r q buf₀ at a j budget t → t ≡ Node k b s → n ≤ 0
+        → ChildNext p rules fits chart tables r q k a b i j mask budget at buf₁ full rows buf m
+        → RowNext p rules fits chart tables r q a i j mask budget at buf₀ full rows buf m
+    row-child {buf = buf} {m = m} L e h C = record {
+      kept = kept-then none (N .kept) (C .kept);
+      frame = C .frame;
+      exact = λ w G known f R S. go G known R S (subst (Looked p r q buf₀ at a j budget) e L);
+    }
+      where
+        none : n ≡ 0
+        none = omega arith
+
+        go : {w : List ℕ} {f : Forest} → Given p rules fits chart tables w → j ≤ length w
+            → Row (Packing p) w (j - i) mask (tailIn p r q) a j budget f → StandsAt buf₀ at (code f)
+            → Looked p r q buf₀ at a j budget (Node k b s)
+            → NextAt (Row (Packing p) w (j - i) mask (tailIn p r q) a j budget) (code f) buf at m
+        go {w} {f} G known R S (at-node c t g d Z u v) =
+            let D = tail-nonterminal p r q c t g in
+            let (x, y, o) = opened-here buf₀ at S known l (row-as p r q D R) d in
+            let z = size-here Z S o room in
+            let size : length (code x) ≡ 2 * s = omega (arith, length-code x) in
+            let T = stands-second buf₀ at (code x) (code y) s size (both-stand buf₀ at S o) in
+            let rest = N .exact w G known y (rest-stands known o z) T .none none in
+            next-as p r q D (C .exact w G known c f x y o
+            (subst (λ (v : ℕ). Last (Row (Packing p) w (j - i) mask (tailIn p r (q + 1)) b j (budget - v)) (code y)) z rest)
+            (stands-same buf₀ buf₁ at (code x) (kept-same none (N .kept)) (child-here buf₀ at S o)))

@@ -1,0 +1,49 @@
+-- `advance::later::later_rule` meets its contract.
+-- Assumes nothing.
+use native.Mathlib.Omega.{arith}
+use borrow.Author.Needs.{needs}
+use Rattle.advance.proofs.NodeSteps.{later-none, later-some}
+use Rattle.advance.proofs.later.later_rule.Statement.{statement}
+use Rattle.advance.proofs.later.later_rule.Tie as tie
+
+returns : tie.Need-returns
+returns c = later-none (omega arith) (omega arith) (c .before .open-node .ensures) (omega arith)
+
+put-node-requires : tie.Need-put-node-requires
+put-node-requires c κs =
+    let o = c .before .before .open-node .ensures .room (omega arith) in
+    omega arith
+
+sub-row : tie.Need-sub-row
+sub-row c = c .before .before .before .before .before .before .before .open-node .ensures .room (omega arith)
+
+row-requires : tie.Need-row-requires
+row-requires c κs =
+    let d = c .before .before .before .before .before in
+    let o = d .before .before .before .open-node .ensures .room (omega arith) in
+    let l = d .put-node .ensures .long in
+    omega arith
+
+returns-2 : tie.Need-returns-2
+returns-2 c =
+    let d = c .before .before .before .before .before .before .before .before in
+    let x = d .before .before .before .before .before .before .before .before .pre in
+    let y = d .before .before .if1 .left in
+    later-some (omega arith) (omega arith) (d .before .before .before .open-node .ensures) (omega arith) (d .put-node .ensures)
+    (c .before .before .row .ensures)
+
+pub later-rule-spec : {M : Type 1} → statement M
+later-rule-spec =
+    tie.close
+    (tie.spec
+    (λ c. search needs)
+    (λ c κs. search needs)
+    returns
+    (λ c. search needs)
+    put-node-requires
+    sub-row
+    (λ c. search needs)
+    row-requires
+    (λ c. search needs)
+    (λ c. search needs)
+    returns-2)

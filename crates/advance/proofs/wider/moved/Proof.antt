@@ -1,0 +1,21 @@
+-- `advance::wider::moved` meets its contract.
+-- Assumes nothing.
+use borrow.Author.Needs.{needs}
+use Rattle.advance.proofs.ChildSteps.{moved-rest, moved-wider}
+use Rattle.advance.proofs.wider.moved.Statement.{statement}
+use Rattle.advance.proofs.wider.moved.Tie as tie
+
+pub moved-spec : {M : Type 1} → statement M
+moved-spec =
+    tie.close
+    (tie.spec
+    (λ c. search needs)
+    (λ c. search needs)
+    (λ c. search needs)
+    (λ c κs. search needs)
+    (λ c. search needs)
+    (λ c. search needs)
+    (λ c. search (needs, moved-rest))
+    (λ c κs. search needs)
+    (λ c. search needs)
+    (λ c. search (needs, moved-wider)))

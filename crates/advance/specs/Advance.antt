@@ -1,0 +1,115 @@
+-- What the advance gives, with the tables made: the numbers of the derivation after the one that stands, or that there is none. What is
+-- promised of the input is promised where the tables are right for it and a forest of the set stands in the buffer.
+-- Assumes nothing.
+use Prim.Native.Nat.{ℕ, _+_, _*_, _-_, _≤_, _<_}
+use mathlib.Core.List.{List, _∷_}
+use mathlib.Core.Path.{_≡_}
+use lib.ListN.{length, getD}
+use Rattle.sizes.specs.Sizes.{nonterminals, tooMany, side}
+use Rattle.sets.specs.Set.{insert}
+use Rattle.cfg.specs.Grammar.{nonterminal, Of}
+use Rattle.cfg.specs.Tree.{Forest, nodes, code}
+use Rattle.chart.specs.Cell.{cell}
+use Rattle.enumeration.specs.Rows.{Row, Tree, SameSpan}
+use Rattle.enumeration.specs.Order.{After, Last}
+use Rattle.choices.specs.Opened.{OpenedRow, OpenedNode}
+use Rattle.packed.specs.Packed.{countIn}
+use Rattle.standing.specs.Standing.{StandsAt}
+use Rattle.tables.specs.Layout.{rowsSize}
+use Rattle.tables.specs.Exact.{Packing}
+use Rattle.suffixes.specs.Within.{tailIn}
+use Rattle.suffixes.specs.Rows.{RowsPut}
+use Rattle.solve.specs.Solve.{Solved}
+use Rattle.descend.specs.Descend.{Given, Kept, RowFirst}
+
+-- ---- the frame of a node
+
+-- the costs over the span from i to j under the mask, and those of the places of rule r
+pub record Made (p : List ℕ) (rules : ℕ) (fits chart tables : List ℕ) (r i j mask : ℕ) (full rows : List ℕ) : Type 0 where
+  pub long : length full ≡ nonterminals
+  pub room : length rows ≡ rowsSize
+  pub solved : Solved p rules (cell chart i j) mask tables i j full
+  pub costs : RowsPut p r fits tables full i j rows
+
+-- the same, or they are not made: then the first number is more than any cost
+pub record Frame (p : List ℕ) (rules : ℕ) (fits chart tables : List ℕ) (r i j mask : ℕ) (full rows : List ℕ) : Type 0 where
+  pub long : length full ≡ nonterminals
+  pub room : length rows ≡ rowsSize
+  pub solved : getD full 0 0 ≤ tooMany → Solved p rules (cell chart i j) mask tables i j full
+  pub costs : getD full 0 0 ≤ tooMany → RowsPut p r fits tables full i j rows
+
+-- they are made, and `rest` is the cost of the places of rule r behind q, from b on
+pub record RestMade (p : List ℕ) (rules : ℕ) (fits chart tables : List ℕ) (r i j mask q b : ℕ) (full rows : List ℕ) (rest : ℕ)
+    : Type 0 where
+  pub made : Made p rules fits chart tables r i j mask full rows
+  pub here : rest ≡ getD rows (side * (q + 1) + b) 0
+
+-- ---- what comes after
+
+-- the numbers of the buffer from node `at` on are the code after d in P, of n nodes
+pub record AfterAt (P : Forest → Type 0) (d buf : List ℕ) (at n : ℕ) : Type 0 where
+  pub numbers : List ℕ
+  pub after : After P d numbers
+  pub size : length numbers ≡ 2 * n
+  pub here : StandsAt buf at numbers
+
+-- no nodes say that d is the last code of P, n nodes that they are the code after it
+pub record NextAt (P : Forest → Type 0) (d buf : List ℕ) (at n : ℕ) : Type 0 where
+  pub none : n ≡ 0 → Last P d
+  pub some : 0 < n → AfterAt P d buf at n
+
+-- ---- the functions
+
+-- the tree of k over the span from i to j after the one that stands at node `at`
+pub record NodeNext (p : List ℕ) (rules : ℕ) (fits chart tables : List ℕ) (k i j mask budget at : ℕ) (buf₀ buf : List ℕ) (n : ℕ)
+    : Type 0 where
+  pub kept : Kept budget at n buf₀ buf
+  pub exact : (w : List ℕ) → Given p rules fits chart tables w → j ≤ length w → (t : Forest)
+      → Tree (Packing p) w (j - i) mask k i j budget t → StandsAt buf₀ at (code t)
+      → NextAt (Tree (Packing p) w (j - i) mask k i j budget) (code t) buf at n
+
+-- the row of the places of rule r from q on, from a to j inside a span from i to j, after the one that stands at node `at`
+pub record RowNext (p : List ℕ) (rules : ℕ) (fits chart tables : List ℕ) (r q a i j mask budget at : ℕ) (buf₀ full rows buf : List ℕ)
+    (n : ℕ) : Type 0 where
+  pub kept : Kept budget at n buf₀ buf
+  pub frame : Frame p rules fits chart tables r i j mask full rows
+  pub exact : (w : List ℕ) → Given p rules fits chart tables w → j ≤ length w → (f : Forest)
+      → Row (Packing p) w (j - i) mask (tailIn p r q) a j budget f → StandsAt buf₀ at (code f)
+      → NextAt (Row (Packing p) w (j - i) mask (tailIn p r q) a j budget) (code f) buf at n
+
+-- the same where a node of k up to b stands at place q, and the places behind it are last
+pub record ChildNext (p : List ℕ) (rules : ℕ) (fits chart tables : List ℕ) (r q k a b i j mask budget at : ℕ) (buf₀ full rows buf : List ℕ)
+    (n : ℕ) : Type 0 where
+  pub kept : Kept budget at n buf₀ buf
+  pub frame : Frame p rules fits chart tables r i j mask full rows
+  pub exact : (w : List ℕ) → Given p rules fits chart tables w → j ≤ length w → q < countIn p r → (f x y : Forest)
+      → OpenedRow (Packing p) w (j - i) mask k (tailIn p r (q + 1)) a j budget f b x y
+      → Last (Row (Packing p) w (j - i) mask (tailIn p r (q + 1)) b j (budget - nodes x)) (code y) → StandsAt buf₀ at (code x)
+      → NextAt (Row (Packing p) w (j - i) mask (nonterminal k ∷ tailIn p r (q + 1)) a j budget) (code f) buf at n
+
+-- the same where that node is last too, within what the places behind it leave
+pub record Widened (p : List ℕ) (rules : ℕ) (fits chart tables full rows : List ℕ) (r q k a b i j mask budget at : ℕ)
+    (buf₀ buf : List ℕ) (n : ℕ) : Type 0 where
+  pub kept : Kept budget at n buf₀ buf
+  pub exact : Made p rules fits chart tables r i j mask full rows → (w : List ℕ) → Given p rules fits chart tables w → j ≤ length w
+      → q < countIn p r → (f x y : Forest) → OpenedRow (Packing p) w (j - i) mask k (tailIn p r (q + 1)) a j budget f b x y
+      → Last (Row (Packing p) w (j - i) mask (tailIn p r (q + 1)) b j (budget - nodes x)) (code y)
+      → (own : ℕ) → SameSpan (j - i) mask (b - a) own
+      → Last (Tree (Packing p) w (b - a) own k a b (budget - getD rows (side * (q + 1) + b) 0)) (code x)
+      → NextAt (Row (Packing p) w (j - i) mask (nonterminal k ∷ tailIn p r (q + 1)) a j budget) (code f) buf at n
+
+-- where the node at place q has moved to m nodes, the first row of the places behind it is written after it; where it has not, a wider one
+pub record Moved (p : List ℕ) (rules : ℕ) (fits chart tables full rows : List ℕ) (r q k a b i j mask budget at m : ℕ)
+    (buf₀ buf : List ℕ) (n : ℕ) : Type 0 where
+  pub rest : 0 < m → (s : ℕ) × (n ≡ m + s)
+      × RowFirst p rules fits chart tables full rows r (q + 1) b i j mask (budget - m) (at + m) buf₀ buf s
+  pub wider : m ≡ 0 → Widened p rules fits chart tables full rows r q k a b i j mask budget at buf₀ buf n
+
+-- where the tree at node `at` has rule r and the row below it is last, the tree of k after it
+pub record LaterRule (p : List ℕ) (rules : ℕ) (fits chart tables : List ℕ) (r k i j own budget at : ℕ) (buf₀ buf : List ℕ) (n : ℕ)
+    : Type 0 where
+  pub kept : Kept budget at n buf₀ buf
+  pub exact : (w : List ℕ) → Given p rules fits chart tables w → j ≤ length w → (mask : ℕ) → own ≡ insert k mask → (t f : Forest)
+      → (o : Of (Packing p) r k) → OpenedNode (Packing p) w (j - i) mask k i j budget o t f
+      → Last (Row (Packing p) w (j - i) own (o .the .places) i j (budget - 1)) (code f)
+      → NextAt (Tree (Packing p) w (j - i) mask k i j budget) (code t) buf at n

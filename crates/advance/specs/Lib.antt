@@ -1,0 +1,3 @@
+-- The derivation after the one that stands in a buffer.
+pub mod Looked
+pub mod Advance

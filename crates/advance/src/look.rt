@@ -1,0 +1,59 @@
+// What stands in the buffer, read without going down: at a place of a rule, and the rule of a node.
+use numbers::wide;
+use packed::Packed;
+ghost use Prim.Native.Nat.{_+_, _<_, _≤_};
+ghost use lib.ListN.{length};
+ghost use Rattle.sizes.specs.Sizes.{maxRules, maxPlaces, side, maxNodes, outputSize};
+ghost use Rattle.advance.specs.Looked.{Looked, RuleRead};
+
+// What stands in a row: nothing that is right, its end, a byte, or a node of a nonterminal up to an end, with the nodes of its tree.
+pub enum Step {
+    No,
+    End,
+    Byte,
+    Node(usize, usize, usize),
+}
+
+// What stands at place q of rule r, from a on and up to j at most, at node `at`.
+pub fn look(
+    p: &Packed,
+    r: usize,
+    q: usize,
+    buf: &[u16],
+    at: usize,
+    a: usize,
+    j: usize,
+    budget: usize,
+) -> Step
+    requires { ⌜ (r < maxRules) × (q ≤ maxPlaces) × (a ≤ j) × (j < side) × (at + budget ≤ maxNodes) × (outputSize ≤ length (now buf)) ⌝ }
+    ensures { λ s. ⌜ Looked (now (p .entry)) r q (now (buf .entry)) at a j budget s ⌝ }
+{
+    if packed::count(p, r) <= q {
+        return Step::End;
+    }
+    if packed::is_nonterminal(p, r, q) {
+        if budget == 0 {
+            return Step::No;
+        }
+        let c = wide(buf[2 * at]);
+        let s = standing::size(p, buf, at);
+        if c <= j - a {
+            if s <= budget {
+                return Step::Node(packed::value(p, r, q), a + c, s);
+            }
+        }
+        return Step::No;
+    }
+    if a < j { Step::Byte } else { Step::No }
+}
+
+// The rule of node `at`; 128 if there is none there, or the budget has no node.
+pub fn rule_at(buf: &[u16], at: usize, budget: usize) -> usize
+    requires { ⌜ (at + budget ≤ maxNodes) × (outputSize ≤ length (now buf)) ⌝ }
+    ensures { λ r. ⌜ RuleRead (now (buf .entry)) at budget r ⌝ }
+{
+    if budget == 0 {
+        return sizes::MAX_RULES;
+    }
+    wide(buf[2 * at + 1])
+}

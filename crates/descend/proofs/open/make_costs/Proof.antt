@@ -1,0 +1,20 @@
+-- `descend::open::make_costs` meets its contract.
+-- Assumes nothing.
+use borrow.Author.Needs.{needs}
+use Rattle.descend.proofs.Opening.{maybe-made}
+use Rattle.descend.proofs.open.make_costs.Statement.{statement}
+use Rattle.descend.proofs.open.make_costs.Tie as tie
+
+pub make-costs-spec : {M : Type 1} → statement M
+make-costs-spec =
+    tie.close
+    (tie.spec
+    (λ c. search needs)
+    (λ c κs. search needs)
+    (λ c. search needs)
+    (λ c. search needs)
+    (λ c. search needs)
+    (λ c. search needs)
+    (λ c κs. search needs)
+    (λ c. search needs)
+    (λ c. search (needs, maybe-made)))
