@@ -6,10 +6,9 @@ use crate::plain::enumerator::OUTPUT;
 use crate::plain::tables::{NONE, SIDE, TABLES};
 use crate::plain::{PLACES, RULES};
 use crate::random::Random;
-use crate::timing::{differences, pair, shown};
+use crate::timing::{differences, pair, processor_time, shown};
 use crate::{check_both, heading, line, loaded, sink};
 use std::hint::black_box;
-use std::time::Instant;
 
 /// An output to write to: what it holds is no reading.
 fn output() -> Vec<u16> {
@@ -51,8 +50,8 @@ pub fn firsts(sweep: usize) {
     heading(
         "FIRST: tables and first together",
         &[
-            "The call less its filling, on both sides: the median of the difference between the call and a check of a row of no",
-            "numbers, then the difference of the least of each. Clearing the tables is part of it.",
+            "The call less its filling, on both sides, in processor time: the median of the difference between the call and a",
+            "check of a row of no numbers, then the difference of the least of each. Clearing the tables is part of it.",
         ],
     );
     let a = [b'A'; 64];
@@ -97,9 +96,9 @@ fn sweep_first(count: usize) {
         let mut best = [f64::MAX; 4];
         for _ in 0..2 {
             let mut timed = |which: usize, call: &mut dyn FnMut()| {
-                let t = Instant::now();
+                let began = processor_time();
                 call();
-                best[which] = best[which].min(t.elapsed().as_secs_f64());
+                best[which] = best[which].min(processor_time() - began);
             };
             timed(0, &mut || sink(Proved::first(black_box(&flat), &input, &mut c, &mut x, &mut n)));
             timed(1, &mut || sink(Proved::check(black_box(&flat), &input, &[], &mut c)));

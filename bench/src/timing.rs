@@ -58,8 +58,28 @@ pub fn difference(mut a: impl FnMut(), mut b: impl FnMut(), rounds: usize) -> (f
     (d[rounds / 2], 1.25 * spread / (rounds as f64).sqrt())
 }
 
+extern "C" {
+    fn clock_gettime(clock: i32, time: *mut [i64; 2]) -> i32;
+}
+
+/// The processor time of this thread, in seconds.
+pub fn processor_time() -> f64 {
+    let mut time = [0; 2];
+    // SAFETY: clock 3 is that of the calling thread, and the time is a struct of two numbers of 64 bits on x86-64 Linux.
+    assert_eq!(unsafe { clock_gettime(3, &mut time) }, 0);
+    time[0] as f64 + time[1] as f64 * 1e-9
+}
+
+fn processor_batch(f: &mut impl FnMut(), calls: usize) -> f64 {
+    let began = processor_time();
+    for _ in 0..calls {
+        f();
+    }
+    (processor_time() - began) / calls as f64
+}
+
 /// How much longer a takes than b, and c than d, in seconds a call: the median over rounds of the difference, and the
-/// difference of the least.
+/// difference of the least. In processor time: a difference of wall clock times is lost in the noise of other work.
 pub fn differences(mut a: impl FnMut(), mut b: impl FnMut(), mut c: impl FnMut(), mut d: impl FnMut()) -> (Time, Time) {
     let calls = calls_for(&mut a);
     let rounds = match batch(&mut a, 1) {
@@ -69,10 +89,10 @@ pub fn differences(mut a: impl FnMut(), mut b: impl FnMut(), mut c: impl FnMut()
     };
     let mut times: [Vec<f64>; 4] = Default::default();
     for _ in 0..rounds {
-        times[0].push(batch(&mut a, calls));
-        times[2].push(batch(&mut c, calls));
-        times[1].push(batch(&mut b, calls));
-        times[3].push(batch(&mut d, calls));
+        times[0].push(processor_batch(&mut a, calls));
+        times[2].push(processor_batch(&mut c, calls));
+        times[1].push(processor_batch(&mut b, calls));
+        times[3].push(processor_batch(&mut d, calls));
     }
     let less = |x: &[f64], y: &[f64]| {
         let median = time_of(x.iter().zip(y).map(|(x, y)| x - y).collect()).median;

@@ -1,5 +1,5 @@
--- The numbers in which an answer is returned: the code of each kind of answer, and what is left in a place that was lent, by what was found
--- there. A code is 0 for no and none; 1 for yes, loaded, measured and handed out; 256 and the number of a refusal.
+-- The numbers in which an answer is returned: the code of each kind of answer, and what is left in a place that was lent, by what was
+-- found there. A code is 0 for no and none; 1 for yes, loaded, measured and handed out; 256 and the number of a refusal.
 -- Assumes nothing.
 use Prim.Native.Nat.{ℕ, _+_}
 use mathlib.Core.Bool.{Bool, true, false}

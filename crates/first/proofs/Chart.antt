@@ -1,7 +1,7 @@
 -- The facts that the tables ask for, from what fills the chart and what makes the fit table.
 -- Assumes nothing.
-use Prim.Native.Nat.{ℕ, _≤_, _<_}
-use mathlib.Core.Bool.{Bool, true, false, true≢false}
+use Prim.Native.Nat.{ℕ, _≤_}
+use mathlib.Core.Bool.{true≢false}
 use mathlib.Core.List.{List}
 use mathlib.Core.Path.{_≡_, refl, sym, ap, _∙_, subst}
 use native.Mathlib.Omega.{arith}
@@ -16,7 +16,7 @@ use Rattle.costs.proofs.Span.{tree-parse}
 use Rattle.fit.specs.Fit.{fitIn, Told}
 use Rattle.grammar.specs.declared.Grammar.{Grammar}
 use Rattle.grammar.specs.View.{grammarOf}
-use Rattle.packed.specs.Packed.{symbolIn, fitsPlace, cfgIn}
+use Rattle.packed.specs.Packed.{fitsPlace, cfgIn}
 use Rattle.packed.proofs.Laws.{cfg-in-bounded, count-le}
 use Rattle.packed.proofs.Fitting.{symbol-terminal}
 use Rattle.prepare.proofs.Packing.{filled-packed}

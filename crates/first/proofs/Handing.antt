@@ -8,7 +8,7 @@ use native.Mathlib.Omega.{arith}
 use lib.Dec.{leb}
 use lib.ListN.{length, getD}
 use borrow.Author.Tests.{leb-true, leb-false}
-use Rattle.sizes.specs.Sizes.{maxNodes}
+use Rattle.sizes.specs.Sizes.{maxRules, maxNodes, outputSize}
 use Rattle.sets.specs.Set.{empty}
 use Rattle.costs.specs.Span.{bytesOf, Least}
 use Rattle.costs.specs.Span.{Tree as SpanTree}
@@ -30,7 +30,7 @@ use Rattle.first.proofs.Input.{tabulated-input}
 use Rattle.first.proofs.Root.{first-many, first-handed}
 
 -- v is the cost, read and widened
-pub exists-told : (u v x : ℕ) → u ≡ v → v ≡ x → leb u 512 ≡ leb x maxNodes
+pub exists-told : (u v x : ℕ) → u ≡ v → v ≡ x → leb u maxNodes ≡ leb x maxNodes
 exists-told u v x e f = ap (λ (z : ℕ). leb z maxNodes) (e ∙ f)
 
 module _ (p : List ℕ) (rules : ℕ) (fits chart tables : List ℕ) (s n : ℕ) (out₀ : List ℕ) where
@@ -39,7 +39,7 @@ module _ (p : List ℕ) (rules : ℕ) (fits chart tables : List ℕ) (s n : ℕ)
       → Least (SpanTree (Packing p) (bytesOf w) s 0 n) (costIn tables s 0 n)
   least-at w to given = given .exact .least s 0 n (omega arith) (omega arith)
 
-  pub written-first : (out : List ℕ) (m : ℕ) → 1024 ≤ length out₀ → NodeFirst p rules fits chart tables s 0 n 0 maxNodes 0 out₀ out m
+  pub written-first : (out : List ℕ) (m : ℕ) → outputSize ≤ length out₀ → NodeFirst p rules fits chart tables s 0 n 0 maxNodes 0 out₀ out m
       → FirstWritten p rules fits chart tables s n out₀ out m
   written-first out m room N = record {
     exact = λ small w to given.
@@ -74,16 +74,15 @@ module _ (p : List ℕ) (rules : ℕ) (fits chart tables : List ℕ) (s n : ℕ)
 -- ---- the tables of an input are right for it
 
 pub built : (p w : List ℕ) (rules : ℕ) (fits chart tables : List ℕ) → length w ≤ 64 → Told p w fits
-    → ChartTrue p (bytesOf w) chart (length w) → (rules ≤ 128) × Used p rules → Tabulated p rules fits chart (length w) tables
-    → (rules ≤ 128) × Given p rules fits chart tables w
+    → ChartTrue p (bytesOf w) chart (length w) → (rules ≤ maxRules) × Used p rules → Tabulated p rules fits chart (length w) tables
+    → (rules ≤ maxRules) × Given p rules fits chart tables w
 built p w rules fits chart tables h told cells (few, used) T =
     let past = used-past p rules used in
-    let fitting = fit-told p w fits h told in (
-      few,
-      record { past = past; told = fitting; cells = cells; exact = tabulated-input w p rules fits chart (length w) tables T past fitting cells },
-    )
+    let fitting = fit-told p w fits h told in
+    let exact = tabulated-input w p rules fits chart (length w) tables T past fitting cells in
+    (few, record { past = past; told = fitting; cells = cells; exact = exact })
 
 pub made-tree : (p w : List ℕ) (s rules : ℕ) (fits chart tables out₀ out : List ℕ) (a : Answer Handing)
-    → (rules ≤ 128) × Given p rules fits chart tables w → FirstMade p rules fits chart tables s (length w) out₀ out a
+    → (rules ≤ maxRules) × Given p rules fits chart tables w → FirstMade p rules fits chart tables s (length w) out₀ out a
     → enumerationOf a chart out ≡ firstTree (cfgIn s p) w chart out₀
 made-tree p w s rules fits chart tables out₀ out a (few, given) M = M .exact w refl given

@@ -1,10 +1,9 @@
--- The bytes of one input, told by a test: trees over them are trees over the input's bytes, so tables that are right for the test are right
--- for the input.
+-- The bytes of one input, told by a test: trees over these are trees over the input's bytes, so that tables that are right for the test are
+-- right for the input.
 -- Assumes nothing.
 use Prim.Native.Nat.{ℕ}
-use mathlib.Core.Bool.{Bool, true, _&&_, and-eq-true-iff}
+use mathlib.Core.Bool.{Bool, _&&_, and-eq-true-iff}
 use mathlib.Core.List.{List}
-use mathlib.Core.Path.{_≡_}
 use native.Mathlib.Omega.{arith}
 use lib.Dec.{eqb, ltb}
 use lib.ListN.{length, getD}
@@ -14,7 +13,7 @@ use Rattle.cfg.specs.Tree.{Forest}
 use Rattle.chart.specs.Cell.{fitsAt}
 use Rattle.costs.specs.Span.{bytesOf, Tells, Reads, reads-end, reads-byte, Tree}
 use Rattle.costs.proofs.Span.{tells-input, least-same}
-use Rattle.tables.specs.Exact.{Packing, PastLast, FitTold, ChartTrue, Exact}
+use Rattle.tables.specs.Exact.{PastLast, FitTold, ChartTrue, Exact}
 use Rattle.tabulate.specs.Sofar.{Standing}
 use Rattle.tabulate.specs.Spans.{Tabulated}
 

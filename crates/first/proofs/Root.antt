@@ -52,7 +52,8 @@ module _ (p w : List ℕ) (s : ℕ) where
     unfolding handingOut headOf
     first-many n v to least h = rw (root-exceeds (Packing p) (cfgIn s p) same w start to least h)
 
-    pub first-handed : (c n : ℕ) (e out' : List ℕ) (m : ℕ) → c ≡ length w → n ≡ length w → Min (Tree (Packing p) w c empty s 0 n maxNodes) e
+    pub first-handed : (c n : ℕ) (e out' : List ℕ) (m : ℕ) → c ≡ length w → n ≡ length w
+        → Min (Tree (Packing p) w c empty s 0 n maxNodes) e
         → length e ≡ 2 * m → out' ≡ e ++ drop (length e) out
         → enumerationOf (answered (handed m)) chart out' ≡ firstTree (cfgIn s p) w chart out
     unfolding handingOut headOf

@@ -12,8 +12,10 @@ use Rattle.tables.specs.Layout.{costIn}
 use Rattle.first.specs.Answer.{enumerationOf, firstTree}
 
 -- the answer and the output left are those of the first derivation of any input of n bytes that the tables are made for
-pub record FirstMade (p : List ℕ) (rules : ℕ) (fits chart tables : List ℕ) (s n : ℕ) (out₀ out : List ℕ) (a : Answer Handing) : Type 0 where
-  pub exact : (w : List ℕ) → n ≡ length w → Given p rules fits chart tables w → enumerationOf a chart out ≡ firstTree (cfgIn s p) w chart out₀
+pub record FirstMade (p : List ℕ) (rules : ℕ) (fits chart tables : List ℕ) (s n : ℕ) (out₀ out : List ℕ) (a : Answer Handing)
+    : Type 0 where
+  pub exact : (w : List ℕ) → n ≡ length w → Given p rules fits chart tables w
+      → enumerationOf a chart out ≡ firstTree (cfgIn s p) w chart out₀
 
 -- the same where a derivation of m nodes is handed out: the least number of nodes says that there is one
 pub record FirstWritten (p : List ℕ) (rules : ℕ) (fits chart tables : List ℕ) (s n : ℕ) (out₀ out : List ℕ) (m : ℕ) : Type 0 where

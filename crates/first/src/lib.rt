@@ -8,6 +8,7 @@ use tables::layout::TABLES_SIZE;
 ghost use mathlib.Core.Path.{_≡_};
 ghost use Prim.Native.Nat.{_≤_};
 ghost use lib.ListN.{length};
+ghost use Rattle.sizes.specs.Sizes.{cells, outputSize};
 ghost use Rattle.costs.specs.Span.{bytesOf};
 ghost use Rattle.packed.specs.Packed.{cfgIn};
 ghost use Rattle.results.specs.Enumerate.{firstOf};
@@ -25,7 +26,7 @@ pub enum Handed {
 
 // The first derivation, where the chart is filled and trees exist. The tables are this function's own.
 fn first_tree(p: &Packed, start: usize, input: &[u8], chart: &[u32], out: &mut [u16]) -> Handed
-    requires { ⌜ (length (now input) ≤ 64) × (4225 ≤ length (now chart)) × (1024 ≤ length (now out))
+    requires { ⌜ (length (now input) ≤ 64) × (cells ≤ length (now chart)) × (outputSize ≤ length (now out))
         × ChartTrue (now p) (bytesOf (now input)) (now chart) (length (now input)) ⌝ }
     ensures { λ a. ⌜ enumerationOf (handingOf a) (now (chart .entry)) (now (out .exit))
         ≡ firstTree (cfgIn start (now (p .entry))) (now (input .entry)) (now (chart .entry)) (now (out .entry)) ⌝ }
@@ -38,7 +39,7 @@ fn first_tree(p: &Packed, start: usize, input: &[u8], chart: &[u32], out: &mut [
 
 // The first derivation, where the chart is filled.
 fn first_filled(p: &Packed, start: usize, input: &[u8], chart: &[u32], out: &mut [u16]) -> Handed
-    requires { ⌜ (length (now input) ≤ 64) × (4225 ≤ length (now chart)) × (1024 ≤ length (now out))
+    requires { ⌜ (length (now input) ≤ 64) × (cells ≤ length (now chart)) × (outputSize ≤ length (now out))
         × ChartTrue (now p) (bytesOf (now input)) (now chart) (length (now input)) ⌝ }
     ensures { λ a. ⌜ enumerationOf (handingOf a) (now (chart .entry)) (now (out .exit))
         ≡ firstFilled (cfgIn start (now (p .entry))) (now (input .entry)) (now (chart .entry)) (now (out .entry)) ⌝ }

@@ -12,7 +12,7 @@ ghost use mathlib.Core.Path.{_≡_};
 ghost use Prim.Native.Nat.{_<_, _≤_};
 ghost use lib.Dec.{leb};
 ghost use lib.ListN.{length};
-ghost use Rattle.sizes.specs.Sizes.{maxNodes};
+ghost use Rattle.sizes.specs.Sizes.{cells, maxNodes, outputSize};
 ghost use Rattle.costs.specs.Span.{bytesOf};
 ghost use Rattle.descend.specs.Descend.{Given};
 ghost use Rattle.fit.specs.Fit.{Told};
@@ -23,7 +23,7 @@ ghost use Rattle.first.specs.Made.{FirstMade, FirstWritten};
 
 // Makes the tables of the input, for which the chart is filled and the fit table made. Answers one past the last number that has a rule.
 pub fn build(p: &Packed, input: &[u8], fits: &FitTable, chart: &[u32], tables: &mut Tables) -> usize
-    requires { ⌜ (length (now input) ≤ 64) × (4225 ≤ length (now chart)) × (length (now tables) ≡ tablesSize)
+    requires { ⌜ (length (now input) ≤ 64) × (cells ≤ length (now chart)) × (length (now tables) ≡ tablesSize)
         × Told (now p) (now input) (now fits) × ChartTrue (now p) (bytesOf (now input)) (now chart) (length (now input)) ⌝ }
     ensures { λ rules. ⌜ (rules ≤ 128)
         × Given (now (p .entry)) rules (now (fits .entry)) (now (chart .entry)) (now (tables .exit)) (now (input .entry)) ⌝ }
@@ -52,7 +52,7 @@ pub fn write_first(
     n: usize,
     out: &mut [u16],
 ) -> usize
-    requires { ⌜ (rules ≤ 128) × (n < 65) × (4225 ≤ length (now chart)) × (1024 ≤ length (now out)) ⌝ }
+    requires { ⌜ (rules ≤ 128) × (n < 65) × (cells ≤ length (now chart)) × (outputSize ≤ length (now out)) ⌝ }
     ensures { λ m. ⌜ FirstWritten (now (p .entry)) rules (now (fits .entry)) (now (chart .entry)) (now (tables .entry)) start n
         (now (out .entry)) (now (out .exit)) m ⌝ }
 {
@@ -83,7 +83,7 @@ pub fn first_made(
     n: usize,
     out: &mut [u16],
 ) -> Handed
-    requires { ⌜ (rules ≤ 128) × (n < 65) × (4225 ≤ length (now chart)) × (1024 ≤ length (now out)) ⌝ }
+    requires { ⌜ (rules ≤ 128) × (n < 65) × (cells ≤ length (now chart)) × (outputSize ≤ length (now out)) ⌝ }
     ensures { λ a. ⌜ FirstMade (now (p .entry)) rules (now (fits .entry)) (now (chart .entry)) (now (tables .entry)) start n
         (now (out .entry)) (now (out .exit)) (handingOf a) ⌝ }
 {

@@ -5,4 +5,3 @@ pub mod Kept
 pub mod Opening
 pub mod Closing
 pub mod Ending
-pub mod Bytes
