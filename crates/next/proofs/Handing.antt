@@ -88,7 +88,8 @@ module _ (p : List ℕ) (rules : ℕ) (fits chart tables : List ℕ) (s n : ℕ)
 
 pub made-tree : (p w : List ℕ) (s rules : ℕ) (fits chart tables offered out₀ out : List ℕ) (a : Answer Handing)
     → (rules ≤ maxRules) × Given p rules fits chart tables w → listed offered (L (cfgIn s p) w) ≡ true
-    → NextMade p rules fits chart tables s (length w) offered out₀ out a → enumerationOf a chart out ≡ nextTree (cfgIn s p) w offered chart out₀
+    → NextMade p rules fits chart tables s (length w) offered out₀ out a
+    → enumerationOf a chart out ≡ nextTree (cfgIn s p) w offered chart out₀
 made-tree p w s rules fits chart tables offered out₀ out a (few, given) is M =
     M .exact w refl given (listed-member offered (L (cfgIn s p) w) is)
 

@@ -3,14 +3,13 @@
 use Prim.Native.Nat.{ℕ, suc, _+_, _*_, _-_}
 use mathlib.Core.List.{List, [], List·Memᴰ}
 use mathlib.Core.Option.{none, some}
-use mathlib.Core.Path.{_≡_, refl, sym, ap, subst, _∙_}
+use mathlib.Core.Path.{_≡_, sym, ap, subst, _∙_}
 use native.Mathlib.Omega.{arith}
 use lib.ListN.{length, getD}
 use Rattle.sizes.specs.Sizes.{maxNodes}
 use Rattle.sets.specs.Set.{empty}
 use Rattle.cfg.specs.Tree.{code}
 use Rattle.cfg.specs.Listing.{L}
-use Rattle.chart.proofs.SameRules.{SameRules}
 use Rattle.choices.proofs.NextRoot.{root-stands, root-follows-at, root-ends-at}
 use Rattle.descend.specs.Descend.{Given}
 use Rattle.advance.specs.Advance.{AfterAt, NextAt, NodeNext}
@@ -22,6 +21,7 @@ use Rattle.results.proofs.Demand3.Rows.{after-next, after-last}
 use Rattle.results.proofs.Demand3.Listed.{L-rising}
 use Rattle.standing.specs.Standing.{StandsAt}
 use Rattle.tables.specs.Exact.{Packing}
+use Rattle.first.proofs.Root.{same, start}
 use Rattle.next.specs.Made.{Begins, Following, Advanced, RootNext}
 
 -- ---- what stands at node 0 is at the front
@@ -34,38 +34,29 @@ begins-stands buf e here y h = let z : 2 * 0 + y ≡ y = omega arith in ap (λ (
 
 -- ---- the list L
 
-module _ (p w : List ℕ) (s : ℕ) where
-  -- the start symbol makes no difference to the rules
-  same : SameRules (Packing p) (cfgIn s p)
-  unfolding cfgIn
-  same r = refl
+module _ (p w : List ℕ) (s c n : ℕ) (cover : c ≡ length w) (to : n ≡ length w) (d : List ℕ) (m : List·Memᴰ d (L (cfgIn s p) w)) where
+  -- the code after d is the element after it
+  after-tree : (e : List ℕ) → After (Tree (Packing p) w c empty s 0 n maxNodes) d e → afterIn d (L (cfgIn s p) w) ≡ some e
+  after-tree e A =
+      let (i, more, here, next) = root-follows-at (Packing p) (cfgIn s p) (same p w s) w (start p w s) cover to m A in
+      subst (λ (x : List ℕ). afterIn x (L (cfgIn s p) w) ≡ some (getD (L (cfgIn s p) w) (suc i) [])) here
+      (after-next (L (cfgIn s p) w) (L-rising (cfgIn s p) w) i more)
+      ∙ ap some next
 
-  start : s ≡ cfgIn s p .start
-  unfolding cfgIn
-  start = refl
+  -- without one there is no element after it
+  last-tree : Last (Tree (Packing p) w c empty s 0 n maxNodes) d → afterIn d (L (cfgIn s p) w) ≡ none
+  last-tree A =
+      let (i, all, here) = root-ends-at (Packing p) (cfgIn s p) (same p w s) w (start p w s) cover to m A in
+      subst (λ (x : List ℕ). afterIn x (L (cfgIn s p) w) ≡ none) here (after-last (L (cfgIn s p) w) (L-rising (cfgIn s p) w) i all)
 
-  module _ (c n : ℕ) (cover : c ≡ length w) (to : n ≡ length w) (d : List ℕ) (m : List·Memᴰ d (L (cfgIn s p) w)) where
-    -- the code after d is the element after it
-    after-tree : (e : List ℕ) → After (Tree (Packing p) w c empty s 0 n maxNodes) d e → afterIn d (L (cfgIn s p) w) ≡ some e
-    after-tree e A =
-        let (i, more, here, next) = root-follows-at (Packing p) (cfgIn s p) same w start cover to m A in
-        subst (λ (x : List ℕ). afterIn x (L (cfgIn s p) w) ≡ some (getD (L (cfgIn s p) w) (suc i) [])) here
-        (after-next (L (cfgIn s p) w) (L-rising (cfgIn s p) w) i more)
-        ∙ ap some next
-
-    -- without one there is no element after it
-    last-tree : Last (Tree (Packing p) w c empty s 0 n maxNodes) d → afterIn d (L (cfgIn s p) w) ≡ none
-    last-tree A =
-        let (i, all, here) = root-ends-at (Packing p) (cfgIn s p) same w start cover to m A in
-        subst (λ (x : List ℕ). afterIn x (L (cfgIn s p) w) ≡ none) here (after-last (L (cfgIn s p) w) (L-rising (cfgIn s p) w) i all)
-
-    pub advanced : (buf : List ℕ) (k : ℕ) → NextAt (Tree (Packing p) w c empty s 0 n maxNodes) d buf 0 k
-        → Advanced (L (cfgIn s p) w) d buf k
-    advanced buf k N = record { none-left = λ h. last-tree (N .none h); next = λ h. following (N .some h) }
-      where
-        following : AfterAt (Tree (Packing p) w c empty s 0 n maxNodes) d buf 0 k → Following (L (cfgIn s p) w) d buf k
-        following A =
-            record { numbers = A .numbers; after = after-tree (A .numbers) (A .after); size = A .size; here = stands-begins buf (A .numbers) (A .here) }
+  pub advanced : (buf : List ℕ) (k : ℕ) → NextAt (Tree (Packing p) w c empty s 0 n maxNodes) d buf 0 k
+      → Advanced (L (cfgIn s p) w) d buf k
+  advanced buf k N = record { none-left = λ h. last-tree (N .none h); next = λ h. following (N .some h) }
+    where
+      following : AfterAt (Tree (Packing p) w c empty s 0 n maxNodes) d buf 0 k → Following (L (cfgIn s p) w) d buf k
+      following A =
+          let e = A .numbers in
+          record { numbers = e; after = after-tree e (A .after); size = A .size; here = stands-begins buf e (A .here) }
 
 pub root-next : (p : List ℕ) (rules : ℕ) (fits chart tables : List ℕ) (s n : ℕ) (buf₀ buf : List ℕ) (k : ℕ)
     → NodeNext p rules fits chart tables s 0 n 0 maxNodes 0 buf₀ buf k → RootNext p rules fits chart tables s n buf₀ buf k

@@ -40,7 +40,8 @@ fn next_made(
     offered: &[u16],
     out: &mut [u16],
 ) -> Handed
-    requires { ⌜ (rules ≤ maxRules) × (n < side) × (cells ≤ length (now chart)) × (length (now offered) ≤ outputSize) × (outputSize ≤ length (now out)) ⌝ }
+    requires { ⌜ (rules ≤ maxRules) × (n < side) × (cells ≤ length (now chart)) × (length (now offered) ≤ outputSize)
+        × (outputSize ≤ length (now out)) ⌝ }
     ensures { λ a. ⌜ NextMade (now (p .entry)) rules (now (fits .entry)) (now (chart .entry)) (now (tables .entry)) start n
         (now (offered .entry)) (now (out .entry)) (now (out .exit)) (handingOf a) ⌝ }
 {

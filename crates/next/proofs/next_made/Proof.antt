@@ -1,5 +1,5 @@
--- `next::next_made` meets its contract: the derivation after the offered one is written to the buffer, and copied to the output if there is
--- one.
+-- `next::next_made` meets its contract: the derivation after the offered one is written to the buffer and, if there is one, copied to
+-- the output.
 -- Assumes nothing.
 use borrow.Author.Needs.{needs}
 use Rattle.next.proofs.Handing.{made-none, made-next}
