@@ -13,7 +13,7 @@ use Rattle.cfg.specs.Listing.{L}
 use Rattle.descend.specs.Descend.{Given}
 use Rattle.packed.specs.Packed.{cfgIn}
 use Rattle.results.specs.Answer.{answered, counted, more, most}
-use Rattle.results.specs.Enumerate.{afterIn, figure}
+use Rattle.results.specs.Enumerate.{figure}
 use Rattle.results.proofs.Demand3.Figures.{figure-counted, figure-more}
 use Rattle.results.proofs.Demand3.Listed.{L-rising}
 use Rattle.results.proofs.Demand3.Rows.{at-member, after-next, after-last}
@@ -28,7 +28,8 @@ some-inj e = cc
 none-apart : {A : Type 0} {a : A} → none ≡ some a → ⊥
 none-apart e = let z : _≡_ {A = ℕ} 0 1 = cc in omega arith
 
-module _ (l : List (List ℕ)) (rising : Rising l) (i : ℕ) (there : i < length l) (buf : List ℕ) (m : ℕ) (A : Advanced l (getD l i []) buf m) where
+module _ (l : List (List ℕ)) (rising : Rising l) (i : ℕ) (there : i < length l) (buf : List ℕ) (m : ℕ)
+    (A : Advanced l (getD l i []) buf m) where
   -- no nodes: element i is the last one
   last-element : m ≡ 0 → length l ≡ i + 1
   last-element h = dite (decLt (suc i) (length l))
