@@ -1,6 +1,9 @@
 // The derivation after the one that stands in a buffer (document 01: next reading), with the tables made.
-pub mod frame;
-pub mod later;
-pub mod look;
+mod child;
+mod frame;
+mod later;
+mod look;
+mod moved;
 pub mod next;
-pub mod wider;
+mod row;
+mod wider;

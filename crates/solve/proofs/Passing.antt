@@ -8,6 +8,9 @@ use native.Mathlib.Decide.{ℕ-discrete, decLt}
 use native.Mathlib.Omega.{arith}
 use lib.ListN.{replicate, length-replicate, getD-replicate}
 use Rattle.sizes.specs.Sizes.{tooMany}
+use Rattle.sets.specs.Set.{has}
+use Rattle.sets.proofs.Laws.{has-empty}
+use Rattle.packed.specs.Packed.{leftIn}
 use Rattle.tables.specs.Layout.{fullIn}
 use Rattle.tables.proofs.Entries.{full-read, full-none}
 use Rattle.solve.specs.Solve.{total, Numbers, AllReached, Settled, Improved, Passed, Solved}
@@ -74,6 +77,14 @@ numbers-none = record { long = length-replicate 32 tooMany; capped = λ k. omega
 module _ (p : List ℕ) (mask : ℕ) (tables : List ℕ) (i j : ℕ) where
   pub reached-none : AllReached p mask tables i j (replicate 32 tooMany)
   reached-none = record { at = λ fit least R k h. absurd (omega (arith, full-none-yet k)) }
+
+  -- nothing is looked for where the cell has nothing
+  pub solved-nothing : {rules cell : ℕ} → cell ≡ 0 → Solved p rules cell mask tables i j (replicate 32 tooMany)
+  solved-nothing e = record {
+    numbers = numbers-none;
+    reached = reached-none;
+    settled = λ r _ fit least R l h. absurd (true≢false (sym h ∙ ap (has (leftIn p r)) e ∙ has-empty (leftIn p r)));
+  }
 
   module _ {rules cell : ℕ} (full full' : List ℕ) {b : Bool} (S : Passed p rules cell mask tables i j full full' b) where
     pub reached-less : not b ≡ false → total full' < total full

@@ -101,6 +101,9 @@ pub fn solve(
     ensures { λ full. ⌜ Solved (now (p .entry)) rules cell mask (now (tables .entry)) i j full ⌝ }
 {
     let mut full = [TOO_MANY; sizes::NONTERMINALS];
+    if cell == 0 {
+        return full;
+    }
     loop {
         if !pass(p, rules, cell, mask, tables, i, j, &mut full) {
             return full;

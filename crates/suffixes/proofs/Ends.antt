@@ -16,9 +16,10 @@ module _ {tables : List ℕ} {k a b last : ℕ} {rests : List ℕ} {at : ℕ} wh
   pub ends-start : EndsBefore tables k a b last rests at a tooMany
   ends-start = record { lowest = λ fit cost places R. seen-none }
 
-  -- x is the cost at the end c, y that sum capped, z the smaller
+  -- x is the cost at the end c, y the sum of the two, each capped, z the smaller
   pub ends-step : {c v x y z : ℕ} → a ≤ c → c < b → EndsBefore tables k a b last rests at c v → v ≤ tooMany
-      → x ≡ costIn tables k a c → y ≡ min (x + getD rests (at + c) 0) tooMany → z ≡ min v y → EndsBefore tables k a b last rests at (c + 1) z
+      → x ≡ costIn tables k a c → y ≡ min x tooMany + min (getD rests (at + c) 0) tooMany → z ≡ min v y
+      → EndsBefore tables k a b last rests at (c + 1) z
   ends-step {c} {v} {x} {y} {z} h l S t e f g = record {
     lowest = λ fit cost places R.
         rw add-one (first-step h (S .lowest fit cost places R) (R .later c h (omega arith))

@@ -5,9 +5,19 @@ use tables::layout::cost;
 use tables::least::TOO_MANY;
 use tables::least::capped;
 use tables::least::lower;
-ghost use Prim.Native.Nat.{_+_, _<_, _≤_};
+ghost use mathlib.Core.Path.{_≡_};
+ghost use Prim.Native.Nat.{_+_, _<_, _≤_, min};
 ghost use lib.ListN.{length};
+ghost use Rattle.sizes.specs.Sizes.{tooMany};
 ghost use Rattle.suffixes.specs.Suffix.{AtNonterminal, AtTerminal, AtEnd};
+
+// The sum of two numbers of nodes, of each 513 if that is less. It stays a 16-bit number without a test of its own, so that the loop below
+// takes several ends at a time.
+fn sum(a: u16, b: u16) -> u16
+    ensures { λ r. ⌜ r ≡ min a tooMany + min b tooMany ⌝ }
+{
+    lower(a, TOO_MANY) + lower(b, TOO_MANY)
+}
 
 // At the nonterminal k, from a to b: the least over its ends c of its own cost and that of the places behind it. `last` is its cost up to
 // b, which is not the table's where that span is the whole.
@@ -26,7 +36,7 @@ pub fn over_ends(
     let mut best = TOO_MANY;
     let mut c = a;
     while c < b {
-        best = lower(best, capped(cost(tables, k, a, c), rests[at + c]));
+        best = lower(best, sum(cost(tables, k, a, c), rests[at + c]));
         c += 1;
     }
     lower(best, capped(last, rests[at + b]))

@@ -3,6 +3,7 @@ use super::layout::ALONES;
 use super::layout::Full;
 use super::layout::Tables;
 use super::layout::full_of;
+use super::least::TOO_MANY;
 use super::least::capped;
 use super::least::lower;
 use packed::Packed;
@@ -13,12 +14,16 @@ ghost use Rattle.packed.specs.Packed.{valueIn};
 ghost use Rattle.tables.specs.Layout.{fullIn};
 ghost use Rattle.tables.specs.Rule.{OfRule};
 
-// The cost through place q of rule r, `beside` being that of the rest. At a terminal `beside` is 513, so its value does not count.
+// The cost through place q of rule r, `beside` being that of the rest. A place that cannot stand
+// alone, as a terminal, has 513 there and is not looked at.
 fn through(p: &Packed, r: usize, q: usize, full: &Full, beside: u16) -> u16
     requires { ⌜ (r < 128) × (q < 8) ⌝ }
     ensures { λ v. ⌜ v ≡ min (beside + fullIn (now (full .entry)) (valueIn (now (p .entry)) r q)) tooMany ⌝ }
 {
-    capped(beside, full_of(full, packed::value(p, r, q)))
+    if beside < TOO_MANY {
+        return capped(beside, full_of(full, packed::value(p, r, q)));
+    }
+    TOO_MANY
 }
 
 // The cost of rule r, from its cost without a child over the whole span and the numbers of its places that stand alone.

@@ -4,7 +4,7 @@ use Prim.Native.Nat.{ℕ, suc, _*_, _≤_, _<_, min}
 use mathlib.Core.List.{List}
 use mathlib.Core.Path.{_≡_}
 use lib.ListN.{length, getD}
-use Rattle.sizes.specs.Sizes.{maxRules, nonterminals, side, tooMany}
+use Rattle.sizes.specs.Sizes.{maxRules, side, tooMany}
 use Rattle.suffixes.specs.Within.{rowAt}
 use Rattle.tables.specs.Layout.{leastSize, baresAt, tablesSize, rowsSize, costIn, fullIn, bareIn}
 

@@ -2,7 +2,7 @@
 -- each pass that changes something. Assumes nothing.
 use borrow.Author.Needs.{needs}
 use Rattle.solve.specs.Solve.{total, Numbers, AllReached}
-use Rattle.solve.proofs.Passing.{numbers-none, reached-none, reached-step, reached-less, solved-last}
+use Rattle.solve.proofs.Passing.{numbers-none, reached-none, solved-nothing, reached-step, reached-less, solved-last}
 use Rattle.solve.proofs.solve.Statement.{statement}
 use Rattle.solve.proofs.solve.Tie as tie
 
@@ -18,6 +18,7 @@ solve-spec =
     (tie.spec
     Inv-loop
     μ-loop
+    (λ c. search (needs, solved-nothing))
     (λ c. (numbers-none, reached-none _ _ _ _ _))
     (λ c κs. search needs)
     (λ c. search (needs, solved-last))

@@ -1,4 +1,4 @@
--- `tables::column::put_column` meets its contract. The loop's invariant: the costs of the places from q on are written. The measure is q.
+-- `suffixes::column::put_column` meets its contract. The loop's invariant: the costs of the places from q on are written. The measure is q.
 -- Assumes nothing.
 use Prim.Native.Nat.{_+_, _≤_}
 use mathlib.Core.Path.{_≡_}

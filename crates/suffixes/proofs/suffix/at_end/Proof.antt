@@ -1,4 +1,4 @@
--- `tables::suffix::at_end` meets its contract.
+-- `suffixes::suffix::at_end` meets its contract.
 -- Assumes nothing.
 use borrow.Author.Needs.{needs}
 use Rattle.suffixes.proofs.Places.{end-short, end-there}

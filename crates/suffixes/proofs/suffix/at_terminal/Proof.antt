@@ -1,4 +1,4 @@
--- `tables::suffix::at_terminal` meets its contract.
+-- `suffixes::suffix::at_terminal` meets its contract.
 -- Assumes nothing.
 use borrow.Author.Needs.{needs}
 use Rattle.suffixes.proofs.Places.{terminal-fits, terminal-misfit, terminal-no-byte}

@@ -1,4 +1,4 @@
--- `tables::suffix::over_ends` meets its contract. The loop's invariant: the least over the ends passed. The measure is what is
+-- `suffixes::suffix::over_ends` meets its contract. The loop's invariant: the least over the ends passed. The measure is what is
 -- left of them. Assumes nothing.
 use Prim.Native.Nat.{_-_, _≤_}
 use borrow.Author.Needs.{needs}

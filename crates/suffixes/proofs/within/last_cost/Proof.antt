@@ -1,4 +1,4 @@
--- `tables::within::last_cost` meets its contract.
+-- `suffixes::within::last_cost` meets its contract.
 -- Assumes nothing.
 use borrow.Author.Needs.{needs}
 use Rattle.suffixes.proofs.Inner.{last-whole, last-part}

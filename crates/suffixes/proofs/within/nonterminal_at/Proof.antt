@@ -1,4 +1,4 @@
--- `tables::within::nonterminal_at` meets its contract.
+-- `suffixes::within::nonterminal_at` meets its contract.
 -- Assumes nothing.
 use borrow.Author.Needs.{needs}
 use Rattle.suffixes.proofs.Inner.{nonterminal-inside}

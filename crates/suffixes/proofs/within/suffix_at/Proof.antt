@@ -1,4 +1,4 @@
--- `tables::within::suffix_at` meets its contract.
+-- `suffixes::within::suffix_at` meets its contract.
 -- Assumes nothing.
 use borrow.Author.Needs.{needs}
 use Rattle.suffixes.proofs.Inner.{suffix-nonterminal, suffix-terminal}

@@ -1,6 +1,7 @@
 -- `tables::rule::through` meets its contract.
 -- Assumes nothing.
 use borrow.Author.Needs.{needs}
+use native.Mathlib.Omega.{arith}
 use Rattle.tables.proofs.Through.{through-read}
 use Rattle.tables.proofs.rule.through.Statement.{statement}
 use Rattle.tables.proofs.rule.through.Tie as tie
@@ -12,4 +13,5 @@ through-spec =
     (λ c κs. search needs)
     (λ c κs. search needs)
     (λ c κs. search needs)
-    (λ c. search (needs, through-read)))
+    (λ c. search (needs, through-read))
+    (λ c. omega arith))

@@ -1,9 +1,9 @@
--- `advance::wider::moved` meets its contract.
+-- `advance::moved::moved` meets its contract.
 -- Assumes nothing.
 use borrow.Author.Needs.{needs}
 use Rattle.advance.proofs.ChildSteps.{moved-rest, moved-wider}
-use Rattle.advance.proofs.wider.moved.Statement.{statement}
-use Rattle.advance.proofs.wider.moved.Tie as tie
+use Rattle.advance.proofs.moved.moved.Statement.{statement}
+use Rattle.advance.proofs.moved.moved.Tie as tie
 
 pub moved-spec : {M : Type 1} → statement M
 moved-spec =

@@ -11,24 +11,24 @@ use Rattle.advance.proofs.Reading.{byte-room, node-room}
 use Rattle.advance.proofs.RowSteps.{row-none, row-end, row-byte, row-rest, row-child}
 use Rattle.advance.proofs.ChildSteps.{child-dear, child-moved}
 use Rattle.advance.proofs.NodeSteps.{node-none, node-below-moves, node-later}
-use Rattle.advance.proofs.next.child.Reads as child
-use Rattle.advance.proofs.next.child.Kinds as child-kinds
-use Rattle.advance.proofs.next.+child+node+row.Lts-child as child-lts
+use Rattle.advance.proofs.child.child.Reads as child
+use Rattle.advance.proofs.child.child.Kinds as child-kinds
+use Rattle.advance.proofs.+child-child+next-node+row-row.Lts-child-child as child-lts
 use Rattle.advance.proofs.next.node.Reads as node
 use Rattle.advance.proofs.next.node.Kinds as node-kinds
-use Rattle.advance.proofs.next.+child+node+row.Lts-node as node-lts
-use Rattle.advance.proofs.next.row.Reads as row
-use Rattle.advance.proofs.next.row.Kinds as row-kinds
-use Rattle.advance.proofs.next.+child+node+row.Lts-row as row-lts
+use Rattle.advance.proofs.+child-child+next-node+row-row.Lts-next-node as node-lts
+use Rattle.advance.proofs.row.row.Reads as row
+use Rattle.advance.proofs.row.row.Kinds as row-kinds
+use Rattle.advance.proofs.+child-child+next-node+row-row.Lts-row-row as row-lts
 use Rattle.advance.proofs.frame.rest_of.Reads as rest-of-reads
 use Rattle.advance.proofs.later.later_rule.Reads as later-rule-reads
 use Rattle.advance.proofs.look.look.Reads as look-reads
 use Rattle.advance.proofs.look.rule_at.Reads as rule-at-reads
-use Rattle.advance.proofs.wider.moved.Reads as moved-reads
+use Rattle.advance.proofs.moved.moved.Reads as moved-reads
 use Rattle.descend.proofs.open.child_set.Reads as child-set-reads
 use Rattle.descend.proofs.open.own_set.Reads as own-set-reads
-use Rattle.advance.proofs.next.+child+node+row.{statement}
-use Rattle.advance.proofs.next.+child+node+row.Tie.{close}
+use Rattle.advance.proofs.+child-child+next-node+row-row.{statement}
+use Rattle.advance.proofs.+child-child+next-node+row-row.Tie.{close}
 
 abbrev μ-child : Measures 7 child-kinds.ps ℕ
 μ-child κs a = 20 * a .1 .1 .1 .1 .1 .1 .1 .1 .1 .1 .1 .1 .1 .1 .1 .0 + 2
@@ -192,11 +192,8 @@ row-returns-5 t c =
     row-child (omega arith) (omega arith) (d .row2 .ensures) (e .look .ensures) (d .before .before .before .before .before .step .given .1)
     (omega arith) (c .before .before .child .ensures)
 
-pub +child+node+row-spec : {M : Type 1} → statement M
-+child+node+row-spec = close μ-child μ-node μ-row (λ t. child-lts.spec
-    (child-calls t)
-    (child-at t)
-    child.Post
+pub +child·child+next·node+row·row-spec : {M : Type 1} → statement M
++child·child+next·node+row·row-spec = close μ-child μ-node μ-row (λ t. child-lts.spec (child-calls t) (child-at t) child.Post
     (λ c κs. search needs)
     (λ c. child-dear (omega arith) (omega arith) (omega arith) (c .before .rest-of .ensures) (omega arith))
     (λ c. search needs) (λ c. search needs) (λ c κs. search needs)
@@ -204,10 +201,7 @@ pub +child+node+row-spec : {M : Type 1} → statement M
     (child-moved-requires t)
     (λ c. search needs)
     (child-returns-2 t))
-    (λ t. node-lts.spec
-    (node-calls t)
-    (node-at t)
-    node.Post
+    (λ t. node-lts.spec (node-calls t) (node-at t) node.Post
     (λ c κs. search needs) (λ c. search needs)
     (λ c. node-none (omega arith) (c .before .rule-at .ensures) (omega arith))
     (λ c κs. search needs)
@@ -220,10 +214,7 @@ pub +child+node+row-spec : {M : Type 1} → statement M
     (node-later-rule-requires t)
     (λ c. search needs)
     (node-returns-3 t))
-    λ t. row-lts.spec
-    (row-calls t)
-    (row-at t)
-    row.Post
+    λ t. row-lts.spec (row-calls t) (row-at t) row.Post
     (λ c κs. search needs) (λ c. search needs) (λ c. search needs) (λ c. search needs) (λ c. search needs)
     (λ c. search needs)
     (row-row-requires t)

@@ -1,0 +1,106 @@
+// The row after the one that stands, in place: its later places move first, then its first node, then that node's end.
+use super::child::child;
+use super::look::Step;
+use super::look::look;
+use fit::FitTable;
+use packed::Packed;
+use suffixes::rows::Rows;
+use tables::layout::Full;
+use tables::layout::Tables;
+ghost use Prim.Native.Nat.{_+_, _<_, _≤_};
+ghost use lib.ListN.{length};
+ghost use Rattle.sizes.specs.Sizes.{maxRules, maxPlaces, side, cells, maxNodes, outputSize};
+ghost use Rattle.advance.specs.Advance.{Frame, RowNext};
+
+// Writes the row of the places of rule r from q on, from a to j inside a span from i to j, after the one that stands at node `at`.
+pub fn row(
+    p: &Packed,
+    rules: usize,
+    fits: &FitTable,
+    chart: &[u32],
+    tables: &Tables,
+    full: &mut Full,
+    rows: &mut Rows,
+    r: usize,
+    q: usize,
+    a: usize,
+    i: usize,
+    j: usize,
+    mask: u32,
+    budget: usize,
+    buf: &mut [u16],
+    at: usize,
+) -> usize
+    requires { ⌜ ((rules ≤ maxRules) × (r < maxRules) × (q ≤ maxPlaces) × (i ≤ a) × (a ≤ j) × (j < side)
+        × (cells ≤ length (now chart)) × (at + budget ≤ maxNodes) × (outputSize ≤ length (now buf)))
+        × Frame (now p) rules (now fits) (now chart) (now tables) r i j mask (now full) (now rows) ⌝ }
+    ensures { λ n. ⌜ RowNext (now (p .entry)) rules (now (fits .entry)) (now (chart .entry)) (now (tables .entry)) r q a i j mask budget at
+        (now (buf .entry)) (now (full .exit)) (now (rows .exit)) (now (buf .exit)) n ⌝ }
+{
+    let step = look(p, r, q, buf, at, a, j, budget);
+    match step {
+        Step::No => 0,
+        Step::End => 0,
+        Step::Byte => row(
+            p,
+            rules,
+            fits,
+            chart,
+            tables,
+            full,
+            rows,
+            r,
+            q + 1,
+            a + 1,
+            i,
+            j,
+            mask,
+            budget,
+            buf,
+            at,
+        ),
+        Step::Node(k, b, s) => {
+            let n = row(
+                p,
+                rules,
+                fits,
+                chart,
+                tables,
+                full,
+                rows,
+                r,
+                q + 1,
+                b,
+                i,
+                j,
+                mask,
+                budget - s,
+                buf,
+                at + s,
+            );
+            if n > 0 {
+                return s + n;
+            }
+            child(
+                p,
+                rules,
+                fits,
+                chart,
+                tables,
+                full,
+                rows,
+                r,
+                q,
+                k,
+                a,
+                b,
+                i,
+                j,
+                mask,
+                budget,
+                buf,
+                at,
+            )
+        }
+    }
+}
