@@ -5,8 +5,10 @@ use native.Mathlib.Omega.{arith}
 use mathlib.Core.Bool.{Bool, true, false}
 use mathlib.Core.Path.{_≡_, refl, ap}
 use lib.IntN.{ℤ}
-use Rattle.results.specs.Answer.{Answer, refused, answered, Handing, handed, nothing, LoadAnswer, refusedAt, loaded}
+use Rattle.results.specs.Answer.{Answer, refused, answered, Handing, handed, nothing, Figure, counted, more}
+use Rattle.results.specs.Answer.{LoadAnswer, refusedAt, loaded}
 use Rattle.filbozseg.specs.Code.{verdictCode, loadCode, offsetLeft, lengthCode, tenthsLeft, handingCode, nodesLeft}
+use Rattle.filbozseg.specs.Code.{figureCode, figureLeft}
 
 pub verdict-apart : (a b : Answer Bool) → verdictCode a ≡ verdictCode b → a ≡ b
 verdict-apart (refused m) (refused n) e = ap refused (omega arith)
@@ -41,3 +43,14 @@ handing-apart (answered (handed m)) (answered (handed n)) found e t = ap (λ (x 
 handing-apart (answered (handed m)) (answered nothing) found e t = absurd (omega arith)
 handing-apart (answered nothing) (answered (handed n)) found e t = absurd (omega arith)
 handing-apart (answered nothing) (answered nothing) found e t = refl
+
+pub figure-apart : (a b : Answer Figure) (found : ℕ) → figureCode a ≡ figureCode b → figureLeft a found ≡ figureLeft b found → a ≡ b
+figure-apart (refused m) (refused n) found e t = ap refused (omega arith)
+figure-apart (refused m) (answered (counted n)) found e t = absurd (omega arith)
+figure-apart (refused m) (answered more) found e t = absurd (omega arith)
+figure-apart (answered (counted m)) (refused n) found e t = absurd (omega arith)
+figure-apart (answered more) (refused n) found e t = absurd (omega arith)
+figure-apart (answered (counted m)) (answered (counted n)) found e t = ap (λ (x : ℕ). answered (counted x)) t
+figure-apart (answered (counted m)) (answered more) found e t = absurd (omega arith)
+figure-apart (answered more) (answered (counted n)) found e t = absurd (omega arith)
+figure-apart (answered more) (answered more) found e t = refl

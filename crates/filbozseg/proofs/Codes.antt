@@ -14,6 +14,9 @@ use Rattle.grammar.specs.Number.{numberOf}
 use Rattle.checker.specs.declared.Measured.{Measured}
 use Rattle.checker.specs.declared.Measured.the-variants as M
 use Rattle.checker.specs.Calls.{measuredOf}
+use Rattle.count.specs.declared.Counted.{Counted}
+use Rattle.count.specs.declared.Counted.the-variants as N
+use Rattle.count.specs.Answer.{countedOf}
 use Rattle.first.specs.declared.Handed.{Handed}
 use Rattle.first.specs.declared.Handed.the-variants as F
 use Rattle.first.specs.Answer.{handingOf}
@@ -21,6 +24,7 @@ use Rattle.hand.specs.Hand.{rowOf}
 use Rattle.recognizer.specs.Verdict.{verdictOf}
 use Rattle.results.specs.Recognize.{State}
 use Rattle.filbozseg.specs.Code.{verdictCode, rowLeft, lengthCode, tenthsLeft, handingCode, nodesLeft}
+use Rattle.filbozseg.specs.Code.{figureCode, figureLeft}
 
 module _ (r : Refusal) (c : ℕ) (code : c ≡ 256 + numberOf r) where
   pub verdict-refused : (a : Verdict) → a ≡ C.Refused r → c ≡ verdictCode (verdictOf a)
@@ -31,6 +35,9 @@ module _ (r : Refusal) (c : ℕ) (code : c ≡ 256 + numberOf r) where
 
   pub handing-refused : (a : Handed) → a ≡ F.Refused r → c ≡ handingCode (handingOf a)
   handing-refused a e = code ∙ ap (λ (x : Handed). handingCode (handingOf x)) (sym e)
+
+  pub figure-refused : (a : Counted) → a ≡ N.Refused r → c ≡ figureCode (countedOf a)
+  figure-refused a e = code ∙ ap (λ (x : Counted). figureCode (countedOf x)) (sym e)
 
 -- ---- taking
 
@@ -63,7 +70,7 @@ module _ (a : Measured) where
   pub tenths-refused : (r : Refusal) (found : ℤ) → a ≡ M.Refused r → found ≡ tenthsLeft (measuredOf a) found
   tenths-refused r found e = ap (λ (x : Measured). tenthsLeft (measuredOf x) found) (sym e)
 
--- ---- first
+-- ---- first and next
 
 module _ (a : Handed) where
   pub code-handed : (n : ℕ) → a ≡ F.Nodes n → 1 ≡ handingCode (handingOf a)
@@ -80,3 +87,21 @@ module _ (a : Handed) where
 
   pub nodes-refused : (r : Refusal) (found : ℕ) → a ≡ F.Refused r → found ≡ nodesLeft (handingOf a) found
   nodes-refused r found e = ap (λ (x : Handed). nodesLeft (handingOf x) found) (sym e)
+
+-- ---- count
+
+module _ (a : Counted) where
+  pub code-exactly : (n : ℕ) → a ≡ N.Exactly n → 1 ≡ figureCode (countedOf a)
+  code-exactly n e = ap (λ (x : Counted). figureCode (countedOf x)) (sym e)
+
+  pub code-more : a ≡ N.More → 2 ≡ figureCode (countedOf a)
+  code-more e = ap (λ (x : Counted). figureCode (countedOf x)) (sym e)
+
+  pub figure-exactly : (n found : ℕ) → a ≡ N.Exactly n → n ≡ figureLeft (countedOf a) found
+  figure-exactly n found e = ap (λ (x : Counted). figureLeft (countedOf x) found) (sym e)
+
+  pub figure-more : (found : ℕ) → a ≡ N.More → found ≡ figureLeft (countedOf a) found
+  figure-more found e = ap (λ (x : Counted). figureLeft (countedOf x) found) (sym e)
+
+  pub figure-none : (r : Refusal) (found : ℕ) → a ≡ N.Refused r → found ≡ figureLeft (countedOf a) found
+  figure-none r found e = ap (λ (x : Counted). figureLeft (countedOf x) found) (sym e)

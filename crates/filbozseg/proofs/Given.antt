@@ -20,12 +20,14 @@ use Rattle.loader.specs.declared.Loaded.{Loaded}
 use Rattle.loader.specs.declared.Outcome.{Outcome}
 use Rattle.loader.specs.declared.Outcome.the-variants as O
 use Rattle.loader.specs.Answer.{answerOf, loadingOf}
+use Rattle.results.specs.Answer.{Figure}
 use Rattle.results.specs.Check.{Checking}
 use Rattle.results.specs.Enumerate.{Enumeration}
 use Rattle.results.specs.Load.{Loading, loadOf}
 use Rattle.results.specs.Recognize.{State, Recognition}
 use Rattle.filbozseg.specs.Code.{verdictCode, rowLeft, loadCode, offsetLeft, lengthCode, tenthsLeft, handingCode, nodesLeft}
-use Rattle.filbozseg.specs.Calls.{Loads, Opens, Takes, Checks, Measures, Hands}
+use Rattle.filbozseg.specs.Code.{figureCode, figureLeft}
+use Rattle.filbozseg.specs.Calls.{Loads, Opens, Takes, Checks, Measures, Hands, Counts}
 use Rattle.filbozseg.proofs.Fits.{load-fits}
 
 -- ---- loading
@@ -114,4 +116,14 @@ module _ {g h : Grammar} (read : g ≡ h) where
         left = ap (λ (x : Enumeration). x .chart) d;
         written = ap (λ (x : Enumeration). x .output) d;
         counted = t ∙ ap (λ (x : Enumeration). nodesLeft (x .answer) found) d;
+      }
+
+  pub counts-of : (f : Grammar → Checking Figure) (v : Checking Figure) (found code figure : ℕ) → v ≡ f g → code ≡ figureCode (v .answer)
+      → figure ≡ figureLeft (v .answer) found → Counts (f h) found code (v .chart) figure
+  counts-of f v found code figure e c t =
+      let d : v ≡ f h = e ∙ ap f read in
+      record {
+        returned = c ∙ ap (λ (x : Checking Figure). figureCode (x .answer)) d;
+        left = ap (λ (x : Checking Figure). x .chart) d;
+        counted = t ∙ ap (λ (x : Checking Figure). figureLeft (x .answer) found) d;
       }

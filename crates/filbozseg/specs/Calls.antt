@@ -11,11 +11,13 @@ use Rattle.cfg.specs.Nullable.{Depth}
 use Rattle.flat.specs.Flat.{grammarIn, flatOf}
 use Rattle.grammar.specs.View.{wholeOf}
 use Rattle.hand.specs.Hand.{rowOf}
+use Rattle.results.specs.Answer.{Figure}
 use Rattle.results.specs.Check.{Checking}
 use Rattle.results.specs.Enumerate.{Enumeration}
 use Rattle.results.specs.Load.{loadOf}
 use Rattle.results.specs.Recognize.{Recognition}
 use Rattle.filbozseg.specs.Code.{verdictCode, rowLeft, loadCode, offsetLeft, lengthCode, tenthsLeft, handingCode, nodesLeft}
+use Rattle.filbozseg.specs.Code.{figureCode, figureLeft}
 
 -- the nullable depth that stands in a row
 abbrev pub depthIn : List ℕ → ℕ
@@ -53,9 +55,15 @@ pub record Measures (k : Checking ℤ) (found : ℤ) (code : ℕ) (chart : List 
   pub left : chart ≡ k .chart
   pub measured : tenths ≡ tenthsLeft (k .answer) found
 
--- first, a number being found where the nodes go: what is returned, the chart and the output left, and the number left
+-- first and next, a number being found where the nodes go: what is returned, the chart and the output left, and the number left
 pub record Hands (x : Enumeration) (found : ℕ) (code : ℕ) (chart output : List ℕ) (nodes : ℕ) : Type 0 where
   pub returned : code ≡ handingCode (x .answer)
   pub left : chart ≡ x .chart
   pub written : output ≡ x .output
   pub counted : nodes ≡ nodesLeft (x .answer) found
+
+-- count, a number being found where the figure goes: what is returned, the chart left, and the number left
+pub record Counts (k : Checking Figure) (found : ℕ) (code : ℕ) (chart : List ℕ) (figure : ℕ) : Type 0 where
+  pub returned : code ≡ figureCode (k .answer)
+  pub left : chart ≡ k .chart
+  pub counted : figure ≡ figureLeft (k .answer) found

@@ -1,12 +1,14 @@
 -- The numbers in which an answer is returned: the code of each kind of answer, and what is left in a place that was lent, by what was
--- found there. A code is 0 for no and none; 1 for yes, loaded, measured and handed out; 256 and the number of a refusal.
+-- found there. A code is 0 for no and none; 1 for yes, loaded, measured, handed out and counted; 2 for more; 256 and the number of a
+-- refusal.
 -- Assumes nothing.
 use Prim.Native.Nat.{ℕ, _+_}
 use mathlib.Core.Bool.{Bool, true, false}
 use mathlib.Core.List.{List}
 use lib.IntN.{ℤ}
 use Rattle.hand.specs.Hand.{rowOf}
-use Rattle.results.specs.Answer.{Answer, refused, answered, Handing, handed, nothing, LoadAnswer, refusedAt, loaded}
+use Rattle.results.specs.Answer.{Answer, refused, answered, Handing, handed, nothing, Figure, counted, more}
+use Rattle.results.specs.Answer.{LoadAnswer, refusedAt, loaded}
 use Rattle.results.specs.Recognize.{State}
 
 -- opening, taking, check and same build
@@ -40,14 +42,26 @@ abbrev pub tenthsLeft : Answer ℤ → ℤ → ℤ
 tenthsLeft (refused n) found = found
 tenthsLeft (answered z) found = z
 
--- first
+-- first and next
 abbrev pub handingCode : Answer Handing → ℕ
 handingCode (refused n) = 256 + n
 handingCode (answered (handed n)) = 1
 handingCode (answered nothing) = 0
 
--- first: the nodes of the derivation handed out; a call that hands out none leaves the number found
+-- first and next: the nodes of the derivation handed out; a call that hands out none leaves the number found
 abbrev pub nodesLeft : Answer Handing → ℕ → ℕ
 nodesLeft (refused n) found = found
 nodesLeft (answered (handed n)) found = n
 nodesLeft (answered nothing) found = found
+
+-- count
+abbrev pub figureCode : Answer Figure → ℕ
+figureCode (refused n) = 256 + n
+figureCode (answered (counted n)) = 1
+figureCode (answered more) = 2
+
+-- count: the figure; a call that gives none leaves the number found
+abbrev pub figureLeft : Answer Figure → ℕ → ℕ
+figureLeft (refused n) found = found
+figureLeft (answered (counted n)) found = n
+figureLeft (answered more) found = found

@@ -2,19 +2,18 @@
 // recognizer the row of crate hand, and an answer is a number (module code). A number that is lent is written only with an answer that
 // carries it.
 mod code;
+pub mod enumerate;
 
 use checker::Measured;
-use first::Handed;
 use flat::Flat;
 use grammar::Verdict;
 use loader::Outcome;
 ghost use Rattle.flat.specs.Flat.{grammarIn};
 ghost use Rattle.hand.specs.Hand.{stateOfRow};
 ghost use Rattle.results.specs.Check.{checkOf};
-ghost use Rattle.results.specs.Enumerate.{firstOf};
 ghost use Rattle.results.specs.Measure.{lengthOf, sameBuildOf};
 ghost use Rattle.results.specs.Recognize.{openOf, takeOf};
-ghost use Rattle.filbozseg.specs.Calls.{Loads, Opens, Takes, Checks, Measures, Hands};
+ghost use Rattle.filbozseg.specs.Calls.{Loads, Opens, Takes, Checks, Measures};
 
 // Loads a book. The row left is its grammar, or one of no rules where the book is refused; the offset is written only then.
 #[no_mangle]
@@ -133,29 +132,4 @@ pub extern "C" fn filbozseg_same_build(
         c (now (chart .exit)) ⌝ }
 {
     code::of_verdict(checker::same_build(flat::read(grammar), input, a, b, chart))
-}
-
-// The first derivation (reading) of the input, written to the front of the output, and how many nodes (parts) it has; where none is handed
-// out, the output and the number are as found.
-#[no_mangle]
-pub extern "C" fn filbozseg_first(
-    grammar: &Flat,
-    input: &[u8],
-    chart: &mut [u32],
-    output: &mut [u16],
-    nodes: &mut usize,
-) -> u32
-    ensures { λ c. ⌜ Hands
-        (firstOf (grammarIn (now (grammar .entry))) (now (input .entry)) (now (chart .entry)) (now (output .entry)))
-        (now (nodes .entry)) c (now (chart .exit)) (now (output .exit)) (now (nodes .exit)) ⌝ }
-{
-    let handed = first::first(flat::read(grammar), input, chart, output);
-    match handed {
-        Handed::Nodes(n) => {
-            *nodes = n;
-            1
-        }
-        Handed::Nothing => 0,
-        Handed::Refused(r) => code::of_refusal(r),
-    }
 }

@@ -25,11 +25,11 @@ use Rattle.first.specs.Answer.{enumerationOf, firstTree, firstFilled}
 
 module _ (p w : List ℕ) (s : ℕ) where
   -- the start symbol makes no difference to the rules
-  same : SameRules (Packing p) (cfgIn s p)
+  pub same : SameRules (Packing p) (cfgIn s p)
   unfolding cfgIn
   same r = refl
 
-  start : s ≡ cfgIn s p .start
+  pub start : s ≡ cfgIn s p .start
   unfolding cfgIn
   start = refl
 

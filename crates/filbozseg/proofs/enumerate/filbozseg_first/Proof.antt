@@ -1,12 +1,12 @@
--- `filbozseg::filbozseg_first` meets its contract, one case for each answer.
+-- `filbozseg::enumerate::filbozseg_first` meets its contract, one case for each answer.
 -- Assumes nothing.
 use borrow.Author.Needs.{needs}
 use Rattle.grammar.specs.declared.Grammar.{Grammar}
 use Rattle.results.specs.Enumerate.{firstOf}
 use Rattle.filbozseg.proofs.Codes.{handing-refused, code-handed, code-nothing, nodes-handed, nodes-nothing, nodes-refused}
 use Rattle.filbozseg.proofs.Given.{hands-of}
-use Rattle.filbozseg.proofs.filbozseg_first.Statement.{statement}
-use Rattle.filbozseg.proofs.filbozseg_first.Tie as tie
+use Rattle.filbozseg.proofs.enumerate.filbozseg_first.Statement.{statement}
+use Rattle.filbozseg.proofs.enumerate.filbozseg_first.Tie as tie
 
 returns : tie.Need-returns
 returns c =

@@ -1,0 +1,51 @@
+-- What count answers, from the checks and what is answered over the filled chart.
+-- Assumes nothing.
+use Prim.Native.Nat.{ℕ, _≤_}
+use mathlib.Core.List.{List}
+use mathlib.Core.Path.{_≡_, ap₂, _∙_}
+use lib.ListN.{length}
+use Rattle.sizes.specs.Sizes.{maxInput, cells}
+use Rattle.cfg.specs.Grammar.{rule}
+use Rattle.chart.specs.Column.{filled, complete}
+use Rattle.chart.proofs.Truth.{filled-length}
+use Rattle.costs.specs.Span.{bytesOf}
+use Rattle.grammar.specs.declared.Grammar.{Grammar}
+use Rattle.grammar.specs.declared.Refusal.{Refusal}
+use Rattle.grammar.specs.Number.{numberOf}
+use Rattle.grammar.specs.View.{grammarOf}
+use Rattle.packed.specs.Packed.{cfgIn}
+use Rattle.prepare.specs.declared.Judged.{Judged}
+use Rattle.prepare.specs.declared.Judged.the-variants.{Passed, Refused}
+use Rattle.prepare.specs.Given.{checkingOf}
+use Rattle.prepare.specs.Judging.{Judging}
+use Rattle.prepare.proofs.Deciding.{call-refused, call-passed}
+use Rattle.prepare.proofs.Judging.{judged-ready}
+use Rattle.prepare.proofs.Packing.{list-packed}
+use Rattle.results.specs.Answer.{Answer, Figure, refused}
+use Rattle.results.specs.Enumerate.{treeIn, countIn, countOf}
+use Rattle.tables.specs.Exact.{ChartTrue}
+use Rattle.first.proofs.Chart.{chart-packed}
+use Rattle.count.specs.Answer.{countOr, countFilled}
+
+module _ (g : Grammar) (w chart : List ℕ) (j : Judged) (judging : Judging g (length w) (length chart) j) where
+  pub count-refused : (r : Refusal) → j ≡ Refused r → checkingOf (refused (numberOf r)) chart ≡ countOf g w chart
+  unfolding countOf
+  count-refused r h = call-refused g w chart _ j judging r h
+
+  module _ (is : j ≡ Passed) (p chart' : List ℕ) (filling : (chart' ≡ filled (grammarOf g) w chart)
+      × ((r : ℕ) → rule (cfgIn (g .start) p) r ≡ rule (grammarOf g) r)) where
+    -- what answering over the filled chart asks
+    pub filled-ready : (length w ≤ maxInput) × (cells ≤ length chart') × ChartTrue p (bytesOf w) chart' (length w)
+    filled-ready =
+        let (v, a, b) = judged-ready g (length w) (length chart) j judging is in
+        (a, rw (filling .0, filled-length (grammarOf g) w chart b) b, chart-packed g p w chart chart' a b filling)
+
+    module _ (s : ℕ) (start : s ≡ g .start) where
+      -- over the grammar that was packed
+      over-packed : countFilled (cfgIn s p) w chart' ≡ countIn (grammarOf g) w chart .answer
+      unfolding countOr countIn treeIn complete cfgIn
+      over-packed = ap₂ countOr (rw (filling .0, start)) (list-packed g p w (filling .1) s start)
+
+      pub count-answered : (a : Answer Figure) → a ≡ countFilled (cfgIn s p) w chart' → checkingOf a chart' ≡ countOf g w chart
+      unfolding countOf countIn
+      count-answered a d = call-passed g w chart _ j judging chart' a is (filling .0) (d ∙ over-packed)

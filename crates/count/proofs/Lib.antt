@@ -1,0 +1,4 @@
+-- Laws of count.
+pub mod Loop
+pub mod Made
+pub mod Calls

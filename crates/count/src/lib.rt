@@ -1,0 +1,124 @@
+// How many derivations (readings) an input has.
+use first::made::build;
+use first::made::exists;
+use first::made::write_first;
+use fit::FitTable;
+use grammar::Grammar;
+use grammar::Refusal;
+use next::made::advance_root;
+use numbers::wide_byte;
+use packed::Packed;
+use prepare::Judged;
+use tables::layout::TABLES_SIZE;
+use tables::layout::Tables;
+ghost use mathlib.Core.Path.{_≡_};
+ghost use Prim.Native.Nat.{_<_, _≤_};
+ghost use lib.ListN.{length};
+ghost use Rattle.cfg.specs.Listing.{L};
+ghost use Rattle.costs.specs.Span.{bytesOf};
+ghost use Rattle.packed.specs.Packed.{cfgIn};
+ghost use Rattle.prepare.specs.Given.{checkingOf};
+ghost use Rattle.results.specs.Enumerate.{countOf};
+ghost use Rattle.sizes.specs.Sizes.{maxRules, maxInput, side, cells, outputSize};
+ghost use Rattle.tables.specs.Exact.{ChartTrue};
+ghost use Rattle.count.specs.Answer.{countedOf, countTree, countFilled};
+ghost use Rattle.count.specs.Made.{CountedOn, CountedMade};
+
+// The largest figure.
+const MOST: usize = 4096;
+
+// How many derivations there are, that there are more than 4,096, or why the call was refused.
+pub enum Counted {
+    Exactly(usize),
+    More,
+    Refused(Refusal),
+}
+
+// Counts the derivations, where the first one stands at the front of the buffer.
+fn count_on(
+    p: &Packed,
+    rules: usize,
+    fits: &FitTable,
+    chart: &[u32],
+    tables: &Tables,
+    start: usize,
+    n: usize,
+    buf: &mut [u16],
+) -> Counted
+    requires { ⌜ (rules ≤ maxRules) × (n < side) × (cells ≤ length (now chart)) × (outputSize ≤ length (now buf)) ⌝ }
+    ensures { λ a. ⌜ CountedOn (now (p .entry)) rules (now (fits .entry)) (now (chart .entry)) (now (tables .entry)) start n
+        (now (buf .entry)) (countedOf a) ⌝ }
+{
+    let mut i = 0;
+    while i < MOST {
+        let m = advance_root(p, rules, fits, chart, tables, start, n, buf);
+        if m == 0 {
+            return Counted::Exactly(i + 1);
+        }
+        i += 1;
+    }
+    Counted::More
+}
+
+// Counts the derivations over tables that are made, or refuses with 13. The buffer is this function's own.
+fn count_made(
+    p: &Packed,
+    rules: usize,
+    fits: &FitTable,
+    chart: &[u32],
+    tables: &Tables,
+    start: usize,
+    n: usize,
+) -> Counted
+    requires { ⌜ (rules ≤ maxRules) × (n < side) × (cells ≤ length (now chart)) ⌝ }
+    ensures { λ a. ⌜ CountedMade (now (p .entry)) rules (now (fits .entry)) (now (chart .entry)) (now (tables .entry)) start n
+        (countedOf a) ⌝ }
+{
+    if exists(tables, start, n) {
+        let mut buf = [0u16; sizes::OUTPUT];
+        write_first(p, rules, fits, chart, tables, start, n, &mut buf);
+        count_on(p, rules, fits, chart, tables, start, n, &mut buf)
+    } else {
+        Counted::Refused(Refusal::OnlyLargerTrees)
+    }
+}
+
+// Counts the derivations, where the chart is filled and trees exist. The tables are this function's own.
+fn count_tree(p: &Packed, start: usize, input: &[u8], chart: &[u32]) -> Counted
+    requires { ⌜ (length (now input) ≤ maxInput) × (cells ≤ length (now chart))
+        × ChartTrue (now p) (bytesOf (now input)) (now chart) (length (now input)) ⌝ }
+    ensures { λ a. ⌜ countedOf a ≡ countTree (L (cfgIn start (now (p .entry))) (now (input .entry))) ⌝ }
+{
+    let fits = fit::table(p, input);
+    let mut tables = [0u16; TABLES_SIZE];
+    let rules = build(p, input, &fits, chart, &mut tables);
+    count_made(p, rules, &fits, chart, &tables, start, input.len())
+}
+
+// Counts the derivations, where the chart is filled.
+fn count_filled(p: &Packed, start: usize, input: &[u8], chart: &[u32]) -> Counted
+    requires { ⌜ (length (now input) ≤ maxInput) × (cells ≤ length (now chart))
+        × ChartTrue (now p) (bytesOf (now input)) (now chart) (length (now input)) ⌝ }
+    ensures { λ a. ⌜ countedOf a ≡ countFilled (cfgIn start (now (p .entry))) (now (input .entry)) (now (chart .entry)) ⌝ }
+{
+    if columns::complete(start, input.len(), chart) {
+        count_tree(p, start, input, chart)
+    } else {
+        Counted::Exactly(0)
+    }
+}
+
+// ---- the exported call
+
+// How many derivations the input has, up to 4,096. Refusals 8, 9, 10 and 13.
+pub fn count(g: Grammar, input: &[u8], chart: &mut [u32]) -> Counted
+    ensures { λ a. ⌜ checkingOf (countedOf a) (now (chart .exit)) ≡ countOf g (now (input .entry)) (now (chart .entry)) ⌝ }
+{
+    match prepare::judge(g, input.len(), chart.len()) {
+        Judged::Refused(r) => Counted::Refused(r),
+        Judged::Passed => {
+            let p = prepare::fill(g, input, chart);
+            count_filled(&p, wide_byte(g.start), input, chart)
+        }
+    }
+}

@@ -1,0 +1,82 @@
+// The functions of first, next and count that C and Rust link.
+use super::code::of_refusal;
+use count::Counted;
+use first::Handed;
+use flat::Flat;
+ghost use Rattle.flat.specs.Flat.{grammarIn};
+ghost use Rattle.results.specs.Enumerate.{firstOf, nextOf, countOf};
+ghost use Rattle.filbozseg.specs.Calls.{Hands, Counts};
+
+// The first derivation (reading) of the input, written to the front of the output, and how many nodes (parts) it has; where none is handed
+// out, the output and the number are as found.
+#[no_mangle]
+pub extern "C" fn filbozseg_first(
+    grammar: &Flat,
+    input: &[u8],
+    chart: &mut [u32],
+    output: &mut [u16],
+    nodes: &mut usize,
+) -> u32
+    ensures { λ c. ⌜ Hands
+        (firstOf (grammarIn (now (grammar .entry))) (now (input .entry)) (now (chart .entry)) (now (output .entry)))
+        (now (nodes .entry)) c (now (chart .exit)) (now (output .exit)) (now (nodes .exit)) ⌝ }
+{
+    let handed = first::first(flat::read(grammar), input, chart, output);
+    match handed {
+        Handed::Nodes(n) => {
+            *nodes = n;
+            1
+        }
+        Handed::Nothing => 0, // no reading
+        Handed::Refused(r) => of_refusal(r),
+    }
+}
+
+// The derivation after the offered one, written to the front of the output, and how many nodes it has; where none is handed out, the
+// output and the number are as found.
+#[no_mangle]
+pub extern "C" fn filbozseg_next(
+    grammar: &Flat,
+    input: &[u8],
+    offered: &[u16],
+    chart: &mut [u32],
+    output: &mut [u16],
+    nodes: &mut usize,
+) -> u32
+    ensures { λ c. ⌜ Hands
+        (nextOf (grammarIn (now (grammar .entry))) (now (input .entry)) (now (offered .entry)) (now (chart .entry)) (now (output .entry)))
+        (now (nodes .entry)) c (now (chart .exit)) (now (output .exit)) (now (nodes .exit)) ⌝ }
+{
+    let handed = next::next(flat::read(grammar), input, offered, chart, output);
+    match handed {
+        Handed::Nodes(n) => {
+            *nodes = n;
+            1
+        }
+        Handed::Nothing => 0, // none left
+        Handed::Refused(r) => of_refusal(r),
+    }
+}
+
+// How many derivations the input has; where there are more than 4,096, and where the call is refused, the number is as found.
+#[no_mangle]
+pub extern "C" fn filbozseg_count(
+    grammar: &Flat,
+    input: &[u8],
+    chart: &mut [u32],
+    figure: &mut usize,
+) -> u32
+    ensures { λ c. ⌜ Counts
+        (countOf (grammarIn (now (grammar .entry))) (now (input .entry)) (now (chart .entry)))
+        (now (figure .entry)) c (now (chart .exit)) (now (figure .exit)) ⌝ }
+{
+    let counted = count::count(flat::read(grammar), input, chart);
+    match counted {
+        Counted::Exactly(n) => {
+            *figure = n;
+            1
+        }
+        Counted::More => 2,
+        Counted::Refused(r) => of_refusal(r),
+    }
+}

@@ -1,0 +1,64 @@
+-- What next answers, from the checks, from whether what is offered is a derivation, and from what is answered over the filled chart.
+-- Assumes nothing.
+use Prim.Native.Nat.{ℕ}
+use mathlib.Core.Bool.{Bool, true, false, not}
+use mathlib.Core.List.{List, [], _∷_}
+use mathlib.Core.Path.{_≡_, sym, ap, _∙_}
+use lib.ListN.{length}
+use Rattle.cfg.specs.Grammar.{rule}
+use Rattle.cfg.specs.Listing.{L}
+use Rattle.chart.specs.Column.{filled}
+use Rattle.grammar.specs.declared.Grammar.{Grammar}
+use Rattle.grammar.specs.declared.Refusal.{Refusal}
+use Rattle.grammar.specs.Number.{numberOf}
+use Rattle.grammar.specs.View.{grammarOf}
+use Rattle.packed.specs.Packed.{cfgIn}
+use Rattle.prepare.specs.declared.Judged.{Judged}
+use Rattle.prepare.specs.declared.Judged.the-variants.{Passed, Refused}
+use Rattle.prepare.specs.Judging.{JudgingOutput}
+use Rattle.prepare.proofs.Deciding.{output-refused, output-passed}
+use Rattle.prepare.proofs.Packing.{list-packed}
+use Rattle.results.specs.Answer.{Answer, Handing, refused, check}
+use Rattle.results.specs.Check.{listed}
+use Rattle.results.specs.Enumerate.{Enumeration, onOutput, nextIn, nextOf}
+use Rattle.results.specs.Measure.{unlisted}
+use Rattle.results.proofs.Decide.{decide-first, decide-passed}
+use Rattle.first.specs.Answer.{enumerationOf}
+use Rattle.next.specs.Answer.{nextTree, nextFilled}
+
+-- ---- whether what is offered is a derivation
+
+module _ (p w : List ℕ) (s : ℕ) (offered chart out : List ℕ) (b : Bool) (told : b ≡ listed offered (L (cfgIn s p) w)) where
+  pub is-listed : b ≡ true → listed offered (L (cfgIn s p) w) ≡ true
+  is-listed h = sym told ∙ h
+
+  pub next-other : b ≡ false → enumerationOf (refused 12) chart out ≡ nextFilled (cfgIn s p) w offered chart out
+  unfolding unlisted
+  next-other h = sym (decide-first _ _ [] (check (unlisted (cfgIn s p) w offered) 12) [] tt (ap not (sym told ∙ h)))
+
+  pub next-listed : b ≡ true → (x : Enumeration) → x ≡ nextTree (cfgIn s p) w offered chart out
+      → x ≡ nextFilled (cfgIn s p) w offered chart out
+  unfolding unlisted
+  next-listed h x f =
+      f ∙ sym (decide-passed (λ n. enumerationOf (refused n) chart out) (λ _. nextTree (cfgIn s p) w offered chart out)
+      (check (unlisted (cfgIn s p) w offered) 12 ∷ []) (ap not (is-listed h), tt))
+
+-- ---- the call
+
+module _ (g : Grammar) (w offered chart out : List ℕ) (j : Judged)
+    (judging : JudgingOutput g (length w) (length chart) (length out) j) where
+  pub next-refused : (r : Refusal) → j ≡ Refused r → enumerationOf (refused (numberOf r)) chart out ≡ nextOf g w offered chart out
+  unfolding nextOf onOutput
+  next-refused r h = sym (output-refused g w chart _ _ out j judging r h)
+
+  module _ (is : j ≡ Passed) (p chart' : List ℕ) (filling : (chart' ≡ filled (grammarOf g) w chart)
+      × ((r : ℕ) → rule (cfgIn (g .start) p) r ≡ rule (grammarOf g) r)) (s : ℕ) (start : s ≡ g .start) where
+    -- over the grammar that was packed
+    over-packed : nextFilled (cfgIn s p) w offered chart' out ≡ nextIn (grammarOf g) w offered chart out
+    unfolding nextIn unlisted
+    over-packed = rw (filling .0, list-packed g p w (filling .1) s start)
+
+    pub next-answered : (a : Answer Handing) (out' : List ℕ) → enumerationOf a chart' out' ≡ nextFilled (cfgIn s p) w offered chart' out
+        → enumerationOf a chart' out' ≡ nextOf g w offered chart out
+    unfolding nextOf onOutput
+    next-answered a out' d = d ∙ over-packed ∙ sym (output-passed g w chart _ _ out j judging is)

@@ -1,0 +1,4 @@
+-- Laws of next.
+pub mod Root
+pub mod Handing
+pub mod Calls

@@ -1,0 +1,124 @@
+// The derivation (reading) after one that is offered.
+use checker::derivation::is_derivation;
+use first::Handed;
+use first::made::build;
+use fit::FitTable;
+use grammar::Grammar;
+use grammar::Refusal;
+use numbers::wide_byte;
+use packed::Packed;
+use prepare::Judged;
+use tables::layout::TABLES_SIZE;
+use tables::layout::Tables;
+ghost use mathlib.Core.Bool.{true};
+ghost use mathlib.Core.Path.{_≡_};
+ghost use Prim.Native.Nat.{_<_, _≤_};
+ghost use lib.ListN.{length};
+ghost use Rattle.cfg.specs.Listing.{L};
+ghost use Rattle.costs.specs.Span.{bytesOf};
+ghost use Rattle.first.specs.Answer.{handingOf, enumerationOf};
+ghost use Rattle.packed.specs.Packed.{cfgIn};
+ghost use Rattle.results.specs.Check.{listed};
+ghost use Rattle.results.specs.Enumerate.{nextOf};
+ghost use Rattle.sizes.specs.Sizes.{maxRules, maxInput, side, cells, outputSize};
+ghost use Rattle.tables.specs.Exact.{ChartTrue};
+ghost use Rattle.next.specs.Answer.{nextTree, nextFilled};
+ghost use Rattle.next.specs.Made.{NextMade};
+
+pub mod made;
+
+// The derivation after the offered one, over tables that are made. The buffer is this function's own: the output is written only with what
+// comes after.
+fn next_made(
+    p: &Packed,
+    rules: usize,
+    fits: &FitTable,
+    chart: &[u32],
+    tables: &Tables,
+    start: usize,
+    n: usize,
+    offered: &[u16],
+    out: &mut [u16],
+) -> Handed
+    requires { ⌜ (rules ≤ maxRules) × (n < side) × (cells ≤ length (now chart)) × (length (now offered) ≤ outputSize)
+        × (outputSize ≤ length (now out)) ⌝ }
+    ensures { λ a. ⌜ NextMade (now (p .entry)) rules (now (fits .entry)) (now (chart .entry)) (now (tables .entry)) start n
+        (now (offered .entry)) (now (out .entry)) (now (out .exit)) (handingOf a) ⌝ }
+{
+    let mut buf = [0u16; sizes::OUTPUT];
+    made::copy(offered, offered.len(), &mut buf);
+    let m = made::advance_root(p, rules, fits, chart, tables, start, n, &mut buf);
+    if m == 0 {
+        return Handed::Nothing;
+    }
+    made::copy(&buf, 2 * m, out);
+    Handed::Nodes(m)
+}
+
+// The derivation after the offered one, where the chart is filled. The tables are this function's own.
+fn next_tree(
+    p: &Packed,
+    start: usize,
+    input: &[u8],
+    offered: &[u16],
+    chart: &[u32],
+    out: &mut [u16],
+) -> Handed
+    requires { ⌜ (length (now input) ≤ maxInput) × (cells ≤ length (now chart)) × (outputSize ≤ length (now out))
+        × ChartTrue (now p) (bytesOf (now input)) (now chart) (length (now input))
+        × (listed (now offered) (L (cfgIn start (now p)) (now input)) ≡ true) ⌝ }
+    ensures { λ a. ⌜ enumerationOf (handingOf a) (now (chart .entry)) (now (out .exit))
+        ≡ nextTree (cfgIn start (now (p .entry))) (now (input .entry)) (now (offered .entry)) (now (chart .entry)) (now (out .entry)) ⌝ }
+{
+    let fits = fit::table(p, input);
+    let mut tables = [0u16; TABLES_SIZE];
+    let rules = build(p, input, &fits, chart, &mut tables);
+    next_made(
+        p,
+        rules,
+        &fits,
+        chart,
+        &tables,
+        start,
+        input.len(),
+        offered,
+        out,
+    )
+}
+
+// The derivation after what is offered, or refusal 12, where the chart is filled.
+fn next_filled(
+    p: &Packed,
+    start: usize,
+    input: &[u8],
+    offered: &[u16],
+    chart: &[u32],
+    out: &mut [u16],
+) -> Handed
+    requires { ⌜ (length (now input) ≤ maxInput) × (cells ≤ length (now chart)) × (outputSize ≤ length (now out))
+        × ChartTrue (now p) (bytesOf (now input)) (now chart) (length (now input)) ⌝ }
+    ensures { λ a. ⌜ enumerationOf (handingOf a) (now (chart .entry)) (now (out .exit))
+        ≡ nextFilled (cfgIn start (now (p .entry))) (now (input .entry)) (now (offered .entry)) (now (chart .entry)) (now (out .entry)) ⌝ }
+{
+    if is_derivation(p, start, input, offered) {
+        next_tree(p, start, input, offered, chart, out)
+    } else {
+        Handed::Refused(Refusal::NotADerivation)
+    }
+}
+
+// ---- the exported call
+
+// The derivation after the offered one, written to the front of the output. Refusals 8 to 12.
+pub fn next(g: Grammar, input: &[u8], offered: &[u16], chart: &mut [u32], out: &mut [u16]) -> Handed
+    ensures { λ a. ⌜ enumerationOf (handingOf a) (now (chart .exit)) (now (out .exit))
+        ≡ nextOf g (now (input .entry)) (now (offered .entry)) (now (chart .entry)) (now (out .entry)) ⌝ }
+{
+    match prepare::judge_output(g, input.len(), chart.len(), out.len()) {
+        Judged::Refused(r) => Handed::Refused(r),
+        Judged::Passed => {
+            let p = prepare::fill(g, input, chart);
+            next_filled(&p, wide_byte(g.start), input, offered, chart, out)
+        }
+    }
+}
