@@ -23,7 +23,10 @@ same-length : tie.Need-same-length Inv-loop μ-loop
 same-length c = search needs
 
 returns : tie.Need-returns Inv-loop μ-loop
-returns c = search counted-last
+returns c =
+    let after-call = c .before .before .before in
+    counted-last _ _ _ _ _ _ _ _ _ _ _ _ (after-call .before .before .before .loop .inv .1) (after-call .advance-root .ensures)
+    (search needs) (omega arith)
 
 loop-again : tie.Need-loop-again Inv-loop μ-loop
 loop-again c = (omega arith, search counted-step)
@@ -32,7 +35,7 @@ same-length-2 : tie.Need-same-length-2 Inv-loop μ-loop
 same-length-2 c = search needs
 
 returns-2 : tie.Need-returns-2 Inv-loop μ-loop
-returns-2 c = search counted-all
+returns-2 c = counted-all _ _ _ _ _ _ _ _ _ (c .before .loop .i) (c .before .loop .inv .1) (omega arith)
 
 pub count-on-spec : {M : Type 1} → statement M
 count-on-spec =
