@@ -20,8 +20,8 @@ use Rattle.standing.proofs.Stands.{stands-first}
 use Rattle.tables.specs.Exact.{Packing}
 use Rattle.beyond.proofs.Codes.{tree-nonempty}
 use Rattle.advance.specs.declared.look.Step.{Step}
-use Rattle.advance.specs.declared.look.Step.the-variants.{No, End, Byte, Node}
-use Rattle.advance.specs.Looked.{Looked, at-end, at-byte, no-byte, at-node, no-room, no-node}
+use Rattle.advance.specs.declared.look.Step.the-variants.{No, End, Byte, Final, Node}
+use Rattle.advance.specs.Looked.{Looked, at-end, at-byte, no-byte, at-last, at-node, no-room, no-end, no-node}
 
 -- ---- the tests
 
@@ -39,16 +39,21 @@ module _ {p : List ℕ} {r q : ℕ} {buf : List ℕ} {at a j budget m : ℕ} (e 
     pub look-no-room : t ≡ true → budget ≡ 0 → Looked p r q buf at a j budget No
     look-no-room y l = no-room (omega arith) (sym f ∙ y) l
 
-    -- c is the number of bytes that the node covers, s that of its nodes
-    module _ {c s : ℕ} (y : t ≡ true) (d : c ≡ getD buf (2 * at) 0) (Z : Sized p buf at s) where
-      pub look-node : {k : ℕ} → k ≡ valueIn p r q → a + c ≤ j → s ≤ budget → Looked p r q buf at a j budget (Node k (a + c) s)
-      look-node g l n = at-node (omega arith) (sym f ∙ y) g (ap (λ (x : ℕ). a + x) d) Z l n
-
-      pub look-large : budget < s → Looked p r q buf at a j budget No
-      look-large l = no-node (omega arith) (sym f ∙ y) (ap (λ (x : ℕ). a + x) d) Z (λ _. l)
-
+    -- c is the number of bytes that the node covers
+    module _ {c : ℕ} (y : t ≡ true) (d : c ≡ getD buf (2 * at) 0) where
       pub look-beyond : j < a + c → Looked p r q buf at a j budget No
-      look-beyond l = no-node (omega arith) (sym f ∙ y) (ap (λ (x : ℕ). a + x) d) Z (λ n. absurd (omega arith))
+      look-beyond l = no-end (omega arith) (sym f ∙ y) (ap (λ (x : ℕ). a + x) d) l
+
+      pub look-last : {k : ℕ} → k ≡ valueIn p r q → a + c ≤ j → m ≤ q + 1 → Looked p r q buf at a j budget (Final k (a + c))
+      look-last g l n = at-last (omega arith) (omega arith) (sym f ∙ y) g (ap (λ (x : ℕ). a + x) d) l
+
+      pub look-node : {k s : ℕ} → k ≡ valueIn p r q → a + c ≤ j → Sized p buf at s → s ≤ budget
+          → Looked p r q buf at a j budget (Node k (a + c) s)
+      look-node g l Z n = at-node (omega arith) (sym f ∙ y) g (ap (λ (x : ℕ). a + x) d) Z l n
+
+    -- s is the number of its nodes
+    pub look-large : {s : ℕ} → t ≡ true → Sized p buf at s → budget < s → Looked p r q buf at a j budget No
+    look-large y Z l = no-node (omega arith) (sym f ∙ y) Z l
 
 -- where the row stands next
 module _ {p : List ℕ} {r q : ℕ} {buf : List ℕ} {at a j budget : ℕ} {s : Step} (L : Looked p r q buf at a j budget s) where
@@ -57,6 +62,12 @@ module _ {p : List ℕ} {r q : ℕ} {buf : List ℕ} {at a j budget : ℕ} {s : 
     where
       go : Looked p r q buf at a j budget Byte → (q < maxPlaces) × (a < j)
       go (at-byte c t m) = (omega (arith, count-le p r), m)
+
+  pub last-room : {k b : ℕ} → s ≡ Final k b → (a ≤ b) × (b ≤ j)
+  last-room {k} {b} e = go (subst (Looked p r q buf at a j budget) e L)
+    where
+      go : Looked p r q buf at a j budget (Final k b) → (a ≤ b) × (b ≤ j)
+      go (at-last c m t g d x) = (omega arith, x)
 
   pub node-room : {k b n : ℕ} → s ≡ Node k b n → (q < maxPlaces) × (a ≤ b) × (b ≤ j) × (n ≤ budget) × (at + n ≤ maxNodes)
   node-room {k} {b} {n} e = go (subst (Looked p r q buf at a j budget) e L)

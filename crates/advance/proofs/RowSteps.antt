@@ -1,17 +1,19 @@
 -- The steps of a row, with premises as its code gives them.
 -- Assumes nothing.
 use Prim.Native.Nat.{ℕ, _+_, _*_, _-_, _≤_, _<_}
-use mathlib.Core.List.{List, _++_}
-use mathlib.Core.Path.{_≡_, refl, sym, subst}
+use mathlib.Core.List.{List, [], _∷_, _++_}
+use mathlib.Core.Path.{_≡_, refl, sym, ap, subst, _∙_}
 use native.Mathlib.Omega.{arith}
 use lib.ListN.{length, length-append}
 use Rattle.sizes.specs.Sizes.{maxNodes}
-use Rattle.cfg.specs.Grammar.{Symbol}
+use Rattle.cfg.specs.Grammar.{Symbol, nonterminal}
 use Rattle.cfg.specs.Tree.{Forest, code}
 use Rattle.listing.proofs.Unique.{length-code}
-use Rattle.enumeration.specs.Rows.{Row}
+use Rattle.enumeration.specs.Rows.{Row, Tree, SameSpan}
 use Rattle.enumeration.specs.Order.{Last}
-use Rattle.choices.proofs.Stands.{leaf-opened}
+use Rattle.enumeration.proofs.Rows.{row-narrower}
+use Rattle.enumeration.proofs.Next.{own-next, own-last}
+use Rattle.choices.proofs.Stands.{end-stands, leaf-opened}
 use Rattle.choices.proofs.NextRow.{end-ends, leaf-moves, leaf-ends, rest-stands, rest-moves}
 use Rattle.packed.proofs.Laws.{places-end}
 use Rattle.standing.specs.Standing.{StandsAt}
@@ -22,10 +24,10 @@ use Rattle.descend.specs.Descend.{Given}
 use Rattle.descend.proofs.Codes.{kept-none}
 use Rattle.descend.proofs.RowSteps.{tail-terminal, tail-nonterminal}
 use Rattle.advance.specs.declared.look.Step.{Step}
-use Rattle.advance.specs.declared.look.Step.the-variants.{No, End, Byte, Node}
-use Rattle.advance.specs.Looked.{Looked, at-end, at-byte, no-byte, at-node, no-room, no-node}
+use Rattle.advance.specs.declared.look.Step.the-variants.{No, End, Byte, Final, Node}
+use Rattle.advance.specs.Looked.{Looked, at-end, at-byte, no-byte, at-last, at-node, no-room, no-end, no-node}
 use Rattle.beyond.specs.Beyond.{Frame, NextAt}
-use Rattle.advance.specs.Advance.{RowNext, ChildNext}
+use Rattle.advance.specs.Advance.{NodeNext, RowNext, ChildNext}
 use Rattle.beyond.proofs.Codes.{tree-nonempty, stands-join, stands-same, kept-same, kept-behind, kept-then, next-none, next-some, next-same}
 use Rattle.advance.proofs.Reading.{opened-here, both-stand, child-here, size-here}
 
@@ -50,11 +52,24 @@ module _ {p : List ℕ} {r q a j budget at : ℕ} {buf : List ℕ} (l : a ≤ j)
   none-stands (no-room c n e) known R S =
       let (x, y, o) = opened-here buf at S known l (row-as p r q (tail-nonterminal p r q c n refl) R) refl in
       omega (arith, tree-nonempty (o .child .fit), o .child .small)
-  none-stands (no-node c n e Z d) known R S =
+  none-stands (no-end c n e d) known R S =
       let (x, y, o) = opened-here buf at S known l (row-as p r q (tail-nonterminal p r q c n refl) R) e in
+      omega (arith, o .inside)
+  none-stands (no-node c n Z d) known R S =
+      let (x, y, o) = opened-here buf at S known l (row-as p r q (tail-nonterminal p r q c n refl) R) refl in
       let s = size-here Z S o room in
-      let z = d (o .inside) in
       omega (arith, o .child .small)
+
+-- a node of k alone, up to b: what comes after it with what matters of the set comes after it with the set
+last-next : {p : List ℕ} {rules : ℕ} {fits chart tables : List ℕ} {i j mask k a b own budget at : ℕ} {n : ℕ}
+    {buf₀ buf w : List ℕ} {f : Forest} → i ≤ a → a ≤ b → b ≤ j → j ≤ length w → SameSpan (j - i) mask (b - a) own
+    → NodeNext p rules fits chart tables k a b own budget at buf₀ buf n → Given p rules fits chart tables w
+    → Tree (Packing p) w (j - i) mask k a b budget f → StandsAt buf₀ at (code f)
+    → NextAt (Tree (Packing p) w (j - i) mask k a b budget) (code f) buf at n
+last-next {p} {i = i} {j} {mask} {k} {a} {b} {budget = budget} {w = w} {f} h u v known same N G T S =
+    next-same (own-last (Packing p) w (j - i) mask a b budget (omega arith) (nonterminal k ∷ []) same (omega arith) (omega arith))
+    (λ e. own-next (Packing p) w (j - i) mask a b budget (omega arith) (nonterminal k ∷ []) same (omega arith) (omega arith))
+    (N .exact w G (omega arith) f (row-narrower (Packing p) w same (omega arith) (omega arith) (omega arith) f T) S)
 
 module _ {p : List ℕ} {rules : ℕ} {fits chart tables : List ℕ} {r i j mask q a budget at : ℕ} {buf₀ : List ℕ} (l : a ≤ j)
     (room : at + budget ≤ maxNodes) where
@@ -100,7 +115,33 @@ module _ {p : List ℕ} {rules : ℕ} {fits chart tables : List ℕ} {r i j mask
           next-as p r q d (next-same (leaf-ends known o) (λ z. leaf-moves known o)
           (N .exact w G known g (o .row) (subst (StandsAt buf₀ at) (sym (o .coded)) S)))
 
-  -- ---- a node: the places behind it move, or they are last
+  -- ---- a node at the last place: it ends where the row does, and what comes after it comes after the row
+
+  pub row-last : {k b own : ℕ} {buf full rows : List ℕ} {n : ℕ} {t : Step} → i ≤ a → SameSpan (j - i) mask (b - a) own
+      → NodeNext p rules fits chart tables k a b own budget at buf₀ buf n → Frame p rules fits chart tables r i j mask full rows
+      → Looked p r q buf₀ at a j budget t → t ≡ Final k b
+      → RowNext p rules fits chart tables r q a i j mask budget at buf₀ full rows buf n
+  row-last {k} {b} {buf = buf} {n = n} h same N F L e = record {
+    kept = N .kept;
+    frame = F;
+    exact = λ w G known f R S. go G known R S (subst (Looked p r q buf₀ at a j budget) e L);
+  }
+    where
+      go : {w : List ℕ} {f : Forest} → Given p rules fits chart tables w → j ≤ length w
+          → Row (Packing p) w (j - i) mask (tailIn p r q) a j budget f → StandsAt buf₀ at (code f)
+          → Looked p r q buf₀ at a j budget (Final k b)
+          → NextAt (Row (Packing p) w (j - i) mask (tailIn p r q) a j budget) (code f) buf at n
+      go {w} {f} G known R S (at-last c m t g d u) =
+          let D = tail-nonterminal p r q c t g ∙ ap (λ (s : List Symbol). nonterminal k ∷ s) (places-end p r (q + 1) m) in
+          let T = row-as p r q D R in
+          let (x, y, o) = opened-here buf₀ at S known l T d in
+          let z : b ≡ j = end-stands known (o .inside) (o .others) .0 in
+          next-as p r q D
+          (subst (λ (v : ℕ). NextAt (Tree (Packing p) w (j - i) mask k a v budget) (code f) buf at n) z
+          (last-next h (o .rising) (o .inside) known same N G
+          (subst (λ (v : ℕ). Tree (Packing p) w (j - i) mask k a v budget f) (sym z) T) S))
+
+  -- ---- a node at another place: the places behind it move, or they are last
 
   module _ {k b s : ℕ} {full₁ rows₁ buf₁ : List ℕ} {n : ℕ}
       (N : RowNext p rules fits chart tables r (q + 1) b i j mask (budget - s) (at + s) buf₀ full₁ rows₁ buf₁ n) where

@@ -9,19 +9,22 @@ use Rattle.sizes.specs.Sizes.{maxRules}
 use Rattle.packed.specs.Packed.{countIn, isNonterminalIn, valueIn}
 use Rattle.standing.specs.Standing.{Sized}
 use Rattle.advance.specs.declared.look.Step.{Step}
-use Rattle.advance.specs.declared.look.Step.the-variants.{No, End, Byte, Node}
+use Rattle.advance.specs.declared.look.Step.the-variants.{No, End, Byte, Final, Node}
 
--- what stands at place q of rule r, from a on, at node `at`: the end of the row, a byte, or a node of k up to b with s nodes in all;
--- nothing where there is no byte, or where that node goes beyond j or the budget
+-- what stands at place q of rule r, from a on, at node `at`: the end of the row, a byte, a node of k up to b at the last place, or one at
+-- another place with s nodes in all; nothing where there is no byte, or where that node goes beyond j or the budget
 pub data Looked (p : List ℕ) (r q : ℕ) (buf : List ℕ) (at a j budget : ℕ) : Step → Type 0 where
   at-end : countIn p r ≤ q → Looked p r q buf at a j budget End
   at-byte : q < countIn p r → isNonterminalIn p r q ≡ false → a < j → Looked p r q buf at a j budget Byte
   no-byte : q < countIn p r → isNonterminalIn p r q ≡ false → j ≤ a → Looked p r q buf at a j budget No
+  at-last : {k b : ℕ} → q < countIn p r → countIn p r ≤ q + 1 → isNonterminalIn p r q ≡ true → k ≡ valueIn p r q
+      → b ≡ a + getD buf (2 * at) 0 → b ≤ j → Looked p r q buf at a j budget (Final k b)
   at-node : {k b s : ℕ} → q < countIn p r → isNonterminalIn p r q ≡ true → k ≡ valueIn p r q → b ≡ a + getD buf (2 * at) 0
       → Sized p buf at s → b ≤ j → s ≤ budget → Looked p r q buf at a j budget (Node k b s)
   no-room : q < countIn p r → isNonterminalIn p r q ≡ true → budget ≡ 0 → Looked p r q buf at a j budget No
-  no-node : {b s : ℕ} → q < countIn p r → isNonterminalIn p r q ≡ true → b ≡ a + getD buf (2 * at) 0 → Sized p buf at s
-      → (b ≤ j → budget < s) → Looked p r q buf at a j budget No
+  no-end : {b : ℕ} → q < countIn p r → isNonterminalIn p r q ≡ true → b ≡ a + getD buf (2 * at) 0 → j < b
+      → Looked p r q buf at a j budget No
+  no-node : {s : ℕ} → q < countIn p r → isNonterminalIn p r q ≡ true → Sized p buf at s → budget < s → Looked p r q buf at a j budget No
 
 -- r is the rule of node `at`; no number of a rule where there is none or the budget has no node
 pub record RuleRead (buf : List ℕ) (at budget r : ℕ) : Type 0 where

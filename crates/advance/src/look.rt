@@ -6,11 +6,13 @@ ghost use lib.ListN.{length};
 ghost use Rattle.sizes.specs.Sizes.{maxRules, maxPlaces, side, maxNodes, outputSize};
 ghost use Rattle.advance.specs.Looked.{Looked, RuleRead};
 
-// What stands in a row: nothing that is right, its end, a byte, or a node of a nonterminal up to an end, with the nodes of its tree.
+// What stands in a row: nothing that is right, its end, a byte, a node of a nonterminal up to an end at the last place of the rule, or one
+// at another place, with the nodes of its tree.
 pub enum Step {
     No,
     End,
     Byte,
+    Final(usize, usize),
     Node(usize, usize, usize),
 }
 
@@ -28,7 +30,8 @@ pub fn look(
     requires { ⌜ (r < maxRules) × (q ≤ maxPlaces) × (a ≤ j) × (j < side) × (at + budget ≤ maxNodes) × (outputSize ≤ length (now buf)) ⌝ }
     ensures { λ s. ⌜ Looked (now (p .entry)) r q (now (buf .entry)) at a j budget s ⌝ }
 {
-    if packed::count(p, r) <= q {
+    let m = packed::count(p, r);
+    if m <= q {
         return Step::End;
     }
     if packed::is_nonterminal(p, r, q) {
@@ -36,11 +39,16 @@ pub fn look(
             return Step::No;
         }
         let c = wide(buf[2 * at]);
+        if c > j - a {
+            return Step::No;
+        }
+        let k = packed::value(p, r, q);
+        if m <= q + 1 {
+            return Step::Final(k, a + c);
+        }
         let s = standing::size(p, buf, at);
-        if c <= j - a {
-            if s <= budget {
-                return Step::Node(packed::value(p, r, q), a + c, s);
-            }
+        if s <= budget {
+            return Step::Node(k, a + c, s);
         }
         return Step::No;
     }

@@ -1,7 +1,10 @@
-// The row after the one that stands, in place: its later places move first, then its first node, then that node's end.
+// The row after the one that stands, in place: its later places move first, then its first node, then that node's end. A node at the last
+// place has the whole budget and ends where the row does: no costs are asked for.
 use super::child::child;
 use super::look::Step;
 use super::look::look;
+use super::next::node;
+use descend::open::child_set;
 use fit::FitTable;
 use packed::Packed;
 use suffixes::rows::Rows;
@@ -60,6 +63,10 @@ pub fn row(
             buf,
             at,
         ),
+        Step::Final(k, b) => {
+            let set = child_set(j - i, mask, b - a);
+            node(p, rules, fits, chart, tables, k, a, b, set, budget, buf, at)
+        }
         Step::Node(k, b, s) => {
             let n = row(
                 p,

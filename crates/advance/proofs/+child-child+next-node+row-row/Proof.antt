@@ -7,8 +7,8 @@ use borrow.Author.Needs.{needs}
 use borrow.Fn.Kinds.{In}
 use borrow.Fn.PlainCycle.{Measures, is, falls, and}
 use Rattle.beyond.proofs.Frames.{frame-unmade}
-use Rattle.advance.proofs.Reading.{byte-room, node-room}
-use Rattle.advance.proofs.RowSteps.{row-none, row-end, row-byte, row-rest, row-child}
+use Rattle.advance.proofs.Reading.{byte-room, last-room, node-room}
+use Rattle.advance.proofs.RowSteps.{row-none, row-end, row-byte, row-last, row-rest, row-child}
 use Rattle.advance.proofs.ChildSteps.{child-dear, child-moved}
 use Rattle.advance.proofs.NodeSteps.{node-none, node-below-moves, node-later}
 use Rattle.advance.proofs.child.child.Reads as child
@@ -86,7 +86,18 @@ node-calls t = (
 )
 
 abbrev row-calls : ℕ → row-lts.Claims
-row-calls t = (look-reads.Asked, look-reads.Learnt, row-below t, row.Post, child-below t, child.Post)
+row-calls t = (
+  look-reads.Asked,
+  look-reads.Learnt,
+  row-below t,
+  row.Post,
+  child-set-reads.Asked,
+  child-set-reads.Learnt,
+  node-below t,
+  node.Post,
+  child-below t,
+  child.Post,
+)
 
 -- ---- child
 
@@ -153,10 +164,25 @@ row-row-requires t c κs =
     let y = d .before .before .before .before .pre in
     (omega arith, (omega arith, y .1 .1))
 
+row-node-requires : (t : ℕ) → row-lts.Need-node-requires (row-calls t) (row-at t) row.Post
+row-node-requires t c κs =
+    let d = c .before .before .before .before .before in
+    let x = last-room (d .look .ensures) (c .before .before .before .step .given .1) in
+    let y = d .before .before .before .before .pre in
+    omega arith
+
+row-returns-5 : (t : ℕ) → row-lts.Need-returns-5 (row-calls t) (row-at t) row.Post
+row-returns-5 t c =
+    let d = c .before .before .before .before in
+    let e = d .before .before .before .before in
+    let y = e .before .before .before .before .pre in
+    row-last (omega arith) (omega arith) (omega arith) (d .child-set .ensures) (c .before .before .node .ensures) (y .1 .1)
+    (e .look .ensures) (d .before .before .step .given .1)
+
 row-row-requires-2 : (t : ℕ) → row-lts.Need-row-requires-2 (row-calls t) (row-at t) row.Post
 row-row-requires-2 t c κs =
     let d = c .before .before .before .before .before .before in
-    let x = node-room (d .look .ensures) (c .before .before .before .before .step .given .1) in
+    let x = node-room (d .look .ensures) (c .before .before .before .before .step2 .given .1) in
     let y = d .before .before .before .before .pre in
     (omega arith, (omega arith, y .1 .1))
 
@@ -164,7 +190,7 @@ row-add-result : (t : ℕ) → row-lts.Need-add-result (row-calls t) (row-at t) 
 row-add-result t c =
     let d = c .before .before .before .before .before .before .before .before .before .before in
     let w = d .before .before .before .before .pre in
-    let x = node-room (d .look .ensures) (c .before .before .before .before .before .before .before .before .step .given .1) in
+    let x = node-room (d .look .ensures) (c .before .before .before .before .before .before .before .before .step2 .given .1) in
     let y = c .before .before .before .row2 .ensures .kept .few in
     omega arith
 
@@ -173,71 +199,51 @@ row-returns t c =
     let d = c .before .before .before .before .before .before .before .before .before .before in
     let w = d .before .before .before .before .pre in
     row-rest (omega arith) (omega arith) (c .before .before .before .row2 .ensures) (d .look .ensures)
-    (c .before .before .before .before .before .before .before .before .step .given .1) (omega arith)
+    (c .before .before .before .before .before .before .before .before .step2 .given .1) (omega arith)
 
 row-child-requires : (t : ℕ) → row-lts.Need-child-requires (row-calls t) (row-at t) row.Post
 row-child-requires t c κs =
     let d = c .before .before .before .before .before .before in
     let e = d .before .before .before .before .before .before .before in
     let w = e .before .before .before .before .pre in
-    let x = node-room (e .look .ensures) (d .before .before .before .before .before .step .given .1) in
+    let x = node-room (e .look .ensures) (d .before .before .before .before .before .step2 .given .1) in
     let z = d .row2 .ensures .kept .long in (omega arith, (omega arith, d .row2 .ensures .frame))
 
-row-returns-5 : (t : ℕ) → row-lts.Need-returns-5 (row-calls t) (row-at t) row.Post
-row-returns-5 t c =
+row-returns-6 : (t : ℕ) → row-lts.Need-returns-6 (row-calls t) (row-at t) row.Post
+row-returns-6 t c =
     let d = c .before .before .before .before .before .before .before .before .before in
     let e = d .before .before .before .before .before .before .before in
     let w = e .before .before .before .before .pre in
     let y = c .before .before .before .before .before .before .if1 .left in
-    row-child (omega arith) (omega arith) (d .row2 .ensures) (e .look .ensures) (d .before .before .before .before .before .step .given .1)
-    (omega arith) (c .before .before .child .ensures)
+    row-child (omega arith) (omega arith) (d .row2 .ensures) (e .look .ensures)
+    (d .before .before .before .before .before .step2 .given .1) (omega arith) (c .before .before .child .ensures)
 
 pub +child·child+next·node+row·row-spec : {M : Type 1} → statement M
 +child·child+next·node+row·row-spec = close μ-child μ-node μ-row (λ t. child-lts.spec (child-calls t) (child-at t) child.Post
-    (λ c κs. search needs)
-    (λ c. child-dear (omega arith) (omega arith) (omega arith) (c .before .rest-of .ensures) (omega arith))
-    (λ c. search needs) (λ c. search needs) (λ c κs. search needs)
-    (λ c κs. omega arith)
-    (child-moved-requires t)
-    (λ c. search needs)
+    (λ c κs. search needs) (λ c. child-dear (omega arith) (omega arith) (omega arith) (c .before .rest-of .ensures) (omega arith))
+    (λ c. search needs) (λ c. search needs) (λ c κs. search needs) (λ c κs. omega arith) (child-moved-requires t) (λ c. search needs)
     (child-returns-2 t))
     (λ t. node-lts.spec (node-calls t) (node-at t) node.Post
-    (λ c κs. search needs) (λ c. search needs)
-    (λ c. node-none (omega arith) (c .before .rule-at .ensures) (omega arith))
-    (λ c κs. search needs)
-    (λ c. c .before .before .before .before .rule-at .ensures .room (omega arith))
-    (λ c. search needs)
-    (node-row-requires t)
-    (node-add-result t)
-    (λ c. search needs)
-    (node-returns-2 t)
-    (node-later-rule-requires t)
-    (λ c. search needs)
+    (λ c κs. search needs) (λ c. search needs) (λ c. node-none (omega arith) (c .before .rule-at .ensures) (omega arith))
+    (λ c κs. search needs) (λ c. c .before .before .before .before .rule-at .ensures .room (omega arith)) (λ c. search needs)
+    (node-row-requires t) (node-add-result t) (λ c. search needs) (node-returns-2 t) (node-later-rule-requires t) (λ c. search needs)
     (node-returns-3 t))
     λ t. row-lts.spec (row-calls t) (row-at t) row.Post
-    (λ c κs. search needs) (λ c. search needs) (λ c. search needs) (λ c. search needs) (λ c. search needs)
-    (λ c. search needs)
-    (row-row-requires t)
-    (λ c. search needs) (λ c. search needs)
-    (λ c. omega (arith, node-room (c .before .before .before .before .before .look .ensures) (c .before .before .before .step .given .1)))
+    (λ c κs. search needs) (λ c. search needs) (λ c. search needs) (λ c. search needs) (λ c. search needs) (λ c. search needs)
+    (row-row-requires t) (λ c. search needs) (λ c. search needs)
+    (λ c. omega (arith, last-room (c .before .before .before .look .ensures) (c .before .step .given .1))) (λ c κs. search needs)
+    (row-node-requires t) (λ c. search needs) (λ c. search needs)
+    (λ c. omega (arith, node-room (c .before .before .before .before .before .look .ensures) (c .before .before .before .step2 .given .1)))
     (λ c. omega (
       arith,
       node-room (c .before .before .before .before .before .before .look .ensures)
-          (c .before .before .before .before .step .given .1),
-    ))
-    (row-row-requires-2 t)
-    (row-add-result t)
-    (λ c. search needs)
-    (row-returns t)
-    (row-child-requires t)
-    (λ c. search needs)
+          (c .before .before .before .before .step2 .given .1),
+    )) (row-row-requires-2 t) (row-add-result t) (λ c. search needs) (row-returns t)
+    (row-child-requires t) (λ c. search needs)
     (λ c. row-none (omega arith) (omega arith) (c .before .before .before .before .before .before .pre .1 .1)
-    (c .before .before .look .ensures) (c .enum-told .given .1))
-    (λ c. search needs)
+    (c .before .before .look .ensures) (c .enum-told .given .1)) (λ c. search needs)
     (λ c. row-end (omega arith) (omega arith) (c .before .before .before .before .before .before .pre .1 .1)
-    (c .before .before .look .ensures) (c .enum-told2 .given .1))
-    (λ c. search needs)
+    (c .before .before .look .ensures) (c .enum-told2 .given .1)) (λ c. search needs)
     (λ c. row-byte (omega arith) (omega arith) (c .before .before .before .before .before .before .before .before .look .ensures)
-    (c .before .before .before .before .before .before .enum-told3 .given .1) (c .before .before .row .ensures))
-    (λ c. search needs)
-    (row-returns-5 t)
+    (c .before .before .before .before .before .before .enum-told3 .given .1) (c .before .before .row .ensures)) (λ c. search needs)
+    (row-returns-5 t) (λ c. search needs) (row-returns-6 t)

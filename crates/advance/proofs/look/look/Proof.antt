@@ -2,23 +2,36 @@
 -- Assumes nothing.
 use native.Mathlib.Omega.{arith}
 use borrow.Author.Needs.{needs}
-use Rattle.advance.proofs.Reading.{look-end, look-byte, look-short, look-no-room, look-node, look-large, look-beyond}
+use Rattle.advance.proofs.Reading.{look-end, look-byte, look-short, look-no-room, look-beyond, look-last, look-node, look-large}
 use Rattle.advance.proofs.look.look.Statement.{statement}
 use Rattle.advance.proofs.look.look.Tie as tie
 
-node : tie.Need-returns-3
-node c =
-    let d = c .before .before .before in
-    let e = d .before .before .before .before in
-    look-node (e .before .before .before .count .ensures .0) (search needs) (e .before .is-nonterminal .ensures) (e .if2 .taken)
-    (d .before .wide .ensures) (d .size .ensures) (c .value .ensures .0) (omega arith) (omega arith)
-
-beyond : tie.Need-returns-5
+beyond : tie.Need-returns-3
 beyond c =
     let d = c .before in
-    let e = d .before .before .before .before in
+    let e = d .before .before .before in
     look-beyond (e .before .before .before .count .ensures .0) (search needs) (e .before .is-nonterminal .ensures) (e .if2 .taken)
-    (d .before .wide .ensures) (d .size .ensures) (omega arith)
+    (d .wide .ensures) (omega arith)
+
+last : tie.Need-returns-4
+last c =
+    let d = c .before .before .before in
+    let e = d .before .before .before in
+    look-last (e .before .before .before .count .ensures .0) (search needs) (e .before .is-nonterminal .ensures) (e .if2 .taken)
+    (d .wide .ensures) (c .before .value .ensures .0) (omega arith) (omega arith)
+
+node : tie.Need-returns-5
+node c =
+    let d = c .before .before .before .before .before in
+    let e = d .before .before .before in
+    look-node (e .before .before .before .count .ensures .0) (search needs) (e .before .is-nonterminal .ensures) (e .if2 .taken)
+    (d .wide .ensures) (c .before .before .before .value .ensures .0) (omega arith) (c .before .size .ensures) (omega arith)
+
+large : tie.Need-returns-6
+large c =
+    let e = c .before .before .before .before .before .before .before .before in
+    look-large (e .before .before .before .count .ensures .0) (search needs) (e .before .is-nonterminal .ensures) (e .if2 .taken)
+    (c .before .size .ensures) (omega arith)
 
 pub look-spec : {M : Type 1} → statement M
 look-spec =
@@ -32,12 +45,15 @@ look-spec =
     (λ c. search needs)
     (λ c. search needs)
     (λ c κs. search needs)
+    (λ c. search needs)
+    beyond
     (λ c κs. search needs)
     (λ c. search needs)
+    (λ c. search needs)
+    last
     (λ c κs. search needs)
     (λ c. search needs)
     node
-    (λ c. search (needs, look-large))
-    beyond
+    large
     (λ c. search (needs, look-byte))
     (λ c. search (needs, look-short)))
