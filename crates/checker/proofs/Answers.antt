@@ -32,7 +32,7 @@ use Rattle.results.specs.Measure.{sum, rounded, unlisted, lengthIn, lengthOf, r
 use Rattle.checker.specs.Build.{Low}
 use Rattle.checker.specs.Measure.{lengthOfRule, lengthsIn}
 use Rattle.checker.specs.Calls.{checkAnswer, lengthAnswer, buildAnswer}
-use Rattle.checker.proofs.Whole.{listed-derivation}
+use Rattle.derivation.proofs.Whole.{listed-derivation}
 use Rattle.checker.proofs.Bags.{derivation-low}
 use Rattle.checker.proofs.Lengths.{sum-row}
 

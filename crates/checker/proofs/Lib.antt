@@ -1,10 +1,4 @@
--- The laws of the checker, from the walk over an offered derivation to the exported calls. What others cite: Whole.
-pub mod Spans
-pub mod Walks
-pub mod Nodes
-pub mod Tests
-pub mod Steps
-pub mod Whole
+-- The laws of the checker's calls.
 pub mod Signed
 pub mod Lengths
 pub mod Tally

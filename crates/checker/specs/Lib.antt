@@ -1,5 +1,4 @@
--- What the checker says: the walk over an offered derivation, the count of its rules, and the calls.
-pub mod Walk
+-- What the checker's calls say: the count of a derivation's rules, its length, and the answers.
 pub mod Build
 pub mod Calls
 pub mod Measure

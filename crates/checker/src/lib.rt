@@ -1,4 +1,5 @@
 // The checker of an offered derivation (document 01: reading), its length, and the same build.
+use derivation::is_derivation;
 use grammar::Grammar;
 use grammar::Refusal;
 use grammar::Verdict;
@@ -18,10 +19,7 @@ ghost use Rattle.checker.specs.Measure.{lengthsIn};
 ghost use Rattle.checker.specs.Calls.{measuredOf, checkAnswer, lengthAnswer, buildAnswer};
 
 mod build;
-pub mod derivation;
 pub mod measure;
-mod offered;
-pub mod walk;
 
 // The length in tenths of a millimetre, or why the call was refused.
 pub enum Measured {
@@ -33,7 +31,7 @@ pub enum Measured {
 fn check_offered(p: &Packed, start: usize, input: &[u8], offered: &[u16]) -> Verdict
     ensures { λ r. ⌜ verdictOf r ≡ checkAnswer (L (cfgIn start (now (p .entry))) (now (input .entry))) (now (offered .entry)) ⌝ }
 {
-    if derivation::is_derivation(p, start, input, offered) {
+    if is_derivation(p, start, input, offered) {
         Verdict::Yes // a derivation
     } else {
         Verdict::No
@@ -54,7 +52,7 @@ fn measure_offered(l: &[i16], p: &Packed, start: usize, input: &[u8], offered: &
     ensures { λ r. ⌜ measuredOf r
         ≡ lengthAnswer (lengthsIn (now (l .entry))) (L (cfgIn start (now (p .entry))) (now (input .entry))) (now (offered .entry)) ⌝ }
 {
-    if derivation::is_derivation(p, start, input, offered) {
+    if is_derivation(p, start, input, offered) {
         Measured::Tenths(tenths(l, offered))
     } else {
         Measured::Refused(Refusal::NotADerivation)
@@ -66,10 +64,10 @@ fn compare_offered(p: &Packed, start: usize, input: &[u8], a: &[u16], b: &[u16])
     ensures { λ r. ⌜ verdictOf r
         ≡ buildAnswer (L (cfgIn start (now (p .entry))) (now (input .entry))) (now (a .entry)) (now (b .entry)) ⌝ }
 {
-    if !derivation::is_derivation(p, start, input, a) {
+    if !is_derivation(p, start, input, a) {
         return Verdict::Refused(Refusal::NotADerivation);
     }
-    if !derivation::is_derivation(p, start, input, b) {
+    if !is_derivation(p, start, input, b) {
         return Verdict::Refused(Refusal::NotADerivation);
     }
     if build::same_rules(a, b) {

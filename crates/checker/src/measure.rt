@@ -1,5 +1,5 @@
 // The total length of a derivation.
-use crate::offered::rule_number;
+use derivation::offered::rule_number;
 use grammar::Grammar;
 use grammar::Rule;
 ghost use mathlib.Core.List.{map};

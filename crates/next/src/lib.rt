@@ -1,5 +1,5 @@
 // The derivation (reading) after one that is offered.
-use checker::derivation::is_derivation;
+use derivation::is_derivation;
 use first::Handed;
 use first::made::build;
 use fit::FitTable;

@@ -1,8 +1,8 @@
--- `checker::offered::rule_number` meets its contract, by the test of 128.
+-- `derivation::offered::rule_number` meets its contract, by the test of 128.
 -- Assumes nothing.
 use borrow.Author.Needs.{needs}
-use Rattle.checker.proofs.offered.rule_number.Statement.{statement}
-use Rattle.checker.proofs.offered.rule_number.Tie as tie
+use Rattle.derivation.proofs.offered.rule_number.Statement.{statement}
+use Rattle.derivation.proofs.offered.rule_number.Tie as tie
 
 mul-number : tie.Need-mul-number
 mul-number c = search needs

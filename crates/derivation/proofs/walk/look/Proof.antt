@@ -1,9 +1,9 @@
--- `checker::walk::look` meets its contract, one case for each way out.
+-- `derivation::walk::look` meets its contract, one case for each way out.
 -- Assumes nothing.
 use borrow.Author.Needs.{needs}
-use Rattle.checker.proofs.Tests.{look-end, look-not-end, look-node, look-far, look-late, look-byte, look-misfit, look-short}
-use Rattle.checker.proofs.walk.look.Statement.{statement}
-use Rattle.checker.proofs.walk.look.Tie as tie
+use Rattle.derivation.proofs.Tests.{look-end, look-not-end, look-node, look-far, look-late, look-byte, look-misfit, look-short}
+use Rattle.derivation.proofs.walk.look.Statement.{statement}
+use Rattle.derivation.proofs.walk.look.Tie as tie
 
 count-requires : tie.Need-count-requires
 count-requires c κs = search needs

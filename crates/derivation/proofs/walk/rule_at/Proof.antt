@@ -1,10 +1,10 @@
--- `checker::walk::rule_at` meets its contract: each test that fails leaves no rule, and where all are passed the rule read is the one.
+-- `derivation::walk::rule_at` meets its contract: each test that fails leaves no rule, and where all are passed the rule read is the one.
 -- Assumes nothing.
 use native.Mathlib.Omega.{arith}
 use borrow.Author.Needs.{needs}
-use Rattle.checker.proofs.Tests.{rule-late, rule-cover, rule-number, rule-high, rule-left, rule-barred, rule-found}
-use Rattle.checker.proofs.walk.rule_at.Statement.{statement}
-use Rattle.checker.proofs.walk.rule_at.Tie as tie
+use Rattle.derivation.proofs.Tests.{rule-late, rule-cover, rule-number, rule-high, rule-left, rule-barred, rule-found}
+use Rattle.derivation.proofs.walk.rule_at.Statement.{statement}
+use Rattle.derivation.proofs.walk.rule_at.Tie as tie
 
 returns : tie.Need-returns
 returns c = search rule-high

@@ -1,12 +1,12 @@
--- `checker::derivation::is_derivation` meets its contract: too long and odd rows are no derivations, and the walk decides the others.
+-- `derivation::is_derivation` meets its contract: too long and odd rows are no derivations, and the walk decides the others.
 -- Assumes nothing.
 use native.Mathlib.Omega.{arith}
 use borrow.Author.Needs.{needs}
-use Rattle.checker.proofs.Whole.{long-unlisted, odd-unlisted, whole-listed}
-use Rattle.checker.proofs.derivation.is_derivation.Statement.{statement}
-use Rattle.checker.proofs.derivation.is_derivation.Tie as tie
+use Rattle.derivation.proofs.Whole.{long-unlisted, odd-unlisted, whole-listed}
+use Rattle.derivation.proofs.is_derivation.Statement.{statement}
+use Rattle.derivation.proofs.is_derivation.Tie as tie
 
--- `checker::derivation::is_derivation` meets its contract: too long and odd rows are no derivations, and the walk decides the others.
+-- `derivation::is_derivation` meets its contract: too long and odd rows are no derivations, and the walk decides the others.
 -- Assumes nothing.
 
 returns : tie.Need-returns

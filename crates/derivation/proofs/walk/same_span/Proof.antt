@@ -1,8 +1,8 @@
--- `checker::walk::same_span` meets its contract, by the test of the bytes.
+-- `derivation::walk::same_span` meets its contract, by the test of the bytes.
 -- Assumes nothing.
 use borrow.Author.Needs.{needs}
-use Rattle.checker.proofs.walk.same_span.Statement.{statement}
-use Rattle.checker.proofs.walk.same_span.Tie as tie
+use Rattle.derivation.proofs.walk.same_span.Statement.{statement}
+use Rattle.derivation.proofs.walk.same_span.Tie as tie
 
 returns : tie.Need-returns
 returns c = search needs

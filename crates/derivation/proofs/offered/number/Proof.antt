@@ -1,10 +1,10 @@
--- `checker::offered::number` meets its contract: an element of a `&[u16]` is below 65536.
+-- `derivation::offered::number` meets its contract: an element of a `&[u16]` is below 65536.
 -- Assumes nothing.
 use mathlib.Core.Path.{refl}
 use native.Mathlib.Omega.{arith}
 use borrow.Author.Needs.{needs}
-use Rattle.checker.proofs.offered.number.Statement.{statement}
-use Rattle.checker.proofs.offered.number.Tie as tie
+use Rattle.derivation.proofs.offered.number.Statement.{statement}
+use Rattle.derivation.proofs.offered.number.Tie as tie
 
 mul-result : tie.Need-mul-result
 mul-result c = search needs

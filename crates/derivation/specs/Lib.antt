@@ -1,0 +1,2 @@
+-- The walk over an offered derivation.
+pub mod Walk
