@@ -17,6 +17,9 @@ enum { KIB = 1024, PAGE = 4096, LARGE = 4096 * KIB, KNOWN = 100 * KIB, PAINT = 0
 static uint8_t book[2563], plate[FILBOZSEG_BYTES];
 static uint16_t full[FILBOZSEG_ROW], deep[FILBOZSEG_ROW], wide[FILBOZSEG_ROW], left[FILBOZSEG_ROW], hand[FILBOZSEG_HAND];
 static uint16_t nested[FILBOZSEG_OUTPUT], output[FILBOZSEG_OUTPUT];
+#ifdef NEXT
+static uint16_t twin[FILBOZSEG_ROW];
+#endif
 static uint32_t chart[FILBOZSEG_CELLS], code;
 static size_t offset, size, nodes;
 static int32_t tenths;
@@ -60,6 +63,42 @@ static void first_deep(void)
         code = ~0u;
 }
 static void first_wide(void) { first_in(wide); }
+#ifdef NEXT
+/* The last derivation, 512 nodes nested 512 deep: each of them is looked at for another. */
+static void next_deep(void)
+{
+    code = filbozseg_next(deep, plate, 64, nested, 1024, chart, FILBOZSEG_CELLS, output, FILBOZSEG_OUTPUT, &nodes);
+}
+/* With a twin of rule 0: after the last derivation of the one at the root comes the first of the other, 512 deep again. */
+static void next_turn(void)
+{
+    static uint16_t turn[FILBOZSEG_OUTPUT];
+    size_t at;
+    memcpy(turn, nested, sizeof turn);
+    for (at = 32; at < 512; at += 32)
+        turn[2 * at + 1] = 33;
+    nodes = 0;
+    code = filbozseg_next(twin, plate, 64, turn, 1024, chart, FILBOZSEG_CELLS, output, FILBOZSEG_OUTPUT, &nodes);
+    if (code == 1 && (nodes != 512 || output[1] != 33 || memcmp(output + 2, nested + 2, sizeof nested - 4) != 0))
+        code = ~0u;
+}
+/* The first of a full grammar is offered. */
+static void next_wide(void)
+{
+    static uint16_t offered[FILBOZSEG_OUTPUT];
+    first_in(wide);
+    memcpy(offered, output, sizeof offered);
+    code = filbozseg_next(wide, plate, 64, offered, 2 * nodes, chart, FILBOZSEG_CELLS, output, FILBOZSEG_OUTPUT, &nodes);
+}
+static void count_deep(void)
+{
+    nodes = 0;
+    code = filbozseg_count(deep, plate, 64, chart, FILBOZSEG_CELLS, &nodes);
+    if (code == 1 && nodes != 1)
+        code = ~0u;
+}
+static void count_wide(void) { code = filbozseg_count(wide, plate, 64, chart, FILBOZSEG_CELLS, &nodes); }
+#endif
 
 /* What is to be answered, and within how many bytes. The first is no call of the library: it shows that the measuring measures. */
 static const struct {
@@ -78,6 +117,13 @@ static const struct {
     {"same build", build_deep, 1, FILBOZSEG_SAME_BUILD_STACK},
     {"first deep", first_deep, 1, FILBOZSEG_FIRST_STACK},
     {"first full", first_wide, 1, FILBOZSEG_FIRST_STACK},
+#ifdef NEXT
+    {"next deep", next_deep, 0, FILBOZSEG_NEXT_STACK},
+    {"next turn", next_turn, 1, FILBOZSEG_NEXT_STACK},
+    {"next full", next_wide, 1, FILBOZSEG_NEXT_STACK},
+    {"count deep", count_deep, 1, FILBOZSEG_COUNT_STACK},
+    {"count full", count_wide, 1, FILBOZSEG_COUNT_STACK},
+#endif
 };
 enum { CALLS = sizeof calls / sizeof calls[0] };
 
@@ -142,6 +188,16 @@ static int load_deep(void)
     return filbozseg_load(book, size, deep, &offset) == 1;
 }
 
+#ifdef NEXT
+/* The deep book, which stands in `book`, with another rule 0 -> 1 behind its others. */
+static int load_twin(void)
+{
+    size--;
+    put((uint8_t[]){0x20, 0, 1, 0, 0x30, 1, 0x50}, 7);
+    return filbozseg_load(book, size, twin, &offset) == 1;
+}
+#endif
+
 /* 128 rules of 8 places. */
 static int load_full(void)
 {
@@ -176,6 +232,12 @@ int main(void)
 {
     int n, good = 0;
     memset(plate, 'A', sizeof plate);
+#ifdef NEXT
+    if (!load_deep() || !load_twin()) {
+        puts("a book is not loaded");
+        return 1;
+    }
+#endif
     if (!load_deep() || !load_full() || !load_wide()) {
         puts("a book is not loaded");
         return 1;

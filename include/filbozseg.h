@@ -2,8 +2,9 @@
  * The proved plate reader, for C: link libfilbozseg.a (x86-64), which `rt staticlib filbozseg` writes.
  *
  * Every function returns a code:
- *     0          no
- *     1          yes; loaded; measured; handed out
+ *     0          no; none
+ *     1          yes; loaded; measured; handed out; counted
+ *     2          more (from filbozseg_count alone)
  *     256 + n    refusal n of document 01, 1 <= n <= 15
  * and no other. None allocates, keeps anything between calls, or needs anything of a C library but memcpy and memset. Calls from several
  * threads at once are fine as long as what is lent for writing is lent to one of them alone.
@@ -16,9 +17,9 @@
  * else may read or write it until the call returns. What is lent for reading may overlap.
  *
  * What is written. A lent number is written only with an answer that carries it: an offset with a refused book, the tenths with a measured
- * derivation, the nodes with one handed out; with any other answer it is left as found. What is left of a row, a hand, a chart and an
- * output stands at each call; cells from 4225 on are never touched. What a lent place holds before a call decides nothing, except the hand
- * and the chart at filbozseg_take.
+ * derivation, the nodes with one handed out, the count with a counted input; with any other answer it is left as found. What is left of a
+ * row, a hand, a chart and an output stands at each call; cells from 4225 on are never touched. What a lent place holds before a call
+ * decides nothing, except the hand and the chart at filbozseg_take.
  *
  * Words: a grammar is a loaded book, an input a plate, a hand a plate in hand, a mark one of its bytes, a chart a sheet, a derivation a
  * reading, a node a part.
@@ -44,8 +45,8 @@ extern "C" {
 #define FILBOZSEG_BYTES 64
 #define FILBOZSEG_OUTPUT 1024
 
-/* How many bytes of stack a call needs, up to whole pages of 4 KiB. A thread with 256 KiB is enough for each of them but the last, whose
-   tables lie on the stack: its macro is a bound, within the 2 MiB that a thread of Rust has by default. */
+/* How many bytes of stack a call needs, up to whole pages of 4 KiB. A thread with 256 KiB is enough for each of them but the last three,
+   whose tables lie on the stack: their macros are bounds, within the 2 MiB that a thread of Rust has by default. */
 #define FILBOZSEG_LOAD_STACK (16 * 1024)
 #define FILBOZSEG_OPEN_STACK (48 * 1024)
 #define FILBOZSEG_TAKE_STACK (48 * 1024)
@@ -53,6 +54,8 @@ extern "C" {
 #define FILBOZSEG_LENGTH_STACK (140 * 1024)
 #define FILBOZSEG_SAME_BUILD_STACK (140 * 1024)
 #define FILBOZSEG_FIRST_STACK (1900 * 1024)
+#define FILBOZSEG_NEXT_STACK (1900 * 1024)
+#define FILBOZSEG_COUNT_STACK (1900 * 1024)
 
 /*
  * The row of a grammar, numbers of 16 bits: the start symbol, the number of rules, the nullable depth, and then 19 numbers for each of 128
@@ -129,6 +132,36 @@ uint32_t filbozseg_same_build(const uint16_t grammar[FILBOZSEG_ROW], const uint8
  */
 uint32_t filbozseg_first(const uint16_t grammar[FILBOZSEG_ROW], const uint8_t *input, size_t input_length,
                          uint32_t *chart, size_t chart_length, uint16_t *output, size_t output_length, size_t *nodes);
+
+/*
+ * Hands out the derivation of the input that follows the offered one in the order of filbozseg_first. Returns 1 and leaves it in the output,
+ * and how many nodes it has at nodes, as filbozseg_first does; or 0 if the offered one is the last. Refusals, in this order: 8, 9, 10, 11 as
+ * at filbozseg_first; 12 the offered row, which may have any length, is no derivation of the input. With 0 and refused, it leaves output
+ * and nodes as found; refused with 8 to 11, the chart too, else the chart is filled for the input. The offered row may not overlap the
+ * output, so that a derivation handed out is copied before it is offered; all of them, in their order:
+ *
+ *     uint16_t output[FILBOZSEG_OUTPUT], offered[FILBOZSEG_OUTPUT];
+ *     size_t nodes = 0;
+ *     uint32_t code = filbozseg_first(grammar, input, length, chart, FILBOZSEG_CELLS, output, FILBOZSEG_OUTPUT, &nodes);
+ *     while (code == 1) {
+ *         memcpy(offered, output, 2 * nodes * sizeof offered[0]);
+ *         code = filbozseg_next(grammar, input, length, offered, 2 * nodes, chart, FILBOZSEG_CELLS, output, FILBOZSEG_OUTPUT, &nodes);
+ *     }
+ *
+ * Stack: FILBOZSEG_NEXT_STACK.
+ */
+uint32_t filbozseg_next(const uint16_t grammar[FILBOZSEG_ROW], const uint8_t *input, size_t input_length,
+                        const uint16_t *offered, size_t offered_length, uint32_t *chart, size_t chart_length,
+                        uint16_t *output, size_t output_length, size_t *nodes);
+
+/*
+ * Counts the derivations of the input. Returns 1 and leaves their number, 0 to 4096, at count (0 if the input has no tree at all); or 2 if
+ * there are more than 4096. Refusals, in this order: 8, 9, 10 as at filbozseg_check; 13 the input has trees, but none of at most 512 nodes.
+ * With 2 and refused, it leaves the count as found; refused with 8 to 10, the chart too, else the chart is filled for the input.
+ * Stack: FILBOZSEG_COUNT_STACK.
+ */
+uint32_t filbozseg_count(const uint16_t grammar[FILBOZSEG_ROW], const uint8_t *input, size_t input_length,
+                         uint32_t *chart, size_t chart_length, size_t *count);
 
 #ifdef __cplusplus
 }

@@ -281,6 +281,33 @@ pub fn unit_graph_of_pairs() -> Vec<u8> {
     book.rule(10, &[A]).rule(0, &[N(0), N(0)]).bytes()
 }
 
+/// 0 → 1 1, 1 → six of kind 2, 2 → A, 2 → A: A × 12 has exactly 4,096 readings, and one more with 0 → 3 3, 3 → six A.
+pub fn boundary(more: bool) -> Vec<u8> {
+    let mut book = Book::new(0);
+    book.rule(0, &[N(1), N(1)]).rule(1, &[N(2); 6]).rule(2, &[A]).rule(2, &[A]);
+    if more {
+        book.rule(0, &[N(3), N(3)]).rule(3, &[A; 6]);
+    }
+    book.bytes()
+}
+
+/// The deepest of 64 behind 95 rules of eight kinds, and its reading: the last of all, so that each of its 512 nodes is
+/// looked at for another cover and another rule.
+pub fn last_of_many() -> (Vec<u8>, Vec<u16>) {
+    const WIDE: u16 = 95;
+    let mut book = Book::new(0);
+    for r in 0..WIDE as u8 {
+        let places: Vec<P> = (0..8).map(|q| N((7 * r + 5 * q) % 32)).collect();
+        book.rule(r % 32, &places);
+    }
+    (0..31).for_each(|k| {
+        book.rule(k, &[N(k + 1)]);
+    });
+    book.rule(31, &[A, A, A, A, N(0)]).rule(31, &[A, A, A, A]);
+    let node = |at: u16| [64 - 4 * (at / 32), WIDE + if at == 511 { 32 } else { at % 32 }];
+    (book.bytes(), (0..512).flat_map(node).collect())
+}
+
 /// A wide rule for each kind: k → eight of k+1, 31 → nothing, and k → A for each k if `marks`. Every kind is nullable, by
 /// trees of more than 512 parts but for the last ones.
 pub fn wide(marks: bool) -> Vec<u8> {

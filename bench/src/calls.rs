@@ -1,6 +1,6 @@
 //! The calls that are timed, once over the proved library and once over the plain code, with the same arguments: a
-//! grammar is a flat row, which each call reads anew, and an answer is a number: 0 no; 1 yes, loaded, measured or handed
-//! out; 256 + n refusal n.
+//! grammar is a flat row, which each call reads anew, and an answer is a number: 0 no; 1 yes, loaded, measured, handed
+//! out or counted; 2 more; 256 + n refusal n.
 
 use crate::plain::enumerator;
 use crate::plain::flat::{self, FLAT};
@@ -18,6 +18,10 @@ pub trait Reader {
     fn length(flat: &Flat, input: &[u8], offered: &[u16], chart: &mut [u32], tenths: &mut i32) -> u32;
     fn same_build(flat: &Flat, input: &[u8], a: &[u16], b: &[u16], chart: &mut [u32]) -> u32;
     fn first(flat: &Flat, input: &[u8], chart: &mut [u32], out: &mut [u16], nodes: &mut usize) -> u32;
+    #[cfg(feature = "next")]
+    fn next(flat: &Flat, input: &[u8], offered: &[u16], chart: &mut [u32], out: &mut [u16], nodes: &mut usize) -> u32;
+    #[cfg(feature = "next")]
+    fn count(flat: &Flat, input: &[u8], chart: &mut [u32], count: &mut usize) -> u32;
 
     /// Opening, and then taking each byte of the input: the answers.
     fn feed(flat: &Flat, input: &[u8], hand: &mut Hand, chart: &mut [u32]) -> [u32; INPUT + 1] {
@@ -75,6 +79,28 @@ mod c {
             out_length: usize,
             nodes: *mut usize,
         ) -> u32;
+        #[cfg(feature = "next")]
+        pub fn filbozseg_next(
+            grammar: *const u16,
+            input: *const u8,
+            input_length: usize,
+            offered: *const u16,
+            offered_length: usize,
+            chart: *mut u32,
+            length: usize,
+            out: *mut u16,
+            out_length: usize,
+            nodes: *mut usize,
+        ) -> u32;
+        #[cfg(feature = "next")]
+        pub fn filbozseg_count(
+            grammar: *const u16,
+            input: *const u8,
+            input_length: usize,
+            chart: *mut u32,
+            length: usize,
+            count: *mut usize,
+        ) -> u32;
     }
 }
 
@@ -128,6 +154,18 @@ impl Reader for Proved {
         let (w, sheet, e) = (input.as_ptr(), chart.as_mut_ptr(), out.as_mut_ptr());
         unsafe { c::filbozseg_first(flat.as_ptr(), w, input.len(), sheet, chart.len(), e, out.len(), nodes) }
     }
+    #[cfg(feature = "next")]
+    fn next(flat: &Flat, input: &[u8], offered: &[u16], chart: &mut [u32], out: &mut [u16], nodes: &mut usize) -> u32 {
+        let (w, e) = (input.as_ptr(), offered.as_ptr());
+        let ((x, cells), (o, numbers)) = ((chart.as_mut_ptr(), chart.len()), (out.as_mut_ptr(), out.len()));
+        unsafe { c::filbozseg_next(flat.as_ptr(), w, input.len(), e, offered.len(), x, cells, o, numbers, nodes) }
+    }
+
+    #[cfg(feature = "next")]
+    fn count(flat: &Flat, input: &[u8], chart: &mut [u32], count: &mut usize) -> u32 {
+        let (w, x) = (input.as_ptr(), chart.as_mut_ptr());
+        unsafe { c::filbozseg_count(flat.as_ptr(), w, input.len(), x, chart.len(), count) }
+    }
 }
 
 pub struct Plain;
@@ -138,6 +176,18 @@ fn refusal(r: Refusal) -> u32 {
 
 fn code(answer: Result<bool, Refusal>) -> u32 {
     answer.map_or_else(refusal, u32::from)
+}
+
+/// Writes the number of an answer that has one; `none` is the code of the answer that has none.
+fn written(answer: Result<Option<usize>, Refusal>, none: u32, number: &mut usize) -> u32 {
+    match answer {
+        Ok(Some(given)) => {
+            *number = given;
+            1
+        }
+        Ok(None) => none,
+        Err(r) => refusal(r),
+    }
 }
 
 impl Reader for Plain {
@@ -188,14 +238,17 @@ impl Reader for Plain {
     }
 
     fn first(flat: &Flat, input: &[u8], chart: &mut [u32], out: &mut [u16], nodes: &mut usize) -> u32 {
-        match enumerator::first(&flat::read(flat), input, chart, out) {
-            Ok(Some(handed)) => {
-                *nodes = handed;
-                1
-            }
-            Ok(None) => 0,
-            Err(r) => refusal(r),
-        }
+        written(enumerator::first(&flat::read(flat), input, chart, out), 0, nodes)
+    }
+
+    #[cfg(feature = "next")]
+    fn next(flat: &Flat, input: &[u8], offered: &[u16], chart: &mut [u32], out: &mut [u16], nodes: &mut usize) -> u32 {
+        written(enumerator::next(&flat::read(flat), input, offered, chart, out), 0, nodes)
+    }
+
+    #[cfg(feature = "next")]
+    fn count(flat: &Flat, input: &[u8], chart: &mut [u32], count: &mut usize) -> u32 {
+        written(enumerator::count(&flat::read(flat), input, chart), 2, count)
     }
 }
 

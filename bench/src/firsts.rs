@@ -11,12 +11,12 @@ use crate::{check_both, heading, line, loaded, sink};
 use std::hint::black_box;
 
 /// An output to write to: what it holds is no reading.
-fn output() -> Vec<u16> {
+pub fn output() -> Vec<u16> {
     vec![0xbeef; OUTPUT]
 }
 
 /// Both sides answer the same and leave the same output, number of nodes and chart; what is handed out is a reading.
-fn first_both(flat: &Flat, input: &[u8]) -> (u32, usize) {
+pub fn first_both(flat: &Flat, input: &[u8]) -> (u32, usize) {
     let (mut c, mut d, mut x, mut y) = (chart(), chart(), output(), output());
     let (mut m, mut n) = (usize::MAX, usize::MAX); // left so where none is handed out
     let code = Proved::first(flat, input, &mut c, &mut x, &mut m);

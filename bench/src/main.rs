@@ -5,6 +5,8 @@
 mod books;
 mod calls;
 mod firsts;
+#[cfg(feature = "next")]
+mod nexts;
 mod plain;
 mod random;
 mod timing;
@@ -380,15 +382,21 @@ fn sweep(count: usize) {
 }
 
 fn main() {
-    let count = std::env::args().nth(1).map_or(200, |n| n.parse().expect("usage: bench [BOOKS IN THE SWEEP [first]]"));
+    let count =
+        std::env::args().nth(1).map_or(200, |n| n.parse().expect("usage: bench [BOOKS IN THE SWEEP [first|next]]"));
     println!(
         "The proved library (C functions of libfilbozseg.a) beside the same algorithms in plain Rust. Load average {}.",
         load_average()
     );
     println!("Times are wall clock, a call: the median over batches run in turn, then the least batch; ratio = proved / plain.");
     println!("On a machine that does other work too, go by the least.");
-    if std::env::args().nth(2).is_some_and(|only| only == "first") {
+    let only = std::env::args().nth(2);
+    if only.as_deref() == Some("first") {
         return firsts::firsts(count / 10);
+    }
+    #[cfg(feature = "next")]
+    if only.as_deref() == Some("next") {
+        return nexts::nexts(count);
     }
     loads();
     println!("\nBOOKS of the fill, 64 marks each; results are equal on both sides");
@@ -398,6 +406,8 @@ fn main() {
     overheads(&list);
     checks();
     firsts::firsts(count / 10);
+    #[cfg(feature = "next")]
+    nexts::nexts(count);
     if count > 0 {
         sweep(count);
     }

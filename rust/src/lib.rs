@@ -25,11 +25,14 @@ pub const OUTPUT: usize = 1024;
 pub const HAND: usize = BYTES + 1;
 
 // What a lent place holds before the library writes it. None of them is a result, so that a place left unwritten passes for none: a row or
-// a hand of such numbers is refused (8, 14), and no book has such an offset and no derivation such a length or so many nodes.
+// a hand of such numbers is refused (8, 14), no book has such an offset, no derivation such a length or so many nodes, and none are counted
+// so far.
 const NO_NUMBER: u16 = u16::MAX;
 const NO_OFFSET: usize = usize::MAX;
 const NO_TENTHS: i32 = i32::MIN;
 const NO_NODES: usize = usize::MAX / 2;
+#[cfg(feature = "next")]
+const NO_COUNT: usize = usize::MAX;
 
 /// A grammar, as the row of numbers in which it crosses: start symbol, number of rules, nullable depth, and 19 numbers for each of 128
 /// rules (left side, length in two's complement, number of places, and a tag and a value for each of 8 places; tag 0 is a nonterminal, 1 a
@@ -211,4 +214,78 @@ pub fn first<'a>(
         )
     };
     Ok(answer(code)?.then_some(output).map(|output| &output[..2 * nodes]))
+}
+
+/// The derivation of the input that follows the offered one in the order of `first`, at the front of the output as there; none if the offered
+/// one is the last. Where there is none, and where the call is refused, the output is left as found. The chart is filled for the input, also
+/// where the offered row is no derivation of it (12); refused with 8, 9, 10 or 11, it is left as found.
+///
+/// What is handed out lies in the output, and is copied before it is offered:
+///
+/// ```
+/// use filbozseg::{first, load, next, CELLS, OUTPUT};
+/// // 0 -> 1 1, 1 -> nothing, 1 -> A
+/// let grammar = load(b"\x10\x00\x20\x00\x00\x00\x30\x01\x30\x01\x20\x01\x00\x00\x20\x01\x00\x00\x40A\x50").unwrap();
+/// let (mut chart, mut output, mut all) = ([0; CELLS], [0; OUTPUT], vec![]);
+/// let mut handed = first(&grammar, b"A", &mut chart, &mut output).unwrap().map(<[u16]>::to_vec);
+/// while let Some(reading) = handed {
+///     handed = next(&grammar, b"A", &reading, &mut chart, &mut output).unwrap().map(<[u16]>::to_vec);
+///     all.push(reading);
+/// }
+/// assert_eq!(all, [[1, 0, 0, 1, 1, 2], [1, 0, 1, 2, 0, 1]]);
+/// ```
+///
+/// The call needs as much stack as `first`.
+#[cfg(feature = "next")]
+pub fn next<'a>(
+    grammar: &Grammar,
+    input: &[u8],
+    offered: &[u16],
+    chart: &mut [u32],
+    output: &'a mut [u16],
+) -> Result<Option<&'a [u16]>, Refusal> {
+    let mut nodes = NO_NODES;
+    // Safety: as in `first`.
+    let code = unsafe {
+        sys::filbozseg_next(
+            grammar.row(),
+            input.as_ptr(),
+            input.len(),
+            offered.as_ptr(),
+            offered.len(),
+            chart.as_mut_ptr(),
+            chart.len(),
+            output.as_mut_ptr(),
+            output.len(),
+            &mut nodes,
+        )
+    };
+    Ok(answer(code)?.then_some(output).map(|output| &output[..2 * nodes]))
+}
+
+/// How many derivations an input has.
+#[cfg(feature = "next")]
+#[derive(Clone, Copy, Debug, PartialEq, Eq)]
+pub enum Counted {
+    /// So many, at most 4,096; 0 if the input has no tree at all.
+    Exactly(usize),
+    /// More than 4,096.
+    More,
+}
+
+/// How many derivations the input has. The chart is filled for it, also where all its trees have more than 512 nodes (13); refused with 8, 9
+/// or 10, it is left as found.
+///
+/// The call needs as much stack as `first`.
+#[cfg(feature = "next")]
+pub fn count(grammar: &Grammar, input: &[u8], chart: &mut [u32]) -> Result<Counted, Refusal> {
+    let mut count = NO_COUNT;
+    // Safety: as in `open`.
+    let code = unsafe {
+        sys::filbozseg_count(grammar.row(), input.as_ptr(), input.len(), chart.as_mut_ptr(), chart.len(), &mut count)
+    };
+    match code {
+        2 => Ok(Counted::More),
+        code => done(code).map(|()| Counted::Exactly(count)),
+    }
 }

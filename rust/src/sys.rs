@@ -66,4 +66,28 @@ extern "C" {
         output_length: usize,
         nodes: *mut usize,
     ) -> u32;
+
+    #[cfg(feature = "next")]
+    pub fn filbozseg_next(
+        grammar: *const [u16; ROW],
+        input: *const u8,
+        input_length: usize,
+        offered: *const u16,
+        offered_length: usize,
+        chart: *mut u32,
+        chart_length: usize,
+        output: *mut u16,
+        output_length: usize,
+        nodes: *mut usize,
+    ) -> u32;
+
+    #[cfg(feature = "next")]
+    pub fn filbozseg_count(
+        grammar: *const [u16; ROW],
+        input: *const u8,
+        input_length: usize,
+        chart: *mut u32,
+        chart_length: usize,
+        count: *mut usize,
+    ) -> u32;
 }

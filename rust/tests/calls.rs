@@ -197,6 +197,83 @@ fn a_refused_first_leaves_the_output() {
     assert_eq!((output, chart[1] >> 4 & 1), (UNWRITTEN, 1));
 }
 
+/// 0 -> 0 0, 0 -> A.
+#[cfg(feature = "next")]
+const PAIRS: &[u8] = b"\x10\x00\x20\x00\x00\x00\x30\x00\x30\x00\x20\x00\x00\x00\x40A\x50";
+
+#[cfg(feature = "next")]
+#[test]
+fn the_next_derivation_is_handed_out_or_none() {
+    let (grammar, mut chart, mut output) = (load(T).unwrap(), chart(), UNWRITTEN);
+    let (one, other) = ([1, 0, 0, 1, 1, 2], [1, 0, 1, 2, 0, 1]);
+    assert_eq!(next(&grammar, b"A", &one, &mut chart, &mut output), Ok(Some(&other[..])));
+    assert_eq!((&output[..6], &output[6..]), (&other[..], &UNWRITTEN[6..]));
+    output = UNWRITTEN;
+    assert_eq!(next(&grammar, b"A", &other, &mut chart, &mut output), Ok(None));
+    assert_eq!(next(&grammar, b"AA", &[2, 0, 1, 2, 1, 2], &mut chart, &mut output), Ok(None));
+    assert_eq!((output, &chart[CELLS..]), (UNWRITTEN, &[FOUND; PAST][..]));
+    let mut filled = self::chart();
+    check(&grammar, b"AA", &[], &mut filled).unwrap();
+    assert_eq!(chart, filled);
+    // a walk, each reading copied before it is offered
+    let grammar = load(PAIRS).unwrap();
+    let mut handed = first(&grammar, b"AAAAA", &mut chart, &mut output).unwrap().map(<[u16]>::to_vec);
+    let mut all = Vec::new();
+    while let Some(reading) = handed {
+        assert_eq!(check(&grammar, b"AAAAA", &reading, &mut chart), Ok(true));
+        handed = next(&grammar, b"AAAAA", &reading, &mut chart, &mut output).unwrap().map(<[u16]>::to_vec);
+        all.push(reading);
+    }
+    assert!(all.len() == 14 && all.windows(2).all(|two| two[0] < two[1]));
+}
+
+#[cfg(feature = "next")]
+#[test]
+fn a_refused_next_leaves_the_output() {
+    let (grammar, mut chart, mut output) = (load(T).unwrap(), chart(), UNWRITTEN);
+    let (good, short) = ([1, 0, 0, 1, 1, 2], OUTPUT - 1);
+    assert_eq!(next(&changed(0, 32), b"", &[], &mut [], &mut []), Err(Refusal::InvalidGrammar));
+    assert_eq!(next(&grammar, b"", &[], &mut [], &mut []), Err(Refusal::InputLength));
+    assert_eq!(next(&grammar, &[b'A'; 65], &good, &mut chart, &mut output), Err(Refusal::InputLength));
+    assert_eq!(next(&grammar, b"A", &[], &mut chart[..CELLS - 1], &mut []), Err(Refusal::ChartTooShort));
+    assert_eq!(next(&grammar, b"A", &[], &mut chart, &mut output[..short]), Err(Refusal::OutputTooShort));
+    assert_eq!(next(&grammar, b"A", &good, &mut chart, &mut output[..short]), Err(Refusal::OutputTooShort));
+    assert_eq!(chart, self::chart());
+    let strangers = [&[][..], &good[..5], &[1, 0, 0, 1, 1, 3], &[1, 0, 0, 1, 1, 2, 0], &[9; OUTPUT], &[1, 0, 0, 1]];
+    for (input, row) in strangers.map(|row| ("A", row)).into_iter().chain([("AA", &good[..]), ("B", &good)]) {
+        assert_eq!(next(&grammar, input.as_bytes(), row, &mut chart, &mut output), Err(Refusal::NotADerivation));
+    }
+    assert_eq!((output, &chart[CELLS..]), (UNWRITTEN, &[FOUND; PAST][..]));
+    let mut filled = self::chart();
+    check(&grammar, b"B", &[], &mut filled).unwrap();
+    assert_eq!(chart, filled);
+}
+
+#[cfg(feature = "next")]
+#[test]
+fn derivations_are_counted_up_to_4096() {
+    let (grammar, pairs, mut chart) = (load(T).unwrap(), load(PAIRS).unwrap(), chart());
+    assert_eq!(count(&changed(0, 32), b"", &mut []), Err(Refusal::InvalidGrammar));
+    assert_eq!(count(&grammar, b"", &mut []), Err(Refusal::InputLength));
+    assert_eq!(count(&grammar, &[b'A'; 65], &mut chart), Err(Refusal::InputLength));
+    assert_eq!(count(&grammar, b"A", &mut chart[..CELLS - 1]), Err(Refusal::ChartTooShort));
+    assert_eq!(chart, self::chart());
+    for (input, due) in [("A", 2), ("AA", 1), ("AAA", 0), ("B", 0)] {
+        assert_eq!(count(&grammar, input.as_bytes(), &mut chart), Ok(Counted::Exactly(due)), "{input}");
+    }
+    let mut filled = self::chart();
+    check(&grammar, b"B", &[], &mut filled).unwrap();
+    assert_eq!(chart, filled);
+    assert_eq!(count(&pairs, &[b'A'; 9], &mut chart), Ok(Counted::Exactly(1430)));
+    assert_eq!(count(&pairs, &[b'A'; 10], &mut chart), Ok(Counted::More));
+    // 0 -> A 1 1, 1 -> eight of 2, 2 -> eight of 3, 3 -> eight of 4, 4 -> nothing
+    let mut book = b"\x10\x00\x20\x00\x00\x00\x40A\x30\x01\x30\x01".to_vec();
+    (1..4).for_each(|k| book.extend([&[0x20, k, 0, 0][..], &[0x30, k + 1].repeat(8)].concat()));
+    book.extend(b"\x20\x04\x00\x00\x50");
+    assert_eq!(count(&load(&book).unwrap(), b"A", &mut chart), Err(Refusal::OnlyLargerTrees));
+    assert_eq!(chart[1] & 1, 1);
+}
+
 #[test]
 fn refusals_and_numbers_agree() {
     assert!((1..=15).all(|n| Refusal::of_number(n).unwrap().number() == n));

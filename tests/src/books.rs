@@ -488,6 +488,21 @@ pub fn book(seed: u64) -> Book {
     Book { style, bytes, inputs }
 }
 
+/// 0 -> 1 1, 1 -> six of 2, 2 -> A, 2 -> A: exactly 4,096 derivations of 12 marks; with
+/// 0 -> 3 3, 3 -> six marks one more.
+pub fn boundary(more: bool) -> Book {
+    let mut draft = Draft::new(0);
+    draft.rule(0, &[N(1), N(1)]);
+    draft.rule(1, &[N(2); 6]);
+    draft.rule(2, &[T(A)]);
+    draft.rule(2, &[T(A)]);
+    if more {
+        draft.rule(0, &[N(3), N(3)]);
+        draft.rule(3, &[T(A); 6]);
+    }
+    Book { style: "boundary", bytes: draft.bytes(), inputs: vec![vec![A; 12]] }
+}
+
 /// A full book of a seed with an input of 64 marks: 32 kinds, each with a rule, and
 /// 128 rules of 8 places but for some that are empty or one place long. The styles
 /// differ in how many those are, how rare marks are, and in that most places hold one

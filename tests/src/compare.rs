@@ -6,6 +6,7 @@ mod grammars;
 mod hands;
 mod lent;
 mod loads;
+mod nexts;
 mod refusals;
 mod rows;
 mod strangers;
@@ -13,6 +14,8 @@ mod takes;
 mod walks;
 
 pub use lent::{rubbish, Counts, Lent};
+pub use nexts::compare_boundary;
+pub use walks::play_book;
 
 use crate::books::{Book, Rng};
 use crate::lister::{grammar, Lister};

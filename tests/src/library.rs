@@ -123,6 +123,40 @@ impl Reader for Library {
     }
 
     fn lists(&self) -> bool {
-        false
+        cfg!(feature = "next")
+    }
+
+    #[cfg(feature = "next")]
+    fn next(
+        &self,
+        grammar: &FlatGrammar,
+        input: &[u8],
+        offered: &[u16],
+        chart: &mut [u32],
+        out: &mut [u16],
+        nodes: &mut usize,
+    ) -> Answer {
+        let ((w, n), (e, k)) = ((input.as_ptr(), input.len()), (offered.as_ptr(), offered.len()));
+        let ((c, m), (o, l)) = ((chart.as_mut_ptr(), chart.len()), (out.as_mut_ptr(), out.len()));
+        let call = |nodes| unsafe { sys::filbozseg_next(grammar, w, n, e, k, c, m, o, l, nodes) };
+        match said(capped(|| lend(nodes, call))) {
+            Answer::Yes => Answer::Nodes(*nodes),
+            Answer::No => Answer::NoneLeft,
+            refused => refused,
+        }
+    }
+
+    #[cfg(feature = "next")]
+    fn count(&self, grammar: &FlatGrammar, input: &[u8], chart: &mut [u32], count: &mut usize) -> Answer {
+        let ((w, n), (c, m)) = ((input.as_ptr(), input.len()), (chart.as_mut_ptr(), chart.len()));
+        let call = |count| unsafe { sys::filbozseg_count(grammar, w, n, c, m, count) };
+        match capped(|| lend(count, call)) {
+            1 => Answer::Count(*count),
+            2 => Answer::More,
+            code => match said(code) {
+                Answer::Refused(number) => Answer::Refused(number),
+                _ => panic!("count returned the code {code}"),
+            },
+        }
     }
 }

@@ -67,17 +67,20 @@ pub fn has_tree(grammar: &Grammar, input: &[u8]) -> bool {
     chart::derives(grammar, input)[0][usize::from(grammar.start)] >> input.len() & 1 == 1
 }
 
-/// The answer for what first, next or count gives; a row goes to the front of the output, and with it how many nodes it has.
-fn answered(given: Given, out: &mut [u16], nodes: &mut usize) -> Answer {
+/// The answer for what first, next or count gives; a row goes to the front of the output, and the number is how many nodes it has, or the count.
+fn answered(given: Given, out: &mut [u16], number: &mut usize) -> Answer {
     match given {
         Given::Row(row) => {
             out[..row.len()].copy_from_slice(&row);
-            *nodes = row.len() / 2;
-            Answer::Nodes(*nodes)
+            *number = row.len() / 2;
+            Answer::Nodes(*number)
         }
         Given::NoDerivation => Answer::NoDerivation,
         Given::NoneLeft => Answer::NoneLeft,
-        Given::Count(n) => Answer::Count(n),
+        Given::Count(n) => {
+            *number = n;
+            Answer::Count(n)
+        }
         Given::More => Answer::More,
         Given::Refused(number) => Answer::Refused(number),
     }
@@ -192,12 +195,12 @@ impl Reader for Lister {
         }
     }
 
-    fn count(&self, flat: &FlatGrammar, input: &[u8], chart: &mut [u32]) -> Answer {
+    fn count(&self, flat: &FlatGrammar, input: &[u8], chart: &mut [u32], count: &mut usize) -> Answer {
         match filled(flat, input, chart) {
             Err(refused) => refused,
             Ok(grammar) => {
                 let (list, tree) = listed(&grammar, input);
-                answered(walk::count(&list, tree), &mut [], &mut 0)
+                answered(walk::count(&list, tree), &mut [], count)
             }
         }
     }

@@ -82,14 +82,14 @@ pub trait Reader {
         out: &mut [u16],
         nodes: &mut usize,
     ) -> Answer;
-    /// Whether first makes the whole list, so that it cannot be asked where that is too large.
+    /// Whether first, next and count make the whole list, so that they cannot be asked where that is too large.
     fn by_listing(&self) -> bool {
         false
     }
 
     /// Whether the two calls below are there.
     fn lists(&self) -> bool;
-    /// Writes as first does.
+    /// Writes as first does; what is offered is no part of the output.
     fn next(
         &self,
         _grammar: &FlatGrammar,
@@ -101,7 +101,8 @@ pub trait Reader {
     ) -> Answer {
         unimplemented!("lists() is false")
     }
-    fn count(&self, _grammar: &FlatGrammar, _input: &[u8], _chart: &mut [u32]) -> Answer {
+    /// Writes the count with `Count` only.
+    fn count(&self, _grammar: &FlatGrammar, _input: &[u8], _chart: &mut [u32], _count: &mut usize) -> Answer {
         unimplemented!("lists() is false")
     }
 }

@@ -44,7 +44,7 @@ fn listed(book: &[u8], input: &[u8]) -> Vec<Vec<u16>> {
             Given::More => Answer::More,
             _ => Answer::Refused(13),
         };
-        assert_eq!(reader.count(&flat, input, chart.part_mut()), due);
+        assert_eq!(reader.count(&flat, input, chart.part_mut(), &mut 0), due);
         let (mut out, mut nodes) = ([7; OUTPUT], 0);
         for (at, reading) in list.iter().enumerate().take(20) {
             let answer = reader.next(&flat, input, reading, chart.part_mut(), &mut out, &mut nodes);

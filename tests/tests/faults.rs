@@ -8,19 +8,22 @@ mod faulty;
 use faulty::forgetful::Forgets;
 use faulty::{set_faults, Faults};
 use outside_tests::books::book;
-use outside_tests::compare::{compare_book, Counts};
+use outside_tests::compare::{compare_book, compare_boundary, play_book, Counts};
 use outside_tests::reader::Reader;
 use std::sync::atomic::{AtomicUsize, Ordering};
 
 /// A fault has to be caught within so many books.
 const WITHIN: u64 = 400;
+const SOME: u64 = 40;
 
-/// The seed of the first book that shows a difference, with its text.
+/// The seed of the first book that shows a difference, with its text; after some of them come the books at the boundary of count.
 fn caught(reader: &dyn Reader) -> Option<(u64, String)> {
-    (0..WITHIN).find_map(|seed| {
+    let mut random = (0..WITHIN).map(|seed| {
         let difference = compare_book(reader, &book(seed), seed, &mut Counts::default());
         difference.err().map(|text| (seed, text))
-    })
+    });
+    let boundary = || compare_boundary(reader).err().map(|text| (SOME, text));
+    random.by_ref().take(SOME as usize).flatten().next().or_else(boundary).or_else(|| random.flatten().next())
 }
 
 /// Tries all cases on two threads; none may be missed.
@@ -52,7 +55,7 @@ fn all_caught<T: Sync>(cases: &[(String, T)], try_one: impl Fn(&T) -> Option<(u6
 fn every_fault_is_caught() {
     let faults: Vec<(String, Faults)> =
         Faults::one_by_one().into_iter().map(|(name, faults)| (name.to_string(), faults)).collect();
-    assert!(faults.len() >= 100);
+    assert!(faults.len() >= 120);
     all_caught(&faults, |faults| {
         set_faults(*faults);
         caught(&faulty::Lister)
@@ -63,6 +66,34 @@ fn every_fault_is_caught() {
 fn every_place_left_unwritten_is_caught() {
     let readers: Vec<(String, Forgets)> = Forgets::ALL.iter().map(|which| (format!("{which:?}"), *which)).collect();
     all_caught(&readers, |which| caught(which));
+}
+
+/// The faults that the walk of demand 3 has to turn down by itself.
+#[test]
+fn the_walk_alone_catches_what_it_has_to() {
+    let none = Faults::default();
+    let faults = [
+        ("first never looks", Faults { first_never_looks: true, ..none }),
+        ("first forgets 13", Faults { thirteen_forgotten: true, ..none }),
+        ("next hands back", Faults { next_hands_back: true, ..none }),
+        ("none after the first", Faults { none_after_the_first: true, ..none }),
+        ("next skips one", Faults { next_skips_one: true, ..none }),
+        ("next begins again", Faults { next_begins_again: true, ..none }),
+        ("the last left out", Faults { last_left_out: true, ..none }),
+        ("12 forgotten", Faults { twelve_forgotten: true, ..none }),
+        ("12 finds the later", Faults { twelve_finds_the_later: true, ..none }),
+        ("output written on none", Faults { output_zero_with_none: true, ..none }),
+        ("count invented", Faults { count_invented: true, ..none }),
+        ("count one less", Faults { count_one_less: true, ..none }),
+        ("count forgets 13", Faults { count_thirteen_forgotten: true, ..none }),
+    ];
+    all_caught(&faults.map(|(name, faults)| (name.to_string(), faults)), |faults| {
+        set_faults(*faults);
+        (0..100).find_map(|seed| {
+            let difference = play_book(&faulty::Lister, &book(seed), seed, 16, &mut Counts::default());
+            difference.err().map(|text| (seed, text))
+        })
+    });
 }
 
 /// No difference over so many books.

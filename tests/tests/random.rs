@@ -121,14 +121,28 @@ const NO_SUCH: &[&str] = &["a mark, up to 255", "a mark, 256", "a mark, low byte
 /// The same for a reader that hands out the first without listing.
 const DUE_UNLISTED: &[(&str, u64)] = &[("first, too many to list: handed out", 80)];
 
+/// The same for one that also hands out the next and counts without listing.
+const DUE_UNLISTED_NEXT: &[(&str, u64)] = &[("next, too many to list", 80), ("count: more", 40)];
+
 /// The same for a reader that lists.
 const DUE_LISTING: &[(&str, u64)] = &[
     ("walk: First", 3000),
     ("walk: NextWithCopy", 5000),
     ("walk: NextWithNoDerivation", 800),
     ("walk: Count", 1000),
+    ("next: handed out", 2000),
+    ("next: none", 1000),
+    ("next: refused 8", 3000),
+    ("next: refused 9", 2000),
+    ("next: refused 10", 500),
     ("next: refused 11", 300),
+    ("next: refused 12", 3000),
+    ("count: counted", 1500),
+    ("count: 0", 1000),
+    ("count: refused 8", 3000),
+    ("count: refused 9", 2000),
     ("count: refused 10", 500),
+    ("count: refused 13", 50),
 ];
 
 #[test]
@@ -156,7 +170,9 @@ fn random_books() {
     }
     let listing = if reader_under_test().lists() { DUE_LISTING } else { &[] };
     let unlisted = if reader_under_test().by_listing() { &[] } else { DUE_UNLISTED };
-    for (name, due) in DUE.iter().chain(unlisted).chain(listing) {
+    let both = reader_under_test().lists() && !reader_under_test().by_listing();
+    let next = if both { DUE_UNLISTED_NEXT } else { &[] };
+    for (name, due) in DUE.iter().chain(unlisted).chain(listing).chain(next) {
         assert!(counts.get(name) >= *due, "{name}: came up {} times, due {due}", counts.get(name));
     }
     for (number, (how, due)) in JUDGED.iter().flat_map(|number| OUT_OF_RANGE.iter().map(move |how| (number, how))) {

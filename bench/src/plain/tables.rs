@@ -65,6 +65,11 @@ impl Given<'_> {
         self.chart[SIDE * i + j]
     }
 
+    /// How many places of rule r hold a nonterminal.
+    pub fn nonterminals(&self, r: usize) -> usize {
+        self.rules[r].places().iter().filter(|place| place.is_nonterminal()).count()
+    }
+
     /// Writes the suffixes of rule r from a to j, those from later starts standing. A child over the whole of i..j
     /// costs `full`, any other what the least table says.
     #[allow(clippy::too_many_arguments)]

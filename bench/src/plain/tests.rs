@@ -203,6 +203,61 @@ fn the_first_reading_is_the_smallest_of_the_list() {
 }
 
 #[test]
+fn each_reading_follows_the_one_before_it_in_the_list() {
+    let mut random = Random::new(6);
+    let (mut moved, mut last, mut empty, mut counted) = (0, 0, 0, 0);
+    for _ in 0..4000 {
+        let g = small_grammar(&mut random);
+        let w: Vec<u8> = (0..random.below(6)).map(|_| b'A' + random.below(2) as u8).collect();
+        let mut lister = Lister { g: &g, w: &w, steps: 0 };
+        let mut list = lister.trees(0, 0, w.len(), &[]);
+        if lister.steps > 20_000 || list.len() >= 500 {
+            continue; // not all of them are listed
+        }
+        let tree = !list.is_empty();
+        list.retain(|e| e.len() <= 1024);
+        list.sort();
+        let (p, mut chart) = (Packed::new(&g), [0u32; CHART]);
+        fill(&p, &w, &mut chart);
+        let due = if tree && list.is_empty() { Err(Refusal::OnlyLargerTrees) } else { Ok(Some(list.len())) };
+        assert_eq!(enumerator::count_filled(&p, 0, &w, &chart), due, "{g:?} {w:?}");
+        counted += due.is_ok() as u32;
+        for (at, e) in list.iter().enumerate().take(40) {
+            let mut out = [7u16; 1026];
+            let got = enumerator::next_filled(&p, 0, &w, e, &chart, &mut out);
+            let due = list.get(at + 1).map_or(&[][..], |next| next);
+            assert_eq!(got, Ok((!due.is_empty()).then_some(due.len() / 2)), "{g:?} {w:?} {e:?}");
+            assert!(
+                out[..due.len()] == *due && out[due.len()..].iter().all(|&number| number == 7),
+                "{g:?} {w:?} {e:?}"
+            );
+            (moved, last) = (moved + !due.is_empty() as u32, last + due.is_empty() as u32);
+            empty += w.is_empty() as u32;
+        }
+        let got = enumerator::next_filled(&p, 0, &w, &[w.len() as u16, 200], &chart, &mut [7; 1024]);
+        assert_eq!(got, Err(Refusal::NotADerivation));
+    }
+    assert!(moved > 2500 && last > 600 && empty > 300 && counted > 2000, "{moved} {last} {empty} {counted}");
+}
+
+#[test]
+fn readings_are_counted_up_to_4096() {
+    let count =
+        |book: &[u8], n: usize| enumerator::count(&loader::load(book).unwrap(), &vec![b'A'; n], &mut [0; CHART]);
+    assert_eq!(
+        [1, 2, 3, 9, 10, 64].map(|n| count(&books::pairs(), n).unwrap()),
+        [1, 1, 2, 1430, 4862, 0].map(|n| (1..=4096).contains(&n).then_some(n))
+    );
+    assert_eq!((count(&books::boundary(false), 12), count(&books::boundary(true), 12)), (Ok(Some(4096)), Ok(None)));
+    assert_eq!((count(&books::deepest().0, 16), count(&books::bush().0, 1)), (Ok(Some(1)), Ok(Some(1))));
+    assert_eq!((count(&books::unit_graph(), 1), count(&books::pairs(), 0)), (Ok(Some(1)), Err(Refusal::InputLength)));
+    assert_eq!(count(&books::deepest().0, 17), Err(Refusal::OnlyLargerTrees));
+    let (book, reading) = books::last_of_many();
+    let g = loader::load(&book).unwrap();
+    assert_eq!(enumerator::next(&g, &[b'A'; 64], &reading, &mut [0; CHART], &mut [7; 1024]), Ok(None));
+}
+
+#[test]
 fn the_limit_of_512_parts_decides_what_is_first() {
     let first = |book: &[u8], n: usize| {
         let (g, mut chart, mut out) = (loader::load(book).unwrap(), [0; CHART], [7; 1024]);

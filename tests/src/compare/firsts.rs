@@ -10,6 +10,7 @@ use crate::reader::{Answer, FlatGrammar, CELLS, OUTPUT};
 
 /// What is known of an input: all its derivations, unless they are too many to list;
 /// whether it has a tree of any size; and rows, some of which may be derivations.
+#[derive(Clone, Copy)]
 pub(super) struct First<'a> {
     pub list: Option<&'a [Row]>,
     pub tree: bool,

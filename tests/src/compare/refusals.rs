@@ -90,13 +90,13 @@ impl Comparison<'_> {
                 let answer = match *name {
                     "first" => r.first(g, input, c, out.part_mut(), &mut nodes),
                     "next" => r.next(g, input, &[1, 0], c, out.part_mut(), &mut nodes),
-                    _ => r.count(g, input, c),
+                    _ => r.count(g, input, c, &mut nodes),
                 };
                 (answer, nodes, out.all)
             };
             let ((answer, nodes, left), after) = self.both(name, flat, chart, call)?;
             self.seen(name, answer, chart, &after)?;
-            same(&format!("{name} refused: nodes and output as found"), nodes == found && left == out.all, true)?;
+            same(&format!("{name} refused: number and output as found"), nodes == found && left == out.all, true)?;
         }
         Ok(())
     }

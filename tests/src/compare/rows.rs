@@ -88,15 +88,16 @@ impl Comparison<'_> {
             });
             self.offered(flat, Offer { input, filled, one, other }, "same build", due, None)?;
         }
-        self.first(flat, grammar, input, filled, First { list: list.as_deref(), tree, offered: &offered })?;
-        if self.reader.lists() && derivations(grammar, input, LIMIT, STEPS / 10).is_ok() {
-            self.walk(
-                flat,
-                input,
-                filled,
-                Walk { list: list.expect("fewer steps sufficed"), tree, place: 0 },
-                &offered,
-            )?;
+        let known = First { list: list.as_deref(), tree, offered: &offered };
+        self.first(flat, grammar, input, filled, known)?;
+        let small = derivations(grammar, input, LIMIT, STEPS / 10).is_ok();
+        if self.reader.lists() && (small || !self.reader.by_listing()) {
+            self.nexts(flat, grammar, input, filled, known, &readings)?;
+        }
+        if self.reader.lists() && small {
+            let list = list.expect("fewer steps sufficed");
+            let calls = list.len().min(8) + 4;
+            self.walk(flat, input, filled, Walk { list, tree, place: 0 }, &offered, calls)?;
         }
         Ok(())
     }

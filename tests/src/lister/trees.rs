@@ -149,7 +149,7 @@ pub fn round(sum: i32) -> i32 {
 /// Same build: the rules of the non-empty nodes agree as a bag.
 pub fn same_build(one: &[u16], other: &[u16]) -> bool {
     let bag = |row: &[u16]| {
-        let mut rules: Vec<u16> = row.chunks(2).filter(|node| node[0] > 0).map(|node| node[1]).collect();
+        let mut rules: Vec<u16> = row.chunks_exact(2).filter(|node| node[0] > 0).map(|node| node[1]).collect();
         rules.sort();
         rules
     };

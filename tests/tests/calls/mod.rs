@@ -129,3 +129,46 @@ pub fn first(flat: &FlatGrammar, input: &[u8]) -> Given {
     assert!(out == due, "the output is not as found behind the reading");
     given
 }
+
+/// The next reading, "none", or a refusal; the output and the number of nodes as in `first`.
+pub fn next(flat: &FlatGrammar, input: &[u8], offered: &[u16]) -> Given {
+    let (mut chart, mut nodes, mut rng) = (rubbish(&mut Rng::new(8), CELLS), FOUND_AT, Rng::new(9));
+    let mut out = Lent::filled(OUTPUT + 3, || rng.next() as u16);
+    let mut due = out.clone();
+    let given = match reader_under_test().next(flat, input, offered, chart.part_mut(), out.part_mut(), &mut nodes) {
+        Answer::Nodes(n) => {
+            assert_eq!(nodes, n);
+            due.part_mut()[..2 * n].copy_from_slice(&out.part()[..2 * n]);
+            Given::Row(out.part()[..2 * n].to_vec())
+        }
+        answer => {
+            assert_eq!(nodes, FOUND_AT);
+            match answer {
+                Answer::Refused(number) => Given::Refused(number),
+                Answer::NoneLeft => Given::NoneLeft,
+                _ => panic!("next answered {answer:?}"),
+            }
+        }
+    };
+    assert!(out == due, "the output is not as found behind the reading");
+    given
+}
+
+/// The count, "more", or a refusal; without a count the number has to be left as found.
+pub fn count(flat: &FlatGrammar, input: &[u8]) -> Given {
+    let (mut chart, mut number) = (rubbish(&mut Rng::new(10), CELLS), FOUND_AT);
+    match reader_under_test().count(flat, input, chart.part_mut(), &mut number) {
+        Answer::Count(n) => {
+            assert_eq!(number, n);
+            Given::Count(n)
+        }
+        answer => {
+            assert_eq!(number, FOUND_AT);
+            match answer {
+                Answer::Refused(number) => Given::Refused(number),
+                Answer::More => Given::More,
+                _ => panic!("count answered {answer:?}"),
+            }
+        }
+    }
+}

@@ -20,6 +20,7 @@ pub enum Forgets {
     ListedChart,
     Output,
     Nodes,
+    Count,
     Everything,
     /// Nothing: this one is the lister.
     Nothing,
@@ -27,7 +28,7 @@ pub enum Forgets {
 
 impl Forgets {
     /// Every one that forgets something.
-    pub const ALL: [Forgets; 14] = [
+    pub const ALL: [Forgets; 15] = [
         Forgets::Row,
         Forgets::Offset,
         Forgets::OpenedHand,
@@ -41,6 +42,7 @@ impl Forgets {
         Forgets::ListedChart,
         Forgets::Output,
         Forgets::Nodes,
+        Forgets::Count,
         Forgets::Everything,
     ];
 
@@ -135,7 +137,9 @@ impl Reader for Forgets {
         })
     }
 
-    fn count(&self, grammar: &FlatGrammar, input: &[u8], chart: &mut [u32]) -> Answer {
-        self.slice(Forgets::ListedChart, chart, |c| Lister.count(grammar, input, c))
+    fn count(&self, grammar: &FlatGrammar, input: &[u8], chart: &mut [u32], count: &mut usize) -> Answer {
+        self.slice(Forgets::ListedChart, chart, |c| {
+            self.place(Forgets::Count, count, |n| Lister.count(grammar, input, c, n))
+        })
     }
 }

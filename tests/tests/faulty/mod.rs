@@ -79,18 +79,22 @@ pub fn has_tree(grammar: &Grammar, input: &[u8]) -> bool {
     chart::derives(grammar, input)[0][usize::from(grammar.start)] >> input.len() & 1 == 1
 }
 
-/// The answer for what first, next or count gives; a row goes to the front of the output, and with it how many nodes it has.
-fn answered(given: Given, out: &mut [u16], nodes: &mut usize) -> Answer {
+/// The answer for what first, next or count gives; a row goes to the front of the output, and the number is how many nodes it has, or the count.
+fn answered(given: Given, out: &mut [u16], number: &mut usize) -> Answer {
     let zero = match given {
         Given::NoDerivation => (faults().output_zero_without_a_reading, faults().nodes_zero_without_a_reading),
+        Given::Refused(13) if out.is_empty() => (false, faults().count_zero_with_thirteen),
         Given::Refused(13) => (faults().output_zero_with_thirteen, faults().nodes_zero_with_thirteen),
+        Given::NoneLeft => (faults().output_zero_with_none, faults().nodes_zero_with_none),
+        Given::Refused(12) => (faults().output_zero_with_twelve, faults().nodes_zero_with_twelve),
+        Given::More => (false, faults().count_written_with_more),
         _ => (false, false),
     };
     if zero.0 && !out.is_empty() {
         out[0] = 0;
     }
     if zero.1 {
-        *nodes = 0;
+        *number = 0;
     }
     match given {
         Given::Row(row) => {
@@ -102,12 +106,17 @@ fn answered(given: Given, out: &mut [u16], nodes: &mut usize) -> Answer {
             if faults().one_number_too_many && fits < out.len() {
                 out[fits] = 0;
             }
-            *nodes = row.len() / if faults().nodes_counts_numbers { 1 } else { 2 };
+            *number = row.len() / if faults().nodes_counts_numbers { 1 } else { 2 };
             Answer::Nodes(row.len() / 2)
         }
         Given::NoDerivation => Answer::NoDerivation,
         Given::NoneLeft => Answer::NoneLeft,
-        Given::Count(n) => Answer::Count(n),
+        Given::Count(n) => {
+            if !faults().count_unwritten {
+                *number = n;
+            }
+            Answer::Count(n)
+        }
         Given::More => Answer::More,
         Given::Refused(number) => Answer::Refused(number),
     }
@@ -288,21 +297,42 @@ impl Reader for Lister {
         out: &mut [u16],
         nodes: &mut usize,
     ) -> Answer {
-        match judged(flat, input, chart.len(), out.len()) {
+        let length = if faults().eleven_unasked_by_next { OUTPUT } else { out.len() };
+        match judged(flat, input, chart.len(), length) {
             Err(refused) => refused,
             Ok(grammar) => {
-                chart::fill(&grammar, input, chart);
-                answered(walk::next(&listed(&grammar, input).0, offered), out, nodes)
+                let (list, tree) = listed(&grammar, input);
+                let given = match walk::next(&list, offered) {
+                    Given::Refused(12) if faults().thirteen_from_next && tree && list.is_empty() => Given::Refused(13),
+                    given => given,
+                };
+                let found = match given {
+                    Given::Refused(_) => faults().twelve_leaves_the_chart,
+                    Given::NoneLeft => faults().none_leaves_the_chart,
+                    _ => false,
+                };
+                if !found {
+                    chart::fill(&grammar, input, chart);
+                }
+                if faults().offered_copied_to_the_output && offered.len() <= out.len() {
+                    out[..offered.len()].copy_from_slice(offered);
+                }
+                answered(given, out, nodes)
             }
         }
     }
 
-    fn count(&self, flat: &FlatGrammar, input: &[u8], chart: &mut [u32]) -> Answer {
+    fn count(&self, flat: &FlatGrammar, input: &[u8], chart: &mut [u32], count: &mut usize) -> Answer {
         match filled(flat, input, chart) {
-            Err(refused) => refused,
+            Err(refused) => {
+                if faults().count_zero_when_refused {
+                    *count = 0;
+                }
+                refused
+            }
             Ok(grammar) => {
                 let (list, tree) = listed(&grammar, input);
-                answered(walk::count(&list, tree), &mut [], &mut 0)
+                answered(walk::count(&list, tree), &mut [], count)
             }
         }
     }

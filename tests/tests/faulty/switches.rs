@@ -125,6 +125,32 @@ switches! {
     nodes_zero_with_thirteen,
     output_zero_without_a_reading,
     output_zero_with_thirteen,
+    // next
+    next_skips_one,
+    next_begins_again,
+    last_left_out,
+    twelve_forgotten,
+    twelve_for_the_empty_row_forgotten,
+    twelve_finds_the_later,
+    thirteen_from_next,
+    eleven_unasked_by_next,
+    twelve_leaves_the_chart,
+    none_leaves_the_chart,
+    offered_copied_to_the_output,
+    output_zero_with_none,
+    output_zero_with_twelve,
+    nodes_zero_with_none,
+    nodes_zero_with_twelve,
+    // count
+    count_one_less,
+    more_at_4096,
+    counted_at_4097,
+    count_thirteen_forgotten,
+    count_thirteen_without_a_tree,
+    count_unwritten,
+    count_written_with_more,
+    count_zero_when_refused,
+    count_zero_with_thirteen,
 }
 
 std::thread_local! {

@@ -39,7 +39,18 @@ pub fn first(list: &[Row], tree: bool) -> Given {
 /// Next, offered any row.
 pub fn next(list: &[Row], offered: &[u16]) -> Given {
     match list.iter().position(|row| row == offered) {
+        None if faults().twelve_forgotten => Given::NoneLeft,
+        None if faults().twelve_for_the_empty_row_forgotten && offered.is_empty() && !list.is_empty() => {
+            Given::Row(list[0].clone())
+        }
+        None if faults().twelve_finds_the_later => match list.iter().find(|row| row[..] > *offered) {
+            Some(row) => Given::Row(row.clone()),
+            None => Given::Refused(12),
+        },
         None => Given::Refused(12),
+        Some(place) if faults().next_skips_one && place + 2 < list.len() => Given::Row(list[place + 2].clone()),
+        Some(place) if faults().next_begins_again && place + 1 == list.len() => Given::Row(list[0].clone()),
+        Some(place) if faults().last_left_out && place + 2 == list.len() => Given::NoneLeft,
         Some(0) if faults().none_after_the_first => Given::NoneLeft,
         Some(place) if faults().next_hands_back => Given::Row(list[place].clone()),
         Some(place) if place + 1 < list.len() => Given::Row(list[place + 1].clone()),
@@ -50,7 +61,12 @@ pub fn next(list: &[Row], offered: &[u16]) -> Given {
 /// Count.
 pub fn count(list: &[Row], tree: bool) -> Given {
     match list.len() {
-        0 if tree => Given::Refused(13),
+        0 if (tree || faults().count_thirteen_without_a_tree) && !faults().count_thirteen_forgotten => {
+            Given::Refused(13)
+        }
+        n if faults().count_one_less && n > 0 => Given::Count(n - 1),
+        4096 if faults().more_at_4096 => Given::More,
+        4097 if faults().counted_at_4097 => Given::Count(4097),
         n if n <= 4096 => Given::Count(n + usize::from(faults().count_invented)),
         _ => Given::More,
     }

@@ -1,0 +1,170 @@
+//! Next and count on an input that passes the checks: the answer, the number, the
+//! output and the chart.
+
+use super::firsts::First;
+use super::lent::{offset, same, Counts, Lent};
+use super::Comparison;
+use crate::books::{boundary, Rng};
+use crate::lister::grammar::Grammar;
+use crate::lister::trees::{self, Row, LIMIT};
+use crate::lister::walk::{self, Given};
+use crate::reader::{Answer, FlatGrammar, Reader, CELLS, OUTPUT};
+
+/// At most so many derivations of one input are offered to next where there are more than 400.
+const DRAWN: usize = 202;
+
+/// Count at its boundary, where the list is too long for the random books: exactly
+/// 4,096 derivations, and one more.
+pub fn compare_boundary(reader: &dyn Reader) -> Result<(), String> {
+    let (rng, mut counts) = (Rng::new(4096), Counts::default());
+    let mut comparison = Comparison { reader, rng, counts: &mut counts };
+    for (more, due) in [(false, Given::Count(4096)), (true, Given::More)] {
+        let book = boundary(more);
+        let Some(flat) = comparison.load(&book.bytes, "load")? else { return Err("no book".to_string()) };
+        let filled =
+            comparison.takes(&flat, &crate::lister::grammar::from_flat(&flat).expect("loaded"), &book.inputs[0])?;
+        comparison.count(&flat, &book.inputs[0], &filled.part()[..CELLS], |given| same("count", given, &due))?;
+    }
+    Ok(())
+}
+
+impl Comparison<'_> {
+    /// The derivations of an input, all of them up to 400, and rows that are none, offered to next; and the count.
+    pub(super) fn nexts(
+        &mut self,
+        flat: &FlatGrammar,
+        grammar: &Grammar,
+        input: &[u8],
+        filled: &[u32],
+        known: First,
+        readings: &[Row],
+    ) -> Result<(), String> {
+        let Some(list) = known.list else { return self.unlisted_nexts(flat, grammar, input, filled, known) };
+        let heavy = input.len().pow(2) * grammar.rules.len() > 10_000;
+        let mut offered = readings.to_vec();
+        match (self.reader.by_listing(), heavy, readings.len() < list.len()) {
+            (true, ..) => self.thin(&mut offered, 3),
+            (_, true, _) => self.thin(&mut offered, 6),
+            (_, _, true) => self.thin(&mut offered, DRAWN),
+            _ => (),
+        }
+        let strangers = if self.reader.by_listing() || heavy { 3 } else { 12 };
+        for _ in 0..strangers {
+            offered.push(known.offered[self.rng.below(known.offered.len())].clone());
+        }
+        for row in &offered {
+            let given = self.next(flat, input, filled, row)?;
+            same(&format!("next of {row:?}"), &given, &walk::next(list, row))?;
+        }
+        let due = walk::count(list, known.tree);
+        self.count(flat, input, filled, |given| same("count", given, &due))
+    }
+
+    /// Where the list is too large to make: the first derivation and those at hand are
+    /// offered. What is handed out has to be a derivation, by the lister, that follows
+    /// the offered one, and none at hand may stand between them; without one, none at
+    /// hand may follow. The count has to be no less than those at hand.
+    fn unlisted_nexts(
+        &mut self,
+        flat: &FlatGrammar,
+        grammar: &Grammar,
+        input: &[u8],
+        filled: &[u32],
+        known: First,
+    ) -> Result<(), String> {
+        let mut at_hand: Vec<Row> =
+            known.offered.iter().filter(|row| trees::is_derivation(grammar, input, row)).cloned().collect();
+        let (mut out, mut nodes) = ([0; OUTPUT], 0);
+        if let Answer::Nodes(n) = self.reader.first(flat, input, self.chart().part_mut(), &mut out, &mut nodes) {
+            at_hand.push(out[..2 * n].to_vec());
+        }
+        at_hand.sort();
+        at_hand.dedup();
+        for row in at_hand.clone().iter().take(3) {
+            let mut later = at_hand.iter().filter(|other| *other > row);
+            match self.next(flat, input, filled, row)? {
+                Given::Row(next) => {
+                    same("next: a derivation, by the lister", trees::is_derivation(grammar, input, &next), true)?;
+                    same("next: it follows", next > *row, true)?;
+                    if let Some(other) = later.find(|other| **other < next) {
+                        return Err(format!("next of {row:?}: {next:?} handed out, and {other:?} stands before it"));
+                    }
+                }
+                Given::NoneLeft => same("next: none", later.next(), None)?,
+                given => return Err(format!("next of the derivation {row:?}: {given:?}")),
+            }
+            self.counts.add("next, too many to list");
+        }
+        let least = at_hand.len();
+        self.count(flat, input, filled, |given| match given {
+            Given::Count(n) if *n >= least.max(1) => Ok(()),
+            Given::More if least > 0 => Ok(()),
+            Given::Refused(13) if least == 0 => Ok(()),
+            given => Err(format!("count: {given:?}, and {least} derivations are at hand")),
+        })
+    }
+
+    /// Calls next on the reader: what it gives. What is lent holds rubbish; of the
+    /// output only the front is written, and nothing of it without a derivation.
+    fn next(&mut self, flat: &FlatGrammar, input: &[u8], filled: &[u32], offered: &[u16]) -> Result<Given, String> {
+        let (mine, mut chart, found) = (self.either(flat), self.chart(), offset(&mut self.rng));
+        let length = OUTPUT + self.rng.pick(&[0, 0, 1, 40]);
+        let mut out = Lent::filled(length, || self.rng.next() as u16);
+        let (mut due_chart, mut due_out, mut nodes) = (chart.clone(), out.clone(), found);
+        due_chart.part_mut()[..CELLS].copy_from_slice(filled);
+        let (input, offered) = (Lent::of(input, 0x41), Lent::of(offered, 0));
+        let before = (input.clone(), offered.clone());
+        let answer =
+            self.reader.next(&mine, input.part(), offered.part(), chart.part_mut(), out.part_mut(), &mut nodes);
+        let (given, due) = match answer {
+            Answer::Nodes(n) if (1..=LIMIT).contains(&n) => {
+                let row = out.part()[..2 * n].to_vec();
+                due_out.part_mut()[..2 * n].copy_from_slice(&row);
+                (Given::Row(row), n)
+            }
+            Answer::NoneLeft => (Given::NoneLeft, found),
+            Answer::Refused(number) => (Given::Refused(number), found),
+            answer => return Err(format!("next: {answer:?}")),
+        };
+        same("next: nodes", nodes, due)?;
+        chart.against(&due_chart, "next: chart")?;
+        out.against(&due_out, "next: output")?;
+        input.against(&before.0, "next: the input lent")?;
+        offered.against(&before.1, "next: the row lent")?;
+        self.counts.add(&match &given {
+            Given::Row(_) => "next: handed out".to_string(),
+            Given::Refused(number) => format!("next: refused {number}"),
+            _ => "next: none".to_string(),
+        });
+        Ok(given)
+    }
+
+    /// Calls count on the reader, and judges what it gives. What is lent holds rubbish.
+    fn count(
+        &mut self,
+        flat: &FlatGrammar,
+        input: &[u8],
+        filled: &[u32],
+        judge: impl FnOnce(&Given) -> Result<(), String>,
+    ) -> Result<(), String> {
+        let (mine, mut chart, found) = (self.either(flat), self.chart(), offset(&mut self.rng));
+        let (mut due_chart, mut count) = (chart.clone(), found);
+        due_chart.part_mut()[..CELLS].copy_from_slice(filled);
+        let (given, due) = match self.reader.count(&mine, input, chart.part_mut(), &mut count) {
+            Answer::Count(n) => (Given::Count(n), n),
+            Answer::More => (Given::More, found),
+            Answer::Refused(number) => (Given::Refused(number), found),
+            answer => return Err(format!("count: {answer:?}")),
+        };
+        judge(&given)?;
+        same("count: the number lent", count, due)?;
+        chart.against(&due_chart, "count: chart")?;
+        self.counts.add(&match given {
+            Given::Count(0) => "count: 0".to_string(),
+            Given::Count(_) => "count: counted".to_string(),
+            Given::Refused(number) => format!("count: refused {number}"),
+            _ => "count: more".to_string(),
+        });
+        Ok(())
+    }
+}

@@ -1,0 +1,48 @@
+//! Demand 3: random lists of the four calls on the reader under test, refused ones
+//! included, with rubbish in charts and outputs of different lengths, against the walk's
+//! machine of document 01, which is fed only which call comes.
+#![cfg(any(feature = "next", not(feature = "library")))]
+
+use outside_tests::books::book;
+use outside_tests::compare::{play_book, Counts};
+use outside_tests::reader_under_test;
+
+/// How often each outcome has to come up at least.
+const DUE: &[(&str, u64)] = &[
+    ("walk, First: handed out", 1000),
+    ("walk, First: NoDerivation", 500),
+    ("walk, First: Refused(13)", 50),
+    ("walk, NextWithCopy: handed out", 1500),
+    ("walk, NextWithCopy: NoneLeft", 1000),
+    ("walk, NextWithCopy: Refused(12)", 500),
+    ("walk, NextWithNoDerivation: Refused(12)", 1000),
+    ("walk, Count: counted", 500),
+    ("walk, Count: Refused(13)", 50),
+    ("walk: too short", 1000),
+];
+
+#[test]
+fn random_lists_of_calls() {
+    let half = |parity: u64| {
+        let mut counts = Counts::default();
+        for seed in (5000..5400).filter(|seed| seed % 2 == parity) {
+            let calls = [12, 24, 48][seed as usize / 2 % 3];
+            if let Err(difference) = play_book(&reader_under_test(), &book(seed), seed, calls, &mut counts) {
+                panic!("{difference}");
+            }
+        }
+        counts
+    };
+    let mut counts = Counts::default();
+    std::thread::scope(|scope| {
+        let other = scope.spawn(|| half(1));
+        counts.merge(&half(0));
+        counts.merge(&other.join().expect("no difference in the other half"));
+    });
+    for (name, count) in &counts.0 {
+        println!("{count:8}  {name}");
+    }
+    for (name, due) in DUE {
+        assert!(counts.get(name) >= *due, "{name}: came up {} times, due {due}", counts.get(name));
+    }
+}
