@@ -17,9 +17,7 @@ enum { KIB = 1024, PAGE = 4096, LARGE = 4096 * KIB, KNOWN = 100 * KIB, PAINT = 0
 static uint8_t book[2563], plate[FILBOZSEG_BYTES];
 static uint16_t full[FILBOZSEG_ROW], deep[FILBOZSEG_ROW], wide[FILBOZSEG_ROW], left[FILBOZSEG_ROW], hand[FILBOZSEG_HAND];
 static uint16_t nested[FILBOZSEG_OUTPUT], output[FILBOZSEG_OUTPUT];
-#ifdef NEXT
 static uint16_t twin[FILBOZSEG_ROW];
-#endif
 static uint32_t chart[FILBOZSEG_CELLS], code;
 static size_t offset, size, nodes;
 static int32_t tenths;
@@ -63,7 +61,6 @@ static void first_deep(void)
         code = ~0u;
 }
 static void first_wide(void) { first_in(wide); }
-#ifdef NEXT
 /* The last derivation, 512 nodes nested 512 deep: each of them is looked at for another. */
 static void next_deep(void)
 {
@@ -98,7 +95,6 @@ static void count_deep(void)
         code = ~0u;
 }
 static void count_wide(void) { code = filbozseg_count(wide, plate, 64, chart, FILBOZSEG_CELLS, &nodes); }
-#endif
 
 /* What is to be answered, and within how many bytes. The first is no call of the library: it shows that the measuring measures. */
 static const struct {
@@ -117,13 +113,11 @@ static const struct {
     {"same build", build_deep, 1, FILBOZSEG_SAME_BUILD_STACK},
     {"first deep", first_deep, 1, FILBOZSEG_FIRST_STACK},
     {"first full", first_wide, 1, FILBOZSEG_FIRST_STACK},
-#ifdef NEXT
     {"next deep", next_deep, 0, FILBOZSEG_NEXT_STACK},
     {"next turn", next_turn, 1, FILBOZSEG_NEXT_STACK},
     {"next full", next_wide, 1, FILBOZSEG_NEXT_STACK},
     {"count deep", count_deep, 1, FILBOZSEG_COUNT_STACK},
     {"count full", count_wide, 1, FILBOZSEG_COUNT_STACK},
-#endif
 };
 enum { CALLS = sizeof calls / sizeof calls[0] };
 
@@ -188,7 +182,6 @@ static int load_deep(void)
     return filbozseg_load(book, size, deep, &offset) == 1;
 }
 
-#ifdef NEXT
 /* The deep book, which stands in `book`, with another rule 0 -> 1 behind its others. */
 static int load_twin(void)
 {
@@ -196,7 +189,6 @@ static int load_twin(void)
     put((uint8_t[]){0x20, 0, 1, 0, 0x30, 1, 0x50}, 7);
     return filbozseg_load(book, size, twin, &offset) == 1;
 }
-#endif
 
 /* 128 rules of 8 places. */
 static int load_full(void)
@@ -232,13 +224,7 @@ int main(void)
 {
     int n, good = 0;
     memset(plate, 'A', sizeof plate);
-#ifdef NEXT
-    if (!load_deep() || !load_twin()) {
-        puts("a book is not loaded");
-        return 1;
-    }
-#endif
-    if (!load_deep() || !load_full() || !load_wide()) {
+    if (!load_deep() || !load_twin() || !load_full() || !load_wide()) {
         puts("a book is not loaded");
         return 1;
     }

@@ -18,9 +18,7 @@ pub trait Reader {
     fn length(flat: &Flat, input: &[u8], offered: &[u16], chart: &mut [u32], tenths: &mut i32) -> u32;
     fn same_build(flat: &Flat, input: &[u8], a: &[u16], b: &[u16], chart: &mut [u32]) -> u32;
     fn first(flat: &Flat, input: &[u8], chart: &mut [u32], out: &mut [u16], nodes: &mut usize) -> u32;
-    #[cfg(feature = "next")]
     fn next(flat: &Flat, input: &[u8], offered: &[u16], chart: &mut [u32], out: &mut [u16], nodes: &mut usize) -> u32;
-    #[cfg(feature = "next")]
     fn count(flat: &Flat, input: &[u8], chart: &mut [u32], count: &mut usize) -> u32;
 
     /// Opening, and then taking each byte of the input: the answers.
@@ -79,7 +77,6 @@ mod c {
             out_length: usize,
             nodes: *mut usize,
         ) -> u32;
-        #[cfg(feature = "next")]
         pub fn filbozseg_next(
             grammar: *const u16,
             input: *const u8,
@@ -92,7 +89,6 @@ mod c {
             out_length: usize,
             nodes: *mut usize,
         ) -> u32;
-        #[cfg(feature = "next")]
         pub fn filbozseg_count(
             grammar: *const u16,
             input: *const u8,
@@ -154,14 +150,12 @@ impl Reader for Proved {
         let (w, sheet, e) = (input.as_ptr(), chart.as_mut_ptr(), out.as_mut_ptr());
         unsafe { c::filbozseg_first(flat.as_ptr(), w, input.len(), sheet, chart.len(), e, out.len(), nodes) }
     }
-    #[cfg(feature = "next")]
     fn next(flat: &Flat, input: &[u8], offered: &[u16], chart: &mut [u32], out: &mut [u16], nodes: &mut usize) -> u32 {
         let (w, e) = (input.as_ptr(), offered.as_ptr());
         let ((x, cells), (o, numbers)) = ((chart.as_mut_ptr(), chart.len()), (out.as_mut_ptr(), out.len()));
         unsafe { c::filbozseg_next(flat.as_ptr(), w, input.len(), e, offered.len(), x, cells, o, numbers, nodes) }
     }
 
-    #[cfg(feature = "next")]
     fn count(flat: &Flat, input: &[u8], chart: &mut [u32], count: &mut usize) -> u32 {
         let (w, x) = (input.as_ptr(), chart.as_mut_ptr());
         unsafe { c::filbozseg_count(flat.as_ptr(), w, input.len(), x, chart.len(), count) }
@@ -241,12 +235,10 @@ impl Reader for Plain {
         written(enumerator::first(&flat::read(flat), input, chart, out), 0, nodes)
     }
 
-    #[cfg(feature = "next")]
     fn next(flat: &Flat, input: &[u8], offered: &[u16], chart: &mut [u32], out: &mut [u16], nodes: &mut usize) -> u32 {
         written(enumerator::next(&flat::read(flat), input, offered, chart, out), 0, nodes)
     }
 
-    #[cfg(feature = "next")]
     fn count(flat: &Flat, input: &[u8], chart: &mut [u32], count: &mut usize) -> u32 {
         written(enumerator::count(&flat::read(flat), input, chart), 2, count)
     }

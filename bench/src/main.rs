@@ -5,7 +5,6 @@
 mod books;
 mod calls;
 mod firsts;
-#[cfg(feature = "next")]
 mod nexts;
 mod plain;
 mod random;
@@ -394,7 +393,6 @@ fn main() {
     if only.as_deref() == Some("first") {
         return firsts::firsts(count / 10);
     }
-    #[cfg(feature = "next")]
     if only.as_deref() == Some("next") {
         return nexts::nexts(count);
     }
@@ -406,7 +404,6 @@ fn main() {
     overheads(&list);
     checks();
     firsts::firsts(count / 10);
-    #[cfg(feature = "next")]
     nexts::nexts(count);
     if count > 0 {
         sweep(count);

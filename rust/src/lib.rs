@@ -31,7 +31,6 @@ const NO_NUMBER: u16 = u16::MAX;
 const NO_OFFSET: usize = usize::MAX;
 const NO_TENTHS: i32 = i32::MIN;
 const NO_NODES: usize = usize::MAX / 2;
-#[cfg(feature = "next")]
 const NO_COUNT: usize = usize::MAX;
 
 /// A grammar, as the row of numbers in which it crosses: start symbol, number of rules, nullable depth, and 19 numbers for each of 128
@@ -236,7 +235,6 @@ pub fn first<'a>(
 /// ```
 ///
 /// The call needs as much stack as `first`.
-#[cfg(feature = "next")]
 pub fn next<'a>(
     grammar: &Grammar,
     input: &[u8],
@@ -264,7 +262,6 @@ pub fn next<'a>(
 }
 
 /// How many derivations an input has.
-#[cfg(feature = "next")]
 #[derive(Clone, Copy, Debug, PartialEq, Eq)]
 pub enum Counted {
     /// So many, at most 4,096; 0 if the input has no tree at all.
@@ -277,7 +274,6 @@ pub enum Counted {
 /// or 10, it is left as found.
 ///
 /// The call needs as much stack as `first`.
-#[cfg(feature = "next")]
 pub fn count(grammar: &Grammar, input: &[u8], chart: &mut [u32]) -> Result<Counted, Refusal> {
     let mut count = NO_COUNT;
     // Safety: as in `open`.

@@ -67,7 +67,6 @@ extern "C" {
         nodes: *mut usize,
     ) -> u32;
 
-    #[cfg(feature = "next")]
     pub fn filbozseg_next(
         grammar: *const [u16; ROW],
         input: *const u8,
@@ -81,7 +80,6 @@ extern "C" {
         nodes: *mut usize,
     ) -> u32;
 
-    #[cfg(feature = "next")]
     pub fn filbozseg_count(
         grammar: *const [u16; ROW],
         input: *const u8,

@@ -198,10 +198,8 @@ fn a_refused_first_leaves_the_output() {
 }
 
 /// 0 -> 0 0, 0 -> A.
-#[cfg(feature = "next")]
 const PAIRS: &[u8] = b"\x10\x00\x20\x00\x00\x00\x30\x00\x30\x00\x20\x00\x00\x00\x40A\x50";
 
-#[cfg(feature = "next")]
 #[test]
 fn the_next_derivation_is_handed_out_or_none() {
     let (grammar, mut chart, mut output) = (load(T).unwrap(), chart(), UNWRITTEN);
@@ -227,7 +225,6 @@ fn the_next_derivation_is_handed_out_or_none() {
     assert!(all.len() == 14 && all.windows(2).all(|two| two[0] < two[1]));
 }
 
-#[cfg(feature = "next")]
 #[test]
 fn a_refused_next_leaves_the_output() {
     let (grammar, mut chart, mut output) = (load(T).unwrap(), chart(), UNWRITTEN);
@@ -249,7 +246,6 @@ fn a_refused_next_leaves_the_output() {
     assert_eq!(chart, filled);
 }
 
-#[cfg(feature = "next")]
 #[test]
 fn derivations_are_counted_up_to_4096() {
     let (grammar, pairs, mut chart) = (load(T).unwrap(), load(PAIRS).unwrap(), chart());

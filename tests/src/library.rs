@@ -123,10 +123,9 @@ impl Reader for Library {
     }
 
     fn lists(&self) -> bool {
-        cfg!(feature = "next")
+        true
     }
 
-    #[cfg(feature = "next")]
     fn next(
         &self,
         grammar: &FlatGrammar,
@@ -146,7 +145,6 @@ impl Reader for Library {
         }
     }
 
-    #[cfg(feature = "next")]
     fn count(&self, grammar: &FlatGrammar, input: &[u8], chart: &mut [u32], count: &mut usize) -> Answer {
         let ((w, n), (c, m)) = ((input.as_ptr(), input.len()), (chart.as_mut_ptr(), chart.len()));
         let call = |count| unsafe { sys::filbozseg_count(grammar, w, n, c, m, count) };

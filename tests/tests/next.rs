@@ -1,7 +1,7 @@
 //! Next and count of the proved library on the named cases, on the books that betray a
 //! search, on full books, and at their deepest: each call on a thread of 2 MiB, Rust's
 //! default, and within 10 s.
-#![cfg(feature = "next")]
+#![cfg(feature = "library")]
 
 #[allow(dead_code)] // not all of it is called from here
 mod calls;

@@ -1,7 +1,6 @@
 //! Demand 3: random lists of the four calls on the reader under test, refused ones
 //! included, with rubbish in charts and outputs of different lengths, against the walk's
 //! machine of document 01, which is fed only which call comes.
-#![cfg(any(feature = "next", not(feature = "library")))]
 
 use outside_tests::books::book;
 use outside_tests::compare::{play_book, Counts};
