@@ -83,6 +83,7 @@ fn processor_batch(f: &mut impl FnMut(), calls: usize) -> f64 {
 pub fn differences(mut a: impl FnMut(), mut b: impl FnMut(), mut c: impl FnMut(), mut d: impl FnMut()) -> (Time, Time) {
     let calls = calls_for(&mut a);
     let rounds = match batch(&mut a, 1) {
+        t if t > 0.2 => 3,
         t if t > 0.02 => 11,
         t if t > 0.002 => 41,
         _ => 201,
