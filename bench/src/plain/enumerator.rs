@@ -140,11 +140,7 @@ impl Enumerator<'_> {
     }
 
     /// The same for the places q.. of a node from a on: the later places move, or the child at q does, or it covers
-<<<<<<< HEAD
-    /// more. The frame is made when it is first needed.
-=======
     /// more. The frame is made when it is first needed, and never for the last child.
->>>>>>> bed5bb908eaa2d910a9d2dea38dbdc12c23c1927
     fn next_row(
         &self,
         node: Node,
@@ -158,16 +154,12 @@ impl Enumerator<'_> {
         if !place.is_nonterminal() {
             return self.next_row(node, frame, q + 1, a + 1, budget, out);
         }
-<<<<<<< HEAD
-        let (k, c, nodes) = (place.value as usize, a + out[0] as usize, self.nodes(out));
-=======
         let (k, c) = (place.value as usize, a + out[0] as usize);
         if self.given.rules[node.r].places()[q + 1..].iter().all(|place| !place.is_nonterminal()) {
             // nothing after it moves or has nodes: its cover stays, and all the nodes are its own
             return self.next(k, a, c, node.forbidden(a, c), budget, out);
         }
         let nodes = self.nodes(out);
->>>>>>> bed5bb908eaa2d910a9d2dea38dbdc12c23c1927
         if let Some(later) = self.next_row(node, frame, q + 1, c, budget - nodes as u16, &mut out[2 * nodes..]) {
             return Some(nodes + later);
         }
