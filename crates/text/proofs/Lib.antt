@@ -1,0 +1,3 @@
+-- Laws of the text that the listing program prints.
+pub mod Sample
+pub mod Depth

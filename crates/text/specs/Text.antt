@@ -1,0 +1,50 @@
+-- What the listing program prints, from the bytes of the book and those of the plate, as a list of lines.
+-- Assumes nothing.
+use Prim.Native.Nat.{ℕ, suc}
+use mathlib.Core.Bool.{cond}
+use mathlib.Core.List.{List, [], _∷_, _++_}
+use lib.IntN.{ℤ}
+use lib.ListN.{length, take, replicate}
+use Rattle.sizes.specs.Sizes.{cells}
+use Rattle.cfg.specs.Grammar.{Cfg}
+use Rattle.cfg.specs.Listing.{L}
+use Rattle.grammar.specs.declared.Grammar.{Grammar}
+use Rattle.grammar.specs.View.{grammarOf, lengthsOf}
+use Rattle.results.specs.Answer.{refusedAt, loaded, most, decide}
+use Rattle.results.specs.Load.{Loading, loadOf}
+use Rattle.results.specs.Check.{inputCheck}
+use Rattle.results.specs.Measure.{sum, rounded}
+use Rattle.results.specs.Enumerate.{treeIn, figure}
+use Rattle.text.specs.Line.{line, refusedLine, noReadingLine, readingsLine}
+
+-- the lines of derivations (readings), the first of which has this place in the list
+unfoldable pub linesFrom : (ℕ → ℤ) → ℕ → List (List ℕ) → List (List ℕ)
+linesFrom lengths place [] = []
+linesFrom lengths place (e ∷ l) = line place e (rounded (sum lengths e)) ∷ linesFrom lengths (suc place) l
+
+-- the lines of a list of derivations: at most the first 4,096, then how many there are
+unfoldable pub listText : (ℕ → ℤ) → List (List ℕ) → List (List ℕ)
+listText lengths l = linesFrom lengths 1 (take most l) ++ (readingsLine (figure (length l)) ∷ [])
+
+-- the one line where there is no derivation: refusal 13 where there is a tree
+unfoldable pub emptyText : Cfg → List ℕ → List (List ℕ)
+emptyText G w = cond (treeIn G w (replicate cells 0)) (refusedLine 13) noReadingLine ∷ []
+
+-- the lines of an input, by its list of derivations
+unfoldable pub textBy : (ℕ → ℤ) → List (List ℕ) → List (List ℕ) → List (List ℕ)
+textBy lengths empty [] = empty
+textBy lengths empty (e ∷ l) = listText lengths (e ∷ l)
+
+-- the lines of an input that a grammar is given for: 9 is refused here
+unfoldable pub inputText : Grammar → List ℕ → List (List ℕ)
+inputText g w =
+    decide (inputCheck w ∷ []) (λ n. refusedLine n ∷ [])
+    (λ _. textBy (lengthsOf g) (emptyText (grammarOf g) w) (L (grammarOf g) w))
+
+-- the lines of an input for what loading gave: the book is judged first
+unfoldable pub loadedText : Loading → List ℕ → List (List ℕ)
+loadedText b w = elim (b .answer) [ refusedAt n at ↦ refusedLine n ∷ [] | loaded ↦ inputText (b .grammar) w ]
+
+-- the text: no nullable depth changes it (proofs/Depth.antt)
+unfoldable pub textOf : List ℕ → List ℕ → List (List ℕ)
+textOf book w = loadedText (loadOf book 0) w

@@ -1,0 +1,1 @@
+// What the listing program prints: specs/, and laws of it: proofs/.
