@@ -31,13 +31,13 @@ none-apart e = let z : _≡_ {A = ℕ} 0 1 = cc in omega arith
 module _ (l : List (List ℕ)) (rising : Rising l) (i : ℕ) (there : i < length l) (buf : List ℕ) (m : ℕ)
     (A : Advanced l (getD l i []) buf m) where
   -- no nodes: element i is the last one
-  last-element : m ≡ 0 → length l ≡ i + 1
+  pub last-element : m ≡ 0 → length l ≡ i + 1
   last-element h = dite (decLt (suc i) (length l))
       (λ k. absurd (none-apart (sym (A .none-left h) ∙ after-next l rising i k)))
       (λ k. omega arith)
 
   -- some: the one after it stands
-  next-element : (m ≡ 0 → ⊥) → Stands l (i + 1) buf
+  pub next-element : (m ≡ 0 → ⊥) → Stands l (i + 1) buf
   next-element h = go (A .next (omega arith))
     where
       go : Following l (getD l i []) buf m → Stands l (i + 1) buf

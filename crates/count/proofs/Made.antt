@@ -30,7 +30,7 @@ use Rattle.count.specs.Made.{Stands, CountedOn, CountedMade}
 
 -- ---- the first element stands where it was handed out
 
-handed-stands : (l : List (List ℕ)) (chart out₀ out : List ℕ) (m : ℕ)
+pub handed-stands : (l : List (List ℕ)) (chart out₀ out : List ℕ) (m : ℕ)
     → enumerationOf (answered (handed m)) chart out ≡ handingOut (headOf l) (refused 13) chart out₀ → Stands l 0 out
 unfolding handingOut headOf
 handed-stands [] chart out₀ out m e = absurd (answered-apart (ap (λ (x : Enumeration). x .answer) e))

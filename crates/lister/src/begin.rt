@@ -1,0 +1,102 @@
+// What is printed first, from the bytes of the book and of the plate.
+use super::Due;
+use checker::measure::Lengths;
+use first::made::build;
+use first::made::exists;
+use first::made::write_first;
+use fit::FitTable;
+use grammar::Grammar;
+use numbers::wide_byte;
+use packed::Packed;
+use prepare::Judged;
+use tables::layout::Tables;
+ghost use mathlib.Core.Bool.{true};
+ghost use mathlib.Core.Path.{_≡_};
+ghost use Prim.Native.Nat.{_≤_};
+ghost use lib.ListN.{length};
+ghost use Rattle.costs.specs.Span.{bytesOf};
+ghost use Rattle.grammar.specs.Valid.{validGrammar};
+ghost use Rattle.packed.specs.Packed.{cfgIn};
+ghost use Rattle.sizes.specs.Sizes.{maxInput, cells, outputSize};
+ghost use Rattle.tables.specs.Exact.{ChartTrue};
+ghost use Rattle.tables.specs.Layout.{tablesSize};
+ghost use Rattle.lister.specs.Begun.{TreeBegun, FilledBegun, InputBegun, BookBegun};
+
+// What is printed first where the chart is filled and trees exist: the tables are made, and the first derivation stands in the buffer.
+fn begin_tree(
+    p: &Packed,
+    start: usize,
+    input: &[u8],
+    chart: &[u32],
+    fits: &mut FitTable,
+    tables: &mut Tables,
+    buf: &mut [u16],
+) -> Due
+    requires { ⌜ (length (now input) ≤ maxInput) × (cells ≤ length (now chart)) × (length (now tables) ≡ tablesSize)
+        × (outputSize ≤ length (now buf)) × ChartTrue (now p) (bytesOf (now input)) (now chart) (length (now input)) ⌝ }
+    ensures { λ d. ⌜ TreeBegun (now (p .entry)) start (now (input .entry)) (now (chart .entry)) (now (fits .exit)) (now (tables .exit))
+        (now (buf .entry)) (now (buf .exit)) d ⌝ }
+{
+    *fits = fit::table(p, input);
+    let rules = build(p, input, fits, chart, tables);
+    let n = input.len();
+    if !exists(tables, start, n) {
+        return Due::Refusal(13);
+    }
+    let nodes = write_first(p, rules, fits, chart, tables, start, n, buf);
+    Due::Reading {
+        start,
+        rules,
+        n,
+        i: 0,
+        nodes,
+    }
+}
+
+// What is printed first where the chart is filled.
+fn begin_filled(
+    p: &Packed,
+    start: usize,
+    input: &[u8],
+    chart: &[u32],
+    fits: &mut FitTable,
+    tables: &mut Tables,
+    buf: &mut [u16],
+) -> Due
+    requires { ⌜ (length (now input) ≤ maxInput) × (cells ≤ length (now chart)) × (length (now tables) ≡ tablesSize)
+        × (outputSize ≤ length (now buf)) × ChartTrue (now p) (bytesOf (now input)) (now chart) (length (now input)) ⌝ }
+    ensures { λ d. ⌜ FilledBegun (now (p .entry)) start (now (input .entry)) (now (chart .entry)) (now (fits .exit)) (now (tables .exit))
+        (now (buf .entry)) (now (buf .exit)) d ⌝ }
+{
+    if columns::complete(start, input.len(), chart) {
+        begin_tree(p, start, input, chart, fits, tables, buf)
+    } else {
+        Due::NoReading
+    }
+}
+
+// What is printed first of an input, for a grammar that is valid.
+fn begin_input(
+    g: Grammar,
+    input: &[u8],
+    p: &mut Packed,
+    lengths: &mut Lengths,
+    chart: &mut [u32],
+    fits: &mut FitTable,
+    tables: &mut Tables,
+    buf: &mut [u16],
+) -> Due
+    requires { ⌜ (validGrammar g ≡ true) × (cells ≤ length (now chart)) × (length (now tables) ≡ tablesSize)
+        × (outputSize ≤ length (now buf)) ⌝ }
+    ensures { λ d. ⌜ InputBegun g (now (input .entry)) (now (p .exit)) (now (lengths .exit)) (now (chart .entry)) (now (chart .exit))
+        (now (fits .exit)) (now (tables .exit)) (now (buf .entry)) (now (buf .exit)) d ⌝ }
+{
+    match prepare::judge(g, input.len(), chart.len()) {
+        Judged::Refused(r) => Due::Refusal(wide_byte(grammar::number(r))),
+        Judged::Passed => {
+            *p = prepare::fill(g, input, chart);
+            *lengths = checker::measure::lengths_of(g);
+            begin_filled(p, wide_byte(g.start), input, chart, fits, tables, buf)
+        }
+    }
+}
