@@ -1,3 +1,4 @@
 -- Laws of the text that the listing program prints.
 pub mod Sample
 pub mod Depth
+pub mod Short
