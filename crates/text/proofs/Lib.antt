@@ -2,3 +2,5 @@
 pub mod Sample
 pub mod Depth
 pub mod Short
+pub mod Near
+pub mod Front
