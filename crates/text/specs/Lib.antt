@@ -3,3 +3,4 @@ pub mod Number
 pub mod Line
 pub mod Text
 pub mod Sample
+pub mod Front

@@ -1,6 +1,6 @@
 -- The final theorems over the definitions, each proved by citation. The demands are those of 00-demands.md, word for word there; the other
 -- sources are sections of document 01 (01-scope.md). The definitions stand in `cfg/specs`, `chart/specs`, `grammar/specs`,
--- `results/specs` and `demands/specs`, and none in a `proofs/` folder.
+-- `results/specs`, `text/specs` and `demands/specs`, and none in a `proofs/` folder.
 --
 --   statement                         says                                                            source
 --   starred-table                     the starred plates, from book bytes to answers                   Plates from the drawer
@@ -15,6 +15,9 @@
 --   first-then-next, ..-said          first, then next, hand out L and end with "none"                 demand 3, second sentence
 --   count-exact, count-more           N up to 4,096, "more" exactly above                              demand 3, third sentence
 --   no-derivation-exact, ..-larger    "no reading" exactly without a tree; 13 exactly with larger ones demand 3, last sentence
+--   listing-of-T                      the three lines of T with the plate `A`, byte for byte           Listing program
+--   text-depth                        no nullable depth changes the text of the listing program        Listing program
+--   text-front                        8,192 bytes of the book and 65 of the plate decide the text      Listing program
 --
 -- That the code gives and leaves what these definitions say is each exported function's contract, an equality without a condition:
 --
@@ -36,7 +39,7 @@ use mathlib.Core.Bool.{true, false}
 use mathlib.Core.List.{List, [], _∷_, _++_, List·Memᴰ, map}
 use mathlib.Core.Logic.{_↔_, _⊎_}
 use mathlib.Core.Path.{_≡_}
-use lib.ListN.{length, getD, replicate}
+use lib.ListN.{length, getD, take, replicate}
 use Rattle.sizes.specs.Sizes.{maxInput, cells, outputSize}
 use Rattle.cfg.specs.Grammar.{Cfg}
 use Rattle.cfg.specs.Tree.{HasTree}
@@ -55,6 +58,10 @@ use Rattle.results.specs.Walk.{hands, noneLeft, handedOut}
 use Rattle.results.specs.History.{Made, first, AllAllowed, history}
 use Rattle.results.specs.Demand3.{Demand3, nextCalls, Larger}
 use Rattle.results.specs.Starred.{Starred}
+use Rattle.results.specs.Drawer.{T, As}
+use Rattle.text.specs.Text.{loadedText, textOf}
+use Rattle.text.specs.Sample.{listingOfT}
+use Rattle.text.specs.Front.{bookFront, plateFront}
 use Rattle.demands.specs.Demand1.{OpenDemand, TakeDemand, InputDemand, OutputDemand}
 use Rattle.results.specs.Ready.{Ready, ReadyOut}
 use Rattle.demands.specs.OrderAfter.{OfferedOrder, TreesOrder}
@@ -67,6 +74,9 @@ use Rattle.results.proofs.Starred as Starred
 use Rattle.results.proofs.Demand3.Walk as Walk
 use Rattle.results.proofs.Demand3.Handed as Handed
 use Rattle.results.proofs.Demand3.Consequences as Consequences
+use Rattle.text.proofs.Sample as Sample
+use Rattle.text.proofs.Depth as Depth
+use Rattle.text.proofs.Front as Front
 use Rattle.demands.proofs.Demand1 as Demand1
 use Rattle.demands.proofs.OrderOffered as Offered
 use Rattle.demands.proofs.OrderTrees as Trees
@@ -210,3 +220,15 @@ module _ (g : Grammar) (valid : validGrammar g ≡ true) (w : List ℕ) (low : 1
 
       pub first-larger : (firstOf g w chart out .answer ≡ refused 13) ↔ Larger g w
       first-larger = Consequences.larger-exact g valid w low high chart room out space
+
+-- THE LISTING PROGRAM: document 01's listing, byte for byte
+pub listing-of-T : textOf T (As 1) ≡ listingOfT
+listing-of-T = Sample.listing-of-T
+
+-- the nullable depth, which the definitions leave open, does not change the text
+pub text-depth : (book w : List ℕ) (d : ℕ) → loadedText (loadOf book d) w ≡ textOf book w
+text-depth = Depth.text-depth
+
+-- a program that reads no more of book and plate than their fronts prints the same
+pub text-front : (book w : List ℕ) → textOf (take bookFront book) (take plateFront w) ≡ textOf book w
+text-front = Front.text-front

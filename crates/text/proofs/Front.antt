@@ -1,0 +1,139 @@
+-- The text of a book and a plate is that of their fronts.
+-- Assumes nothing.
+use Prim.Native.Nat.{ℕ, zero, suc, _+_, _≤_, _<_}
+use native.Mathlib.Decide.{decLt}
+use native.Mathlib.Omega.{arith}
+use mathlib.Core.Bool.{Bool, true, false, cond, _&&_, _||_}
+use mathlib.Core.List.{List, [], _∷_}
+use mathlib.Core.Logic.{dite}
+use mathlib.Core.Path.{_≡_, refl, sym, ap, _∙_}
+use lib.Dec.{eqb, ltb}
+use lib.ListN.{length, getD, take}
+use lib.Seq.{take-all, getD-take, length-take-le}
+use borrow.Author.Tests.{lt-ltb, le-ltb, ne-eqb}
+use Rattle.grammar.specs.declared.Grammar.{Grammar}
+use Rattle.grammar.specs.Zero.{zeroGrammar}
+use Rattle.results.specs.Answer.{LoadAnswer, refusedAt, loaded, decide}
+use Rattle.results.specs.Load.{operands, openRule, after, fault, unknown, outOfTurn, commandChecks}
+use Rattle.results.specs.Load.{Step, stop, next, done, step, Loading, run, loadOf}
+use Rattle.results.proofs.Loading.Run.{run-stop, run-next, run-done, step-forward}
+use Rattle.text.specs.Front.{bookFront, plateFront}
+use Rattle.text.specs.Line.{refusedLine}
+use Rattle.text.specs.Text.{inputText, loadedText, textOf}
+use Rattle.text.proofs.Near.{Near, near-zero, step-near}
+
+-- ---- a step near the start of a long book
+
+-- one command c with its operands, where the book is long: check 1 is passed, and 50 is not the last byte
+abbrev longStep : (at c a b d : ℕ) → Grammar → Step
+longStep at c a b d g =
+    decide (fault (unknown c) 2 at
+    ∷ fault (outOfTurn c at g) 3 at
+    ∷ fault ((eqb c 0x10 || eqb c 0x20 || eqb c 0x30) && ltb 31 a) 4 at
+    ∷ fault (eqb c 0x20 && ltb 127 (g .count)) 5 at
+    ∷ fault ((eqb c 0x30 || eqb c 0x40) && ltb 7 (openRule g .count)) 6 at
+    ∷ fault (eqb c 0x50 && true) 7 (at + 1)
+    ∷ []) stop (λ _. cond (eqb c 0x50) (done g) (next (at + 1 + operands c) (after c a b d g)))
+
+operands-few : (c : ℕ) → operands c ≤ 3
+unfolding operands
+operands-few c = go (eqb c 0x20) (eqb c 0x50)
+  where
+    go : (t u : Bool) → cond t 3 (cond u 0 1) ≤ 3
+    go true u = omega arith
+    go false true = omega arith
+    go false false = omega arith
+
+step-long : (bytes : List ℕ) (at : ℕ) (g : Grammar) → at + 4 ≤ length bytes
+    → step bytes at g ≡ longStep at (getD bytes at 0) (getD bytes (at + 1) 0) (getD bytes (at + 2) 0) (getD bytes (at + 3) 0) g
+unfolding step commandChecks decide
+step-long bytes at g h =
+    let n = lt-ltb at (length bytes) (omega arith) in
+    let o = le-ltb (length bytes) (at + 1 + operands (getD bytes at 0)) (omega (arith, operands-few (getD bytes at 0))) in
+    let p = lt-ltb (at + 1) (length bytes) (omega arith) in
+    rw (n, o, p)
+
+-- ---- two long books with the same front
+
+-- no offset that a command leaves is greater
+abbrev farthest : ℕ
+farthest = 2580
+
+near-bound : (at : ℕ) (g : Grammar) → Near at g → at ≤ farthest
+near-bound at g N = omega (arith, N .few, N .places, N .near)
+
+module _ (s t : List ℕ) (long-s : bookFront ≤ length s) (long-t : bookFront ≤ length t)
+    (same : (i : ℕ) → i < bookFront → getD s i 0 ≡ getD t i 0) where
+  step-same : (at : ℕ) (g : Grammar) → at ≤ farthest → step s at g ≡ step t at g
+  step-same at g h =
+      step-long s at g (omega arith)
+      ∙ rw (same at (omega arith), same (at + 1) (omega arith), same (at + 2) (omega arith), same (at + 3) (omega arith))
+      (sym (step-long t at g (omega arith)))
+
+  -- where enough commands are allowed for each
+  run-same : (d m n at : ℕ) (g : Grammar) → Near at g → farthest < at + m → farthest < at + n → run d s m at g ≡ run d t n at g
+  run-same d zero n at g N h k = absurd (omega (arith, near-bound at g N))
+  run-same d (suc m) zero at g N h k = absurd (omega (arith, near-bound at g N))
+  run-same d (suc m) (suc n) at g N h k =
+      go (step t at g) refl (λ at′ g′ l K. run-same d m n at′ g′ K (omega arith) (omega arith))
+    where
+      e : step s at g ≡ step t at g
+      e = step-same at g (near-bound at g N)
+
+      go : (r : Step) → step t at g ≡ r → ((at′ : ℕ) (g′ : Grammar) → at < at′ → Near at′ g′ → run d s m at′ g′ ≡ run d t n at′ g′)
+          → run d s (suc m) at g ≡ run d t (suc n) at g
+      go (stop f) p later = run-stop d m s at g f (e ∙ p) ∙ sym (run-stop d n t at g f p)
+      go (next at′ g′) p later =
+          run-next d m s at g at′ g′ (e ∙ p) ∙ later at′ g′ (step-forward t at g at′ g′ p) (step-near t at g at′ g′ N p)
+          ∙ sym (run-next d n t at g at′ g′ p)
+      go (done g′) p later = run-done d m s at g g′ (e ∙ p) ∙ sym (run-done d n t at g g′ p)
+
+  load-same : (d : ℕ) → loadOf s d ≡ loadOf t d
+  unfolding loadOf
+  load-same d = run-same d (length s) (length t) 0 zeroGrammar near-zero (omega arith) (omega arith)
+
+-- ---- the book
+
+load-front : (book : List ℕ) (d : ℕ) → loadOf (take bookFront book) d ≡ loadOf book d
+load-front book d = dite (decLt bookFront (length book)) long short
+  where
+    long : bookFront < length book → loadOf (take bookFront book) d ≡ loadOf book d
+    long h =
+        let e = length-take-le bookFront book (omega arith) in
+        load-same (take bookFront book) book (omega arith) (omega arith) (λ i l. getD-take bookFront book i 0 l) d
+
+    short : (bookFront < length book → ⊥) → loadOf (take bookFront book) d ≡ loadOf book d
+    short h = ap (λ (b : List ℕ). loadOf b d) (take-all bookFront book (omega arith))
+
+-- ---- the plate
+
+-- a plate of more than 64 bytes is refused
+input-long : (g : Grammar) (w : List ℕ) → plateFront ≤ length w → inputText g w ≡ refusedLine 9 ∷ []
+unfolding inputText decide
+input-long g w h = rw (ne-eqb (length w) 0 (omega arith), lt-ltb 64 (length w) (omega arith))
+
+input-front : (g : Grammar) (w : List ℕ) → inputText g (take plateFront w) ≡ inputText g w
+input-front g w = dite (decLt plateFront (length w)) long short
+  where
+    long : plateFront < length w → inputText g (take plateFront w) ≡ inputText g w
+    long h =
+        let e = length-take-le plateFront w (omega arith) in
+        input-long g (take plateFront w) (omega arith) ∙ sym (input-long g w (omega arith))
+
+    short : (plateFront < length w → ⊥) → inputText g (take plateFront w) ≡ inputText g w
+    short h = ap (inputText g) (take-all plateFront w (omega arith))
+
+loaded-front : (b : Loading) (w : List ℕ) → loadedText b (take plateFront w) ≡ loadedText b w
+unfolding loadedText
+loaded-front b w = go (b .answer)
+  where
+    go : (a : LoadAnswer) → loadedText (record { answer = a; grammar = b .grammar }) (take plateFront w)
+        ≡ loadedText (record { answer = a; grammar = b .grammar }) w
+    go (refusedAt n at) = refl
+    go loaded = input-front (b .grammar) w
+
+-- THE TEXT IS THAT OF THE FRONTS
+pub text-front : (book w : List ℕ) → textOf (take bookFront book) (take plateFront w) ≡ textOf book w
+unfolding textOf
+text-front book w =
+    ap (λ (b : Loading). loadedText b (take plateFront w)) (load-front book 0) ∙ loaded-front (loadOf book 0) w

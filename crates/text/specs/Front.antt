@@ -1,0 +1,11 @@
+-- How many of the first bytes of a book and of a plate decide the text (proofs/Front.antt).
+-- Assumes nothing.
+use Prim.Native.Nat.{ℕ}
+
+-- of a book: a start, 128 rules and 8 places for each take fewer bytes
+abbrev pub bookFront : ℕ
+bookFront = 8192
+
+-- of a plate: one byte more than a plate may have
+abbrev pub plateFront : ℕ
+plateFront = 65
