@@ -1,2 +1,4 @@
 -- Laws of the listing program.
 pub mod Opening
+pub mod Judged
+pub mod Books

@@ -7,7 +7,7 @@ use mathlib.Core.Path.{_≡_, refl, sym, ap, _∙_, subst}
 use native.Mathlib.Omega.{arith}
 use lib.Dec.{leb}
 use lib.IntN.{ℤ}
-use lib.ListN.{length, getD, drop, List·length-append, List·length-drop}
+use lib.ListN.{length, getD, drop, length-append, length-drop}
 use borrow.Author.Tests.{leb-true, leb-false, not-true, not-false}
 use Rattle.sizes.specs.Sizes.{maxRules, maxInput, maxNodes, outputSize}
 use Rattle.sets.specs.Set.{has}
@@ -23,7 +23,7 @@ use Rattle.first.specs.Answer.{enumerationOf}
 use Rattle.first.specs.Made.{FirstWritten}
 use Rattle.first.proofs.Root.{same, start}
 use Rattle.packed.specs.Packed.{cfgIn}
-use Rattle.results.specs.Answer.{Answer, Handing, refused, answered, handed, most}
+use Rattle.results.specs.Answer.{Answer, Handing, refused, answered, handed, nothing, most}
 use Rattle.results.specs.Enumerate.{Enumeration, headOf, handingOut}
 use Rattle.results.proofs.Answers.{answered-apart}
 use Rattle.results.proofs.Demand3.Listed.{reading-even, reading-short}
@@ -56,9 +56,10 @@ pub record Handed (l : List (List ℕ)) (m : ℕ) (out₀ out : List ℕ) : Type
   pub nodes : m ≡ length (getD l 0 []) / 2
   pub left : out ≡ getD l 0 [] ++ drop (length (getD l 0 [])) out₀
 
-nodes-of : Answer Handing → ℕ
+abbrev nodes-of : Answer Handing → ℕ
+nodes-of (refused n) = 0
 nodes-of (answered (handed n)) = n
-nodes-of x = 0
+nodes-of (answered nothing) = 0
 
 handed-first : (l : List (List ℕ)) (chart out₀ out : List ℕ) (m : ℕ)
     → enumerationOf (answered (handed m)) chart out ≡ handingOut (headOf l) (refused 13) chart out₀ → Handed l m out₀ out
@@ -73,8 +74,8 @@ handed-first (d ∷ l) chart out₀ out m e = record {
 handed-length : (d out₀ out : List ℕ) → length d ≤ 1024 → outputSize ≤ length out₀ → out ≡ d ++ drop (length d) out₀
     → length out ≡ length out₀
 handed-length d out₀ out h k e =
-    let a = ap length e ∙ List·length-append d (drop (length d) out₀) in
-    omega (arith, List·length-drop (length d) out₀)
+    let a = ap length e ∙ length-append d (drop (length d) out₀) in
+    omega (arith, length-drop (length d) out₀)
 
 first-early : 0 < most
 unfolding most

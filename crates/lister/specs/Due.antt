@@ -24,14 +24,14 @@ linesAt lengths l i = linesFrom lengths (suc i) (drop i (take most l)) ++ (readi
 -- what the program holds: derivation i of an input of n bytes stands in the buffer, of so many nodes, the rest is made for that input, and
 -- the lines are those from that derivation on
 pub record Holds (lengths : ℕ → ℤ) (p fits chart tables : List ℕ) (s rules n i nodes : ℕ) (buf : List ℕ) (lines : List (List ℕ)) : Type 0
-    where
-  pub input : List ℕ
-  pub long : n ≡ length input
-  pub given : Given p rules fits chart tables input
-  pub stands : Stands (L (cfgIn s p) input) i buf
-  pub size : length (getD (L (cfgIn s p) input) i []) ≡ 2 * nodes
-  pub early : i < most
-  pub ahead : lines ≡ linesAt lengths (L (cfgIn s p) input) i
+  where
+    pub input : List ℕ
+    pub long : n ≡ length input
+    pub given : Given p rules fits chart tables input
+    pub stands : Stands (L (cfgIn s p) input) i buf
+    pub size : length (getD (L (cfgIn s p) input) i []) ≡ 2 * nodes
+    pub early : i < most
+    pub ahead : lines ≡ linesAt lengths (L (cfgIn s p) input) i
 
 -- the lines that are still to be printed
 abbrev pub Ahead : (ℕ → ℤ) → List ℕ → List ℕ → List ℕ → List ℕ → List ℕ → Due → List (List ℕ) → Type 0

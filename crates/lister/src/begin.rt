@@ -6,6 +6,7 @@ use first::made::exists;
 use first::made::write_first;
 use fit::FitTable;
 use grammar::Grammar;
+use loader::Outcome;
 use numbers::wide_byte;
 use packed::Packed;
 use prepare::Judged;
@@ -98,5 +99,28 @@ fn begin_input(
             *lengths = checker::measure::lengths_of(g);
             begin_filled(p, wide_byte(g.start), input, chart, fits, tables, buf)
         }
+    }
+}
+
+// What is printed first, from the bytes of the book and of the plate: the book is judged first.
+pub fn begin(
+    book: &[u8],
+    input: &[u8],
+    p: &mut Packed,
+    lengths: &mut Lengths,
+    chart: &mut [u32],
+    fits: &mut FitTable,
+    tables: &mut Tables,
+    buf: &mut [u16],
+) -> Due
+    requires { ⌜ (cells ≤ length (now chart)) × (length (now tables) ≡ tablesSize) × (outputSize ≤ length (now buf)) ⌝ }
+    ensures { λ d. ⌜ BookBegun (now (book .entry)) (now (input .entry)) (now (p .exit)) (now (lengths .exit)) (now (chart .entry))
+        (now (chart .exit)) (now (fits .exit)) (now (tables .exit)) (now (buf .entry)) (now (buf .exit)) d ⌝ }
+{
+    let b = loader::load(book);
+    let outcome = b.outcome;
+    match outcome {
+        Outcome::Refused(r, _) => Due::Refusal(wide_byte(grammar::number(r))),
+        Outcome::Accepted => begin_input(b.grammar, input, p, lengths, chart, fits, tables, buf),
     }
 }

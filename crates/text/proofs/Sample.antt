@@ -1,8 +1,7 @@
--- The listing of T with the plate `A` is document 01's, byte for byte, and a few further texts; each by computing it.
+-- The listing of T with the plate `A` is document 01's, byte for byte, by computing it.
 -- Assumes nothing.
-use mathlib.Core.List.{[], _∷_}
 use mathlib.Core.Path.{_≡_, refl}
-use Rattle.results.specs.Drawer.{T, bare, recess, As}
+use Rattle.results.specs.Drawer.{T, As}
 use Rattle.results.proofs.Computing.{computing}
 use Rattle.text.specs.Number.{decimalBy, decimal, signedDecimal}
 use Rattle.text.specs.Line.{parts, lengthEnd, line, refusedLine, noReadingLine, readingsLine}

@@ -1,4 +1,5 @@
 use borrow.Author.Needs.{needs}
+use Rattle.lister.proofs.Opening.{filled-none, filled-complete}
 use Rattle.lister.proofs.begin.begin_filled.Statement.{statement}
 use Rattle.lister.proofs.begin.begin_filled.Tie as tie
 use Rattle.lister.proofs.begin.begin_filled.Reads as reads
@@ -20,11 +21,11 @@ same-length c = search needs
 
 -- src/begin.rt:57:1
 returns : tie.Need-returns
-returns c = {!!}
+returns c = search filled-complete
 
 -- src/begin.rt:57:1
 returns-2 : tie.Need-returns-2
-returns-2 c = {!!}
+returns-2 c = search filled-none
 
 pub begin-filled-spec : {M : Type 1} → statement M
 begin-filled-spec =

@@ -1,4 +1,6 @@
 use borrow.Author.Needs.{needs}
+use Rattle.prepare.proofs.Judging.{judged-ready}
+use Rattle.lister.proofs.Judged.{input-refused, judged-filled, input-begun}
 use Rattle.lister.proofs.begin.begin_input.Statement.{statement}
 use Rattle.lister.proofs.begin.begin_input.Tie as tie
 use Rattle.lister.proofs.begin.begin_input.Reads as reads
@@ -32,7 +34,7 @@ enum-told c = search needs
 
 -- src/begin.rt:97:18
 fill-requires : tie.Need-fill-requires
-fill-requires c κs = search needs
+fill-requires c κs = judged-ready _ _ _ _ (c .before .before .before .judge .ensures) (c .before .enum-told .given .1)
 
 -- src/begin.rt:98:24
 lengths-of-requires : tie.Need-lengths-of-requires
@@ -44,11 +46,15 @@ wide-byte-requires-2 c κs = search needs
 
 -- src/begin.rt:99:13
 begin-filled-requires : tie.Need-begin-filled-requires
-begin-filled-requires c κs = search needs
+begin-filled-requires c κs =
+    let after-fill = c .before .before .before .before .before .before .before .before .before in
+    let passed = after-fill .before .before in
+    let ready = judged-filled _ _ _ _ (passed .before .before .judge .ensures) (passed .enum-told .given .1) _ _ (after-fill .fill .ensures) in
+    (ready .0, ready .1, search needs, search needs, ready .2)
 
 -- src/begin.rt:79:1
 returns : tie.Need-returns
-returns c = {!!}
+returns c = search (needs, input-refused)
 
 -- src/begin.rt:79:1
 same-length : tie.Need-same-length
@@ -60,7 +66,7 @@ same-length-2 c = search needs
 
 -- src/begin.rt:79:1
 returns-2 : tie.Need-returns-2
-returns-2 c = {!!}
+returns-2 c = search (needs, input-begun)
 
 pub begin-input-spec : {M : Type 1} → statement M
 begin-input-spec =

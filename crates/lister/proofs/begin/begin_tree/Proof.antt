@@ -1,4 +1,5 @@
 use borrow.Author.Needs.{needs}
+use Rattle.lister.proofs.Opening.{tree-refused, tree-begun}
 use Rattle.lister.proofs.begin.begin_tree.Statement.{statement}
 use Rattle.lister.proofs.begin.begin_tree.Tie as tie
 use Rattle.lister.proofs.begin.begin_tree.Reads as reads
@@ -22,7 +23,7 @@ exists-requires c κs = search needs
 
 -- src/begin.rt:44:9
 returns : tie.Need-returns
-returns c = {!!}
+returns c = tree-refused _ _ _ _ _ _ _ (c .before .before .before .build .ensures) _ (c .before .exists .ensures) (search needs) _
 
 -- src/begin.rt:46:9
 write-first-requires : tie.Need-write-first-requires
@@ -34,7 +35,7 @@ same-length c = search needs
 
 -- src/begin.rt:26:1
 returns-2 : tie.Need-returns-2
-returns-2 c = {!!}
+returns-2 c = search (needs, tree-begun)
 
 pub begin-tree-spec : {M : Type 1} → statement M
 begin-tree-spec =

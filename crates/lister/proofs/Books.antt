@@ -1,0 +1,88 @@
+-- What is printed first, by what loading the book gave.
+-- Assumes nothing.
+use Prim.Native.Nat.{ℕ, _≤_}
+use mathlib.Core.Bool.{true}
+use mathlib.Core.List.{List, [], _∷_}
+use mathlib.Core.Logic.{inl, inr}
+use mathlib.Core.Path.{_≡_, refl, sym, ap, subst, _∙_}
+use native.Mathlib.Omega.{arith}
+use lib.IntN.{ℤ}
+use Rattle.checker.specs.Measure.{lengthsIn}
+use Rattle.demands.specs.LoadDemand.{LoadRefused, LoadAccepted, LoadDemand}
+use Rattle.demands.proofs.LoadDemand.{load-demand}
+use Rattle.grammar.specs.declared.Grammar.{Grammar}
+use Rattle.grammar.specs.declared.Refusal.{Refusal}
+use Rattle.grammar.specs.declared.Refusal.the-variants as R
+use Rattle.grammar.specs.Number.{numberOf}
+use Rattle.grammar.specs.Valid.{validGrammar}
+use Rattle.loader.specs.declared.Loaded.{Loaded}
+use Rattle.loader.specs.declared.Outcome.{Outcome}
+use Rattle.loader.specs.declared.Outcome.the-variants.{Accepted, Refused}
+use Rattle.loader.specs.Answer.{answerOf, loadingOf}
+use Rattle.results.specs.Answer.{LoadAnswer, refusedAt, loaded}
+use Rattle.results.specs.Load.{Loading, loadOf}
+use Rattle.text.specs.Line.{refusedLine}
+use Rattle.text.specs.Text.{inputText, loadedText, textOf}
+use Rattle.text.proofs.Depth.{text-depth}
+use Rattle.lister.specs.declared.Due.{Due}
+use Rattle.lister.specs.declared.Due.the-variants.{Refusal as RefusalDue}
+use Rattle.lister.specs.Due.{Ahead}
+use Rattle.lister.specs.Begun.{InputBegun, BookBegun}
+
+-- no number is above 15
+number-small : (r : Refusal) → numberOf r ≤ 15
+number-small R.UnexpectedEnd = omega arith
+number-small R.UnknownCommand = omega arith
+number-small R.OutOfTurn = omega arith
+number-small R.NonterminalTooLarge = omega arith
+number-small R.TooManyRules = omega arith
+number-small R.TooManyPlaces = omega arith
+number-small R.FurtherByte = omega arith
+number-small R.InvalidGrammar = omega arith
+number-small R.InputLength = omega arith
+number-small R.ChartTooShort = omega arith
+number-small R.OutputTooShort = omega arith
+number-small R.NotADerivation = omega arith
+number-small R.OnlyLargerTrees = omega arith
+number-small R.InvalidRecognizer = omega arith
+number-small R.RecognizerFull = omega arith
+
+refused-apart : {n at : ℕ} → refusedAt n at ≡ loaded → ⊥
+refused-apart e = let z : _≡_ {A = ℕ} 0 1 = cc in omega arith
+
+module _ (book w : List ℕ) (b : Loaded) (load : loadingOf b ≡ loadOf book (b .grammar .depth)) where
+  -- the text by what loading gave
+  text-loaded : loadedText (loadingOf b) w ≡ textOf book w
+  text-loaded = ap (λ (x : Loading). loadedText x w) load ∙ text-depth book w (b .grammar .depth)
+
+  pub book-refused : (r : Refusal) (at : ℕ) → b .outcome ≡ Refused r at → (k n : ℕ) → k ≡ numberOf r → n ≡ k
+      → (p : List ℕ) (lengths : List ℤ) (chart fits tables buf : List ℕ)
+      → BookBegun book w p lengths chart chart fits tables buf buf (RefusalDue n)
+  unfolding loadedText
+  book-refused r at is k n e f p lengths chart fits tables buf = record {
+    chart-long = refl;
+    long = refl;
+    sized = omega (arith, number-small r);
+    ahead = sym text-loaded ∙ rw (is, f, e);
+  }
+
+  module _ (is : b .outcome ≡ Accepted) where
+    pub book-valid : validGrammar (b .grammar) ≡ true
+    book-valid = go (subst (LoadDemand book (b .grammar .depth)) (sym load) (load-demand book (b .grammar .depth)))
+      where
+        go : LoadDemand book (b .grammar .depth) (loadingOf b) → validGrammar (b .grammar) ≡ true
+        go (inl R) = absurd (refused-apart (sym (R .answer) ∙ ap answerOf is))
+        go (inr A) = A .valid
+
+    pub book-begun : (p : List ℕ) (lengths : List ℤ) (chart chart' fits tables buf₀ buf : List ℕ) (d : Due)
+        → InputBegun (b .grammar) w p lengths chart chart' fits tables buf₀ buf d
+        → BookBegun book w p lengths chart chart' fits tables buf₀ buf d
+    unfolding loadedText
+    book-begun p lengths chart chart' fits tables buf₀ buf d I =
+        let e : loadedText (loadingOf b) w ≡ inputText (b .grammar) w = rw is in
+        record {
+          chart-long = I .chart-long;
+          long = I .long;
+          sized = I .sized;
+          ahead = subst (Ahead (lengthsIn lengths) p fits chart' tables buf d) (sym e ∙ text-loaded) (I .ahead);
+        }
