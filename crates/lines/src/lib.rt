@@ -1,0 +1,16 @@
+// The lines of the listing program, written into a lent buffer.
+pub mod fixed;
+pub mod line;
+pub mod number;
+
+ghost use mathlib.Core.Path.{_≡_};
+ghost use Rattle.lines.specs.Put.{lineSize};
+
+// The bytes of a line at most.
+pub const LINE: usize = 8192;
+
+pub fn tied_line() -> usize
+    ensures { λ n. ⌜ n ≡ lineSize ⌝ }
+{
+    LINE
+}
