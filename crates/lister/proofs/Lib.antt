@@ -2,3 +2,6 @@
 pub mod Opening
 pub mod Judged
 pub mod Books
+pub mod Lines
+pub mod Stepping
+pub mod Measured

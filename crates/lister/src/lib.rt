@@ -1,6 +1,7 @@
 // The listing program up to its output: what is printed first, and one line after the other.
 
 pub mod begin;
+pub mod step;
 
 // What is printed next.
 pub enum Due {

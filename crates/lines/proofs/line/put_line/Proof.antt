@@ -22,12 +22,12 @@ put-byte-requires : tie.Need-put-byte-requires
 put-byte-requires c κs = omega (arith, digits-16 (c .before .before .before .before .before .before .before .args .place) (omega arith))
 
 put-nodes-requires : tie.Need-put-nodes-requires
-put-nodes-requires c κs = 
+put-nodes-requires c κs =
     let s = c .before .before .before .before .before .before .before .before .before .before .before in
     (s .pre .1, s .pre .2, omega (arith, digits-16 (s .args .place) (omega arith)))
 
 put-end-requires : tie.Need-put-end-requires
-put-end-requires c κs = 
+put-end-requires c κs =
     let s = c .before .before .before .before .before .before .before .before .before .before .before .before .before .before .before in
     (through-size (s .args .tenths) (s .pre .3), omega (arith, digits-16 (s .args .place) (omega arith)))
 
@@ -35,7 +35,7 @@ same-length : tie.Need-same-length
 same-length c = search needs
 
 returns : tie.Need-returns
-returns c = 
+returns c =
     let s = c .before .before .before .before .before .before .before .before .before .before .before .before .before .before .before .before .before .before in
     let a = s .args in
     line-done (a .place) (take (2 * a .m) (a .e .now)) (a .tenths) _ _ _ _ _ _ _ _ _ (s .pre .3)

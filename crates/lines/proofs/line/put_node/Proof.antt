@@ -21,7 +21,7 @@ put-byte-requires-2 : tie.Need-put-byte-requires-2
 put-byte-requires-2 c κs = omega (arith, digits-16 (c .before .before .before .before .before .before .before .before .before .before .args .cover) (c .before .before .before .before .before .before .before .before .before .before .fits .cover .fits))
 
 put-decimal-requires-2 : tie.Need-put-decimal-requires-2
-put-decimal-requires-2 c κs = 
+put-decimal-requires-2 c κs =
     let f = c .before .before .before .before .before .before .before .before .before .before .before .before .before .before .fits in
     omega (arith, digits-16 _ (f .cover .fits), digits-16 _ (f .rule .fits))
 

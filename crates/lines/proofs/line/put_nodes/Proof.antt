@@ -56,7 +56,7 @@ loop-less : tie.Need-loop-less Inv-loop μ-loop
 loop-less c = search needs
 
 loop-again : tie.Need-loop-again Inv-loop μ-loop
-loop-again c = 
+loop-again c =
     let p = c .before .before .before .before .before .before .before .loop .inv .1 in
     let e = c .before .before .before .before .before .before .before .before .before .before .args .e .now in
     (omega arith, nodes-step e (c .before .before .before .before .before .before .before .loop .i) _ _ _ _ _ _ (omega arith) p (c .before .before .put-node .ensures .0), omega arith)
