@@ -5,3 +5,4 @@ pub mod Books
 pub mod Lines
 pub mod Stepping
 pub mod Measured
+pub mod Printed

@@ -2,3 +2,4 @@
 pub mod Due
 pub mod Begun
 pub mod Stepped
+pub mod Run
