@@ -1,12 +1,9 @@
 // The listing program: the book is the file `book.bin`, the plate is standard input, and the lines go to standard output.
 mod output;
 
-use checker::measure::Lengths;
-use fit::FitTable;
-use lister::Due;
 use lister::begin::begin;
 use output::print_from;
-use packed::PACKED;
+use packed::PACKED_SIZE;
 use tables::layout::TABLES_SIZE;
 ghost use Rattle.io.specs.Counts.{Counts};
 
@@ -31,13 +28,22 @@ fn read_book(book: &mut [u8]) -> usize
 
 // Prints the text of book and plate. What the steps need is this function's own.
 fn print(book: &[u8], plate: &[u8]) {
-    let mut p = [0u8; PACKED];
+    let mut p = [0u8; PACKED_SIZE];
     let mut lengths = [0i16; sizes::MAX_RULES];
     let mut chart = [0u32; sizes::CELLS];
-    let mut fits = [0u8; fit::FITS];
+    let mut fits = [0u8; fit::FIT_SIZE];
     let mut tables = [0u16; TABLES_SIZE];
     let mut buf = [0u16; sizes::OUTPUT];
-    let due = begin(book, plate, &mut p, &mut lengths, &mut chart, &mut fits, &mut tables, &mut buf);
+    let due = begin(
+        book,
+        plate,
+        &mut p,
+        &mut lengths,
+        &mut chart,
+        &mut fits,
+        &mut tables,
+        &mut buf,
+    );
     print_from(due, &p, &lengths, &fits, &chart, &tables, &mut buf);
 }
 

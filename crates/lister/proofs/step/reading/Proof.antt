@@ -29,7 +29,7 @@ total-requires c κs =
 
 -- src/step.rt:49:9
 rounded-requires : tie.Need-rounded-requires
-rounded-requires c κs = kept-small _ 16777216 (omega arith) (c .total .ensures .1)
+rounded-requires c κs = kept-small (c .total .result) 16777216 (omega arith) (c .total .ensures .1)
 
 -- src/step.rt:50:14
 add-put-line : tie.Need-add-put-line

@@ -1,0 +1,2 @@
+-- The sizes of the program's output buffer.
+pub mod Buffer
