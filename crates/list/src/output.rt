@@ -30,7 +30,7 @@ fn write(bytes: &[u8]) -> bool {
 }
 
 // How many bytes of the buffer are in use, and what is printed next.
-struct Turn {
+struct State {
     at: usize,
     due: Due,
 }
@@ -41,17 +41,17 @@ fn is_done(due: Due) -> bool {
 }
 
 // Writes the bytes in use where no further line fits or all are printed. Where they can't be written, nothing more is printed.
-fn flush(at: usize, due: Due, out: &[u8]) -> Turn
+fn flush(at: usize, due: Due, out: &[u8]) -> State
     requires { ⌜ (at ≤ length (now out)) × Sized due ⌝ }
     ensures { λ t. ⌜ (t .at ≤ room) × Sized (t .due) ⌝ }
 {
     if at <= ROOM && !is_done(due) {
-        return Turn { at, due };
+        return State { at, due };
     }
     if write(&out[..at]) {
-        Turn { at: 0, due }
+        State { at: 0, due }
     } else {
-        Turn {
+        State {
             at: 0,
             due: Due::Nothing,
         }
@@ -59,7 +59,7 @@ fn flush(at: usize, due: Due, out: &[u8]) -> Turn
 }
 
 // Prints the line that is due.
-fn turn(
+fn print_line(
     due: Due,
     p: &Packed,
     lengths: &Lengths,
@@ -69,7 +69,7 @@ fn turn(
     buf: &mut [u16],
     at: usize,
     out: &mut [u8],
-) -> Turn
+) -> State
     requires { ⌜ Sized due × (length (now lengths) ≡ maxRules) × (cells ≤ length (now chart)) × (outputSize ≤ length (now buf))
         × (at ≤ room) × (length (now out) ≡ bufferSize) ⌝ }
     ensures { λ t. ⌜ (t .at ≤ room) × Sized (t .due) × (length (now (buf .exit)) ≡ length (now (buf .entry)))
@@ -97,7 +97,7 @@ pub fn print_from(
     let mut at = 0;
     let mut turns = STEPS;
     while turns > 0 {
-        let t = turn(then, p, lengths, fits, chart, tables, buf, at, &mut out);
+        let t = print_line(then, p, lengths, fits, chart, tables, buf, at, &mut out);
         at = t.at;
         then = t.due;
         if is_done(then) {
