@@ -32,8 +32,8 @@ by-any (suc k) zero n h l = absurd (omega arith)
 by-any (suc k) (suc j) n h l =
     dite (decLt n 10) (λ s. by-one k n s ∙ sym (by-one j n s))
     (λ s.
-      by-more k n (omega arith) ∙ ap (λ (x : List ℕ). x ++ (digit (n % 10) ∷ [])) (by-any k j (n / 10) (omega arith) (omega arith))
-      ∙ sym (by-more j n (omega arith)))
+    by-more k n (omega arith) ∙ ap (λ (x : List ℕ). x ++ (digit (n % 10) ∷ [])) (by-any k j (n / 10) (omega arith) (omega arith))
+    ∙ sym (by-more j n (omega arith)))
 
 pub decimal-one : (n : ℕ) → n < 10 → decimal n ≡ digit n ∷ []
 unfolding decimal
@@ -57,9 +57,9 @@ digits zero n h = omega (arith, length-one n h)
 digits (suc k) n h =
     dite (decLt n 10) (λ s. omega (arith, length-one n s))
     (λ s.
-      let e : 10 ^ suc (suc k) ≡ 10 ^ suc k * 10 = pow-suc 10 (suc k) in
-      let l : length (decimal (n / 10)) ≤ suc k = digits k (n / 10) (omega arith) in
-      omega (arith, length-more n (omega arith)))
+    let e : 10 ^ suc (suc k) ≡ 10 ^ suc k * 10 = pow-suc 10 (suc k) in
+    let l : length (decimal (n / 10)) ≤ suc k = digits k (n / 10) (omega arith) in
+    omega (arith, length-more n (omega arith)))
 
 -- a number of 16 bits
 pub digits-16 : (n : ℕ) → n < 65536 → length (decimal n) ≤ 5
