@@ -8,12 +8,14 @@ use Rattle.lines.proofs.line.put_node.Statement.{statement}
 use Rattle.lines.proofs.line.put_node.Tie as tie
 
 put-decimal-requires : tie.Need-put-decimal-requires
-put-decimal-requires c κs = omega (arith, digits-16 _ (c .before .before .before .before .before .before .fits .cover .fits))
+put-decimal-requires c κs =
+    let f = c .before .before .before .before .before .before .fits in
+    omega (arith, digits-16 _ (f .cover .fits), digits-16 _ (f .rule .fits))
 
 put-byte-requires-2 : tie.Need-put-byte-requires-2
 put-byte-requires-2 c κs =
     let f = c .before .before .before .before .before .before .before .before .before .before .fits in
-    omega (arith, digits-16 _ (f .cover .fits))
+    omega (arith, digits-16 _ (f .cover .fits), digits-16 _ (f .rule .fits))
 
 put-decimal-requires-2 : tie.Need-put-decimal-requires-2
 put-decimal-requires-2 c κs =

@@ -5,7 +5,7 @@ use native.Mathlib.Omega.{arith}
 use borrow.Author.Needs.{needs}
 use borrow.Fn.Kinds.{In}
 use borrow.Fn.PlainCycle.{Measures, is, falls, and}
-use Rattle.lines.proofs.Decimal.{room-one, room-more, room-last, written-one, written-more}
+use Rattle.lines.proofs.Decimal.{length-more, room-one, room-more, written-one, written-more}
 use Rattle.lines.proofs.number.+put_decimal.{statement}
 use Rattle.lines.proofs.number.+put_decimal.Tie.{close}
 use Rattle.lines.proofs.number.+put_decimal.Lts-put_decimal as put-decimal-lts
@@ -32,6 +32,10 @@ calls t = (put-byte-reads.Asked, put-byte-reads.Learnt, put-decimal-below t, put
 put-decimal-put-decimal-requires : (t : ℕ) → put-decimal-lts.Need-put-decimal-requires (calls t) (put-decimal-at t) put-decimal.Post
 put-decimal-put-decimal-requires t c κs = (omega arith, search room-more)
 
+put-decimal-put-byte-requires-2 : (t : ℕ) → put-decimal-lts.Need-put-byte-requires-2 (calls t) (put-decimal-at t) put-decimal.Post
+put-decimal-put-byte-requires-2 t c κs =
+    omega (arith, length-more (c .before .before .before .before .before .before .before .args .n) (omega arith))
+
 pub +put-decimal-spec : {M : Type 1} → statement M
 +put-decimal-spec = close μ-put-decimal λ t. put-decimal-lts.spec (calls t)
     (put-decimal-at t)
@@ -42,7 +46,7 @@ pub +put-decimal-spec : {M : Type 1} → statement M
     (put-decimal-put-decimal-requires t)
     (λ c. search needs)
     (λ c. search needs)
-    (λ c κs. search room-last)
+    (put-decimal-put-byte-requires-2 t)
     (λ c. search needs)
     (λ c. search written-one)
     (λ c. search needs)
