@@ -4,11 +4,9 @@ use Prim.Native.Nat.{ℕ, zero, suc, _+_, _*_, _/_, _%_, _^_, _≤_, _<_}
 use native.Mathlib.Nat.{pow-suc}
 use native.Mathlib.Decide.{decLt}
 use native.Mathlib.Omega.{arith}
-use mathlib.Core.Bool.{Bool, true, false}
 use mathlib.Core.Logic.{dite}
 use mathlib.Core.List.{List, [], _∷_, _++_}
-use mathlib.Core.Path.{_≡_, refl, sym, ap, _∙_}
-use lib.Dec.{ltb}
+use mathlib.Core.Path.{_≡_, sym, ap, _∙_}
 use lib.ListN.{length, length-append}
 use borrow.Author.Tests.{lt-ltb, le-ltb}
 use Rattle.text.specs.Number.{digit, decimalBy, decimal}
@@ -49,7 +47,7 @@ decimal-more n h =
 length-one : (n : ℕ) → n < 10 → length (decimal n) ≡ 1
 length-one n h = ap length (decimal-one n h)
 
-length-more : (n : ℕ) → 10 ≤ n → length (decimal n) ≡ length (decimal (n / 10)) + 1
+pub length-more : (n : ℕ) → 10 ≤ n → length (decimal n) ≡ length (decimal (n / 10)) + 1
 length-more n h = ap length (decimal-more n h) ∙ length-append (decimal (n / 10)) (digit (n % 10) ∷ [])
 
 pub digits : (k n : ℕ) → n < 10 ^ suc k → length (decimal n) ≤ suc k
@@ -72,9 +70,6 @@ room-one n at m h l = omega (arith, length-one n h)
 
 pub room-more : (n at m : ℕ) → 10 ≤ n → at + length (decimal n) ≤ m → at + length (decimal (n / 10)) ≤ m
 room-more n at m h l = omega (arith, length-more n h)
-
-pub room-last : (n at end m k : ℕ) → 10 ≤ n → at + length (decimal n) ≤ m → k ≡ m → end ≡ at + length (decimal (n / 10)) → end < k
-room-last n at end m k h l d e = omega (arith, length-more n h)
 
 pub written-one : (n at end : ℕ) (o₁ o₂ : List ℕ) → n < 10 → Put (digit n ∷ []) at end o₁ o₂ → Put (decimal n) at end o₁ o₂
 written-one n at end o₁ o₂ h p = put-same (sym (decimal-one n h)) p

@@ -4,7 +4,7 @@ use Prim.Native.Nat.{ℕ, zero, suc, _+_, _*_, _≤_, _<_}
 use native.Mathlib.Numerals.{add-one}
 use native.Mathlib.Omega.{arith}
 use mathlib.Core.List.{List, [], _∷_, _++_, append-assoc, append-nil}
-use mathlib.Core.Path.{_≡_, refl, sym, ap, subst, _∙_}
+use mathlib.Core.Path.{_≡_, refl, sym, ap, _∙_}
 use lib.IntN.{ℤ}
 use lib.ListN.{length, getD, take}
 use lib.Seq.{take-suc, length-take-le}
@@ -15,7 +15,7 @@ use mir.Facts.{toZ-ofZ}
 use Rattle.results.specs.Answer.{counted}
 use Rattle.text.specs.Number.{decimal, signedDecimal}
 use Rattle.text.specs.Line.{newline, space, point, colon, equals, parts, lengthEnd, line, readingsWord, refusedLine, readingsLine}
-use Rattle.lines.specs.Put.{Put}
+use Rattle.lines.specs.Put.{Put, nodeSize, maxTenths}
 use Rattle.lines.proofs.Writing.{put-append, put-same}
 use Rattle.lines.proofs.Decimal.{digits-16}
 
@@ -23,7 +23,7 @@ use Rattle.lines.proofs.Decimal.{digits-16}
 
 module _ (cover rule at a b c end : ℕ) (o₁ o₂ o₃ o₄ o₅ : List ℕ) where
   pub node-done : cover < 65536 → rule < 65536 → Put (space ∷ []) at a o₁ o₂ → Put (decimal cover) a b o₂ o₃ → Put (point ∷ []) b c o₃ o₄
-      → Put (decimal rule) c end o₄ o₅ → Put ((space ∷ decimal cover) ++ (point ∷ decimal rule)) at end o₁ o₅ × (end ≤ at + 12)
+      → Put (decimal rule) c end o₄ o₅ → Put ((space ∷ decimal cover) ++ (point ∷ decimal rule)) at end o₁ o₅ × (end ≤ at + nodeSize)
   node-done h k p q r s = (
     put-append (put-append p q) (put-append r s),
     omega (arith, digits-16 cover h, digits-16 rule k, p .grown, q .grown, r .grown, s .grown),
@@ -75,18 +75,18 @@ nodes-done e i m at end o₁ o₂ h k p =
 -- ---- the line of a derivation
 
 -- the length is read through 32 bits at each call
-through : (z : ℤ) → mag z ≤ 1677722 → toZ w32 (ofZ w32 z) ≡ z
+through : (z : ℤ) → mag z ≤ maxTenths → toZ w32 (ofZ w32 z) ≡ z
 through z h = toZ-ofZ (record { sfits = omega arith })
 
-pub through-size : (z : ℤ) → mag z ≤ 1677722 → mag (toZ w32 (ofZ w32 z)) ≤ 1677722
+pub through-size : (z : ℤ) → mag z ≤ maxTenths → mag (toZ w32 (ofZ w32 z)) ≤ maxTenths
 through-size z h = rw (through z h) h
 
-pub end-done : (z : ℤ) (at a b end : ℕ) (o₁ o₂ o₃ o₄ : List ℕ) → mag z ≤ 1677722 → Put (space ∷ equals ∷ space ∷ []) at a o₁ o₂
+pub end-done : (z : ℤ) (at a b end : ℕ) (o₁ o₂ o₃ o₄ : List ℕ) → mag z ≤ maxTenths → Put (space ∷ equals ∷ space ∷ []) at a o₁ o₂
     → Put (signedDecimal (toZ w32 (ofZ w32 z))) a b o₂ o₃ → Put (newline ∷ []) b end o₃ o₄ → Put (lengthEnd z) at end o₁ o₄
 unfolding lengthEnd
 end-done z at a b end o₁ o₂ o₃ o₄ h p q r = put-append (put-append p (put-same (ap signedDecimal (through z h)) q)) r
 
-pub line-done : (place : ℕ) (e : List ℕ) (z : ℤ) (a b c end : ℕ) (o₁ o₂ o₃ o₄ o₅ : List ℕ) → mag z ≤ 1677722
+pub line-done : (place : ℕ) (e : List ℕ) (z : ℤ) (a b c end : ℕ) (o₁ o₂ o₃ o₄ o₅ : List ℕ) → mag z ≤ maxTenths
     → Put (decimal place) 0 a o₁ o₂ → Put (colon ∷ []) a b o₂ o₃ → Put (parts e) b c o₃ o₄
     → Put (lengthEnd (toZ w32 (ofZ w32 z))) c end o₄ o₅ → Put (line place e z) 0 end o₁ o₅
 unfolding line

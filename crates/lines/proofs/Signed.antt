@@ -5,7 +5,7 @@ use native.Mathlib.Nat.{zero-add}
 use native.Mathlib.Omega.{arith}
 use mathlib.Core.Bool.{true, false, true≢false}
 use mathlib.Core.List.{List, [], _∷_}
-use mathlib.Core.Path.{_≡_, refl, sym, ap, subst, _∙_}
+use mathlib.Core.Path.{_≡_, refl, sym, ap, _∙_}
 use lib.Dec.{T}
 use lib.IntN.{ℤ, pos, negsuc, natAbs, _-ℤ_}
 use lib.ListN.{length}
@@ -15,7 +15,7 @@ use mir.Syntax.{w32, w64}
 use mir.Val.{Fits, SFits, toZ, ofZ}
 use mir.Facts.{toZ-ofZ}
 use Rattle.text.specs.Number.{decimal, signedDecimal}
-use Rattle.lines.specs.Put.{Put}
+use Rattle.lines.specs.Put.{Put, lengthSize, maxTenths}
 use Rattle.lines.proofs.Writing.{put-append, put-same}
 use Rattle.lines.proofs.Decimal.{digits}
 
@@ -32,25 +32,25 @@ through z h = toZ-ofZ (record { sfits = h })
 minus-negsuc : (n : ℕ) → pos 0 -ℤ negsuc n ≡ pos (suc n)
 minus-negsuc n = ap pos (zero-add (suc n))
 
-negated-negsuc : (n : ℕ) → n ≤ 1677722 → negated (negsuc n) ≡ pos (suc n)
+negated-negsuc : (n : ℕ) → n ≤ maxTenths → negated (negsuc n) ≡ pos (suc n)
 negated-negsuc n h = ap (λ (y : ℤ). pos 0 -ℤ y) (through (negsuc n) (omega arith)) ∙ minus-negsuc n
 
 -- ---- the sign, by the test
 
-is-negative : (z : ℤ) → mag z ≤ 1677722 → ltZ (kept z) (pos 0) ≡ true → z ≡ negsuc (mag z)
+is-negative : (z : ℤ) → mag z ≤ maxTenths → ltZ (kept z) (pos 0) ≡ true → z ≡ negsuc (mag z)
 is-negative (negsuc n) h t = refl
 is-negative (pos n) h t =
     let l : n < 0 = ltb-true n 0 (ap (λ (y : ℤ). ltZ y (pos 0)) (sym (through (pos n) (omega arith))) ∙ t) in
     absurd (omega arith)
 
-is-natural : (z : ℤ) → mag z ≤ 1677722 → ltZ (kept z) (pos 0) ≡ false → z ≡ pos (mag z)
+is-natural : (z : ℤ) → mag z ≤ maxTenths → ltZ (kept z) (pos 0) ≡ false → z ≡ pos (mag z)
 is-natural (pos n) h t = refl
 is-natural (negsuc n) h t =
     absurd (true≢false (ap (λ (y : ℤ). ltZ y (pos 0)) (sym (through (negsuc n) (omega arith))) ∙ t))
 
 -- ---- a negative number
 
-module _ (z : ℤ) (small : mag z ≤ 1677722) (test : ltZ (kept z) (pos 0) ≡ true) where
+module _ (z : ℤ) (small : mag z ≤ maxTenths) (test : ltZ (kept z) (pos 0) ≡ true) where
   negated-is : negated z ≡ pos (suc (mag z))
   negated-is = ap negated (is-negative z small test) ∙ negated-negsuc (mag z) small
 
@@ -69,11 +69,11 @@ module _ (z : ℤ) (small : mag z ≤ 1677722) (test : ltZ (kept z) (pos 0) ≡ 
   digits-negated : length (decimal (natAbs (kept (negated z)))) ≤ 7
   digits-negated = rw size-negated (digits 6 (suc (mag z)) (omega arith))
 
-  pub room-negated : (at mid m k : ℕ) → at + 8 ≤ m → k ≡ m → mid ≡ at + 1 → mid + length (decimal (natAbs (kept (negated z)))) ≤ k
+  pub room-negated : (at mid m k : ℕ) → at + lengthSize ≤ m → k ≡ m → mid ≡ at + 1 → mid + length (decimal (natAbs (kept (negated z)))) ≤ k
   room-negated at mid m k h e d = omega (arith, digits-negated)
 
   pub written-negative : (at mid end : ℕ) (o₁ o₂ o₃ : List ℕ) → Put (45 ∷ []) at mid o₁ o₂
-      → Put (decimal (natAbs (kept (negated z)))) mid end o₂ o₃ → Put (signedDecimal z) at end o₁ o₃ × (end ≤ at + 8)
+      → Put (decimal (natAbs (kept (negated z)))) mid end o₂ o₃ → Put (signedDecimal z) at end o₁ o₃ × (end ≤ at + lengthSize)
   unfolding signedDecimal
   written-negative at mid end o₁ o₂ o₃ p q = (
     put-same (ap (λ (n : ℕ). 45 ∷ decimal n) size-negated ∙ ap signedDecimal (sym (is-negative z small test))) (put-append p q),
@@ -82,7 +82,7 @@ module _ (z : ℤ) (small : mag z ≤ 1677722) (test : ltZ (kept z) (pos 0) ≡ 
 
 -- ---- a natural number
 
-module _ (z : ℤ) (small : mag z ≤ 1677722) (test : ltZ (kept z) (pos 0) ≡ false) where
+module _ (z : ℤ) (small : mag z ≤ maxTenths) (test : ltZ (kept z) (pos 0) ≡ false) where
   kept-natural : kept z ≡ pos (mag z)
   kept-natural = through z (omega arith) ∙ is-natural z small test
 
@@ -95,11 +95,11 @@ module _ (z : ℤ) (small : mag z ≤ 1677722) (test : ltZ (kept z) (pos 0) ≡ 
   digits-natural : length (decimal (natAbs (kept z))) ≤ 7
   digits-natural = rw size-natural (digits 6 (mag z) (omega arith))
 
-  pub room-natural : (at m : ℕ) → at + 8 ≤ m → at + length (decimal (natAbs (kept z))) ≤ m
+  pub room-natural : (at m : ℕ) → at + lengthSize ≤ m → at + length (decimal (natAbs (kept z))) ≤ m
   room-natural at m h = omega (arith, digits-natural)
 
   pub written-natural : (at end : ℕ) (o₁ o₂ : List ℕ) → Put (decimal (natAbs (kept z))) at end o₁ o₂
-      → Put (signedDecimal z) at end o₁ o₂ × (end ≤ at + 8)
+      → Put (signedDecimal z) at end o₁ o₂ × (end ≤ at + lengthSize)
   unfolding signedDecimal
   written-natural at end o₁ o₂ p = (
     put-same (ap decimal size-natural ∙ ap signedDecimal (sym (is-natural z small test))) p,

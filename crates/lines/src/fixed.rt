@@ -1,4 +1,5 @@
 // The lines of fixed words, written into a buffer from its start. Each function answers where the line ends.
+use super::NEWLINE;
 use super::number::put_byte;
 use super::number::put_bytes;
 use super::number::put_decimal;
@@ -6,10 +7,9 @@ ghost use Prim.Native.Nat.{_<_, _≤_};
 ghost use lib.ListN.{length};
 ghost use Rattle.results.specs.Answer.{counted, more};
 ghost use Rattle.text.specs.Line.{refusedLine, noReadingLine, readingsLine};
-ghost use Rattle.lines.specs.Put.{Put, lineSize};
+ghost use Rattle.lines.specs.Put.{Put, lineSize, maxPlace};
 
-const NEWLINE: u8 = 10;
-
+// A refusal and its number, one or two digits.
 pub fn put_refused(n: usize, out: &mut [u8]) -> usize
     requires { ⌜ (n < 100) × (lineSize ≤ length (now out)) ⌝ }
     ensures { λ r. ⌜ Put (refusedLine n) 0 r (now (out .entry)) (now (out .exit)) ⌝ }
@@ -19,6 +19,7 @@ pub fn put_refused(n: usize, out: &mut [u8]) -> usize
     put_byte(NEWLINE, b, out)
 }
 
+// There is no derivation (reading).
 pub fn put_no_reading(out: &mut [u8]) -> usize
     requires { ⌜ lineSize ≤ length (now out) ⌝ }
     ensures { λ r. ⌜ Put noReadingLine 0 r (now (out .entry)) (now (out .exit)) ⌝ }
@@ -26,8 +27,9 @@ pub fn put_no_reading(out: &mut [u8]) -> usize
     put_bytes(b"NO READING\n", 0, out)
 }
 
+// How many derivations there are.
 pub fn put_readings(n: usize, out: &mut [u8]) -> usize
-    requires { ⌜ (n ≤ 4096) × (lineSize ≤ length (now out)) ⌝ }
+    requires { ⌜ (n ≤ maxPlace) × (lineSize ≤ length (now out)) ⌝ }
     ensures { λ r. ⌜ Put (readingsLine (counted n)) 0 r (now (out .entry)) (now (out .exit)) ⌝ }
 {
     let a = put_bytes(b"READINGS ", 0, out);
@@ -35,6 +37,7 @@ pub fn put_readings(n: usize, out: &mut [u8]) -> usize
     put_byte(NEWLINE, b, out)
 }
 
+// There are more than were listed.
 pub fn put_more(out: &mut [u8]) -> usize
     requires { ⌜ lineSize ≤ length (now out) ⌝ }
     ensures { λ r. ⌜ Put (readingsLine more) 0 r (now (out .entry)) (now (out .exit)) ⌝ }

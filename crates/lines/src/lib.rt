@@ -6,7 +6,10 @@ pub mod number;
 ghost use mathlib.Core.Path.{_≡_};
 ghost use Rattle.lines.specs.Put.{lineSize};
 
-// The bytes of a line at most.
+// The byte behind each line.
+pub const NEWLINE: u8 = 10;
+
+// A buffer of so many bytes takes every line.
 pub const LINE: usize = 8192;
 
 pub fn tied_line() -> usize

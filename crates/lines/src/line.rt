@@ -1,4 +1,5 @@
 // The line of a derivation (reading), written into a buffer. Each function answers where what it wrote ends.
+use super::NEWLINE;
 use super::number::put_byte;
 use super::number::put_bytes;
 use super::number::put_decimal;
@@ -7,17 +8,16 @@ ghost use mathlib.Core.List.{_∷_, _++_};
 ghost use Prim.Native.Nat.{_+_, _*_, _≤_};
 ghost use lib.ListN.{length, take};
 ghost use lib.Signed.{mag};
+ghost use Rattle.sizes.specs.Sizes.{maxNodes};
 ghost use Rattle.text.specs.Number.{decimal};
 ghost use Rattle.text.specs.Line.{space, point, parts, lengthEnd, line};
-ghost use Rattle.lines.specs.Put.{Put, nodeSize, endSize, lineSize};
+ghost use Rattle.lines.specs.Put.{Put, nodeSize, endSize, lineSize, maxPlace, maxTenths};
 
 const SPACE: u8 = 32;
 
 const POINT: u8 = 46;
 
 const COLON: u8 = 58;
-
-const NEWLINE: u8 = 10;
 
 // A node (part): a space, the marks it covers, a point, its rule.
 pub fn put_node(cover: u16, rule: u16, at: usize, out: &mut [u8]) -> usize
@@ -33,7 +33,7 @@ pub fn put_node(cover: u16, rule: u16, at: usize, out: &mut [u8]) -> usize
 
 // The first m nodes of a derivation, two numbers each.
 pub fn put_nodes(e: &[u16], m: usize, at: usize, out: &mut [u8]) -> usize
-    requires { ⌜ (2 * m ≤ length (now e)) × (m ≤ 512) × (at + nodeSize * m ≤ length (now out)) ⌝ }
+    requires { ⌜ (2 * m ≤ length (now e)) × (m ≤ maxNodes) × (at + nodeSize * m ≤ length (now out)) ⌝ }
     ensures { λ r. ⌜ Put (parts (take (2 * m) (now (e .entry)))) at r (now (out .entry)) (now (out .exit)) ⌝ }
     ensures { λ r. ⌜ r ≤ at + nodeSize * m ⌝ }
 {
@@ -48,7 +48,7 @@ pub fn put_nodes(e: &[u16], m: usize, at: usize, out: &mut [u8]) -> usize
 
 // What stands behind the nodes: an equals sign, the length in tenths, a newline.
 fn put_end(tenths: i32, at: usize, out: &mut [u8]) -> usize
-    requires { ⌜ (mag tenths ≤ 1677722) × (at + endSize ≤ length (now out)) ⌝ }
+    requires { ⌜ (mag tenths ≤ maxTenths) × (at + endSize ≤ length (now out)) ⌝ }
     ensures { λ r. ⌜ Put (lengthEnd tenths) at r (now (out .entry)) (now (out .exit)) ⌝ }
 {
     let a = put_bytes(b" = ", at, out);
@@ -58,7 +58,8 @@ fn put_end(tenths: i32, at: usize, out: &mut [u8]) -> usize
 
 // The line of a derivation: its place in the list, a colon, its nodes, its length in tenths.
 pub fn put_line(place: usize, e: &[u16], m: usize, tenths: i32, out: &mut [u8]) -> usize
-    requires { ⌜ (place ≤ 4096) × (2 * m ≤ length (now e)) × (m ≤ 512) × (mag tenths ≤ 1677722) × (lineSize ≤ length (now out)) ⌝ }
+    requires { ⌜ (place ≤ maxPlace) × (2 * m ≤ length (now e)) × (m ≤ maxNodes) × (mag tenths ≤ maxTenths)
+        × (lineSize ≤ length (now out)) ⌝ }
     ensures { λ r. ⌜ Put (line place (take (2 * m) (now (e .entry))) tenths) 0 r (now (out .entry)) (now (out .exit)) ⌝ }
 {
     let a = put_decimal(place, 0, out);

@@ -1,17 +1,17 @@
 // Bytes and numbers, written into a buffer. Each function answers where what it wrote ends.
 ghost use mathlib.Core.List.{[], _∷_};
-ghost use mathlib.Core.Path.{_≡_};
 ghost use Prim.Native.Nat.{_+_, _<_, _≤_};
 ghost use lib.ListN.{length};
 ghost use lib.Signed.{mag};
 ghost use Rattle.text.specs.Number.{decimal, signedDecimal};
-ghost use Rattle.lines.specs.Put.{Put, signedSize};
+ghost use Rattle.lines.specs.Put.{Put, lengthSize, maxTenths};
 
 // The byte of the digit 0, and that of the sign of a negative number.
 const ZERO: u8 = 48;
 
 const MINUS: u8 = 45;
 
+// A byte, and a row of bytes.
 pub fn put_byte(b: u8, at: usize, out: &mut [u8]) -> usize
     requires { ⌜ at < length (now out) ⌝ }
     ensures { λ r. ⌜ Put (b ∷ []) at r (now (out .entry)) (now (out .exit)) ⌝ }
@@ -46,11 +46,11 @@ pub fn put_decimal(n: usize, at: usize, out: &mut [u8]) -> usize
     }
 }
 
-// A signed number in decimal: a minus sign stands before a negative one.
+// A length in tenths, in decimal: a minus sign stands before a negative one.
 pub fn put_signed(z: i32, at: usize, out: &mut [u8]) -> usize
-    requires { ⌜ (mag z ≤ 1677722) × (at + signedSize ≤ length (now out)) ⌝ }
+    requires { ⌜ (mag z ≤ maxTenths) × (at + lengthSize ≤ length (now out)) ⌝ }
     ensures { λ r. ⌜ Put (signedDecimal z) at r (now (out .entry)) (now (out .exit)) ⌝ }
-    ensures { λ r. ⌜ r ≤ at + signedSize ⌝ }
+    ensures { λ r. ⌜ r ≤ at + lengthSize ⌝ }
 {
     if z < 0 {
         let end = put_byte(MINUS, at, out);

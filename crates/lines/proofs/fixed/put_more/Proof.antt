@@ -1,21 +1,9 @@
 -- `lines::fixed::put_more` meets its contract.
 -- Assumes nothing.
-use Rattle.text.specs.Line.{readingsLine}
 use borrow.Author.Needs.{needs}
+use Rattle.text.specs.Line.{readingsLine}
 use Rattle.lines.proofs.fixed.put_more.Statement.{statement}
 use Rattle.lines.proofs.fixed.put_more.Tie as tie
-use Rattle.lines.proofs.fixed.put_more.Reads as reads
-use Rattle.lines.proofs.fixed.put_more.Lts as lts
-use Rattle.lines.proofs.number.put_bytes.Reads as put-bytes-reads
-
-slice-aggregate-put-bytes : tie.Need-slice-aggregate-put-bytes
-slice-aggregate-put-bytes c = search needs
-
-put-bytes-requires : tie.Need-put-bytes-requires
-put-bytes-requires c κs = search needs
-
-same-length : tie.Need-same-length
-same-length c = search needs
 
 returns : tie.Need-returns
 unfolding readingsLine
@@ -23,4 +11,4 @@ returns c = search needs
 
 pub put-more-spec : {M : Type 1} → statement M
 put-more-spec =
-    tie.close (tie.spec slice-aggregate-put-bytes put-bytes-requires same-length returns)
+    tie.close (tie.spec (λ c. search needs) (λ c κs. search needs) (λ c. search needs) returns)
