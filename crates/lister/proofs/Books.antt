@@ -7,6 +7,8 @@ use mathlib.Core.Logic.{inl, inr}
 use mathlib.Core.Path.{_≡_, refl, sym, ap, subst, _∙_}
 use native.Mathlib.Omega.{arith}
 use lib.IntN.{ℤ}
+use lib.ListN.{length}
+use Rattle.sizes.specs.Sizes.{maxRules}
 use Rattle.checker.specs.Measure.{lengthsIn}
 use Rattle.demands.specs.LoadDemand.{LoadRefused, LoadAccepted, LoadDemand}
 use Rattle.demands.proofs.LoadDemand.{load-demand}
@@ -56,10 +58,11 @@ module _ (book w : List ℕ) (b : Loaded) (load : loadingOf b ≡ loadOf book (b
   text-loaded = ap (λ (x : Loading). loadedText x w) load ∙ text-depth book w (b .grammar .depth)
 
   pub book-refused : (r : Refusal) (at : ℕ) → b .outcome ≡ Refused r at → (k n : ℕ) → k ≡ numberOf r → n ≡ k
-      → (p : List ℕ) (lengths : List ℤ) (chart fits tables buf : List ℕ)
+      → (p : List ℕ) (lengths : List ℤ) → length lengths ≡ maxRules → (chart fits tables buf : List ℕ)
       → BookBegun book w p lengths chart chart fits tables buf buf (RefusalDue n)
   unfolding loadedText
-  book-refused r at is k n e f p lengths chart fits tables buf = record {
+  book-refused r at is k n e f p lengths rows chart fits tables buf = record {
+    rows = rows;
     chart-long = refl;
     long = refl;
     sized = omega (arith, number-small r);
@@ -81,6 +84,7 @@ module _ (book w : List ℕ) (b : Loaded) (load : loadingOf b ≡ loadOf book (b
     book-begun p lengths chart chart' fits tables buf₀ buf d I =
         let e : loadedText (loadingOf b) w ≡ inputText (b .grammar) w = rw is in
         record {
+          rows = I .rows;
           chart-long = I .chart-long;
           long = I .long;
           sized = I .sized;

@@ -7,8 +7,8 @@ use mathlib.Core.Logic.{inl, inr}
 use mathlib.Core.Path.{_≡_, refl, sym, ap, ap₂, subst, _∙_}
 use native.Mathlib.Omega.{arith}
 use lib.IntN.{ℤ}
-use lib.ListN.{length, take, replicate, length-replicate}
-use Rattle.sizes.specs.Sizes.{maxInput, cells, outputSize}
+use lib.ListN.{length, take, replicate, length-map, length-replicate}
+use Rattle.sizes.specs.Sizes.{maxRules, maxInput, cells}
 use Rattle.cfg.specs.Grammar.{rule}
 use Rattle.cfg.specs.Listing.{L}
 use Rattle.chart.specs.Column.{filled, complete}
@@ -55,13 +55,14 @@ module _ (g : Grammar) (w chart : List ℕ) (valid : validGrammar g ≡ true) (r
   nine (no-room v a b l) = absurd (omega arith)
 
   pub input-refused : (j : Judged) → Judging g (length w) (length chart) j → (r : Refusal) → j ≡ Refused r → (b n : ℕ) → b ≡ numberOf r → n ≡ b
-      → (p : List ℕ) (lengths : List ℤ) (fits tables buf : List ℕ)
+      → (p : List ℕ) (lengths : List ℤ) → length lengths ≡ maxRules → (fits tables buf : List ℕ)
       → InputBegun g w p lengths chart chart fits tables buf buf (RefusalDue n)
   unfolding inputText
-  input-refused j judging r is b n k e p lengths fits tables buf =
+  input-refused j judging r is b n k e p lengths rows fits tables buf =
       let (number, fails) = nine (subst (Judging g (length w) (length chart)) is judging) in
       let f : n ≡ 9 = e ∙ k ∙ number in
       record {
+        rows = rows;
         chart-long = refl;
         long = refl;
         sized = omega arith;
@@ -126,11 +127,12 @@ module _ (g : Grammar) (w chart : List ℕ) (j : Judged) (judging : Judging g (l
         ∙ ap₂ (textBy (lengthsOf g)) empty-same (list-packed g p w (filling .1) s start)
         ∙ sym (decide-passed _ _ (inputCheck w ∷ []) (input-passes w (judged-some g (length w) (length chart) j judging is) a, tt))
 
-    pub input-begun : (fits tables buf₀ buf : List ℕ) (d : Due) → FilledBegun p s w chart' fits tables buf₀ buf d
+    pub input-begun : length (g .rules) ≡ maxRules → (fits tables buf₀ buf : List ℕ) (d : Due) → FilledBegun p s w chart' fits tables buf₀ buf d
         → InputBegun g w p l chart chart' fits tables buf₀ buf d
-    input-begun fits tables buf₀ buf d F =
+    input-begun full fits tables buf₀ buf d F =
         let (v, a, b) = judged-ready g (length w) (length chart) j judging is in
         record {
+          rows = ap length lengths ∙ length-map (g .rules) lengthOfRule ∙ full;
           chart-long = ap length (filling .0) ∙ filled-length (grammarOf g) w chart b;
           long = F .long;
           sized = F .sized;

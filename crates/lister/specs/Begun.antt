@@ -6,6 +6,7 @@ use mathlib.Core.List.{List, [], _∷_}
 use mathlib.Core.Path.{_≡_}
 use lib.IntN.{ℤ}
 use lib.ListN.{length}
+use Rattle.sizes.specs.Sizes.{maxRules}
 use Rattle.cfg.specs.Listing.{L}
 use Rattle.chart.specs.Column.{complete}
 use Rattle.checker.specs.Measure.{lengthsIn}
@@ -31,6 +32,7 @@ pub record FilledBegun (p : List ℕ) (s : ℕ) (w chart fits tables buf₀ buf 
 
 -- for a grammar that is valid
 pub record InputBegun (g : Grammar) (w p : List ℕ) (lengths : List ℤ) (chart₀ chart fits tables buf₀ buf : List ℕ) (d : Due) : Type 0 where
+  pub rows : length lengths ≡ maxRules
   pub chart-long : length chart ≡ length chart₀
   pub long : length buf ≡ length buf₀
   pub sized : Sized d
@@ -38,6 +40,7 @@ pub record InputBegun (g : Grammar) (w p : List ℕ) (lengths : List ℤ) (chart
 
 -- for the bytes of a book
 pub record BookBegun (book w p : List ℕ) (lengths : List ℤ) (chart₀ chart fits tables buf₀ buf : List ℕ) (d : Due) : Type 0 where
+  pub rows : length lengths ≡ maxRules
   pub chart-long : length chart ≡ length chart₀
   pub long : length buf ≡ length buf₀
   pub sized : Sized d

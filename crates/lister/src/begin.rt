@@ -18,7 +18,7 @@ ghost use lib.ListN.{length};
 ghost use Rattle.costs.specs.Span.{bytesOf};
 ghost use Rattle.grammar.specs.Valid.{validGrammar};
 ghost use Rattle.packed.specs.Packed.{cfgIn};
-ghost use Rattle.sizes.specs.Sizes.{maxInput, cells, outputSize};
+ghost use Rattle.sizes.specs.Sizes.{maxRules, maxInput, cells, outputSize};
 ghost use Rattle.tables.specs.Exact.{ChartTrue};
 ghost use Rattle.tables.specs.Layout.{tablesSize};
 ghost use Rattle.lister.specs.Begun.{TreeBegun, FilledBegun, InputBegun, BookBegun};
@@ -87,8 +87,8 @@ fn begin_input(
     tables: &mut Tables,
     buf: &mut [u16],
 ) -> Due
-    requires { ⌜ (validGrammar g ≡ true) × (cells ≤ length (now chart)) × (length (now tables) ≡ tablesSize)
-        × (outputSize ≤ length (now buf)) ⌝ }
+    requires { ⌜ (validGrammar g ≡ true) × (length (now lengths) ≡ maxRules) × (cells ≤ length (now chart))
+        × (length (now tables) ≡ tablesSize) × (outputSize ≤ length (now buf)) ⌝ }
     ensures { λ d. ⌜ InputBegun g (now (input .entry)) (now (p .exit)) (now (lengths .exit)) (now (chart .entry)) (now (chart .exit))
         (now (fits .exit)) (now (tables .exit)) (now (buf .entry)) (now (buf .exit)) d ⌝ }
 {
@@ -113,7 +113,8 @@ pub fn begin(
     tables: &mut Tables,
     buf: &mut [u16],
 ) -> Due
-    requires { ⌜ (cells ≤ length (now chart)) × (length (now tables) ≡ tablesSize) × (outputSize ≤ length (now buf)) ⌝ }
+    requires { ⌜ (length (now lengths) ≡ maxRules) × (cells ≤ length (now chart)) × (length (now tables) ≡ tablesSize)
+        × (outputSize ≤ length (now buf)) ⌝ }
     ensures { λ d. ⌜ BookBegun (now (book .entry)) (now (input .entry)) (now (p .exit)) (now (lengths .exit)) (now (chart .entry))
         (now (chart .exit)) (now (fits .exit)) (now (tables .exit)) (now (buf .entry)) (now (buf .exit)) d ⌝ }
 {

@@ -42,7 +42,8 @@ fn last(length: usize) -> Printed
 
 // Writes the line of derivation i, which stands in the buffer.
 fn reading(lengths: &Lengths, buf: &[u16], i: usize, nodes: usize, out: &mut [u8]) -> usize
-    requires { ⌜ (i < 4096) × (nodes ≤ maxNodes) × (outputSize ≤ length (now buf)) × (lineSize ≤ length (now out)) ⌝ }
+    requires { ⌜ (length (now lengths) ≡ maxRules) × (i < 4096) × (nodes ≤ maxNodes) × (outputSize ≤ length (now buf))
+        × (lineSize ≤ length (now out)) ⌝ }
     ensures { λ r. ⌜ Put (lineIn (lengthsIn (now (lengths .entry))) (i + 1) nodes (now (buf .entry))) 0 r
         (now (out .entry)) (now (out .exit)) ⌝ }
 {
@@ -93,7 +94,8 @@ pub fn step(
     buf: &mut [u16],
     out: &mut [u8],
 ) -> Printed
-    requires { ⌜ Sized due × (cells ≤ length (now chart)) × (outputSize ≤ length (now buf)) × (lineSize ≤ length (now out)) ⌝ }
+    requires { ⌜ Sized due × (length (now lengths) ≡ maxRules) × (cells ≤ length (now chart)) × (outputSize ≤ length (now buf))
+        × (lineSize ≤ length (now out)) ⌝ }
     ensures { λ r. ⌜ Stepped (lengthsIn (now (lengths .entry))) (now (p .entry)) (now (fits .entry)) (now (chart .entry))
         (now (tables .entry)) due (now (buf .entry)) (now (buf .exit)) (now (out .entry)) (now (out .exit)) (r .length) (r .due) ⌝ }
 {

@@ -1,8 +1,9 @@
 use Prim.Native.Nat.{ℕ}
 use native.Mathlib.Omega.{arith}
+use lib.IntN.{ℤ, pos}
 use lib.ListN.{length-replicate}
 use borrow.Author.Needs.{needs}
-use Rattle.sizes.specs.Sizes.{cells, outputSize}
+use Rattle.sizes.specs.Sizes.{maxRules, cells, outputSize}
 use Rattle.tables.specs.Layout.{tablesSize}
 use Rattle.list.proofs.print.Statement.{statement}
 use Rattle.list.proofs.print.Tie as tie
@@ -22,7 +23,7 @@ slice-aggregate-begin-2 c = search needs
 -- src/main.rt:37:9
 begin-requires : tie.Need-begin-requires
 begin-requires c κs =
-    (omega (arith, length-replicate {A = ℕ} cells 0), length-replicate {A = ℕ} tablesSize 0, omega (arith, length-replicate {A = ℕ} outputSize 0))
+    (length-replicate {A = ℤ} maxRules (pos 0), omega (arith, length-replicate {A = ℕ} cells 0), length-replicate {A = ℕ} tablesSize 0, omega (arith, length-replicate {A = ℕ} outputSize 0))
 
 -- src/main.rt:47:42
 slice-aggregate-print-from : tie.Need-slice-aggregate-print-from
@@ -34,7 +35,9 @@ slice-aggregate-print-from-2 c = search needs
 
 -- src/main.rt:47:5
 print-from-requires : tie.Need-print-from-requires
-print-from-requires c κs = {!!}
+print-from-requires c κs =
+    let B = c .before .before .before .before .before .before .before .before .begin .ensures in
+    (B .sized, B .rows, omega (arith, B .chart-long, length-replicate {A = ℕ} cells 0), omega (arith, B .long, length-replicate {A = ℕ} outputSize 0))
 
 -- src/main.rt:30:1
 returns : tie.Need-returns

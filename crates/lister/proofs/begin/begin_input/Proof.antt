@@ -1,3 +1,4 @@
+use lib.ListN.{length-map}
 use borrow.Author.Needs.{needs}
 use Rattle.prepare.proofs.Judging.{judged-ready}
 use Rattle.lister.proofs.Judged.{input-refused, judged-filled, input-begun}
@@ -66,7 +67,14 @@ same-length-2 c = search needs
 
 -- src/begin.rt:79:1
 returns-2 : tie.Need-returns-2
-returns-2 c = search (needs, input-begun)
+returns-2 c =
+    let after-lengths = c .before .before .before .before .before .before .before .before .before in
+    let after-fill = after-lengths .before .before .before in
+    let passed = after-fill .before .before in
+    let s = passed .before .before .before .before .before .before in
+    let full = simp length-map at (s .good .0 .1 .1 .1 .1 .1 .0 .1 .0 .1) in
+    input-begun _ _ _ _ (passed .before .before .judge .ensures) (passed .enum-told .given .1) _ _ (after-fill .fill .ensures) _ (c .before .before .before .before .before .before .before .wide-byte2 .ensures .0) _
+    (after-lengths .lengths-of .ensures) full _ _ _ _ _ (c .before .before .begin-filled .ensures)
 
 pub begin-input-spec : {M : Type 1} → statement M
 begin-input-spec =

@@ -25,7 +25,7 @@ slice-aggregate-total c =
 total-requires : tie.Need-total-requires
 total-requires c κs =
     let s = c .before .before .before .before in
-    (omega (arith, length-take (2 * s .args .nodes) (s .args .buf .now)), {!!})
+    (omega (arith, length-take (2 * s .args .nodes) (s .args .buf .now)), s .pre .0)
 
 -- src/step.rt:49:9
 rounded-requires : tie.Need-rounded-requires

@@ -46,7 +46,7 @@ enum-known-due-2 c = search needs
 reading-requires : tie.Need-reading-requires
 reading-requires c κs =
     let sized = reading-sized _ (c .before .before .before .before .before .before .before .before .pre .0) _ _ _ _ _ (c .before .before .before .due2 .given .1) in
-    (sized .2, sized .3, search needs, search needs)
+    (search needs, sized .2, sized .3, search needs, search needs)
 
 -- src/step.rt:111:17
 following-requires : tie.Need-following-requires
