@@ -12,6 +12,7 @@ pub mod compare;
 pub mod library;
 pub mod lister;
 pub mod reader;
+pub mod text;
 
 /// The code under test: the lister itself, or the proved library with the
 /// feature `library`.
