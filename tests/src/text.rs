@@ -14,7 +14,7 @@ use crate::reader::INPUT;
 /// The most readings that are printed and counted.
 pub const MOST: usize = 4096;
 /// Steps of the search in order after which a list is called too large.
-const SEARCH_STEPS: u64 = 4_000_000;
+const SEARCH_STEPS: u64 = 1_000_000;
 
 /// What is printed: "the book is judged first", then the plate (check 9), then its
 /// trees. Of a list that is too large to make, only as much as is printed is looked for.
