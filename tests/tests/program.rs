@@ -7,7 +7,7 @@ mod calls;
 #[allow(dead_code)] // not all of it is called from here
 mod process;
 
-use calls::{book, deepest, deepest_row};
+use calls::{book, deepest, deepest_row, T};
 use outside_tests::books::{self, boundary, full_book, Book, Draft, Sym};
 use outside_tests::compare::Counts;
 use outside_tests::lister::grammar::Grammar;
@@ -43,12 +43,6 @@ const DUE: &[(&str, u64)] = &[
 
 /// Full books compared in a run.
 const FULL_BOOKS: u64 = 6;
-
-/// Book T of document 01, in full.
-const T: [u8; 21] = [
-    0x10, 0x00, 0x20, 0x00, 0xF8, 0x11, 0x30, 0x01, 0x30, 0x01, 0x20, 0x01, 0x00, 0x00, 0x20, 0x01, 0x19, 0x00, 0x40,
-    0x41, 0x50,
-];
 
 /// The rows of printed lines, if there are so many lines and a last one.
 fn rows(printed: &[u8]) -> Option<(Vec<Vec<u16>>, String)> {
@@ -270,4 +264,5 @@ fn full_books() {
         compare(&Folder::new(), &full_book(seed), 0, &mut counts).expect("no difference");
     }
     println!("{:?}", counts.0);
+    assert!(counts.get("more than 4,096") >= 4, "{:?}", counts.0);
 }

@@ -4,18 +4,12 @@
 #[allow(dead_code)] // not all of it is called from here
 mod calls;
 
-use calls::{book, deepest, deepest_row};
+use calls::{book, deepest, deepest_row, T};
 use outside_tests::books::{self, boundary, Draft, Sym};
 use outside_tests::lister::listing::{derivations, TooLarge};
 use outside_tests::lister::trees::LIMIT;
 use outside_tests::lister::STEPS;
 use outside_tests::text::{in_order, judged, text, MOST};
-
-/// Book T of document 01, in full.
-const T: [u8; 21] = [
-    0x10, 0x00, 0x20, 0x00, 0xF8, 0x11, 0x30, 0x01, 0x30, 0x01, 0x20, 0x01, 0x00, 0x00, 0x20, 0x01, 0x19, 0x00, 0x40,
-    0x41, 0x50,
-];
 
 fn printed(book: &[u8], plate: &[u8]) -> String {
     String::from_utf8(text(book, plate).expect("small enough")).expect("ASCII")
