@@ -115,9 +115,9 @@ fn compare(folder: &Folder, book: &Book, seed: u64, counts: &mut Counts) -> Resu
             }
             Err(TooLarge) => {
                 let grammar = judged(&book.bytes, plate).expect("it is not refused");
-                let (stdout, stderr, status) = folder.ran(plate);
-                judge(&grammar, plate, &stdout).map_err(said)?;
-                assert!(stderr.is_empty() && status.code() == Some(0));
+                let (printed, ..) = folder.ran(plate);
+                judge(&grammar, plate, &printed).map_err(said)?;
+                folder.prints(plate, &printed).map_err(said)?; // the same again, and no fault said
                 counts.add("too large, judged");
             }
         }

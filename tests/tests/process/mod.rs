@@ -8,7 +8,7 @@ use std::sync::atomic::{AtomicUsize, Ordering};
 use std::time::{Duration, Instant};
 
 /// The longest that a run may take: a program that hangs fails, and the test does not hang with it.
-const CAP: Duration = Duration::from_secs(20);
+const CAP: Duration = Duration::from_secs(60);
 
 /// The program, as `rt check list` proves, compiles and links it.
 pub fn program() -> PathBuf {
@@ -24,10 +24,15 @@ impl Folder {
     /// Without a book.
     pub fn new() -> Folder {
         static NUMBER: AtomicUsize = AtomicUsize::new(0);
-        let number = NUMBER.fetch_add(1, Ordering::Relaxed);
-        let path = std::env::temp_dir().join(format!("filbozseg-list-{}-{number}", std::process::id()));
-        fs::create_dir(&path).and_then(|()| fs::create_dir(path.join("run"))).expect("a fresh folder");
-        Folder(path)
+        loop {
+            let number = NUMBER.fetch_add(1, Ordering::Relaxed);
+            let path = std::env::temp_dir().join(format!("filbozseg-list-{}-{number}", std::process::id()));
+            match fs::create_dir(&path) {
+                Err(error) if error.kind() == io::ErrorKind::AlreadyExists => continue, // left over by an aborted run
+                made => made.and_then(|()| fs::create_dir(path.join("run"))).expect("a fresh folder"),
+            }
+            return Folder(path);
+        }
     }
 
     /// With this book.
