@@ -2,14 +2,13 @@
 //! run on both sides and the results are held equal (codes, flat rows, offsets, hands, all words of the chart); only
 //! then is it timed.
 
-mod books;
 mod calls;
 mod firsts;
 mod nexts;
-mod plain;
-mod random;
+mod program;
 mod timing;
 
+use bench::{books, plain, random};
 use books::{A, P};
 use calls::{chart, hand, Flat, Hand, Plain, Proved, Reader};
 use plain::flat::FLAT;
@@ -381,8 +380,9 @@ fn sweep(count: usize) {
 }
 
 fn main() {
-    let count =
-        std::env::args().nth(1).map_or(200, |n| n.parse().expect("usage: bench [BOOKS IN THE SWEEP [first|next]]"));
+    let count = std::env::args()
+        .nth(1)
+        .map_or(200, |n| n.parse().expect("usage: bench [BOOKS IN THE SWEEP [first|next|program]]"));
     println!(
         "The proved library (C functions of libfilbozseg.a) beside the same algorithms in plain Rust. Load average {}.",
         load_average()
@@ -396,6 +396,9 @@ fn main() {
     if only.as_deref() == Some("next") {
         return nexts::nexts(count);
     }
+    if only.as_deref() == Some("program") {
+        return program::program();
+    }
     loads();
     println!("\nBOOKS of the fill, 64 marks each; results are equal on both sides");
     let list = cases();
@@ -405,6 +408,7 @@ fn main() {
     checks();
     firsts::firsts(count / 10);
     nexts::nexts(count);
+    program::program();
     if count > 0 {
         sweep(count);
     }

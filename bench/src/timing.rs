@@ -23,7 +23,7 @@ fn calls_for(f: &mut impl FnMut()) -> usize {
     ((0.0005 / once) as usize).clamp(1, 1_000_000)
 }
 
-fn time_of(mut batches: Vec<f64>) -> Time {
+pub fn time_of(mut batches: Vec<f64>) -> Time {
     batches.sort_by(f64::total_cmp);
     Time { median: batches[batches.len() / 2], least: batches[0] }
 }
@@ -60,6 +60,16 @@ pub fn difference(mut a: impl FnMut(), mut b: impl FnMut(), rounds: usize) -> (f
 
 extern "C" {
     fn clock_gettime(clock: i32, time: *mut [i64; 2]) -> i32;
+    fn getrusage(whose: i32, usage: *mut [i64; 18]) -> i32;
+}
+
+/// The processor time of all processes that this one started and waited for, in seconds.
+pub fn of_children() -> f64 {
+    let mut usage = [0; 18];
+    // SAFETY: -1 is for the children, and the usage is a struct of 18 numbers of 64 bits on x86-64 Linux: first the
+    // user's time and then the system's, each in seconds and microseconds.
+    assert_eq!(unsafe { getrusage(-1, &mut usage) }, 0);
+    (usage[0] + usage[2]) as f64 + (usage[1] + usage[3]) as f64 * 1e-6
 }
 
 /// The processor time of this thread, in seconds.

@@ -4,7 +4,8 @@
 //! `cargo test --release --offline` runs everything; with `-- --nocapture` it also
 //! prints what came up in the random books and which book caught which fault.
 //! The reader under test is the lister itself, or the proved library with
-//! `--features library`. `diff -r src/lister tests/faulty` shows the deliberate faults.
+//! `--features library`, which also runs the built listing program beside the
+//! lister's text. `diff -r src/lister tests/faulty` shows the deliberate faults.
 
 pub mod books;
 pub mod compare;
@@ -12,6 +13,7 @@ pub mod compare;
 pub mod library;
 pub mod lister;
 pub mod reader;
+pub mod text;
 
 /// The code under test: the lister itself, or the proved library with the
 /// feature `library`.

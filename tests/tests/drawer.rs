@@ -4,18 +4,12 @@
 #[allow(dead_code)] // not all of it is called from here
 mod calls;
 
-use calls::{book, check, complete, deepest, deepest_row, fault, first, length, loaded, row, same_build};
+use calls::{book, check, complete, deepest, deepest_row, fault, first, length, loaded, row, same_build, T};
 use outside_tests::books::{Draft, Rng, Sym};
 use outside_tests::compare::{rubbish, Comparison, Counts};
 use outside_tests::lister::{self, trees, walk::Given};
 use outside_tests::reader::{record, Answer, Reader, CELLS, FLAT, OUTPUT};
 use outside_tests::reader_under_test;
-
-/// Book T of document 01, in full.
-const T: [u8; 21] = [
-    0x10, 0x00, 0x20, 0x00, 0xF8, 0x11, 0x30, 0x01, 0x30, 0x01, 0x20, 0x01, 0x00, 0x00, 0x20, 0x01, 0x19, 0x00, 0x40,
-    0x41, 0x50,
-];
 
 /// Everything that the random comparison does, on this book and input.
 fn compared(book: &[u8], input: &[u8]) {

@@ -228,6 +228,29 @@ pub fn count_filled(p: &Packed, k: usize, w: &[u8], chart: &[u32]) -> Result<Opt
     Ok(count.unwrap_or(Some(0)))
 }
 
+/// Hands the readings to `with`, each with its place from 1 and at most 4,096 of them, as long as it says yes: how many
+/// there are; none for more.
+pub fn list_filled(
+    p: &Packed,
+    k: usize,
+    w: &[u8],
+    chart: &[u32],
+    mut with: impl FnMut(usize, &[u16]) -> bool,
+) -> Result<Option<usize>, Refusal> {
+    let count = tabled(p, k, w, chart, |enumerator| {
+        let mut row = [0; OUTPUT];
+        let mut nodes = Some(enumerator.first(k, 0, w.len(), 0, NODES as u16, &mut row));
+        (1..=COUNTED).find(|&place| {
+            if !nodes.is_some_and(|nodes| with(place, &row[..2 * nodes])) {
+                return true;
+            }
+            nodes = enumerator.next(k, 0, w.len(), 0, NODES as u16, &mut row);
+            nodes.is_none()
+        })
+    })?;
+    Ok(count.unwrap_or(Some(0)))
+}
+
 pub fn first(g: &Grammar, input: &[u8], chart: &mut [u32], out: &mut [u16]) -> Result<Option<usize>, Refusal> {
     judge(g, input, chart)?;
     if out.len() < OUTPUT {

@@ -3,7 +3,7 @@
 
 use super::packed::Packed;
 use super::recognizer::{fill, write_column};
-use super::{checker, enumerator, flat, loader, Grammar, Refusal, Rule, Symbol, CHART};
+use super::{checker, enumerator, flat, listing, loader, Grammar, Refusal, Rule, Symbol, CHART};
 use crate::books;
 use crate::random::Random;
 
@@ -302,4 +302,30 @@ fn the_flat_row_is_read_as_it_was_written() {
         flat::write(&g, &mut row);
         assert_eq!(flat::read(&row), g);
     }
+}
+
+fn text(book: &[u8], plate: &[u8]) -> String {
+    let mut text = Vec::new();
+    listing::list(book, plate, &mut text).unwrap();
+    String::from_utf8(text).unwrap()
+}
+
+#[test]
+fn the_listing_program_prints_the_lines_of_document_01() {
+    let t = b"\x10\x00\x20\x00\xF8\x11\x30\x01\x30\x01\x20\x01\x00\x00\x20\x01\x19\x00\x40\x41\x50";
+    assert_eq!(text(t, b"A"), "1: 1.0 0.1 1.2 = 463\n2: 1.0 1.2 0.1 = 463\nREADINGS 2\n");
+    assert_eq!(text(t, b"AAA"), "NO READING\n");
+    assert_eq!(text(t, b""), "REFUSED 9\n");
+    assert_eq!(text(&t[..20], b""), "REFUSED 1\n");
+    assert_eq!(text(b"\x10\x00\x20\x00\xE7\xFF\x40\x41\x50", b"A"), "1: 1.0 = -3\nREADINGS 1\n");
+    assert_eq!(text(b"\x10\x00\x20\x00\xFC\xFF\x40\x41\x50", b"A"), "1: 1.0 = 0\nREADINGS 1\n");
+    assert_eq!(text(&books::deepest().0, &[b'A'; 17]), "REFUSED 13\n");
+    let pairs = books::pairs();
+    for (marks, lines, last) in [(9, 1430, "READINGS 1430"), (10, 4096, "READINGS more")] {
+        let text = text(&pairs, &vec![b'A'; marks]);
+        assert_eq!((text.lines().count(), text.lines().last()), (lines + 1, Some(last)));
+        assert!(text.lines().zip(1..=lines).all(|(line, place)| line.starts_with(&format!("{place}: {marks}.0 "))));
+    }
+    let mut room = [0; 70_000];
+    assert!(listing::list(&pairs, &[b'A'; 10], &mut room[..]).is_err(), "the text does not fit");
 }

@@ -11,6 +11,12 @@ const FOUND: u16 = 0xABCD;
 const FOUND_AT: usize = 0xABCD_ABCD;
 const FOUND_TENTHS: i32 = -0x0BCD_ABCD;
 
+/// Book T of document 01, in full.
+pub const T: [u8; 21] = [
+    0x10, 0x00, 0x20, 0x00, 0xF8, 0x11, 0x30, 0x01, 0x30, 0x01, 0x20, 0x01, 0x00, 0x00, 0x20, 0x01, 0x19, 0x00, 0x40,
+    0x41, 0x50,
+];
+
 /// A book from rules like "0: 0 A": numbers are kinds, letters marks, nothing is nothing.
 pub fn book(start: u8, rules: &[&str]) -> Vec<u8> {
     let mut draft = Draft::new(start);

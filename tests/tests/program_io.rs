@@ -1,0 +1,246 @@
+//! The built listing program at its edges: books that are missing, cannot be read or are
+//! too long, plates of every length and kind of input, and output that cannot be written.
+#![cfg(feature = "library")]
+
+#[allow(dead_code)] // not all of it is called from here
+mod calls;
+mod process;
+
+use calls::book;
+use outside_tests::books::{Draft, Sym};
+use outside_tests::text::text;
+use process::{ended, given, program, Folder};
+use std::fs::{self, File};
+use std::io::{Read, Write};
+use std::os::unix::process::ExitStatusExt;
+use std::path::Path;
+use std::process::{Command, Stdio};
+use std::time::Duration;
+
+/// 100,000 bytes: more than the program reads of a book or a plate, and more than a pipe holds.
+const MANY: usize = 100_000;
+/// The signal that ends a program which writes to a pipe that nobody reads.
+const SIGPIPE: i32 = 13;
+
+fn pairs() -> Vec<u8> {
+    book(0, &["0: 0 0", "0: A"])
+}
+
+/// The program prints what the lister does, and this is it.
+fn prints(book: &[u8], plate: &[u8], due: &str) {
+    assert_eq!(String::from_utf8(text(book, plate).expect("small enough")).expect("ASCII"), due);
+    Folder::with(book).prints(plate, due.as_bytes()).expect("no difference");
+}
+
+#[test]
+fn a_book_that_is_not_there_is_empty() {
+    let (missing, empty, folder, dangling) = (Folder::new(), Folder::with(&[]), Folder::new(), Folder::new());
+    fs::create_dir(folder.book()).expect("a folder instead of a book");
+    std::os::unix::fs::symlink("nowhere", dangling.book()).expect("a link to nothing");
+    for place in [missing, empty, folder, dangling] {
+        for plate in [&b""[..], b"A", &[b'A'; 65]] {
+            place.prints(plate, b"REFUSED 1\n").expect("no difference");
+        }
+    }
+}
+
+/// A book of as many bytes as the longest that loads has, 2,563: 128 rules of 8 places.
+fn longest() -> Vec<u8> {
+    let mut draft = Draft::new(0);
+    draft.rules.push((0, -15, vec![Sym::T(b'A'); 8]));
+    (1..128).for_each(|rule| draft.rules.push((rule % 32, 7, vec![Sym::T(rule); 8])));
+    draft.bytes()
+}
+
+#[test]
+fn books_of_every_length() {
+    let longest = longest();
+    assert_eq!(longest.len(), 2563);
+    prints(&longest, &[b'A'; 8], "1: 8.0 = -2\nREADINGS 1\n");
+    prints(&longest, &[64; 8], "1: 8.64 = 1\nREADINGS 1\n");
+    prints(&longest[..2562], b"A", "REFUSED 1\n");
+    let (more, places) = ([&longest[..2562], &[0x20, 0, 0, 0]].concat(), [&longest[..2562], &[0x40, 0]].concat());
+    prints(&[&more[..], &[0x50]].concat(), b"A", "REFUSED 5\n");
+    prints(&[&places[..], &[0x50]].concat(), b"A", "REFUSED 6\n");
+    // Followed by junk: at the sizes of buffers, one byte on either side of them, and much longer.
+    for length in [2564, 4095, 4096, 4097, 8191, 8192, 8193, 65_536, MANY] {
+        for (junk, filler) in [(0x50, 0x30), (0x00, 0xFF), (0x20, 0x00)] {
+            for book in [&pairs(), &longest] {
+                let mut long = [&book[..], &[junk]].concat();
+                long.resize(length, filler);
+                prints(&long, b"A", "REFUSED 7\n");
+            }
+        }
+    }
+}
+
+#[test]
+fn books_of_100_000_bytes() {
+    let long = |front: &[u8], rest: &[u8]| {
+        let mut book = [front, &rest.repeat(MANY / rest.len())].concat();
+        book.truncate(MANY);
+        assert_eq!(book.len(), MANY);
+        book
+    };
+    prints(&long(&[], &[0x30]), b"A", "REFUSED 3\n");
+    prints(&long(&[], &[0x00]), b"A", "REFUSED 2\n");
+    prints(&long(&[], &[0x10]), b"A", "REFUSED 3\n");
+    prints(&long(&[0x10, 0x20], &[0x20]), b"A", "REFUSED 4\n");
+    prints(&long(&[0x10, 0x00], &[0x20, 0x00, 0x00, 0x00]), b"A", "REFUSED 5\n");
+    prints(&long(&[0x10, 0x00], &[0x20, 0x1F, 0x50, 0x50]), &[b'A'; 65], "REFUSED 5\n");
+    prints(&long(&[0x10, 0x00, 0x20, 0x00, 0x00, 0x00], &[0x40, 0x41]), b"A", "REFUSED 6\n");
+    prints(&long(&[0x10, 0x00], &[0x50]), b"", "REFUSED 7\n");
+    prints(&long(&longest(), &[0x50]), &[b'A'; MANY], "REFUSED 7\n");
+}
+
+#[test]
+fn plates_of_every_length() {
+    let line = book(0, &["0: A 0", "0: A"]);
+    let folder = Folder::with(&line);
+    for length in 0..=70 {
+        let plate = vec![b'A'; length];
+        let due = text(&line, &plate).expect("small enough");
+        assert_eq!(due == b"REFUSED 9\n", length == 0 || length > 64);
+        assert_eq!(due.ends_with(b" 1.1 = 0\nREADINGS 1\n"), (1..=64).contains(&length));
+        folder.prints(&plate, &due).expect("no difference");
+    }
+    for length in [4096, 8192, 65_536, MANY] {
+        folder.prints(&vec![b'A'; length], b"REFUSED 9\n").expect("no difference");
+    }
+}
+
+/// A plate from a file, in pieces through a pipe, and none at all.
+#[test]
+fn plates_from_everywhere() {
+    let line = book(0, &["0: A 0", "0: A"]);
+    let folder = Folder::with(&line);
+    for length in [0, 1, 64, 65, MANY] {
+        let (plate, path) = (vec![b'A'; length], folder.run().join("plate"));
+        fs::write(&path, &plate).expect("a plate");
+        let mut command = folder.command(&program());
+        command.stdin(File::open(&path).expect("a plate"));
+        assert_eq!(ended(&mut command.spawn().expect("the program starts")).code(), Some(0));
+        assert_eq!(folder.written("stdout"), text(&line, &plate).expect("small enough"), "{length} marks from a file");
+        assert_eq!(folder.written("stderr"), b"");
+        fs::remove_file(&path).expect("a plate");
+    }
+    for pieces in [&[1, 1][..], &[63, 1], &[64, 1], &[1, 63, 1], &[20, 20, 24], &[65, 1]] {
+        let mut child = folder.command(&program()).spawn().expect("the program starts");
+        let mut pipe = child.stdin.take().expect("a pipe");
+        for piece in pieces {
+            let _ = pipe.write_all(&vec![b'A'; *piece]); // after 65 marks nobody need read on
+            std::thread::sleep(Duration::from_millis(20));
+        }
+        drop(pipe);
+        assert_eq!(ended(&mut child).code(), Some(0));
+        let due = text(&line, &vec![b'A'; pieces.iter().sum()]).expect("small enough");
+        assert_eq!(folder.written("stdout"), due, "marks in pieces of {pieces:?}");
+    }
+    for none in ["</dev/null", "<&-"] {
+        assert_eq!(shell(&folder, none, b"").1, b"REFUSED 9\n", "{none}");
+    }
+}
+
+/// Runs the program through a shell that first redirects: how it ends, what it prints, and what it says of faults.
+fn shell(folder: &Folder, redirection: &str, plate: &[u8]) -> (Option<i32>, Vec<u8>, String) {
+    let mut command = folder.command(Path::new("sh"));
+    command.args(["-c", &format!("exec \"$0\" {redirection}")]).arg(program());
+    let status = given(&mut command.spawn().expect("a shell"), plate);
+    let said = String::from_utf8(folder.written("stderr")).expect("a text");
+    (status.code(), folder.written("stdout"), said)
+}
+
+/// The program leaves its folder as it finds it.
+#[test]
+fn nothing_but_the_output_is_written() {
+    for (book, plate) in [(pairs(), 9), (pairs(), 0), (longest(), 8), (vec![0x50; MANY], 1)] {
+        let folder = Folder::with(&book);
+        folder.ran(&vec![b'A'; plate]);
+        folder.ran(&vec![b'A'; plate]);
+        let names: Vec<_> =
+            fs::read_dir(folder.run()).expect("a folder").map(|entry| entry.unwrap().file_name()).collect();
+        assert_eq!(names, ["book.bin"]);
+        assert!(fs::read(folder.book()).expect("the book") == book);
+    }
+    let bare = Folder::new();
+    bare.ran(b"A");
+    assert_eq!(fs::read_dir(bare.run()).expect("a folder").count(), 0);
+}
+
+/// Short and long texts: a line that is written at the end, and many that are written in pieces.
+const SHORT_AND_LONG: [usize; 3] = [1, 9, 10];
+
+#[test]
+fn a_full_device_is_named() {
+    let folder = Folder::with(&pairs());
+    for marks in SHORT_AND_LONG.into_iter().chain([0, 65]) {
+        let full = File::options().write(true).open("/dev/full").expect("the full device");
+        let mut command = folder.command(&program());
+        let status = given(&mut command.stdout(full).spawn().expect("the program starts"), &vec![b'A'; marks]);
+        let said = String::from_utf8(folder.written("stderr")).expect("a text");
+        assert_eq!(status.code(), Some(0), "{marks} marks: {status}");
+        assert!(said.contains("No space left on device"), "{marks} marks: {said:?}");
+        assert!(said.ends_with('\n') && said.lines().count() == 1, "{marks} marks, said once: {said:?}");
+    }
+}
+
+#[test]
+fn a_closed_output_is_named() {
+    let folder = Folder::with(&pairs());
+    for marks in SHORT_AND_LONG.into_iter().chain([0, 65]) {
+        let (code, stdout, said) = shell(&folder, ">&-", &vec![b'A'; marks]);
+        assert_eq!((code, stdout), (Some(0), vec![]), "{marks} marks");
+        assert!(said.contains("Bad file descriptor"), "{marks} marks: {said:?}");
+        assert!(said.ends_with('\n') && said.lines().count() == 1, "{marks} marks, said once: {said:?}");
+        assert!(fs::read(folder.book()).expect("the book") == pairs(), "the text went into the book");
+    }
+    let (code, stdout, _) = shell(&folder, ">&- 2>&-", b"A");
+    assert_eq!((code, stdout), (Some(0), vec![]));
+}
+
+/// A text through a pipe that is read slowly: more than a pipe holds.
+#[test]
+fn a_slow_reader_gets_all() {
+    let due = text(&pairs(), &[b'A'; 10]).expect("small enough");
+    assert!(due.len() > 3 * 65_536);
+    let folder = Folder::with(&pairs());
+    let mut child = folder.command(&program()).stdout(Stdio::piped()).spawn().expect("the program starts");
+    let mut pipe = child.stdout.take().expect("a pipe");
+    let reader = std::thread::spawn(move || {
+        let (mut all, mut piece) = (Vec::new(), [0; 10_000]);
+        loop {
+            match pipe.read(&mut piece).expect("it is read") {
+                0 => return all,
+                n => all.extend_from_slice(&piece[..n]),
+            }
+            std::thread::sleep(Duration::from_millis(2));
+        }
+    });
+    assert_eq!(given(&mut child, &[b'A'; 10]).code(), Some(0));
+    assert!(reader.join().expect("it is read") == due);
+    assert_eq!(folder.written("stderr"), b"");
+}
+
+/// A pipe that nobody reads, from the start on or after some bytes, ends the program, and it says nothing.
+#[test]
+fn a_closed_pipe_ends_the_program() {
+    let folder = Folder::with(&pairs());
+    for (marks, bytes) in [(1, 0), (9, 0), (10, 0), (10, 10), (10, 70_000)] {
+        let mut child = folder.command(&program()).stdout(Stdio::piped()).spawn().expect("the program starts");
+        let mut pipe = child.stdout.take().expect("a pipe");
+        let reader = std::thread::spawn(move || pipe.read_exact(&mut vec![0; bytes]).expect("so many bytes"));
+        if bytes == 0 {
+            while !reader.is_finished() {
+                std::thread::yield_now(); // the pipe is closed before the plate is there
+            }
+        }
+        let status = given(&mut child, &vec![b'A'; marks]);
+        reader.join().expect("it is read");
+        assert_eq!(status.signal(), Some(SIGPIPE), "{marks} marks, {bytes} bytes read: {status}");
+        assert_eq!(folder.written("stderr"), b"");
+    }
+    // The same signal ends any program here: the test does not pass its own ignoring of it on.
+    let mut yes = Command::new("yes").stdout(Stdio::piped()).spawn().expect("yes");
+    drop(yes.stdout.take());
+    assert_eq!(ended(&mut yes).signal(), Some(SIGPIPE));
+}
