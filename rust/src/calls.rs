@@ -8,7 +8,7 @@ use crate::{sys, Grammar, LoadError, Refusal, NO_NUMBER, ROW};
 const NO_OFFSET: usize = usize::MAX;
 const NO_TENTHS: i32 = i32::MIN;
 
-/// Loads a book, of any length. It is refused with 1 to 7.
+/// Loads a book, of any length.
 ///
 /// ```
 /// use filbozseg::load;
@@ -16,6 +16,10 @@ const NO_TENTHS: i32 = i32::MIN;
 /// assert_eq!(grammar.rules().len(), 1);
 /// assert_eq!(load(b"\x10\x00").unwrap_err().to_string(), "the book is refused at offset 2");
 /// ```
+///
+/// # Errors
+///
+/// The first fault of the book, read from the left: refusals 1 to 7.
 pub fn load(book: &[u8]) -> Result<Grammar, LoadError> {
     let mut grammar = Grammar { row: Box::new([NO_NUMBER; ROW]) };
     let mut offset = NO_OFFSET;
@@ -28,7 +32,7 @@ pub fn load(book: &[u8]) -> Result<Grammar, LoadError> {
 }
 
 /// Whether the offered derivation is one of the input: for each node, in preorder, how many bytes it covers and the number of its rule. The
-/// chart is filled for the input; refused (8, 9, 10), it is left as found.
+/// chart is filled for the input.
 ///
 /// ```
 /// # fn main() -> Result<(), filbozseg::Error> {
@@ -39,6 +43,10 @@ pub fn load(book: &[u8]) -> Result<Grammar, LoadError> {
 /// # Ok(())
 /// # }
 /// ```
+///
+/// # Errors
+///
+/// Refusals 8, 9 and 10, in this order. The chart is left as found.
 pub fn check(grammar: &Grammar, input: &[u8], offered: &[u16], chart: &mut [u32]) -> Result<bool, Refusal> {
     // SAFETY: the pointers are those of live values of these lengths; the chart is borrowed for writing, so that nothing else lies in it.
     answer(unsafe {
@@ -54,8 +62,7 @@ pub fn check(grammar: &Grammar, input: &[u8], offered: &[u16], chart: &mut [u32]
     })
 }
 
-/// The length of an offered derivation, in tenths of a millimetre, halves away from zero. The chart is filled for the input, also where the
-/// row is refused as no derivation (12); refused with 8, 9 or 10, it is left as found.
+/// The length of an offered derivation, in tenths of a millimetre, halves away from zero. The chart is filled for the input.
 ///
 /// ```
 /// # fn main() -> Result<(), filbozseg::Error> {
@@ -65,6 +72,10 @@ pub fn check(grammar: &Grammar, input: &[u8], offered: &[u16], chart: &mut [u32]
 /// # Ok(())
 /// # }
 /// ```
+///
+/// # Errors
+///
+/// Refusals 8, 9 and 10, with the chart left as found; then 12, where the row is no derivation of the input, with the chart filled.
 pub fn length(grammar: &Grammar, input: &[u8], offered: &[u16], chart: &mut [u32]) -> Result<i32, Refusal> {
     let mut tenths = NO_TENTHS;
     // SAFETY: as in `check`; the tenths belong to this call alone.
@@ -84,7 +95,21 @@ pub fn length(grammar: &Grammar, input: &[u8], offered: &[u16], chart: &mut [u32
 }
 
 /// Whether two offered derivations are the same build: whether the rules of their nodes that cover something agree, each as often. The
-/// chart as in [`length`]; 12 where either row is no derivation. One row may be offered as both.
+/// chart is filled for the input. One row may be offered as both.
+///
+/// ```
+/// # fn main() -> Result<(), filbozseg::Error> {
+/// use filbozseg::{load, same_build, CELLS};
+/// // 0 -> 1 1, 1 -> nothing, 1 -> A
+/// let grammar = load(b"\x10\x00\x20\x00\x00\x00\x30\x01\x30\x01\x20\x01\x00\x00\x20\x01\x00\x00\x40A\x50")?;
+/// assert!(same_build(&grammar, b"A", &[1, 0, 0, 1, 1, 2], &[1, 0, 1, 2, 0, 1], &mut vec![0; CELLS])?);
+/// # Ok(())
+/// # }
+/// ```
+///
+/// # Errors
+///
+/// As [`length`]; 12 where either row is no derivation of the input.
 pub fn same_build(grammar: &Grammar, input: &[u8], a: &[u16], b: &[u16], chart: &mut [u32]) -> Result<bool, Refusal> {
     // SAFETY: as in `check`; what is only read may overlap.
     answer(unsafe {

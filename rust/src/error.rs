@@ -14,7 +14,7 @@ use std::fmt;
 /// assert_eq!(fault.to_string(), "the book is refused at offset 0");
 /// assert_eq!(fault.source().unwrap().to_string(), "a nonterminal of the book is over 31 (refusal 4)");
 /// ```
-#[derive(Clone, PartialEq, Eq)]
+#[derive(Clone, PartialEq, Eq, Hash)]
 #[non_exhaustive]
 pub struct LoadError {
     /// Why the book is refused: 1 to 7.
@@ -57,7 +57,7 @@ impl error::Error for LoadError {
 /// assert_eq!(readings(b"", b"A").unwrap_err().refusal().number(), 1);
 /// assert_eq!(readings(b"\x10\x00\x50", b"").unwrap_err().refusal().number(), 9);
 /// ```
-#[derive(Clone, Debug, PartialEq, Eq)]
+#[derive(Clone, Debug, PartialEq, Eq, Hash)]
 #[non_exhaustive]
 pub enum Error {
     /// A book was refused.

@@ -30,7 +30,7 @@ const MAX_RULES: usize = 128;
 /// # Ok(())
 /// # }
 /// ```
-#[derive(Clone, PartialEq, Eq)]
+#[derive(Clone, PartialEq, Eq, Hash)]
 pub struct Grammar {
     pub(crate) row: Box<[u16; ROW]>,
 }
@@ -73,11 +73,16 @@ impl Grammar {
         Readings::new(self, input)
     }
 
-    /// The reading of the input that a row of numbers says. Refused as [`check`] is (8, 9), or with 12 where it is no reading of the input.
+    /// The reading of the input that a row of numbers says.
+    ///
+    /// # Errors
+    ///
+    /// Refusals 8 and 9 of [`check`]; 12, where the row is no reading of the input.
     pub fn reading(&self, input: &[u8], numbers: &[u16]) -> Result<Reading, Refusal> {
-        match check(self, input, numbers, &mut vec![0; CELLS])? {
-            true => Ok(Reading::new(self, numbers)),
-            false => Err(Refusal::NotADerivation),
+        if check(self, input, numbers, &mut vec![0; CELLS])? {
+            Ok(Reading::new(self, numbers))
+        } else {
+            Err(Refusal::NotADerivation)
         }
     }
 }

@@ -38,6 +38,7 @@
 #![deny(missing_docs)]
 
 mod calls;
+mod counting;
 mod error;
 mod grammar;
 mod listing;
@@ -47,12 +48,14 @@ mod readings;
 mod recognizer;
 mod refusal;
 mod rule;
+mod span;
 pub mod sys;
 
 pub use calls::{check, length, load, same_build};
+pub use counting::{count, Count};
 pub use error::{Error, LoadError};
 pub use grammar::Grammar;
-pub use listing::{count, first, next, Count};
+pub use listing::{first, next};
 pub use node::{Children, Node, Nodes};
 pub use reading::Reading;
 pub use readings::Readings;

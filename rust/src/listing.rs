@@ -1,20 +1,22 @@
-//! The first derivation, the next one, and how many there are.
+//! The first derivation, and the next one.
 
-use crate::refusal::{answer, done};
+use crate::refusal::answer;
 use crate::{sys, Grammar, Refusal};
-use std::fmt;
 
 // What a lent place holds before the library writes it. It is no result, so that a place left unwritten passes for none: no derivation has
-// so many nodes, and none are counted so far.
+// so many nodes.
 const NO_NODES: usize = usize::MAX / 2;
-const NO_COUNT: usize = usize::MAX;
 
 /// The first derivation of the input, the smallest by the first number in which two differ: for each node, in preorder, how many bytes it
 /// covers and the number of its rule. None if the input has no tree at all. It stands at the front of the output, whose rest is left as
-/// found, and all of it where the call is refused or there is none. The chart is filled for the input, also where all its trees have more
-/// than 512 nodes (13); refused with 8, 9, 10 or 11, it is left as found.
+/// found, and all of it where there is none. The chart is filled for the input.
 ///
 /// The call needs up to 1,900 KiB of stack, as `include/filbozseg.h` says; a thread of Rust has 2 MiB by default.
+///
+/// # Errors
+///
+/// Refusals 8, 9, 10 and 11, in this order, with chart and output left as found; then 13, where the input has trees, but none of at most
+/// 512 nodes, with the chart filled and the output left as found.
 pub fn first<'a>(
     grammar: &Grammar,
     input: &[u8],
@@ -39,8 +41,7 @@ pub fn first<'a>(
 }
 
 /// The derivation of the input that follows the offered one in the order of [`first`], at the front of the output as there; none if the
-/// offered one is the last. Where there is none, and where the call is refused, the output is left as found. The chart is filled for the
-/// input, also where the offered row is no derivation of it (12); refused with 8, 9, 10 or 11, it is left as found.
+/// offered one is the last, and then the output is left as found. The chart is filled for the input.
 ///
 /// [`Grammar::readings`] is the walk from the first to the last. By hand, what is handed out lies in the output, and is copied before it is
 /// offered:
@@ -69,6 +70,11 @@ pub fn first<'a>(
 /// ```
 ///
 /// The call needs as much stack as `first`.
+///
+/// # Errors
+///
+/// Refusals 8, 9, 10 and 11, in this order, with chart and output left as found; then 12, where the offered row is no derivation of the
+/// input, with the chart filled and the output left as found.
 pub fn next<'a>(
     grammar: &Grammar,
     input: &[u8],
@@ -93,50 +99,4 @@ pub fn next<'a>(
         )
     };
     Ok(answer(code)?.then_some(output).map(|output| &output[..2 * nodes]))
-}
-
-/// How many derivations an input has. Less is smaller; it is written as a number, or as `more`.
-#[derive(Clone, Copy, Debug, PartialEq, Eq, PartialOrd, Ord, Hash)]
-pub enum Count {
-    /// So many, at most 4,096; 0 if the input has no tree at all.
-    Exactly(usize),
-    /// More than 4,096.
-    More,
-}
-
-impl fmt::Display for Count {
-    fn fmt(&self, f: &mut fmt::Formatter<'_>) -> fmt::Result {
-        match self {
-            Count::Exactly(count) => count.fmt(f),
-            Count::More => f.pad("more"),
-        }
-    }
-}
-
-/// How many derivations the input has. The chart is filled for it, also where all its trees have more than 512 nodes (13); refused with 8,
-/// 9 or 10, it is left as found.
-///
-/// ```
-/// # fn main() -> Result<(), filbozseg::Error> {
-/// use filbozseg::{count, load, Count, CELLS};
-/// // 0 -> 0 0, 0 -> A
-/// let grammar = load(b"\x10\x00\x20\x00\x00\x00\x30\x00\x30\x00\x20\x00\x00\x00\x40A\x50")?;
-/// let mut chart = vec![0; CELLS];
-/// assert_eq!(count(&grammar, &[b'A'; 9], &mut chart)?, Count::Exactly(1430));
-/// assert_eq!(count(&grammar, &[b'A'; 10], &mut chart)?, Count::More);
-/// # Ok(())
-/// # }
-/// ```
-///
-/// The call needs as much stack as [`first`].
-pub fn count(grammar: &Grammar, input: &[u8], chart: &mut [u32]) -> Result<Count, Refusal> {
-    let mut count = NO_COUNT;
-    // SAFETY: as in `first`.
-    let code = unsafe {
-        sys::filbozseg_count(grammar.row(), input.as_ptr(), input.len(), chart.as_mut_ptr(), chart.len(), &mut count)
-    };
-    match code {
-        2 => Ok(Count::More),
-        code => done(code).map(|()| Count::Exactly(count)),
-    }
 }

@@ -1,12 +1,13 @@
 //! The nodes of a reading, as a tree. Nothing here calls itself: a reading may be nested 512 deep.
 
-use crate::reading::{Reading, Span};
+use crate::span::Span;
+use crate::Reading;
 use std::fmt;
 use std::iter::FusedIterator;
 use std::ops::Range;
 
-/// A node of a reading.
-#[derive(Clone, Copy)]
+/// A node of a reading. Two are equal if they have the same number in equal readings.
+#[derive(Clone, Copy, PartialEq, Eq, Hash)]
 pub struct Node<'a> {
     reading: &'a Reading,
     number: usize,

@@ -31,6 +31,7 @@ use std::iter::FusedIterator;
 ///
 /// It owns a chart, an output and a copy of the last reading, some 20 KB, and needs as much stack as [`first`].
 #[derive(Clone)]
+#[must_use = "the readings are found only when they are asked for"]
 pub struct Readings<'a> {
     grammar: &'a Grammar,
     input: &'a [u8],

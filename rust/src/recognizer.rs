@@ -7,13 +7,14 @@ use crate::{sys, Grammar, Refusal, BYTES, HAND, NO_NUMBER};
 ///
 /// [`open`] makes one. The row of [`Recognizer::from_row`] may hold anything, and each number is judged whole. Refused with 14: a count
 /// over 64, or a number over 255 among the first `count`. The numbers of bytes not taken may be any.
-#[derive(Clone, Copy, Debug, PartialEq, Eq)]
+#[derive(Clone, Copy, Debug, PartialEq, Eq, Hash)]
 pub struct Recognizer {
     row: [u16; HAND],
 }
 
-/// Opens a recognizer on a chart: the recognizer of no bytes, also where the call is refused (8, 10), and whether the empty input is
-/// complete. It clears the first 4,225 cells of the chart and writes the first column; refused, it leaves the chart as found.
+/// Opens a recognizer on a chart: the recognizer of no bytes, and whether the empty input is complete. It clears the first 4,225 cells of
+/// the chart and writes the first column. Refused (8, 10, in this order), it gives the recognizer of no bytes too, and leaves the chart as
+/// found.
 ///
 /// ```
 /// # fn main() -> Result<(), filbozseg::Error> {
@@ -59,10 +60,14 @@ impl Recognizer {
     }
 
     /// Takes a byte: whether the input so far is complete. The recognizer has the byte then, with zeros behind it, and the chart its
-    /// column; refused (8, 14, 10, 15, in this order), both are left as found.
+    /// column.
     ///
     /// The answer is that of the input if the chart is the one on which the recognizer was opened with this grammar, and nobody else wrote
     /// to it.
+    ///
+    /// # Errors
+    ///
+    /// Refusals 8, 14, 10 and 15, in this order. Recognizer and chart are left as found.
     pub fn take(&mut self, grammar: &Grammar, byte: u8, chart: &mut [u32]) -> Result<bool, Refusal> {
         // SAFETY: as in `open`.
         answer(unsafe { sys::filbozseg_take(grammar.row(), &mut self.row, byte, chart.as_mut_ptr(), chart.len()) })

@@ -13,7 +13,7 @@ pub(crate) fn byte(number: u16) -> u8 {
 }
 
 /// A rule of a grammar. It is written `0 -> 1 'A'`, with `-` for no places; its `Debug` adds the length.
-#[derive(Clone, Copy, PartialEq, Eq)]
+#[derive(Clone, Copy, PartialEq, Eq, Hash)]
 pub struct Rule<'a> {
     number: usize,
     row: &'a [u16],
