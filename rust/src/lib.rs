@@ -33,8 +33,8 @@
 //! # Stack and threads
 //!
 //! `first`, `next`, `count` and the iterator over readings need up to 1,900 KiB of stack: a thread of Rust has 2 MiB by default, and that
-//! is enough. `include/filbozseg.h` has the figure of each call. Nothing is kept between calls, so that they may run in any number of
-//! threads.
+//! is enough. In a thread with less, the process may be ended as by any overflow of a stack. `include/filbozseg.h` has the figure of each
+//! call. Nothing is kept between calls, so that they may run in any number of threads.
 #![deny(missing_docs)]
 
 mod calls;

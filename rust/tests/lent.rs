@@ -1,4 +1,4 @@
-//! What is lent to the calls: slices of no length, one row twice, and one library in several threads.
+//! What is lent to the calls: slices of no length, one row twice, several threads with their stacks.
 mod books;
 
 use books::{deep, wide, MIXED, PAIRS, T};
@@ -87,4 +87,20 @@ fn all_types_may_go_to_other_threads() {
     fn goes<T: Send + Sync>() {}
     goes::<(Grammar, Rule, Recognizer, Reading, Node, Nodes, Children, Readings)>();
     goes::<(Error, LoadError, Refusal, Count, Symbol)>();
+}
+
+/// The variable by which the next test asks the process that it starts to overflow.
+const OVERFLOW: &str = "FILBOZSEG_TEST_OVERFLOW";
+
+#[test]
+fn too_small_a_stack_ends_the_process() {
+    if std::env::var_os(OVERFLOW).is_some() {
+        let look = || deep().readings(&[b'A'; 64]).next().unwrap().unwrap();
+        std::thread::Builder::new().stack_size(256 * 1024).spawn(look).unwrap().join().unwrap();
+        return;
+    }
+    let mut again = std::process::Command::new(std::env::current_exe().unwrap());
+    let left = again.args(["--exact", "too_small_a_stack_ends_the_process"]).env(OVERFLOW, "1").output().unwrap();
+    assert!(!left.status.success());
+    assert!(String::from_utf8_lossy(&left.stderr).contains("has overflowed its stack"), "{left:?}");
 }
