@@ -18,14 +18,32 @@ static void print(size_t nodes)
     printf("\n");
 }
 
+/* Loads the first bytes of the book, and says what became of it. */
+static void load(size_t bytes)
+{
+    size_t offset = 0; /* written with a refused book only */
+    switch (FILBOZSEG_REFUSED(filbozseg_load(book, bytes, grammar, &offset))) {
+    case 0:
+        printf("%zu bytes: loaded\n", bytes);
+        break;
+    case FILBOZSEG_REFUSAL_UNEXPECTED_END:
+        printf("%zu bytes: refusal %d at offset %zu, the book ends too early\n", bytes, FILBOZSEG_REFUSAL_UNEXPECTED_END, offset);
+        break;
+    default:
+        printf("%zu bytes: another refusal at offset %zu\n", bytes, offset);
+    }
+}
+
 int main(void)
 {
     uint16_t hand[FILBOZSEG_HAND];
-    size_t offset = 0;    /* written with a refused book only */
     size_t nodes = 0;     /* written with a reading handed out only */
     size_t count = 0;     /* written with a counted input only */
     int32_t tenths = 0;   /* written with a measured reading only */
-    printf("loaded: %u\n", filbozseg_load(book, sizeof book, grammar, &offset));
+    uint32_t code;
+    printf("version %d.%d.%d\n", FILBOZSEG_VERSION_MAJOR, FILBOZSEG_VERSION_MINOR, FILBOZSEG_VERSION_PATCH);
+    load(9);
+    load(sizeof book);
     printf("nothing complete: %u\n", filbozseg_open(grammar, hand, chart, FILBOZSEG_CELLS));
     printf("A complete: %u\n", filbozseg_take(grammar, hand, 'A', chart, FILBOZSEG_CELLS));
     printf("in hand: %u mark, %c\n", hand[FILBOZSEG_BYTES], hand[0]);
@@ -40,7 +58,7 @@ int main(void)
     print(nodes);
     printf("counted: %u,", filbozseg_count(grammar, plate, 1, chart, FILBOZSEG_CELLS, &count));
     printf(" %zu\n", count);
-    printf("another book: %u", filbozseg_load(book, 9, grammar, &offset));
-    printf(" at offset %zu\n", offset);
-    return 0;
+    code = filbozseg_count(grammar, plate, 0, chart, FILBOZSEG_CELLS, &count);
+    printf("a plate without marks: refusal %u\n", FILBOZSEG_REFUSED(code));
+    return FILBOZSEG_REFUSED(code) == FILBOZSEG_REFUSAL_INPUT_LENGTH ? 0 : 1;
 }

@@ -1,11 +1,17 @@
 /*
- * The proved plate reader, for C: link libfilbozseg.a (x86-64), which `rt staticlib filbozseg` writes.
+ * The proved plate reader, for C (C99 or later) and C++, on x86-64 Linux. To build the library and a program over it, at the top of the
+ * repository:
+ *
+ *     rt staticlib filbozseg
+ *     gcc -std=c11 -O2 -Iinclude program.c target/staticlib/libfilbozseg.a -o program
+ *
+ * examples/hello.c is such a program.
  *
  * Every function returns a code:
  *     0          no; none
  *     1          yes; loaded; measured; handed out; counted
  *     2          more (from filbozseg_count alone)
- *     256 + n    refusal n of document 01, 1 <= n <= 15
+ *     256 + n    refusal n of document 01, 1 <= n <= 15: FILBOZSEG_REFUSED gives n, and enum filbozseg_refusal has its name
  * and no other. None allocates, keeps anything between calls, or needs anything of a C library but memcpy and memset. Calls from several
  * threads at once are fine as long as what is lent for writing is lent to one of them alone.
  *
@@ -37,6 +43,11 @@
 extern "C" {
 #endif
 
+/* The version of this header, and of the library that it describes. */
+#define FILBOZSEG_VERSION_MAJOR 0
+#define FILBOZSEG_VERSION_MINOR 1
+#define FILBOZSEG_VERSION_PATCH 0
+
 /* The numbers of a grammar's row, the numbers of a hand's row, the used cells of a chart, the most bytes that an input has, and the numbers
    that an output has at least: two for each of the 512 nodes that a derivation has at most. */
 #define FILBOZSEG_ROW 2435
@@ -56,6 +67,32 @@ extern "C" {
 #define FILBOZSEG_FIRST_STACK (1900 * 1024)
 #define FILBOZSEG_NEXT_STACK (1900 * 1024)
 #define FILBOZSEG_COUNT_STACK (1900 * 1024)
+
+/* The refusals, with their numbers in document 01. More may come: a switch over them has a default. */
+enum filbozseg_refusal {
+    FILBOZSEG_REFUSAL_UNEXPECTED_END = 1,         /* the book ends inside a command, or where a command is due */
+    FILBOZSEG_REFUSAL_UNKNOWN_COMMAND = 2,        /* a byte of the book is no command */
+    FILBOZSEG_REFUSAL_OUT_OF_TURN = 3,            /* a command of the book is out of turn */
+    FILBOZSEG_REFUSAL_NONTERMINAL_TOO_LARGE = 4,  /* a nonterminal of the book is over 31 */
+    FILBOZSEG_REFUSAL_TOO_MANY_RULES = 5,         /* the book has more than 128 rules */
+    FILBOZSEG_REFUSAL_TOO_MANY_PLACES = 6,        /* a rule of the book has more than 8 places */
+    FILBOZSEG_REFUSAL_FURTHER_BYTE = 7,           /* a byte follows the end of the book */
+    FILBOZSEG_REFUSAL_INVALID_GRAMMAR = 8,        /* the grammar has a used number out of its range */
+    FILBOZSEG_REFUSAL_INPUT_LENGTH = 9,           /* the input has no bytes, or more than 64 */
+    FILBOZSEG_REFUSAL_CHART_TOO_SHORT = 10,       /* the chart has fewer than 4225 cells */
+    FILBOZSEG_REFUSAL_OUTPUT_TOO_SHORT = 11,      /* the output has fewer than 1024 numbers */
+    FILBOZSEG_REFUSAL_NOT_A_DERIVATION = 12,      /* what is offered is no derivation of the input */
+    FILBOZSEG_REFUSAL_ONLY_LARGER_TREES = 13,     /* the input has trees, but none of at most 512 nodes */
+    FILBOZSEG_REFUSAL_INVALID_RECOGNIZER = 14,    /* the hand's count is over 64, or a used mark over 255 */
+    FILBOZSEG_REFUSAL_RECOGNIZER_FULL = 15        /* the hand has 64 marks and takes no more */
+};
+
+/* The number of the refusal that a code says, or 0 if it says none. What is written for the code is evaluated once. */
+#define FILBOZSEG_REFUSED(code) filbozseg_refused(code)
+static inline uint32_t filbozseg_refused(uint32_t code)
+{
+    return code > 256 ? code - 256 : 0;
+}
 
 /*
  * The row of a grammar, numbers of 16 bits: the start symbol, the number of rules, the nullable depth, and then 19 numbers for each of 128
@@ -134,11 +171,11 @@ uint32_t filbozseg_first(const uint16_t grammar[FILBOZSEG_ROW], const uint8_t *i
                          uint32_t *chart, size_t chart_length, uint16_t *output, size_t output_length, size_t *nodes);
 
 /*
- * Hands out the derivation of the input that follows the offered one in the order of filbozseg_first. Returns 1 and leaves it in the output,
- * and how many nodes it has at nodes, as filbozseg_first does; or 0 if the offered one is the last. Refusals, in this order: 8, 9, 10, 11 as
- * at filbozseg_first; 12 the offered row, which may have any length, is no derivation of the input. With 0 and refused, it leaves output
- * and nodes as found; refused with 8 to 11, the chart too, else the chart is filled for the input. The offered row may not overlap the
- * output, so that a derivation handed out is copied before it is offered; all of them, in their order:
+ * Hands out the derivation of the input that follows the offered one in the order of filbozseg_first. Returns 1 and leaves it in the
+ * output, and how many nodes it has at nodes, as filbozseg_first does; or 0 if the offered one is the last. Refusals, in this order: 8, 9,
+ * 10, 11 as at filbozseg_first; 12 the offered row, which may have any length, is no derivation of the input. With 0 and refused, it leaves
+ * output and nodes as found; refused with 8 to 11, the chart too, else the chart is filled for the input. The offered row may not overlap
+ * the output, so that a derivation handed out is copied before it is offered; all of them, in their order:
  *
  *     uint16_t output[FILBOZSEG_OUTPUT], offered[FILBOZSEG_OUTPUT];
  *     size_t nodes = 0;

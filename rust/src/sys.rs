@@ -1,13 +1,17 @@
 //! The functions of the static library, as `include/filbozseg.h` declares them: a slice is a pointer and a length, an array a pointer.
 //!
-//! What a caller owes: each pointer is that of as many live values as its length says (or its array type), and what is lent for writing
-//! overlaps nothing else that is lent.
+//! The header says what each code means, what is written and when, and how much stack a call needs.
+//!
+//! What a caller owes: each pointer is that of as many live values as its length says (or its array type), also where that is 0 (none may
+//! be null), and what is lent for writing overlaps nothing else that is lent.
 
 use crate::{HAND, ROW};
 
 extern "C" {
+    /// Loads a book: see [`crate::load`].
     pub fn filbozseg_load(book: *const u8, book_length: usize, grammar: *mut [u16; ROW], offset: *mut usize) -> u32;
 
+    /// Opens the recognizer: see [`crate::open`].
     pub fn filbozseg_open(
         grammar: *const [u16; ROW],
         hand: *mut [u16; HAND],
@@ -15,6 +19,7 @@ extern "C" {
         chart_length: usize,
     ) -> u32;
 
+    /// Takes a byte into the hand: see [`crate::Recognizer::take`].
     pub fn filbozseg_take(
         grammar: *const [u16; ROW],
         hand: *mut [u16; HAND],
@@ -23,6 +28,7 @@ extern "C" {
         chart_length: usize,
     ) -> u32;
 
+    /// Whether the offered derivation is one of the input: see [`crate::check`].
     pub fn filbozseg_check(
         grammar: *const [u16; ROW],
         input: *const u8,
@@ -33,6 +39,7 @@ extern "C" {
         chart_length: usize,
     ) -> u32;
 
+    /// The length of an offered derivation: see [`crate::length`].
     pub fn filbozseg_length(
         grammar: *const [u16; ROW],
         input: *const u8,
@@ -44,6 +51,7 @@ extern "C" {
         tenths: *mut i32,
     ) -> u32;
 
+    /// Whether two offered derivations are the same build: see [`crate::same_build`].
     pub fn filbozseg_same_build(
         grammar: *const [u16; ROW],
         input: *const u8,
@@ -56,6 +64,7 @@ extern "C" {
         chart_length: usize,
     ) -> u32;
 
+    /// The first derivation of an input: see [`crate::first`].
     pub fn filbozseg_first(
         grammar: *const [u16; ROW],
         input: *const u8,
@@ -67,6 +76,7 @@ extern "C" {
         nodes: *mut usize,
     ) -> u32;
 
+    /// The derivation after the offered one: see [`crate::next`].
     pub fn filbozseg_next(
         grammar: *const [u16; ROW],
         input: *const u8,
@@ -80,6 +90,7 @@ extern "C" {
         nodes: *mut usize,
     ) -> u32;
 
+    /// How many derivations an input has: see [`crate::count`].
     pub fn filbozseg_count(
         grammar: *const [u16; ROW],
         input: *const u8,

@@ -255,13 +255,13 @@ fn derivations_are_counted_up_to_4096() {
     assert_eq!(count(&grammar, b"A", &mut chart[..CELLS - 1]), Err(Refusal::ChartTooShort));
     assert_eq!(chart, self::chart());
     for (input, due) in [("A", 2), ("AA", 1), ("AAA", 0), ("B", 0)] {
-        assert_eq!(count(&grammar, input.as_bytes(), &mut chart), Ok(Counted::Exactly(due)), "{input}");
+        assert_eq!(count(&grammar, input.as_bytes(), &mut chart), Ok(Count::Exactly(due)), "{input}");
     }
     let mut filled = self::chart();
     check(&grammar, b"B", &[], &mut filled).unwrap();
     assert_eq!(chart, filled);
-    assert_eq!(count(&pairs, &[b'A'; 9], &mut chart), Ok(Counted::Exactly(1430)));
-    assert_eq!(count(&pairs, &[b'A'; 10], &mut chart), Ok(Counted::More));
+    assert_eq!(count(&pairs, &[b'A'; 9], &mut chart), Ok(Count::Exactly(1430)));
+    assert_eq!(count(&pairs, &[b'A'; 10], &mut chart), Ok(Count::More));
     // 0 -> A 1 1, 1 -> eight of 2, 2 -> eight of 3, 3 -> eight of 4, 4 -> nothing
     let mut book = b"\x10\x00\x20\x00\x00\x00\x40A\x30\x01\x30\x01".to_vec();
     (1..4).for_each(|k| book.extend([&[0x20, k, 0, 0][..], &[0x30, k + 1].repeat(8)].concat()));

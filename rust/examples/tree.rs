@@ -1,0 +1,48 @@
+//! Readings as pictures in text: an indented tree, for each node its rule, the marks that it covers, and its rule's length.
+use filbozseg::{length, load, Error, Grammar, Node, Reading, CELLS};
+use std::fmt::Write;
+
+/// 0 -> 1 0 (10), 0 -> 1 (20), 1 -> A 2 B (30), 2 -> nothing (-5), 2 -> C (25).
+const BOOK: &[u8] = b"\x10\x00\x20\x00\x0a\x00\x30\x01\x30\x00\x20\x00\x14\x00\x30\x01\
+    \x20\x01\x1e\x00\x40A\x30\x02\x40B\x20\x02\xfb\xff\x20\x02\x19\x00\x40C\x50";
+const PLATE: &[u8] = b"ABACB";
+
+/// Hundredths of a millimetre, as millimetres.
+fn millimetres(hundredths: i16) -> String {
+    let sign = if hundredths < 0 { "-" } else { "" };
+    let size = hundredths.unsigned_abs();
+    format!("{sign}{}.{:02} mm", size / 100, size % 100)
+}
+
+/// The line of a node, two blanks to the right for each node above it.
+fn line(grammar: &Grammar, plate: &[u8], node: Node) -> String {
+    let rule = grammar.rule(node.rule()).expect("a rule of the grammar");
+    let marks = match node.marks() {
+        marks if marks.is_empty() => format!("nothing at {}", marks.start),
+        marks => format!("{} to {} \"{}\"", marks.start, marks.end, plate[marks.clone()].escape_ascii()),
+    };
+    let tree = format!("{:blanks$}rule {}: {rule}", "", rule.number(), blanks = 2 * node.depth());
+    format!("{tree:28} {marks:16} {:>8}", millimetres(rule.length()))
+}
+
+/// The picture of a reading: its line as document 01 prints it, and then a line for each node.
+pub fn picture(grammar: &Grammar, plate: &[u8], reading: &Reading) -> Result<String, Error> {
+    let tenths = length(grammar, plate, reading.numbers(), &mut vec![0; CELLS])?;
+    let mut text = format!("{reading} = {tenths}\n");
+    for node in reading.nodes() {
+        writeln!(text, "{}", line(grammar, plate, node)).expect("a string takes all");
+    }
+    Ok(text)
+}
+
+/// The pictures of all readings of the plate.
+pub fn pictures() -> Result<String, Error> {
+    let grammar = load(BOOK)?;
+    grammar.readings(PLATE).map(|reading| picture(&grammar, PLATE, &reading?)).collect()
+}
+
+#[allow(dead_code)] // a test takes the pictures without it
+fn main() -> Result<(), Error> {
+    print!("{}", pictures()?);
+    Ok(())
+}

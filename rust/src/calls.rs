@@ -1,0 +1,128 @@
+//! Loading, and the calls on an offered derivation.
+
+use crate::refusal::{answer, done};
+use crate::{sys, Grammar, LoadError, Refusal, NO_NUMBER, ROW};
+
+// What a lent place holds before the library writes it. It is no result, so that a place left unwritten passes for none: no book has such
+// an offset, and no derivation such a length.
+const NO_OFFSET: usize = usize::MAX;
+const NO_TENTHS: i32 = i32::MIN;
+
+/// Loads a book, of any length.
+///
+/// ```
+/// use filbozseg::load;
+/// let grammar = load(b"\x10\x00\x20\x00\x19\x00\x40A\x50").unwrap(); // 0 -> A, 0.25 mm
+/// assert_eq!(grammar.rules().len(), 1);
+/// assert_eq!(load(b"\x10\x00").unwrap_err().to_string(), "the book is refused at offset 2");
+/// ```
+///
+/// # Errors
+///
+/// The first fault of the book, read from the left: refusals 1 to 7.
+pub fn load(book: &[u8]) -> Result<Grammar, LoadError> {
+    let mut grammar = Grammar { row: Box::new([NO_NUMBER; ROW]) };
+    let mut offset = NO_OFFSET;
+    // SAFETY: the pointers are those of live values of these lengths, and the two that are written belong to this call alone.
+    let code = unsafe { sys::filbozseg_load(book.as_ptr(), book.len(), &mut *grammar.row, &mut offset) };
+    match done(code) {
+        Ok(()) => Ok(grammar),
+        Err(refusal) => Err(LoadError { refusal, offset, grammar }),
+    }
+}
+
+/// Whether the offered derivation is one of the input: for each node, in preorder, how many bytes it covers and the number of its rule. The
+/// chart is filled for the input.
+///
+/// ```
+/// # fn main() -> Result<(), filbozseg::Error> {
+/// use filbozseg::{check, load, CELLS};
+/// let (grammar, mut chart) = (load(b"\x10\x00\x20\x00\x19\x00\x40A\x50")?, vec![0; CELLS]); // 0 -> A
+/// assert!(check(&grammar, b"A", &[1, 0], &mut chart)?);
+/// assert!(!check(&grammar, b"A", &[], &mut chart)?);
+/// # Ok(())
+/// # }
+/// ```
+///
+/// # Errors
+///
+/// Refusals 8, 9 and 10, in this order. The chart is left as found.
+pub fn check(grammar: &Grammar, input: &[u8], offered: &[u16], chart: &mut [u32]) -> Result<bool, Refusal> {
+    // SAFETY: the pointers are those of live values of these lengths; the chart is borrowed for writing, so that nothing else lies in it.
+    answer(unsafe {
+        sys::filbozseg_check(
+            grammar.row(),
+            input.as_ptr(),
+            input.len(),
+            offered.as_ptr(),
+            offered.len(),
+            chart.as_mut_ptr(),
+            chart.len(),
+        )
+    })
+}
+
+/// The length of an offered derivation, in tenths of a millimetre, halves away from zero. The chart is filled for the input.
+///
+/// ```
+/// # fn main() -> Result<(), filbozseg::Error> {
+/// use filbozseg::{length, load, CELLS};
+/// let (grammar, mut chart) = (load(b"\x10\x00\x20\x00\x19\x00\x40A\x50")?, vec![0; CELLS]); // 0 -> A, 0.25 mm
+/// assert_eq!(length(&grammar, b"A", &[1, 0], &mut chart)?, 3);
+/// # Ok(())
+/// # }
+/// ```
+///
+/// # Errors
+///
+/// Refusals 8, 9 and 10, with the chart left as found; then 12, where the row is no derivation of the input, with the chart filled.
+pub fn length(grammar: &Grammar, input: &[u8], offered: &[u16], chart: &mut [u32]) -> Result<i32, Refusal> {
+    let mut tenths = NO_TENTHS;
+    // SAFETY: as in `check`; the tenths belong to this call alone.
+    let code = unsafe {
+        sys::filbozseg_length(
+            grammar.row(),
+            input.as_ptr(),
+            input.len(),
+            offered.as_ptr(),
+            offered.len(),
+            chart.as_mut_ptr(),
+            chart.len(),
+            &mut tenths,
+        )
+    };
+    done(code).map(|()| tenths)
+}
+
+/// Whether two offered derivations are the same build: whether the rules of their nodes that cover something agree, each as often. The
+/// chart is filled for the input. One row may be offered as both.
+///
+/// ```
+/// # fn main() -> Result<(), filbozseg::Error> {
+/// use filbozseg::{load, same_build, CELLS};
+/// // 0 -> 1 1, 1 -> nothing, 1 -> A
+/// let grammar = load(b"\x10\x00\x20\x00\x00\x00\x30\x01\x30\x01\x20\x01\x00\x00\x20\x01\x00\x00\x40A\x50")?;
+/// assert!(same_build(&grammar, b"A", &[1, 0, 0, 1, 1, 2], &[1, 0, 1, 2, 0, 1], &mut vec![0; CELLS])?);
+/// # Ok(())
+/// # }
+/// ```
+///
+/// # Errors
+///
+/// As [`length`]; 12 where either row is no derivation of the input.
+pub fn same_build(grammar: &Grammar, input: &[u8], a: &[u16], b: &[u16], chart: &mut [u32]) -> Result<bool, Refusal> {
+    // SAFETY: as in `check`; what is only read may overlap.
+    answer(unsafe {
+        sys::filbozseg_same_build(
+            grammar.row(),
+            input.as_ptr(),
+            input.len(),
+            a.as_ptr(),
+            a.len(),
+            b.as_ptr(),
+            b.len(),
+            chart.as_mut_ptr(),
+            chart.len(),
+        )
+    })
+}

@@ -1,0 +1,59 @@
+//! How many derivations there are.
+
+use crate::refusal::done;
+use crate::{sys, Grammar, Refusal};
+use std::fmt;
+
+// What a lent place holds before the library writes it. It is no result, so that a place left unwritten passes for none: none are counted
+// so far.
+const NO_COUNT: usize = usize::MAX;
+
+/// How many derivations an input has. Less is smaller; it is written as a number, or as `more`.
+#[derive(Clone, Copy, Debug, PartialEq, Eq, PartialOrd, Ord, Hash)]
+pub enum Count {
+    /// So many, at most 4,096; 0 if the input has no tree at all.
+    Exactly(usize),
+    /// More than 4,096.
+    More,
+}
+
+impl fmt::Display for Count {
+    fn fmt(&self, f: &mut fmt::Formatter<'_>) -> fmt::Result {
+        match self {
+            Count::Exactly(count) => count.fmt(f),
+            Count::More => f.pad("more"),
+        }
+    }
+}
+
+/// How many derivations the input has. The chart is filled for it.
+///
+/// ```
+/// # fn main() -> Result<(), filbozseg::Error> {
+/// use filbozseg::{count, load, Count, CELLS};
+/// // 0 -> 0 0, 0 -> A
+/// let grammar = load(b"\x10\x00\x20\x00\x00\x00\x30\x00\x30\x00\x20\x00\x00\x00\x40A\x50")?;
+/// let mut chart = vec![0; CELLS];
+/// assert_eq!(count(&grammar, &[b'A'; 9], &mut chart)?, Count::Exactly(1430));
+/// assert_eq!(count(&grammar, &[b'A'; 10], &mut chart)?, Count::More);
+/// # Ok(())
+/// # }
+/// ```
+///
+/// The call needs as much stack as [`first`](crate::first).
+///
+/// # Errors
+///
+/// Refusals 8, 9 and 10, in this order, with the chart left as found; then 13, where the input has trees, but none of at most 512 nodes,
+/// with the chart filled.
+pub fn count(grammar: &Grammar, input: &[u8], chart: &mut [u32]) -> Result<Count, Refusal> {
+    let mut count = NO_COUNT;
+    // SAFETY: the pointers are those of live values of these lengths; those that are written are borrowed for writing by this call alone.
+    let code = unsafe {
+        sys::filbozseg_count(grammar.row(), input.as_ptr(), input.len(), chart.as_mut_ptr(), chart.len(), &mut count)
+    };
+    match code {
+        2 => Ok(Count::More),
+        code => done(code).map(|()| Count::Exactly(count)),
+    }
+}

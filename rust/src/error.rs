@@ -1,0 +1,107 @@
+//! The errors: a refused book, and any refusal.
+
+use crate::{Grammar, Refusal};
+use std::error;
+use std::fmt;
+
+/// A refused book. Its text says at which offset the fault is; its [source](error::Error::source) is the refusal, which says what it is.
+///
+/// ```
+/// use filbozseg::{load, Refusal};
+/// use std::error::Error;
+/// let fault = load(b"\x10\x20").unwrap_err();
+/// assert_eq!((fault.refusal, fault.offset), (Refusal::NonterminalTooLarge, 0));
+/// assert_eq!(fault.to_string(), "the book is refused at offset 0");
+/// assert_eq!(fault.source().unwrap().to_string(), "a nonterminal of the book is over 31 (refusal 4)");
+/// ```
+#[derive(Clone, PartialEq, Eq, Hash)]
+#[non_exhaustive]
+pub struct LoadError {
+    /// Why the book is refused: 1 to 7.
+    pub refusal: Refusal,
+    /// The offset of the command at fault; the book's length where it ends too early, and that of the first byte behind its end.
+    pub offset: usize,
+    /// The grammar left, which has no rules: its row is all zeros.
+    pub grammar: Grammar,
+}
+
+impl fmt::Debug for LoadError {
+    fn fmt(&self, f: &mut fmt::Formatter<'_>) -> fmt::Result {
+        f.debug_struct("LoadError")
+            .field("refusal", &self.refusal)
+            .field("offset", &self.offset)
+            .finish_non_exhaustive()
+    }
+}
+
+impl fmt::Display for LoadError {
+    fn fmt(&self, f: &mut fmt::Formatter<'_>) -> fmt::Result {
+        write!(f, "the book is refused at offset {}", self.offset)
+    }
+}
+
+impl error::Error for LoadError {
+    fn source(&self) -> Option<&(dyn error::Error + 'static)> {
+        Some(&self.refusal)
+    }
+}
+
+/// Any error of this crate, for a function that loads a book and then reads with it: `?` turns both errors into it. Its text and its source
+/// are those of the error within.
+///
+/// ```
+/// fn readings(book: &[u8], input: &[u8]) -> Result<Vec<String>, filbozseg::Error> {
+///     filbozseg::load(book)?.readings(input).map(|reading| Ok(reading?.to_string())).collect()
+/// }
+/// assert_eq!(readings(b"\x10\x00\x20\x00\x00\x00\x40A\x50", b"A").unwrap(), ["1.0"]);
+/// assert_eq!(readings(b"", b"A").unwrap_err().refusal().number(), 1);
+/// assert_eq!(readings(b"\x10\x00\x50", b"").unwrap_err().refusal().number(), 9);
+/// ```
+#[derive(Clone, Debug, PartialEq, Eq, Hash)]
+#[non_exhaustive]
+pub enum Error {
+    /// A book was refused.
+    Load(LoadError),
+    /// Another call was refused.
+    Refused(Refusal),
+}
+
+impl Error {
+    /// Why the call was refused.
+    pub fn refusal(&self) -> Refusal {
+        match self {
+            Error::Load(fault) => fault.refusal,
+            Error::Refused(refusal) => *refusal,
+        }
+    }
+}
+
+impl From<LoadError> for Error {
+    fn from(fault: LoadError) -> Error {
+        Error::Load(fault)
+    }
+}
+
+impl From<Refusal> for Error {
+    fn from(refusal: Refusal) -> Error {
+        Error::Refused(refusal)
+    }
+}
+
+impl fmt::Display for Error {
+    fn fmt(&self, f: &mut fmt::Formatter<'_>) -> fmt::Result {
+        match self {
+            Error::Load(fault) => fault.fmt(f),
+            Error::Refused(refusal) => refusal.fmt(f),
+        }
+    }
+}
+
+impl error::Error for Error {
+    fn source(&self) -> Option<&(dyn error::Error + 'static)> {
+        match self {
+            Error::Load(fault) => fault.source(),
+            Error::Refused(refusal) => refusal.source(),
+        }
+    }
+}

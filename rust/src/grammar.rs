@@ -1,0 +1,98 @@
+//! A grammar, as the row of numbers in which it crosses, and what the numbers say.
+
+use crate::rule::{byte, RULE};
+use crate::{check, Reading, Readings, Refusal, Rule, CELLS, ROW};
+use std::fmt;
+
+/// Where the first rule begins in a row, and how many rules there can be.
+const RULES: usize = 3;
+const MAX_RULES: usize = 128;
+
+/// A grammar, as the row of numbers in which it crosses: start symbol, number of rules, nullable depth, and 19 numbers for each of 128
+/// rules (left side, length in two's complement, number of places, and a tag and a value for each of 8 places; tag 0 is a nonterminal, 1 a
+/// terminal).
+///
+/// [`load`](crate::load) makes one from a book. The row of [`Grammar::from_row`] may hold anything, and each call judges each number whole.
+/// Refused with 8: a start over 31; more than 128 rules; in a used rule a left side over 31, or more than 8 places; in a used place a tag
+/// other than 0 and 1, a nonterminal over 31, or a terminal over 255. The depth, the lengths, and all numbers of unused rules and unused
+/// places may be any. The accessors read such a row as the library does: a number over 255 as 255, and a place that holds neither a
+/// nonterminal nor a terminal as the nonterminal 255.
+///
+/// ```
+/// # fn main() -> Result<(), filbozseg::LoadError> {
+/// use filbozseg::Symbol;
+/// let grammar = filbozseg::load(b"\x10\x00\x20\x00\xf8\x11\x30\x01\x30\x01\x20\x01\x00\x00\x20\x01\x19\x00\x40A\x50")?;
+/// assert_eq!((grammar.start(), grammar.rules().len()), (0, 3));
+/// assert_eq!(format!("{:?}", grammar.rules().collect::<Vec<_>>()), "[0 -> 1 1 (4600), 1 -> - (0), 1 -> 'A' (25)]");
+/// let rule = grammar.rule(2).unwrap();
+/// assert_eq!((rule.left(), rule.length()), (1, 25));
+/// assert_eq!(rule.places().collect::<Vec<_>>(), [Symbol::Terminal(b'A')]);
+/// # Ok(())
+/// # }
+/// ```
+#[derive(Clone, PartialEq, Eq, Hash)]
+pub struct Grammar {
+    pub(crate) row: Box<[u16; ROW]>,
+}
+
+impl Grammar {
+    /// The grammar of a row.
+    pub fn from_row(row: &[u16; ROW]) -> Grammar {
+        Grammar { row: Box::new(*row) }
+    }
+
+    /// The row of the grammar.
+    pub fn row(&self) -> &[u16; ROW] {
+        &self.row
+    }
+
+    /// The start symbol: over 31 only in a row that is refused.
+    pub fn start(&self) -> u8 {
+        byte(self.row[0])
+    }
+
+    /// The nullable depth (blank depth). As loaded, it is 0 to 32: no nullable nonterminal's lowest empty tree is higher, and it is 0 if no
+    /// nonterminal is nullable.
+    pub fn nullable_depth(&self) -> u8 {
+        byte(self.row[2])
+    }
+
+    /// The rules, in their order.
+    pub fn rules(&self) -> impl ExactSizeIterator<Item = Rule<'_>> + DoubleEndedIterator + '_ {
+        let used = usize::from(self.row[1]).min(MAX_RULES);
+        self.row[RULES..][..used * RULE].chunks_exact(RULE).enumerate().map(|(number, row)| Rule::new(number, row))
+    }
+
+    /// The rule of a number, if the grammar has so many.
+    pub fn rule(&self, number: usize) -> Option<Rule<'_>> {
+        self.rules().nth(number)
+    }
+
+    /// All readings of the input, in their order.
+    pub fn readings<'a>(&'a self, input: &'a [u8]) -> Readings<'a> {
+        Readings::new(self, input)
+    }
+
+    /// The reading of the input that a row of numbers says.
+    ///
+    /// # Errors
+    ///
+    /// Refusals 8 and 9 of [`check`]; 12, where the row is no reading of the input.
+    pub fn reading(&self, input: &[u8], numbers: &[u16]) -> Result<Reading, Refusal> {
+        if check(self, input, numbers, &mut vec![0; CELLS])? {
+            Ok(Reading::new(self, numbers))
+        } else {
+            Err(Refusal::NotADerivation)
+        }
+    }
+}
+
+impl fmt::Debug for Grammar {
+    fn fmt(&self, f: &mut fmt::Formatter<'_>) -> fmt::Result {
+        f.debug_struct("Grammar")
+            .field("start", &self.start())
+            .field("nullable_depth", &self.nullable_depth())
+            .field("rules", &self.rules().collect::<Vec<_>>())
+            .finish()
+    }
+}

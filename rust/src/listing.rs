@@ -1,0 +1,102 @@
+//! The first derivation, and the next one.
+
+use crate::refusal::answer;
+use crate::{sys, Grammar, Refusal};
+
+// What a lent place holds before the library writes it. It is no result, so that a place left unwritten passes for none: no derivation has
+// so many nodes.
+const NO_NODES: usize = usize::MAX / 2;
+
+/// The first derivation of the input, the smallest by the first number in which two differ: for each node, in preorder, how many bytes it
+/// covers and the number of its rule. None if the input has no tree at all. It stands at the front of the output, whose rest is left as
+/// found, and all of it where there is none. The chart is filled for the input.
+///
+/// The call needs up to 1,900 KiB of stack, as `include/filbozseg.h` says; a thread of Rust has 2 MiB by default.
+///
+/// # Errors
+///
+/// Refusals 8, 9, 10 and 11, in this order, with chart and output left as found; then 13, where the input has trees, but none of at most
+/// 512 nodes, with the chart filled and the output left as found.
+pub fn first<'a>(
+    grammar: &Grammar,
+    input: &[u8],
+    chart: &mut [u32],
+    output: &'a mut [u16],
+) -> Result<Option<&'a [u16]>, Refusal> {
+    let mut nodes = NO_NODES;
+    // SAFETY: the pointers are those of live values of these lengths; those that are written are borrowed for writing by this call alone.
+    let code = unsafe {
+        sys::filbozseg_first(
+            grammar.row(),
+            input.as_ptr(),
+            input.len(),
+            chart.as_mut_ptr(),
+            chart.len(),
+            output.as_mut_ptr(),
+            output.len(),
+            &mut nodes,
+        )
+    };
+    Ok(answer(code)?.then_some(output).map(|output| &output[..2 * nodes]))
+}
+
+/// The derivation of the input that follows the offered one in the order of [`first`], at the front of the output as there; none if the
+/// offered one is the last, and then the output is left as found. The chart is filled for the input.
+///
+/// [`Grammar::readings`] is the walk from the first to the last. By hand, what is handed out lies in the output, and is copied before it is
+/// offered:
+///
+/// ```
+/// use filbozseg::{first, load, next, CELLS, OUTPUT};
+/// // 0 -> 1 1, 1 -> nothing, 1 -> A
+/// let grammar = load(b"\x10\x00\x20\x00\x00\x00\x30\x01\x30\x01\x20\x01\x00\x00\x20\x01\x00\x00\x40A\x50").unwrap();
+/// let (mut chart, mut output, mut all) = ([0; CELLS], [0; OUTPUT], vec![]);
+/// let mut handed = first(&grammar, b"A", &mut chart, &mut output).unwrap().map(<[u16]>::to_vec);
+/// while let Some(reading) = handed {
+///     handed = next(&grammar, b"A", &reading, &mut chart, &mut output).unwrap().map(<[u16]>::to_vec);
+///     all.push(reading);
+/// }
+/// assert_eq!(all, [[1, 0, 0, 1, 1, 2], [1, 0, 1, 2, 0, 1]]);
+/// ```
+///
+/// Offered where it lies, it would overlap what is lent for writing, and that does not compile:
+///
+/// ```compile_fail,E0499
+/// # use filbozseg::{first, load, next, CELLS, OUTPUT};
+/// # let grammar = load(b"\x10\x00\x20\x00\x00\x00\x40A\x50").unwrap();
+/// # let (mut chart, mut output) = ([0; CELLS], [0; OUTPUT]);
+/// let handed = first(&grammar, b"A", &mut chart, &mut output).unwrap().unwrap();
+/// next(&grammar, b"A", handed, &mut chart, &mut output).unwrap();
+/// ```
+///
+/// The call needs as much stack as `first`.
+///
+/// # Errors
+///
+/// Refusals 8, 9, 10 and 11, in this order, with chart and output left as found; then 12, where the offered row is no derivation of the
+/// input, with the chart filled and the output left as found.
+pub fn next<'a>(
+    grammar: &Grammar,
+    input: &[u8],
+    offered: &[u16],
+    chart: &mut [u32],
+    output: &'a mut [u16],
+) -> Result<Option<&'a [u16]>, Refusal> {
+    let mut nodes = NO_NODES;
+    // SAFETY: as in `first`.
+    let code = unsafe {
+        sys::filbozseg_next(
+            grammar.row(),
+            input.as_ptr(),
+            input.len(),
+            offered.as_ptr(),
+            offered.len(),
+            chart.as_mut_ptr(),
+            chart.len(),
+            output.as_mut_ptr(),
+            output.len(),
+            &mut nodes,
+        )
+    };
+    Ok(answer(code)?.then_some(output).map(|output| &output[..2 * nodes]))
+}

@@ -1,0 +1,109 @@
+//! A reading (derivation). Nothing here calls itself: a reading may be nested 512 deep.
+
+use crate::span::{spans, Span};
+use crate::{Grammar, Node, Nodes};
+use std::cmp::Ordering;
+use std::fmt;
+use std::hash::{Hash, Hasher};
+
+/// A reading (derivation) of an input: a parse tree without superfluous recursion and with at most 512 nodes.
+///
+/// [`Grammar::readings`] hands them out, and [`Grammar::reading`] makes one from its numbers. It is written as document 01 prints it, each
+/// node as the bytes that it covers, a point, and its rule. Two readings of one input are ordered as document 01 orders them, by the first
+/// number in which they differ; neither begins with the whole of the other.
+///
+/// ```
+/// # fn main() -> Result<(), filbozseg::Error> {
+/// // 0 -> 0 0, 0 -> A
+/// let grammar = filbozseg::load(b"\x10\x00\x20\x00\x00\x00\x30\x00\x30\x00\x20\x00\x00\x00\x40A\x50")?;
+/// let one = grammar.reading(b"AAA", &[3, 0, 1, 1, 2, 0, 1, 1, 1, 1])?;
+/// let other = grammar.reading(b"AAA", &[3, 0, 2, 0, 1, 1, 1, 1, 1, 1])?;
+/// assert_eq!(one.to_string(), "3.0 1.1 2.0 1.1 1.1");
+/// assert!(one < other);
+/// assert_eq!(one.parts().next(), Some((3, 0)));
+/// assert_eq!(one.nodes().map(|node| node.marks()).collect::<Vec<_>>(), [0..3, 0..1, 1..3, 1..2, 2..3]);
+/// assert_eq!(one.root().children().map(|child| child.cover()).collect::<Vec<_>>(), [1, 2]);
+/// # Ok(())
+/// # }
+/// ```
+#[derive(Clone)]
+pub struct Reading {
+    pub(crate) numbers: Box<[u16]>,
+    pub(crate) spans: Box<[Span]>,
+}
+
+impl Reading {
+    /// The reading of numbers that the library has handed out or found to be a reading of this grammar.
+    pub(crate) fn new(grammar: &Grammar, numbers: &[u16]) -> Reading {
+        Reading { numbers: numbers.into(), spans: spans(grammar, numbers) }
+    }
+
+    /// The numbers of the reading, as [`check`](crate::check), [`length`](crate::length), [`same_build`](crate::same_build) and
+    /// [`next`](crate::next) take them: for each node, in preorder, how many bytes it covers and its rule.
+    pub fn numbers(&self) -> &[u16] {
+        &self.numbers
+    }
+
+    /// The nodes in preorder, each as how many bytes it covers and its rule.
+    pub fn parts(&self) -> impl ExactSizeIterator<Item = (u16, u16)> + DoubleEndedIterator + '_ {
+        self.numbers.chunks_exact(2).map(|part| (part[0], part[1]))
+    }
+
+    /// The node that covers the whole input.
+    pub fn root(&self) -> Node<'_> {
+        Node::root(self)
+    }
+
+    /// All nodes, in preorder: the root first.
+    pub fn nodes(&self) -> Nodes<'_> {
+        self.root().nodes()
+    }
+}
+
+impl AsRef<[u16]> for Reading {
+    fn as_ref(&self) -> &[u16] {
+        self.numbers()
+    }
+}
+
+impl PartialEq for Reading {
+    fn eq(&self, other: &Reading) -> bool {
+        self.numbers == other.numbers
+    }
+}
+
+impl Eq for Reading {}
+
+impl PartialOrd for Reading {
+    fn partial_cmp(&self, other: &Reading) -> Option<Ordering> {
+        Some(self.cmp(other))
+    }
+}
+
+impl Ord for Reading {
+    fn cmp(&self, other: &Reading) -> Ordering {
+        self.numbers.cmp(&other.numbers)
+    }
+}
+
+impl Hash for Reading {
+    fn hash<H: Hasher>(&self, state: &mut H) {
+        self.numbers.hash(state);
+    }
+}
+
+impl fmt::Display for Reading {
+    fn fmt(&self, f: &mut fmt::Formatter<'_>) -> fmt::Result {
+        for (at, (cover, rule)) in self.parts().enumerate() {
+            let space = if at == 0 { "" } else { " " };
+            write!(f, "{space}{cover}.{rule}")?;
+        }
+        Ok(())
+    }
+}
+
+impl fmt::Debug for Reading {
+    fn fmt(&self, f: &mut fmt::Formatter<'_>) -> fmt::Result {
+        write!(f, "Reading({self})")
+    }
+}

@@ -1,0 +1,87 @@
+//! The iterator over all readings of an input.
+
+use crate::{first, next, Grammar, Reading, Refusal, CELLS, OUTPUT};
+use std::fmt;
+use std::iter::FusedIterator;
+
+/// All readings of an input, in document 01's order: see [`Grammar::readings`].
+///
+/// Each item is a `Result`, since the input is judged only when the first reading is asked for: `collect` into a `Result<Vec<_>, _>`, or
+/// `?` each item. A refusal (8, 9, 13) is the only item then. After the last reading, and after a refusal, it answers `None` for good; an
+/// input without any tree has no items. It finds each reading when it is asked for it, and there may be very many of them: `take` as many
+/// as you want, or ask [`count`](crate::count) first.
+///
+/// ```
+/// # fn main() -> Result<(), filbozseg::Error> {
+/// use filbozseg::{load, Reading, Refusal};
+/// // 0 -> 0 0, 0 -> A
+/// let grammar = load(b"\x10\x00\x20\x00\x00\x00\x30\x00\x30\x00\x20\x00\x00\x00\x40A\x50")?;
+/// for reading in grammar.readings(b"AAA") {
+///     println!("{}", reading?); // 3.0 1.1 2.0 1.1 1.1, then 3.0 2.0 1.1 1.1 1.1
+/// }
+/// assert_eq!(grammar.readings(b"B").next(), None);
+/// assert_eq!(grammar.readings(b"").collect::<Vec<_>>(), [Err(Refusal::InputLength)]);
+///
+/// let plate = [b'A'; 64]; // some 10^35 readings
+/// let three: Vec<Reading> = grammar.readings(&plate).take(3).collect::<Result<_, _>>()?;
+/// assert!(three[0] < three[1] && three[1] < three[2]);
+/// # Ok(())
+/// # }
+/// ```
+///
+/// It owns a chart, an output and a copy of the last reading, some 20 KB, and needs as much stack as [`first`].
+#[derive(Clone)]
+#[must_use = "the readings are found only when they are asked for"]
+pub struct Readings<'a> {
+    grammar: &'a Grammar,
+    input: &'a [u8],
+    chart: Vec<u32>,
+    output: Vec<u16>,
+    /// The reading handed out last, which is offered for the next one; empty before the first.
+    last: Vec<u16>,
+    ended: bool,
+}
+
+impl<'a> Readings<'a> {
+    pub(crate) fn new(grammar: &'a Grammar, input: &'a [u8]) -> Readings<'a> {
+        Readings { grammar, input, chart: vec![0; CELLS], output: vec![0; OUTPUT], last: Vec::new(), ended: false }
+    }
+
+    fn step(&mut self) -> Result<Option<Reading>, Refusal> {
+        let handed = if self.last.is_empty() {
+            first(self.grammar, self.input, &mut self.chart, &mut self.output)?
+        } else {
+            next(self.grammar, self.input, &self.last, &mut self.chart, &mut self.output)?
+        };
+        let Some(numbers) = handed else { return Ok(None) };
+        self.last.clear();
+        self.last.extend_from_slice(numbers);
+        Ok(Some(Reading::new(self.grammar, numbers)))
+    }
+}
+
+impl Iterator for Readings<'_> {
+    type Item = Result<Reading, Refusal>;
+
+    fn next(&mut self) -> Option<Self::Item> {
+        if self.ended {
+            return None;
+        }
+        let item = self.step().transpose();
+        self.ended = !matches!(item, Some(Ok(_)));
+        item
+    }
+}
+
+impl FusedIterator for Readings<'_> {}
+
+impl fmt::Debug for Readings<'_> {
+    fn fmt(&self, f: &mut fmt::Formatter<'_>) -> fmt::Result {
+        f.debug_struct("Readings")
+            .field("grammar", self.grammar)
+            .field("input", &self.input)
+            .field("last", &self.last)
+            .field("ended", &self.ended)
+            .finish_non_exhaustive()
+    }
+}

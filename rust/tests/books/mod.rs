@@ -1,0 +1,34 @@
+//! Books that several tests use.
+#![allow(dead_code)] // each test file uses some of them
+
+use filbozseg::{load, Grammar};
+
+/// Book T of document 01: 0 -> 1 1 (4,600), 1 -> nothing (0), 1 -> A (25).
+pub const T: &[u8] = b"\x10\x00\x20\x00\xf8\x11\x30\x01\x30\x01\x20\x01\x00\x00\x20\x01\x19\x00\x40A\x50";
+
+/// 0 -> 0 0, 0 -> A.
+pub const PAIRS: &[u8] = b"\x10\x00\x20\x00\x00\x00\x30\x00\x30\x00\x20\x00\x00\x00\x40A\x50";
+
+/// 0 -> 1 0, 0 -> 1, 1 -> A 2 B, 1 -> 2 2, 2 -> nothing, 2 -> C: terminals before and behind nonterminals, and empty nodes between them.
+pub const MIXED: &[u8] =
+    b"\x10\x00\x20\x00\x00\x00\x30\x01\x30\x00\x20\x00\x00\x00\x30\x01\x20\x01\x00\x00\x40A\x30\x02\x40B\
+    \x20\x01\x00\x00\x30\x02\x30\x02\x20\x02\x00\x00\x20\x02\x00\x00\x40C\x50";
+
+/// k -> k+1 for k = 0..30, 31 -> A A A A 0, 31 -> A A A A: the reading of 64 bytes has 512 nodes, each but the last with one child.
+pub fn deep() -> Grammar {
+    let mut book = vec![0x10, 0];
+    (0..31).for_each(|k| book.extend([0x20, k, 1, 0, 0x30, k + 1]));
+    book.extend(b"\x20\x1f\x01\x00\x40A\x40A\x40A\x40A\x30\x00\x20\x1f\x01\x00\x40A\x40A\x40A\x40A\x50");
+    load(&book).unwrap()
+}
+
+/// 0 -> A and seven of 1, 1 -> eight of 2, 2 -> eight of 3, 3 -> nothing, 4 -> 0: the reading of A has 512 nodes from 0, and its tree 513
+/// from 4.
+pub fn wide(start: u8) -> Grammar {
+    let mut book = vec![0x10, start];
+    book.extend(b"\x20\x00\x00\x00\x40A");
+    book.extend([0x30, 1].repeat(7));
+    book.extend([&[0x20, 1, 0, 0][..], &[0x30, 2].repeat(8), &[0x20, 2, 0, 0], &[0x30, 3].repeat(8)].concat());
+    book.extend(b"\x20\x03\x00\x00\x20\x04\x00\x00\x30\x00\x50");
+    load(&book).unwrap()
+}

@@ -1,0 +1,44 @@
+//! The accessors of a grammar say what its row says, whatever that is.
+mod books;
+
+use books::{deep, MIXED, T};
+use filbozseg::*;
+
+#[test]
+fn a_loaded_grammar_says_its_rules() {
+    let t = load(T).unwrap();
+    assert_eq!((t.start(), t.nullable_depth(), t.rules().len()), (0, t.row()[2] as u8, 3));
+    assert!((1..=32).contains(&t.nullable_depth()));
+    let rules: Vec<_> =
+        t.rules().map(|rule| (rule.number(), rule.left(), rule.length(), rule.places().len())).collect();
+    assert_eq!(rules, [(0, 0, 4600, 2), (1, 1, 0, 0), (2, 1, 25, 1)]);
+    assert_eq!(t.rule(0).unwrap().places().collect::<Vec<_>>(), [Symbol::Nonterminal(1); 2]);
+    assert_eq!((t.rule(2), t.rule(3)), (t.rules().next_back(), None));
+    let mixed: Vec<_> = load(MIXED).unwrap().rules().map(|rule| rule.to_string()).collect();
+    assert_eq!(mixed, ["0 -> 1 0", "0 -> 1", "1 -> 'A' 2 'B'", "1 -> 2 2", "2 -> -", "2 -> 'C'"]);
+    let other = load(b"\x10\x1f\x20\x03\xe7\xff\x40\x00\x40\xff\x40'\x50").unwrap();
+    assert_eq!((other.start(), other.nullable_depth(), other.rule(0).unwrap().length()), (31, 0, -25));
+    assert_eq!(
+        format!("{other:?}"),
+        r"Grammar { start: 31, nullable_depth: 0, rules: [3 -> '\x00' '\xff' '\'' (-25)] }"
+    );
+    assert_eq!(deep().rules().len(), 33);
+}
+
+#[test]
+fn any_row_is_read_as_the_library_reads_it() {
+    let rubbish = Grammar::from_row(&[u16::MAX; ROW]);
+    assert_eq!((rubbish.start(), rubbish.nullable_depth(), rubbish.rules().len()), (255, 255, 128));
+    for rule in rubbish.rules() {
+        assert_eq!((rule.left(), rule.length()), (255, -1));
+        assert_eq!(rule.places().collect::<Vec<_>>(), [Symbol::Nonterminal(255); 8]);
+    }
+    let mut row = [0; ROW];
+    row[..11].copy_from_slice(&[256, 1, 300, 257, 1, 3, 1, 255, 1, 256, 2]);
+    let bad = Grammar::from_row(&row);
+    assert_eq!((bad.start(), bad.nullable_depth(), bad.rules().len(), bad.rule(0).unwrap().left()), (255, 255, 1, 255));
+    let places: Vec<_> = bad.rule(0).unwrap().places().collect();
+    assert_eq!(places, [Symbol::Terminal(255), Symbol::Nonterminal(255), Symbol::Nonterminal(255)]);
+    let empty = Grammar::from_row(&[0; ROW]);
+    assert_eq!((empty.rules().len(), empty.rule(0), empty.readings(b"A").next()), (0, None, None));
+}

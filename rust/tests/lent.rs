@@ -1,0 +1,106 @@
+//! What is lent to the calls: slices of no length, one row twice, several threads with their stacks.
+mod books;
+
+use books::{deep, wide, MIXED, PAIRS, T};
+use filbozseg::*;
+
+#[test]
+fn slices_of_no_length_are_judged_as_any() {
+    let (t, mut chart, mut output) = (load(T).unwrap(), vec![7; CELLS], vec![9; OUTPUT]);
+    let (none, good) = (&[][..], &[1, 0, 0, 1, 1, 2][..]);
+    assert_eq!(load(b"").map_err(|fault| (fault.refusal.number(), fault.offset)), Err((1, 0)));
+    assert_eq!(open(&t, &mut []).1, Err(Refusal::ChartTooShort));
+    assert_eq!(open(&t, &mut chart).0.take(&t, b'A', &mut []), Err(Refusal::ChartTooShort));
+    chart.fill(7);
+    for (input, cells) in [(&b""[..], 0), (b"", CELLS), (b"A", 0)] {
+        let refusal = if input.is_empty() { Refusal::InputLength } else { Refusal::ChartTooShort };
+        for offered in [none, good] {
+            assert_eq!(check(&t, input, offered, &mut chart[..cells]), Err(refusal));
+            assert_eq!(length(&t, input, offered, &mut chart[..cells]), Err(refusal));
+            assert_eq!(same_build(&t, input, offered, none, &mut chart[..cells]), Err(refusal));
+            assert_eq!(next(&t, input, offered, &mut chart[..cells], &mut []), Err(refusal));
+        }
+        assert_eq!(first(&t, input, &mut chart[..cells], &mut []), Err(refusal));
+        assert_eq!(count(&t, input, &mut chart[..cells]), Err(refusal));
+    }
+    assert_eq!(first(&t, b"A", &mut chart, &mut []), Err(Refusal::OutputTooShort));
+    assert_eq!(next(&t, b"A", none, &mut chart, &mut []), Err(Refusal::OutputTooShort));
+    assert!(chart.iter().all(|&cell| cell == 7));
+    assert_eq!(check(&t, b"A", none, &mut chart), Ok(false));
+    assert_eq!(length(&t, b"A", none, &mut chart), Err(Refusal::NotADerivation));
+    assert_eq!(same_build(&t, b"A", none, none, &mut chart), Err(Refusal::NotADerivation));
+    assert_eq!(same_build(&t, b"A", good, none, &mut chart), Err(Refusal::NotADerivation));
+    assert_eq!(next(&t, b"A", none, &mut chart, &mut output), Err(Refusal::NotADerivation));
+    assert!(output.iter().all(|&number| number == 9));
+}
+
+#[test]
+fn one_row_may_be_both_readings_of_same_build() {
+    let (mixed, mut chart) = (load(MIXED).unwrap(), vec![0; CELLS]);
+    for reading in mixed.readings(b"ACB").map(Result::unwrap) {
+        let row = reading.numbers();
+        assert_eq!(same_build(&mixed, b"ACB", row, row, &mut chart), Ok(true));
+        assert_eq!(same_build(&mixed, b"ACB", row, &row[..row.len() - 2], &mut chart), Err(Refusal::NotADerivation));
+        assert_eq!(same_build(&mixed, b"ACB", &row[1..], row, &mut chart), Err(Refusal::NotADerivation));
+    }
+    let mut row = vec![64, 0];
+    assert_eq!(same_build(&mixed, b"ACB", &row, &row, &mut chart), Err(Refusal::NotADerivation));
+    row.clear();
+    assert_eq!(same_build(&mixed, b"ACB", &row, &row, &mut chart), Err(Refusal::NotADerivation));
+}
+
+/// All that the library says of an input, with at most 200 readings.
+fn said(grammar: &Grammar, input: &[u8]) -> String {
+    let (mut chart, mut text) = (vec![0; CELLS], String::new());
+    let (mut recognizer, complete) = open(grammar, &mut chart);
+    text += &format!("{complete:?}");
+    for &byte in input {
+        text += &format!(" {:?}", recognizer.take(grammar, byte, &mut chart));
+    }
+    for item in grammar.readings(input).take(200) {
+        let tenths = item.as_ref().map(|reading| length(grammar, input, reading.numbers(), &mut chart));
+        text += &format!("\n{item:?} {tenths:?}");
+    }
+    text + &format!("\n{:?}", count(grammar, input, &mut chart))
+}
+
+#[test]
+fn four_threads_say_what_one_says() {
+    let grammars = [load(T).unwrap(), load(PAIRS).unwrap(), load(MIXED).unwrap(), wide(0), wide(4), deep()];
+    let inputs = [&b"A"[..], b"AA", b"", b"ACBABC", b"AAAAAAA", &[b'A'; 64]];
+    let cases: Vec<_> = grammars.iter().flat_map(|grammar| inputs.map(|input| (grammar, input))).collect();
+    let serial: Vec<_> = cases.iter().map(|(grammar, input)| said(grammar, input)).collect();
+    std::thread::scope(|scope| {
+        for thread in 0..4 {
+            let (cases, serial) = (&cases, &serial);
+            scope.spawn(move || {
+                for at in (0..cases.len()).map(|at| (at + 9 * thread) % cases.len()) {
+                    assert_eq!(said(cases[at].0, cases[at].1), serial[at]);
+                }
+            });
+        }
+    });
+}
+
+#[test]
+fn all_types_may_go_to_other_threads() {
+    fn goes<T: Send + Sync>() {}
+    goes::<(Grammar, Rule, Recognizer, Reading, Node, Nodes, Children, Readings)>();
+    goes::<(Error, LoadError, Refusal, Count, Symbol)>();
+}
+
+/// The variable by which the next test asks the process that it starts to overflow.
+const OVERFLOW: &str = "FILBOZSEG_TEST_OVERFLOW";
+
+#[test]
+fn too_small_a_stack_ends_the_process() {
+    if std::env::var_os(OVERFLOW).is_some() {
+        let look = || deep().readings(&[b'A'; 64]).next().unwrap().unwrap();
+        std::thread::Builder::new().stack_size(256 * 1024).spawn(look).unwrap().join().unwrap();
+        return;
+    }
+    let mut again = std::process::Command::new(std::env::current_exe().unwrap());
+    let left = again.args(["--exact", "too_small_a_stack_ends_the_process"]).env(OVERFLOW, "1").output().unwrap();
+    assert!(!left.status.success());
+    assert!(String::from_utf8_lossy(&left.stderr).contains("has overflowed its stack"), "{left:?}");
+}
