@@ -1,0 +1,88 @@
+//! The bytes of a book: document 01's commands, read and written.
+
+use crate::fault::Refusal;
+use crate::grammar::{Grammar, Rule, Symbol, KINDS, PLACES, RULES};
+
+const START: u8 = 0x10;
+const RULE: u8 = 0x20;
+const KIND: u8 = 0x30;
+const MARK: u8 = 0x40;
+const END: u8 = 0x50;
+
+/// Reads a book from the left. The first fault counts; at one command the order is 2, 3, 1, then 4, then 5 or 6.
+pub fn loaded(book: &[u8]) -> Result<Grammar, Refusal> {
+    let mut grammar = Grammar { start: 0, rules: Vec::new() };
+    let mut at = 0;
+    loop {
+        let operands = operands(book, at, !grammar.rules.is_empty())?;
+        if book[at] == END {
+            break;
+        }
+        obey(&mut grammar, book[at], operands).map_err(|number| Refusal { number, offset: at })?;
+        at += 1 + operands.len();
+    }
+    match at + 1 == book.len() {
+        true => Ok(grammar),
+        false => Err(Refusal { number: 7, offset: at + 1 }),
+    }
+}
+
+/// The operands of the command that stands at the offset; or that none stands there (1), that its byte is unknown (2), that it is out of
+/// turn (3), or that the book ends inside it (1).
+fn operands(book: &[u8], at: usize, rule_open: bool) -> Result<&[u8], Refusal> {
+    let ended = Refusal { number: 1, offset: book.len() };
+    let command = *book.get(at).ok_or(ended)?;
+    let (count, in_turn) = match command {
+        START => (1, at == 0),
+        RULE => (3, at > 0),
+        KIND | MARK => (1, rule_open),
+        END => (0, at > 0),
+        _ => return Err(Refusal { number: 2, offset: at }),
+    };
+    if !in_turn {
+        return Err(Refusal { number: 3, offset: at });
+    }
+    book.get(at + 1..at + 1 + count).ok_or(ended)
+}
+
+/// Adds to the grammar what a command in turn with all its operands says; or that its kind is over 31 (4), that its rule is the
+/// 129th (5), or that its place is the rule's ninth (6).
+fn obey(grammar: &mut Grammar, command: u8, operands: &[u8]) -> Result<(), u8> {
+    if command != MARK && operands[0] >= KINDS {
+        return Err(4);
+    }
+    match (command, operands) {
+        (START, _) => grammar.start = operands[0],
+        (RULE, &[left, low, high]) => {
+            if grammar.rules.len() == RULES {
+                return Err(5);
+            }
+            grammar.rules.push(Rule { left, length: i16::from_le_bytes([low, high]), places: Vec::new() });
+        }
+        _ => {
+            let places = &mut grammar.rules.last_mut().expect("a place comes in turn").places;
+            if places.len() == PLACES {
+                return Err(6);
+            }
+            places.push(if command == KIND { Symbol::Nonterminal(operands[0]) } else { Symbol::Terminal(operands[0]) });
+        }
+    }
+    Ok(())
+}
+
+/// The bytes of the book.
+pub fn written(grammar: &Grammar) -> Vec<u8> {
+    let mut book = vec![START, grammar.start];
+    for rule in &grammar.rules {
+        let [low, high] = rule.length.to_le_bytes();
+        book.extend([RULE, rule.left, low, high]);
+        for place in &rule.places {
+            book.extend(match *place {
+                Symbol::Nonterminal(kind) => [KIND, kind],
+                Symbol::Terminal(mark) => [MARK, mark],
+            });
+        }
+    }
+    book.push(END);
+    book
+}

@@ -1,0 +1,137 @@
+//! What is said of a bad text and of bytes that do not load.
+
+use std::fmt;
+
+/// The first fault of a text.
+#[derive(Clone, Debug, PartialEq, Eq)]
+pub struct Fault {
+    /// The line that it stands in, from 1.
+    pub line: usize,
+    /// What is wrong there.
+    pub reason: Reason,
+}
+
+/// What is wrong with a text, with the word that is wrong.
+#[derive(Clone, Debug, PartialEq, Eq)]
+pub enum Reason {
+    /// The text has no statement at all.
+    NoStart,
+    /// The first statement begins with another word than `start`.
+    StartDue(String),
+    /// `start` stands a second time.
+    StartAgain,
+    /// No kind stands after `start`.
+    StartWithoutKind,
+    /// The start or a left side is no decimal number.
+    NotAKind(String),
+    /// A kind is over 31.
+    KindOver(String),
+    /// No `->` stands after the left side.
+    ArrowDue,
+    /// Nothing stands between `->` and `:`.
+    PlacesDue,
+    /// `-`, which says that there is no place, has company.
+    DashBesidePlaces,
+    /// A place is neither a kind nor a mark.
+    NotAPlace(String),
+    /// A mark is neither one printable character in quotes nor `=` with two hexadecimal digits.
+    NotAMark(String),
+    /// The quote or the backslash stands in quotes.
+    NotInQuotes(String),
+    /// A ninth place.
+    NinthPlace,
+    /// No `:` with a word after it stands after the places.
+    LengthDue,
+    /// A length is no number of millimetres with at most two decimals.
+    NotALength(String),
+    /// A length is below -327.68 or above 327.67.
+    LengthOver(String),
+    /// A word stands after the end of a statement.
+    Further(String),
+    /// The 129th rule.
+    TooManyRules,
+}
+
+/// Why bytes are no book: document 01's refusal.
+#[derive(Clone, Copy, Debug, PartialEq, Eq)]
+pub struct Refusal {
+    /// Its number, 1 to 7.
+    pub number: u8,
+    /// Its offset: of the command; for 1 the number of bytes; for 7 the byte after the end.
+    pub offset: usize,
+}
+
+impl fmt::Display for Fault {
+    fn fmt(&self, f: &mut fmt::Formatter) -> fmt::Result {
+        write!(f, "line {}: {}", self.line, self.reason)
+    }
+}
+
+impl fmt::Display for Reason {
+    fn fmt(&self, f: &mut fmt::Formatter) -> fmt::Result {
+        use Reason::*;
+        if let Some(word) = self.word() {
+            write!(f, "`{}`: ", shown(word))?;
+        }
+        f.write_str(match self {
+            NoStart => "there is no `start KIND`",
+            StartDue(_) => "the first statement has to be `start KIND`",
+            StartAgain => "a second `start`",
+            StartWithoutKind => "a kind is due after `start`",
+            NotAKind(_) => "not a kind: a decimal number from 0 to 31",
+            KindOver(_) => "a kind over 31",
+            ArrowDue => "`->` is due after the left side",
+            PlacesDue => "places are due after `->`, or `-` for no place",
+            DashBesidePlaces => "`-` says that there is no place, and stands alone",
+            NotAPlace(_) => "neither a kind (0 to 31) nor a mark ('A', or =41 for any byte)",
+            NotAMark(_) => "not a mark: one printable ASCII character in quotes, or = and two hexadecimal digits",
+            NotInQuotes(_) => "quote and backslash are the marks =27 and =5C, and do not stand in quotes",
+            NinthPlace => "a ninth place",
+            LengthDue => "`:` and a length in millimetres are due after the places",
+            NotALength(_) => "not a length: millimetres, with at most two decimals",
+            LengthOver(_) => "a length out of range: -327.68 to 327.67",
+            Further(_) => "a word after the end of the statement",
+            TooManyRules => "the 129th rule",
+        })
+    }
+}
+
+impl Reason {
+    /// The word that is wrong, if it is one.
+    fn word(&self) -> Option<&str> {
+        use Reason::*;
+        match self {
+            StartDue(word) | NotAKind(word) | KindOver(word) | NotAPlace(word) | NotAMark(word) => Some(word),
+            NotInQuotes(word) | NotALength(word) | LengthOver(word) | Further(word) => Some(word),
+            _ => None,
+        }
+    }
+}
+
+/// A word as it can be printed: what is not printable ASCII is escaped.
+fn shown(word: &str) -> String {
+    let escaped = |c: char| match c {
+        ' '..='~' => c.to_string(),
+        _ => c.escape_default().to_string(),
+    };
+    word.chars().map(escaped).collect()
+}
+
+impl fmt::Display for Refusal {
+    fn fmt(&self, f: &mut fmt::Formatter) -> fmt::Result {
+        let what = match self.number {
+            1 => "the book ends inside a command, or where one is due",
+            2 => "an unknown command",
+            3 => "a command out of turn",
+            4 => "a kind over 31",
+            5 => "the 129th rule",
+            6 => "a ninth place",
+            _ => "a byte after the end of the book",
+        };
+        write!(f, "refusal {} at offset {}: {what}", self.number, self.offset)
+    }
+}
+
+impl std::error::Error for Fault {}
+
+impl std::error::Error for Refusal {}

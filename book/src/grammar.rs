@@ -1,0 +1,27 @@
+//! What a book says, and document 01's sizes.
+
+/// How many kinds there are: 0 to 31.
+pub const KINDS: u8 = 32;
+/// The most rules of a book.
+pub const RULES: usize = 128;
+/// The most places of a rule.
+pub const PLACES: usize = 8;
+
+/// What a place holds: document 01's kind or mark.
+pub enum Symbol {
+    Nonterminal(u8),
+    Terminal(u8),
+}
+
+/// A rule; the length is in hundredths of a millimetre.
+pub struct Rule {
+    pub left: u8,
+    pub length: i16,
+    pub places: Vec<Symbol>,
+}
+
+/// A book within the sizes.
+pub struct Grammar {
+    pub start: u8,
+    pub rules: Vec<Rule>,
+}

@@ -1,0 +1,51 @@
+//! `book write FILE` prints the bytes of the book whose text is in the file; `book read FILE` prints the text of the book in the file.
+//! What is wrong goes to standard error, and nothing is then printed: the exit status is 1 for a bad file, 2 for a wrong command line.
+
+use std::ffi::OsString;
+use std::io::Write;
+use std::path::Path;
+use std::process::ExitCode;
+
+const USAGE: &str = "usage: book write FILE.txt > book.bin\n       book read book.bin > FILE.txt";
+
+fn main() -> ExitCode {
+    let arguments: Vec<OsString> = std::env::args_os().skip(1).collect();
+    let turn = match &arguments[..] {
+        [verb, _] if verb == "write" => write,
+        [verb, _] if verb == "read" => read,
+        _ => {
+            eprintln!("{USAGE}");
+            return ExitCode::from(2);
+        }
+    };
+    match turned(Path::new(&arguments[1]), turn) {
+        Ok(()) => ExitCode::SUCCESS,
+        Err(what) => {
+            eprintln!("book: {what}");
+            ExitCode::FAILURE
+        }
+    }
+}
+
+/// Turns what the file holds and prints it, or says what is wrong.
+fn turned(file: &Path, turn: fn(Vec<u8>) -> Result<Vec<u8>, String>) -> Result<(), String> {
+    let name = file.display();
+    let held = std::fs::read(file).map_err(|error| format!("{name}: {error}"))?;
+    let printed = turn(held).map_err(|what| format!("{name}: {what}"))?;
+    let mut out = std::io::stdout().lock();
+    out.write_all(&printed).and_then(|()| out.flush()).map_err(|error| format!("standard output: {error}"))
+}
+
+/// From a text to the bytes of a book.
+fn write(held: Vec<u8>) -> Result<Vec<u8>, String> {
+    let text = String::from_utf8(held).map_err(|error| {
+        let good = &error.as_bytes()[..error.utf8_error().valid_up_to()];
+        format!("line {}: not UTF-8", 1 + good.iter().filter(|byte| **byte == b'\n').count())
+    })?;
+    book::to_bytes(&text).map_err(|fault| fault.to_string())
+}
+
+/// From the bytes of a book to a text.
+fn read(held: Vec<u8>) -> Result<Vec<u8>, String> {
+    book::to_text(&held).map(String::into_bytes).map_err(|refusal| refusal.to_string())
+}

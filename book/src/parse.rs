@@ -1,0 +1,91 @@
+//! From a text to what its book says, or the first fault.
+
+use crate::fault::{Fault, Reason};
+use crate::grammar::{Grammar, Rule, Symbol, PLACES, RULES};
+use crate::words::{kind, length, place, words};
+
+/// The word that begins the first statement.
+const START: &str = "start";
+
+/// What the text says. A text without a statement is at fault in its last line.
+pub fn parsed(text: &str) -> Result<Grammar, Fault> {
+    let mut grammar = None;
+    let mut last = 1;
+    for (at, line) in text.lines().enumerate() {
+        last = at + 1;
+        statement(&mut grammar, &words(line)).map_err(|reason| Fault { line: last, reason })?;
+    }
+    grammar.ok_or(Fault { line: last, reason: Reason::NoStart })
+}
+
+/// Adds what the words of a line say; there is no grammar before the start kind.
+fn statement(grammar: &mut Option<Grammar>, words: &[&str]) -> Result<(), Reason> {
+    match (grammar, words) {
+        (_, []) => Ok(()),
+        (Some(_), [START, ..]) => Err(Reason::StartAgain),
+        (Some(grammar), [left, rest @ ..]) => add(grammar, rule(left, rest)?),
+        (grammar, [START, rest @ ..]) => {
+            *grammar = Some(Grammar { start: start(rest)?, rules: Vec::new() });
+            Ok(())
+        }
+        (_, [word, ..]) => Err(Reason::StartDue(word.to_string())),
+    }
+}
+
+/// The kind after `start`.
+fn start(words: &[&str]) -> Result<u8, Reason> {
+    let [word, rest @ ..] = words else { return Err(Reason::StartWithoutKind) };
+    let start = kind(word)?;
+    nothing_more(rest)?;
+    Ok(start)
+}
+
+/// A rule, from its left side and the words after it.
+fn rule(left: &str, words: &[&str]) -> Result<Rule, Reason> {
+    let left = kind(left)?;
+    let ["->", rest @ ..] = words else { return Err(Reason::ArrowDue) };
+    let colon = rest.iter().position(|word| *word == ":").unwrap_or(rest.len());
+    let places = places(&rest[..colon])?;
+    let [_, word, rest @ ..] = &rest[colon..] else { return Err(Reason::LengthDue) };
+    let length = length(word)?;
+    nothing_more(rest)?;
+    Ok(Rule { left, length, places })
+}
+
+/// The places between `->` and `:`.
+fn places(words: &[&str]) -> Result<Vec<Symbol>, Reason> {
+    match words {
+        [] => return Err(Reason::PlacesDue),
+        ["-"] => return Ok(Vec::new()),
+        _ => (),
+    }
+    let mut places = Vec::new();
+    for word in words {
+        if *word == "-" {
+            return Err(Reason::DashBesidePlaces);
+        }
+        let place = place(word)?;
+        if places.len() == PLACES {
+            return Err(Reason::NinthPlace);
+        }
+        places.push(place);
+    }
+    Ok(places)
+}
+
+/// Adds a rule, unless it is the 129th.
+fn add(grammar: &mut Grammar, rule: Rule) -> Result<(), Reason> {
+    if grammar.rules.len() == RULES {
+        return Err(Reason::TooManyRules);
+    }
+    grammar.rules.push(rule);
+    Ok(())
+}
+
+/// No word stands after a statement.
+fn nothing_more(words: &[&str]) -> Result<(), Reason> {
+    match words {
+        [] => Ok(()),
+        [word, ..] => Err(Reason::Further(word.to_string())),
+    }
+}

@@ -1,0 +1,34 @@
+//! The text of a book, always written in the same way.
+
+use crate::grammar::{Grammar, Rule, Symbol};
+
+/// The text: the start kind, then a line for each rule.
+pub fn text(grammar: &Grammar) -> String {
+    let rules: String = grammar.rules.iter().map(line).collect();
+    format!("start {}\n{rules}", grammar.start)
+}
+
+/// A rule's line.
+fn line(rule: &Rule) -> String {
+    let mut places: Vec<String> = rule.places.iter().map(place).collect();
+    if places.is_empty() {
+        places.push("-".to_string());
+    }
+    format!("{} -> {} : {}\n", rule.left, places.join(" "), millimetres(rule.length))
+}
+
+/// A place: a kind in decimal; a mark in quotes if it is printable ASCII other than the quote and the backslash, else in hexadecimal.
+fn place(symbol: &Symbol) -> String {
+    match *symbol {
+        Symbol::Nonterminal(kind) => kind.to_string(),
+        Symbol::Terminal(mark @ b' '..=b'~') if mark != b'\'' && mark != b'\\' => format!("'{}'", char::from(mark)),
+        Symbol::Terminal(mark) => format!("={mark:02X}"),
+    }
+}
+
+/// A length in millimetres with two decimals.
+fn millimetres(length: i16) -> String {
+    let sign = if length < 0 { "-" } else { "" };
+    let hundredths = length.unsigned_abs();
+    format!("{sign}{}.{:02}", hundredths / 100, hundredths % 100)
+}

@@ -1,0 +1,100 @@
+//! Bytes that do not load: refused with the number and the offset that document 01 gives.
+
+#[allow(dead_code)] // not all of it is called from here
+mod drafts;
+
+use book::{to_bytes, to_text, Refusal};
+use drafts::draft;
+use outside_tests::books::{book, damage, soup, Rng};
+use outside_tests::lister::grammar::load;
+
+#[test]
+fn each_refusal() {
+    let full: Vec<u8> = [&[0x10, 0x00][..], &[0x20, 0x00, 0, 0].repeat(128)].concat();
+    let eight = [&[0x10, 0x00, 0x20, 0x00, 0, 0][..], &[0x40, 0x41].repeat(8)].concat();
+    let with = |book: &[u8], more: &[u8]| [book, more].concat();
+    let cases: Vec<(Vec<u8>, u8, usize)> = vec![
+        (vec![], 1, 0),
+        (vec![0x10], 1, 1),
+        (vec![0x10, 0x00], 1, 2),
+        (vec![0x10, 0x00, 0x20, 0xFF, 0], 1, 5),
+        (vec![0x00], 2, 0),
+        (vec![0x10, 0x00, 0x41], 2, 2),
+        (vec![0x50], 3, 0),
+        (vec![0x20], 3, 0),
+        (vec![0x10, 0x00, 0x10], 3, 2),
+        (vec![0x10, 0x00, 0x30], 3, 2),
+        (vec![0x10, 0x00, 0x40, 0x41], 3, 2),
+        (vec![0x10, 0x20], 4, 0),
+        (vec![0x10, 0x00, 0x20, 0x20, 0, 0], 4, 2),
+        (vec![0x10, 0x00, 0x20, 0x00, 0, 0, 0x30, 0x20], 4, 6),
+        (with(&full, &[0x20, 0x00, 0, 0]), 5, 514),
+        (with(&full, &[0x20, 0x20, 0, 0]), 4, 514),
+        (with(&full, &[0x20, 0x20, 0]), 1, 517),
+        (with(&eight, &[0x40, 0x41]), 6, 22),
+        (with(&eight, &[0x30, 0x20]), 4, 22),
+        (with(&eight, &[0x40]), 1, 23),
+        (vec![0x10, 0x00, 0x50, 0x00], 7, 3),
+        (vec![0x10, 0x00, 0x50, 0x50, 0x50], 7, 3),
+    ];
+    for (bytes, number, offset) in cases {
+        assert_eq!(to_text(&bytes), Err(Refusal { number, offset }), "{bytes:02X?}");
+    }
+    assert!(to_text(&with(&full, &[0x50])).is_ok() && to_text(&with(&eight, &[0x50])).is_ok());
+}
+
+#[test]
+fn refusals_are_printed() {
+    let due = [
+        "refusal 1 at offset 9: the book ends inside a command, or where one is due",
+        "refusal 2 at offset 9: an unknown command",
+        "refusal 3 at offset 9: a command out of turn",
+        "refusal 4 at offset 9: a kind over 31",
+        "refusal 5 at offset 9: the 129th rule",
+        "refusal 6 at offset 9: a ninth place",
+        "refusal 7 at offset 9: a byte after the end of the book",
+    ];
+    let printed = (1..=7).map(|number| Refusal { number, offset: 9 }.to_string());
+    assert_eq!(printed.collect::<Vec<_>>(), due);
+}
+
+/// Damaged books, and commands at random: judged as the lister judges them. What loads returns.
+#[test]
+fn damaged_books_are_judged_as_the_lister_judges_them() {
+    let mut came_up = [0; 8];
+    for seed in 0..20_000 {
+        let rng = &mut Rng::new(seed ^ 0xDA_3A6E);
+        let mut bytes = match rng.below(4) {
+            0 => soup(rng),
+            1 => book(seed).bytes,
+            _ => draft(rng).bytes(),
+        };
+        match rng.below(3) {
+            0 => damage(rng, &mut bytes),
+            1 => {
+                bytes.truncate(rng.below(bytes.len() + 1));
+                bytes.extend((0..rng.below(4)).map(|_| rng.pick(&[0x10, 0x20, 0x30, 0x40, 0x50, 0x1F, 0x20, 0xFF])));
+            }
+            _ => {
+                let more = rng.pick(&[&[0x20, 0, 0, 0, 0x50][..], &[0x40, 0x41, 0x50], &[0x30, 0, 0x50]]);
+                bytes.truncate(bytes.len().saturating_sub(1)); // before its end
+                for _ in 0..rng.within(1, 9) {
+                    bytes.extend(&more[..more.len() - 1]);
+                }
+                bytes.push(0x50);
+            }
+        }
+        match (to_text(&bytes), load(&bytes)) {
+            (Ok(text), Ok(_)) => {
+                came_up[0] += 1;
+                assert_eq!(to_bytes(&text), Ok(bytes));
+            }
+            (Err(Refusal { number, offset }), Err(due)) => {
+                came_up[usize::from(number)] += 1;
+                assert_eq!((number, offset), due, "{bytes:02X?}");
+            }
+            (got, due) => panic!("{bytes:02X?}: {got:?}, due {due:?}"),
+        }
+    }
+    assert!(came_up.iter().all(|times| *times > 50), "loaded, then refused 1 to 7: {came_up:?}");
+}

@@ -1,0 +1,158 @@
+//! Bad texts, each refused with its line and its reason.
+
+use book::{to_bytes, Fault, Reason};
+
+/// A start, and a rule with these words in line 2.
+fn rule(words: &str) -> String {
+    format!("start 0\n{words}\n0 -> - : 0.00\n")
+}
+
+/// The text is refused in that line for that reason, which is printed so.
+fn refused(text: &str, line: usize, reason: Reason, printed: &str) {
+    let fault = Fault { line, reason };
+    assert_eq!(to_bytes(text), Err(fault.clone()), "{text:?}");
+    assert_eq!(fault.to_string(), format!("line {line}: {printed}"));
+}
+
+/// A reason with its word.
+fn with(reason: fn(String) -> Reason, word: &str) -> Reason {
+    reason(word.to_string())
+}
+
+#[test]
+fn without_start() {
+    for (text, line) in [("", 1), ("\n", 1), (" # start 0", 1), ("\n\n# start 0\n", 3), ("\n \t\n", 2)] {
+        refused(text, line, Reason::NoStart, "there is no `start KIND`");
+    }
+    for (text, line, word) in [("0 -> - : 0", 1, "0"), ("\n#\nStart 0", 3, "Start"), ("start: 0", 1, "start:")] {
+        let printed = format!("`{word}`: the first statement has to be `start KIND`");
+        refused(text, line, with(Reason::StartDue, word), &printed);
+    }
+}
+
+#[test]
+fn a_bad_start() {
+    refused("\nstart # 0\nstart 0", 2, Reason::StartWithoutKind, "a kind is due after `start`");
+    refused("start 0\n\nstart 0", 3, Reason::StartAgain, "a second `start`");
+    refused("start 0\n0 -> - : 0\nstart\n", 3, Reason::StartAgain, "a second `start`");
+    refused("start 32", 1, with(Reason::KindOver, "32"), "`32`: a kind over 31");
+    let printed = "`A`: not a kind: a decimal number from 0 to 31";
+    refused("start A", 1, with(Reason::NotAKind, "A"), printed);
+    for word in ["'0'", "=00", "-1", "+1", "0x1", "1.0", "->", ":", "\u{664}"] {
+        let fault = Fault { line: 1, reason: with(Reason::NotAKind, word) };
+        assert_eq!(to_bytes(&format!("start {word}")), Err(fault));
+    }
+    refused("start 0 1", 1, with(Reason::Further, "1"), "`1`: a word after the end of the statement");
+}
+
+#[test]
+fn a_bad_left_side() {
+    for word in ["32", "256", "288", "99999999999999999999999999", "0032"] {
+        let printed = format!("`{word}`: a kind over 31");
+        refused(&rule(&format!("{word} -> - : 0")), 2, with(Reason::KindOver, word), &printed);
+    }
+    for word in ["A", "'A'", "=41", "-1", "->", ":", "0->", "\u{feff}0"] {
+        let fault = Fault { line: 2, reason: with(Reason::NotAKind, word) };
+        assert_eq!(to_bytes(&rule(&format!("{word} 0 : 0"))), Err(fault));
+    }
+    let printed = "`0\\r\\u{7f}`: not a kind: a decimal number from 0 to 31";
+    refused(&rule("0\r\u{7f} -> 0 : 0"), 2, with(Reason::NotAKind, "0\r\u{7f}"), printed);
+}
+
+#[test]
+fn no_arrow() {
+    for words in ["0", "0 1 1 : 0", "0 : 0", "0 = 1 : 0", "0 - > 1 : 0", "0 \u{2192} 1 : 0", "0 # -> 1 : 0"] {
+        refused(&rule(words), 2, Reason::ArrowDue, "`->` is due after the left side");
+    }
+}
+
+#[test]
+fn bad_places() {
+    for words in ["0 ->", "0 -> : 0", "0 -> # 1"] {
+        refused(&rule(words), 2, Reason::PlacesDue, "places are due after `->`, or `-` for no place");
+    }
+    for words in ["0 -> - 1 : 0", "0 -> 1 - : 0", "0 -> - - : 0"] {
+        let printed = "`-` says that there is no place, and stands alone";
+        refused(&rule(words), 2, Reason::DashBesidePlaces, printed);
+    }
+    for word in ["A", "-1", "1.0", "->", "46.00", "0x41", "1:", "x'A'", "\u{e9}"] {
+        let shown = if word == "\u{e9}" { "\\u{e9}" } else { word };
+        let printed = format!("`{shown}`: neither a kind (0 to 31) nor a mark ('A', or =41 for any byte)");
+        refused(&rule(&format!("0 -> 1 {word} : 0")), 2, with(Reason::NotAPlace, word), &printed);
+    }
+    refused(&rule("0 -> 1 32 : 0"), 2, with(Reason::KindOver, "32"), "`32`: a kind over 31");
+}
+
+#[test]
+fn bad_marks() {
+    let words = ["'", "''", "''''", "'A", "'AB'", "'A'B", "'A''B'", "'\u{e9}'", "'\t'", "'\u{7f}'", "'# 1", "'  '"];
+    let more = ["=", "=4", "=041", "=4G", "=+4", "=\u{e9}", "='A'", "==41", "'\\'x", "'\\n'"];
+    for word in words.into_iter().chain(more) {
+        // the character after the first quote belongs to the word, a later blank or # ends it
+        let due = match word {
+            "'" => "' :",
+            "'# 1" => "'#",
+            "'  '" => "' ",
+            _ => word,
+        };
+        let fault = Fault { line: 2, reason: with(Reason::NotAMark, due) };
+        assert_eq!(to_bytes(&rule(&format!("0 -> 1 {word} : 0"))), Err(fault));
+    }
+    let printed = "`'AB'`: not a mark: one printable ASCII character in quotes, or = and two hexadecimal digits";
+    refused(&rule("0 -> 'AB' : 0"), 2, with(Reason::NotAMark, "'AB'"), printed);
+    for word in ["'''", "'\\'"] {
+        let printed = format!("`{word}`: quote and backslash are the marks =27 and =5C, and do not stand in quotes");
+        refused(&rule(&format!("0 -> 1 {word} : 0")), 2, with(Reason::NotInQuotes, word), &printed);
+    }
+}
+
+#[test]
+fn a_ninth_place() {
+    for words in ["0 -> 1 1 1 1 1 1 1 1 1 : 0", "0 -> 1 1 1 1 1 1 1 1 'A' 1 1 :", "0 -> 1 1 1 1 1 1 1 1 =41"] {
+        refused(&rule(words), 2, Reason::NinthPlace, "a ninth place");
+    }
+    // a word is judged before it is found to be one too many
+    refused(&rule("0 -> 1 1 1 1 1 1 1 1 32 : 0"), 2, with(Reason::KindOver, "32"), "`32`: a kind over 31");
+}
+
+#[test]
+fn a_bad_length() {
+    for words in ["0 -> 1", "0 -> 1 :", "0 -> - : # 0", "0 -> 1 ':'"] {
+        refused(&rule(words), 2, Reason::LengthDue, "`:` and a length in millimetres are due after the places");
+    }
+    let words = ["46.001", "46.000", "46.", ".5", "-", "+", "--1", "1e2", "46,00", "46mm", "'1'", ":", "1.-5", "1.2.3"];
+    for word in words {
+        let printed = format!("`{word}`: not a length: millimetres, with at most two decimals");
+        refused(&rule(&format!("0 -> - : {word}")), 2, with(Reason::NotALength, word), &printed);
+    }
+    for word in ["327.68", "-327.69", "328", "655.36", "-1000", "99999999999999999999999999.99", "42949673.21"] {
+        let printed = format!("`{word}`: a length out of range: -327.68 to 327.67");
+        refused(&rule(&format!("0 -> - : {word}")), 2, with(Reason::LengthOver, word), &printed);
+    }
+    for (words, word) in [("0 -> 1 : 1 mm", "mm"), ("0 -> 1 : 1 : 2", ":"), ("0 -> - : 1 -", "-")] {
+        let printed = format!("`{word}`: a word after the end of the statement");
+        refused(&rule(words), 2, with(Reason::Further, word), &printed);
+    }
+}
+
+#[test]
+fn the_129th_rule() {
+    let full = format!("start 0\n#\n{}", "0 -> - : 0\n".repeat(128));
+    assert_eq!(to_bytes(&full).map(|bytes| bytes.len()), Ok(2 + 4 * 128 + 1));
+    refused(&format!("{full}\n0 -> - : 0\nx"), 132, Reason::TooManyRules, "the 129th rule");
+    // a word is judged before the rule is found to be one too many
+    refused(&format!("{full}32 -> - : 0\n"), 131, with(Reason::KindOver, "32"), "`32`: a kind over 31");
+    refused(
+        &format!("{full}0 -> -\n"),
+        131,
+        Reason::LengthDue,
+        "`:` and a length in millimetres are due after the places",
+    );
+}
+
+#[test]
+fn the_first_fault_counts() {
+    let printed = "`x`: neither a kind (0 to 31) nor a mark ('A', or =41 for any byte)";
+    refused("start 0\r\n\r\n0 -> x 32 : y\r\nz", 3, with(Reason::NotAPlace, "x"), printed);
+    refused("start 32 0\nstart 0", 1, with(Reason::KindOver, "32"), "`32`: a kind over 31");
+}

@@ -1,0 +1,98 @@
+//! Random books within document 01's sizes, and random spellings of their texts.
+
+use outside_tests::books::{Draft, Rng, Sym};
+
+/// A random book: any start, 0 to 128 rules of 0 to 8 places, any kind, mark and length.
+pub fn draft(rng: &mut Rng) -> Draft {
+    let mut draft = Draft::new(rng.below(32) as u8);
+    let rules = match rng.below(6) {
+        0 => rng.pick(&[0, 1, 127, 128]),
+        1 => rng.within(0, 128),
+        _ => rng.below(12),
+    };
+    for _ in 0..rules {
+        let length = match rng.below(4) {
+            0 => rng.pick(&[i16::MIN, i16::MAX, -100, -99, -1, 0, 1, 99, 100]),
+            1 => rng.within(0, 300) as i16 - 150,
+            _ => rng.next() as i16,
+        };
+        let left = rng.below(32) as u8;
+        let places = (0..rng.below(9)).map(|_| symbol(rng)).collect();
+        draft.rules.push((left, length, places));
+    }
+    draft
+}
+
+fn symbol(rng: &mut Rng) -> Sym {
+    match rng.one_in(2) {
+        true => Sym::N(rng.below(32) as u8),
+        false => Sym::T(rng.next() as u8),
+    }
+}
+
+/// A text of the book in which everything that may be spelt in more than one way is.
+pub fn spelt(rng: &mut Rng, draft: &Draft) -> String {
+    let mut text = String::new();
+    let start = kind(rng, draft.start);
+    line(rng, &mut text, &["start".to_string(), start]);
+    for (left, length, places) in &draft.rules {
+        let mut words = vec![kind(rng, *left), "->".to_string()];
+        words.extend(places.iter().map(|place| match *place {
+            Sym::N(k) => kind(rng, k),
+            Sym::T(t) => mark(rng, t),
+        }));
+        if places.is_empty() {
+            words.push("-".to_string());
+        }
+        words.extend([":".to_string(), millimetres(rng, *length)]);
+        line(rng, &mut text, &words);
+    }
+    if rng.one_in(4) {
+        text.truncate(text.trim_end_matches(['\r', '\n']).len());
+    }
+    text
+}
+
+/// Adds a line, with blanks and comments, and empty lines before it.
+fn line(rng: &mut Rng, text: &mut String, words: &[String]) {
+    let end = rng.pick(&["\n", "\n", "\r\n"]);
+    let comment = rng.pick(&["#", "# start 1", "#0 -> 1 : 2", "# 'é', \u{2028}", "##'"]);
+    for _ in 0..rng.pick(&[0, 0, 0, 1, 3]) {
+        *text += rng.pick(&["", "", " \t", "\t"]);
+        *text += rng.pick(&["", comment]);
+        *text += end;
+    }
+    *text += rng.pick(&["", "", " ", "\t "]);
+    *text += &words.join(rng.pick(&[" ", " ", "\t", "  \t "]));
+    *text += rng.pick(&["", "", " ", "\t\t"]);
+    *text += rng.pick(&["", comment]);
+    *text += end;
+}
+
+fn kind(rng: &mut Rng, kind: u8) -> String {
+    format!("{}{kind}", rng.pick(&["", "", "0", "000"]))
+}
+
+fn mark(rng: &mut Rng, mark: u8) -> String {
+    match rng.below(3) {
+        0 if (b' '..=b'~').contains(&mark) && !b"'\\".contains(&mark) => format!("'{}'", char::from(mark)),
+        1 => format!("={mark:02x}"),
+        _ => format!("={mark:02X}"),
+    }
+}
+
+fn millimetres(rng: &mut Rng, length: i16) -> String {
+    let hundredths = i32::from(length).abs();
+    let (whole, tenth, hundredth) = (hundredths / 100, hundredths / 10 % 10, hundredths % 10);
+    let decimals = match (tenth, hundredth) {
+        (0, 0) => rng.pick(&["", ".0", ".00"]).to_string(),
+        (_, 0) if rng.one_in(2) => format!(".{tenth}"),
+        _ => format!(".{tenth}{hundredth}"),
+    };
+    let sign = match length {
+        ..0 => "-",
+        0 => rng.pick(&["", "+", "-"]),
+        _ => rng.pick(&["", "+"]),
+    };
+    format!("{sign}{}{whole}{decimals}", rng.pick(&["", "", "0", "00"]))
+}

@@ -1,0 +1,61 @@
+//! The program on its command line.
+
+use std::path::PathBuf;
+use std::process::{Command, Output};
+
+fn run(arguments: &[&str]) -> Output {
+    Command::new(env!("CARGO_BIN_EXE_book")).args(arguments).output().expect("the program runs")
+}
+
+/// A file of this run that holds these bytes.
+fn file(name: &str, held: &[u8]) -> PathBuf {
+    let file = PathBuf::from(env!("CARGO_TARGET_TMPDIR")).join(name);
+    std::fs::write(&file, held).expect("the file is written");
+    file
+}
+
+/// What the program prints, without a fault.
+fn printed(verb: &str, name: &str, held: &[u8]) -> Vec<u8> {
+    let output = run(&[verb, file(name, held).to_str().expect("UTF-8")]);
+    assert_eq!((output.status.code(), &output.stderr[..]), (Some(0), &b""[..]));
+    output.stdout
+}
+
+/// What the program says of a bad file after its name; it prints nothing.
+fn said(verb: &str, name: &str, held: &[u8]) -> String {
+    let file = file(name, held);
+    let output = run(&[verb, file.to_str().expect("UTF-8")]);
+    assert_eq!((output.status.code(), &output.stdout[..]), (Some(1), &b""[..]));
+    let said = String::from_utf8(output.stderr).expect("UTF-8");
+    said.strip_prefix(&format!("book: {}: ", file.display())).expect("the file is named").to_string()
+}
+
+#[test]
+fn writes_and_reads() {
+    let text = b"start 0\n0 -> 1 1 : 46.00\n1 -> - : 0.00\n1 -> 'A' : 0.25\n";
+    let bytes = b"\x10\x00\x20\x00\xF8\x11\x30\x01\x30\x01\x20\x01\x00\x00\x20\x01\x19\x00\x40\x41\x50";
+    assert_eq!(printed("write", "t.txt", text), bytes);
+    assert_eq!(printed("read", "t.bin", bytes), text);
+    assert_eq!(printed("write", "comment.txt", "start 0 # \u{e9}\r\n".as_bytes()), b"\x10\x00\x50");
+}
+
+#[test]
+fn says_what_is_wrong() {
+    assert_eq!(said("write", "kind.txt", b"start 0\n32 -> - : 0\n"), "line 2: `32`: a kind over 31\n");
+    assert_eq!(said("write", "empty.txt", b""), "line 1: there is no `start KIND`\n");
+    assert_eq!(said("write", "latin.txt", b"start 0\n\n# \xE9\n"), "line 3: not UTF-8\n");
+    let due = "refusal 1 at offset 0: the book ends inside a command, or where one is due\n";
+    assert_eq!(said("read", "empty.bin", b""), due);
+    let output = run(&["write", "no such file"]);
+    assert_eq!((output.status.code(), &output.stdout[..]), (Some(1), &b""[..]));
+    assert!(output.stderr.starts_with(b"book: no such file: "));
+}
+
+#[test]
+fn says_how_it_is_called() {
+    for arguments in [&[][..], &["write"], &["read", "a", "b"], &["turn", "a"], &["--help"]] {
+        let output = run(arguments);
+        assert_eq!((output.status.code(), &output.stdout[..]), (Some(2), &b""[..]));
+        assert!(output.stderr.starts_with(b"usage: book write FILE.txt > book.bin\n"));
+    }
+}

@@ -1,0 +1,129 @@
+//! Texts and books turned into one another: nothing is lost, and a text may be spelt in many ways.
+
+mod drafts;
+
+use book::{to_bytes, to_text};
+use drafts::{draft, spelt};
+use outside_tests::books::{book, full_book, Draft, Rng, Sym};
+use outside_tests::lister::grammar::load;
+use std::collections::BTreeSet;
+
+/// Book, text, and the same book again.
+fn returns(bytes: &[u8]) -> String {
+    let text = to_text(bytes).unwrap_or_else(|refusal| panic!("{bytes:02X?}: {refusal}"));
+    assert_eq!(to_bytes(&text).as_deref(), Ok(bytes), "{text}");
+    text
+}
+
+#[test]
+fn random_books_return() {
+    let (mut lefts, mut kinds, mut marks) = (BTreeSet::new(), BTreeSet::new(), BTreeSet::new());
+    let (mut starts, mut places, mut rules, mut negative) = (BTreeSet::new(), BTreeSet::new(), BTreeSet::new(), 0);
+    for seed in 0..2000 {
+        let draft = draft(&mut Rng::new(seed));
+        let text = returns(&draft.bytes());
+        assert_eq!(text.lines().count(), 1 + draft.rules.len());
+        starts.insert(draft.start);
+        rules.insert(draft.rules.len());
+        for (left, length, row) in &draft.rules {
+            lefts.insert(*left);
+            places.insert(row.len());
+            negative += usize::from(*length < 0);
+            for place in row {
+                match *place {
+                    Sym::N(kind) => kinds.insert(kind),
+                    Sym::T(mark) => marks.insert(mark),
+                };
+            }
+        }
+    }
+    // What has to have come up.
+    assert_eq!([starts.len(), lefts.len(), kinds.len(), marks.len()], [32, 32, 32, 256]);
+    assert!((0..=8).all(|count| places.contains(&count)));
+    assert!([0, 1, 127, 128].iter().all(|count| rules.contains(count)) && rules.len() > 100);
+    assert!(negative > 10_000);
+}
+
+/// The books that the lister and the proved library are compared on, as far as they load.
+#[test]
+fn the_random_books_of_the_comparison_return() {
+    let books = (0..1300).map(book).chain((0..40).map(full_book)).map(|book| book.bytes);
+    let loading: Vec<Vec<u8>> = books.filter(|bytes| load(bytes).is_ok()).collect();
+    assert!(loading.len() > 1000, "{} load", loading.len());
+    for bytes in loading {
+        returns(&bytes);
+    }
+}
+
+#[test]
+fn every_length_and_every_mark_returns() {
+    let lengths: Vec<i16> = (i16::MIN..=i16::MAX).collect();
+    for some in lengths.chunks(128) {
+        let mut draft = Draft::new(31);
+        draft.rules = some.iter().map(|length| (7, *length, vec![])).collect();
+        returns(&draft.bytes());
+    }
+    let mut draft = Draft::new(0);
+    draft.rules = (0..128).map(|half| (0, 0, vec![Sym::T(half), Sym::T(128 + half)])).collect();
+    let text = returns(&draft.bytes());
+    let quoted = text.matches('\'').count() / 2;
+    assert_eq!(quoted, 95 - 2, "all printable characters but the quote and the backslash");
+    assert!(text.contains("0 -> ' ' =A0 : 0.00\n") && text.contains("0 -> '#' =A3 : 0.00\n"));
+    assert!(text.contains("0 -> =27 =A7 : 0.00\n") && text.contains("0 -> =5C =DC : 0.00\n"));
+    assert!(text.contains("0 -> =00 =80 : 0.00\n") && text.contains("0 -> =7F =FF : 0.00\n"));
+}
+
+/// The same book in other spellings: blanks, comments, empty lines, line ends, zeros, signs, decimals, marks in hexadecimal.
+#[test]
+fn random_spellings_are_read() {
+    for seed in 0..2000 {
+        let rng = &mut Rng::new(seed ^ 0x5_9E17);
+        let draft = draft(rng);
+        let text = spelt(rng, &draft);
+        assert_eq!(to_bytes(&text), Ok(draft.bytes()), "{text}");
+    }
+}
+
+#[test]
+fn lengths_are_spelt_in_many_ways() {
+    let cases = [
+        ("46", 4600),
+        ("46.0", 4600),
+        ("46.00", 4600),
+        ("+46", 4600),
+        ("046.5", 4650),
+        ("46.05", 4605),
+        ("0.25", 25),
+        ("-0.25", -25),
+        ("-0.2", -20),
+        ("-0", 0),
+        ("-0.00", 0),
+        ("00000000000000000000000000001", 100),
+        ("327.67", i16::MAX),
+        ("-327.68", i16::MIN),
+    ];
+    for (word, length) in cases {
+        let mut draft = Draft::new(0);
+        draft.rules.push((0, length, vec![]));
+        assert_eq!(to_bytes(&format!("start 0\n0 -> - : {word}")), Ok(draft.bytes()), "{word}");
+    }
+}
+
+#[test]
+fn marks_that_look_like_the_text_are_read() {
+    let text = "start 0 # '\n0 -> '#' ' ' ':' '-' '=' '\"' '>' '0' : 1 # : 2\n0 -> =3a =3A 'a' : 0#'\n";
+    let mut draft = Draft::new(0);
+    draft.rules.push((0, 100, b"# :-=\">0".map(Sym::T).to_vec()));
+    draft.rules.push((0, 0, b"::a".map(Sym::T).to_vec()));
+    assert_eq!(to_bytes(text), Ok(draft.bytes()));
+}
+
+#[test]
+fn the_smallest_book_and_the_largest_return() {
+    assert_eq!(returns(&[0x10, 0x00, 0x50]), "start 0\n");
+    assert_eq!(to_bytes("start 31"), Ok(vec![0x10, 0x1F, 0x50]));
+    let mut draft = Draft::new(31);
+    draft.rules = vec![(31, -32768, vec![Sym::N(31); 8]); 128];
+    let line = "31 -> 31 31 31 31 31 31 31 31 : -327.68\n";
+    assert_eq!(returns(&draft.bytes()), format!("start 31\n{}", line.repeat(128)));
+}
