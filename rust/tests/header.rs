@@ -73,3 +73,9 @@ fn the_functions_are_those_of_the_crate() {
         .collect();
     assert_eq!(header, wrapper);
 }
+
+/// README's program is the one that the doc tests run.
+#[test]
+fn readme_has_the_tested_program() {
+    assert!(include_str!("../../README.md").contains(include_str!("../README-snippet.md")));
+}
