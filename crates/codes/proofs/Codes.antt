@@ -21,14 +21,20 @@ use Rattle.first.specs.declared.Handed.{Handed}
 use Rattle.first.specs.declared.Handed.the-variants as F
 use Rattle.first.specs.Answer.{handingOf}
 use Rattle.hand.specs.Hand.{rowOf}
+use Rattle.loader.specs.declared.Outcome.{Outcome}
+use Rattle.loader.specs.declared.Outcome.the-variants as O
+use Rattle.loader.specs.Answer.{answerOf}
 use Rattle.recognizer.specs.Verdict.{verdictOf}
 use Rattle.results.specs.Recognize.{State}
-use Rattle.filbozseg.specs.Code.{verdictCode, rowLeft, lengthCode, tenthsLeft, handingCode, nodesLeft}
-use Rattle.filbozseg.specs.Code.{figureCode, figureLeft}
+use Rattle.codes.specs.Code.{verdictCode, rowLeft, loadCode, offsetLeft, lengthCode, tenthsLeft, handingCode, nodesLeft}
+use Rattle.codes.specs.Code.{figureCode, figureLeft}
 
 module _ (r : Refusal) (c : ℕ) (code : c ≡ 256 + numberOf r) where
   pub verdict-refused : (a : Verdict) → a ≡ C.Refused r → c ≡ verdictCode (verdictOf a)
   verdict-refused a e = code ∙ ap (λ (x : Verdict). verdictCode (verdictOf x)) (sym e)
+
+  pub load-refused : (a : Outcome) (at : ℕ) → a ≡ O.Refused r at → c ≡ loadCode (answerOf a)
+  load-refused a at e = code ∙ ap (λ (x : Outcome). loadCode (answerOf x)) (sym e)
 
   pub length-refused : (a : Measured) → a ≡ M.Refused r → c ≡ lengthCode (measuredOf a)
   length-refused a e = code ∙ ap (λ (x : Measured). lengthCode (measuredOf x)) (sym e)
@@ -38,6 +44,18 @@ module _ (r : Refusal) (c : ℕ) (code : c ≡ 256 + numberOf r) where
 
   pub figure-refused : (a : Counted) → a ≡ N.Refused r → c ≡ figureCode (countedOf a)
   figure-refused a e = code ∙ ap (λ (x : Counted). figureCode (countedOf x)) (sym e)
+
+-- ---- loading
+
+module _ (a : Outcome) where
+  pub code-loaded : a ≡ O.Accepted → 1 ≡ loadCode (answerOf a)
+  code-loaded e = ap (λ (x : Outcome). loadCode (answerOf x)) (sym e)
+
+  pub offset-loaded : (found : ℕ) → a ≡ O.Accepted → found ≡ offsetLeft (answerOf a) found
+  offset-loaded found e = ap (λ (x : Outcome). offsetLeft (answerOf x) found) (sym e)
+
+  pub offset-refused : (r : Refusal) (at found : ℕ) → a ≡ O.Refused r at → at ≡ offsetLeft (answerOf a) found
+  offset-refused r at found e = ap (λ (x : Outcome). offsetLeft (answerOf x) found) (sym e)
 
 -- ---- taking
 

@@ -1,9 +1,9 @@
--- `filbozseg::code::of_verdict` meets its contract.
+-- `codes::of_verdict` meets its contract.
 -- Assumes nothing.
 use borrow.Author.Needs.{needs}
-use Rattle.filbozseg.proofs.Codes.{verdict-refused}
-use Rattle.filbozseg.proofs.code.of_verdict.Statement.{statement}
-use Rattle.filbozseg.proofs.code.of_verdict.Tie as tie
+use Rattle.codes.proofs.Codes.{verdict-refused}
+use Rattle.codes.proofs.of_verdict.Statement.{statement}
+use Rattle.codes.proofs.of_verdict.Tie as tie
 
 enum-told : tie.Need-enum-told
 enum-told c = search needs

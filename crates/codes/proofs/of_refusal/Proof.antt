@@ -1,9 +1,9 @@
--- `filbozseg::code::of_refusal` meets its contract: 256 and the number of the refusal. The search would do; the file is
+-- `codes::of_refusal` meets its contract: 256 and the number of the refusal. The search would do; the file is
 -- there so that a wrong code is refused at this need.
 -- Assumes nothing.
 use borrow.Author.Needs.{needs}
-use Rattle.filbozseg.proofs.code.of_refusal.Statement.{statement}
-use Rattle.filbozseg.proofs.code.of_refusal.Tie as tie
+use Rattle.codes.proofs.of_refusal.Statement.{statement}
+use Rattle.codes.proofs.of_refusal.Tie as tie
 
 number-requires : tie.Need-number-requires
 number-requires c κs = search needs

@@ -7,8 +7,8 @@ use mathlib.Core.Path.{_≡_, refl, ap}
 use lib.IntN.{ℤ}
 use Rattle.results.specs.Answer.{Answer, refused, answered, Handing, handed, nothing, Figure, counted, more}
 use Rattle.results.specs.Answer.{LoadAnswer, refusedAt, loaded}
-use Rattle.filbozseg.specs.Code.{verdictCode, loadCode, offsetLeft, lengthCode, tenthsLeft, handingCode, nodesLeft}
-use Rattle.filbozseg.specs.Code.{figureCode, figureLeft}
+use Rattle.codes.specs.Code.{verdictCode, loadCode, offsetLeft, lengthCode, tenthsLeft, handingCode, nodesLeft}
+use Rattle.codes.specs.Code.{figureCode, figureLeft}
 
 pub verdict-apart : (a b : Answer Bool) → verdictCode a ≡ verdictCode b → a ≡ b
 verdict-apart (refused m) (refused n) e = ap refused (omega arith)
