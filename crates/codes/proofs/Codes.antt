@@ -14,9 +14,9 @@ use Rattle.grammar.specs.Number.{numberOf}
 use Rattle.checker.specs.declared.Measured.{Measured}
 use Rattle.checker.specs.declared.Measured.the-variants as M
 use Rattle.checker.specs.Calls.{measuredOf}
-use Rattle.count.specs.declared.Counted.{Counted}
-use Rattle.count.specs.declared.Counted.the-variants as N
-use Rattle.count.specs.Answer.{countedOf}
+use Rattle.counting.specs.declared.Counted.{Counted}
+use Rattle.counting.specs.declared.Counted.the-variants as N
+use Rattle.counting.specs.Answer.{countedOf}
 use Rattle.first.specs.declared.Handed.{Handed}
 use Rattle.first.specs.declared.Handed.the-variants as F
 use Rattle.first.specs.Answer.{handingOf}

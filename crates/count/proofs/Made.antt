@@ -25,8 +25,8 @@ use Rattle.tables.specs.Exact.{Packing, ChartTrue}
 use Rattle.first.specs.Answer.{enumerationOf}
 use Rattle.first.specs.Made.{FirstWritten}
 use Rattle.first.proofs.Root.{same, start}
-use Rattle.count.specs.Answer.{countOr, countTree, countFilled}
-use Rattle.count.specs.Made.{Stands, CountedOn, CountedMade}
+use Rattle.counting.specs.Answer.{countOr, countTree, countFilled}
+use Rattle.counting.specs.Made.{Stands, CountedOn, CountedMade}
 
 -- ---- the first element stands where it was handed out
 

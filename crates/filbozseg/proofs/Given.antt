@@ -8,9 +8,9 @@ use mathlib.Core.Path.{_≡_, sym, ap, _∙_, subst}
 use lib.IntN.{ℤ}
 use lib.ListN.{getD}
 use Rattle.cfg.specs.Nullable.{Depth}
-use Rattle.flat.specs.Fits.{Fits16}
-use Rattle.flat.specs.Flat.{grammarIn, flatOf}
-use Rattle.flat.proofs.Round.{read-write}
+use Rattle.rows.specs.Fits.{Fits16}
+use Rattle.rows.specs.Flat.{grammarIn, flatOf}
+use Rattle.rows.proofs.Round.{read-write}
 use Rattle.grammar.specs.declared.Grammar.{Grammar}
 use Rattle.grammar.specs.View.{wholeOf}
 use Rattle.hand.specs.Hand.{rowOf}

@@ -8,7 +8,7 @@ use mathlib.Core.Path.{_≡_}
 use lib.IntN.{ℤ}
 use lib.ListN.{getD}
 use Rattle.cfg.specs.Nullable.{Depth}
-use Rattle.flat.specs.Flat.{grammarIn, flatOf}
+use Rattle.rows.specs.Flat.{grammarIn, flatOf}
 use Rattle.grammar.specs.View.{wholeOf}
 use Rattle.hand.specs.Hand.{rowOf}
 use Rattle.results.specs.Answer.{Figure}

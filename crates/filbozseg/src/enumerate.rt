@@ -1,6 +1,6 @@
 // The functions of first, next and count that C and Rust link.
 use flat::Flat;
-ghost use Rattle.flat.specs.Flat.{grammarIn};
+ghost use Rattle.rows.specs.Flat.{grammarIn};
 ghost use Rattle.results.specs.Enumerate.{firstOf, nextOf, countOf};
 ghost use Rattle.filbozseg.specs.Calls.{Hands, Counts};
 
@@ -19,7 +19,7 @@ pub extern "C" fn filbozseg_first(
         (now (nodes .entry)) c (now (chart .exit)) (now (output .exit)) (now (nodes .exit)) ⌝ }
 {
     let handed = first::first(flat::read(grammar), input, chart, output);
-    codes::of_handing(handed, nodes)
+    encoding::of_handing(handed, nodes)
 }
 
 // The derivation after the offered one, written to the front of the output, and how many nodes it has; where none is handed out, the
@@ -38,7 +38,7 @@ pub extern "C" fn filbozseg_next(
         (now (nodes .entry)) c (now (chart .exit)) (now (output .exit)) (now (nodes .exit)) ⌝ }
 {
     let handed = next::next(flat::read(grammar), input, offered, chart, output);
-    codes::of_handing(handed, nodes)
+    encoding::of_handing(handed, nodes)
 }
 
 // How many derivations the input has; where there are more than 4,096, and where the call is refused, the number is as found.
@@ -54,5 +54,5 @@ pub extern "C" fn filbozseg_count(
         (now (figure .entry)) c (now (chart .exit)) (now (figure .exit)) ⌝ }
 {
     let counted = count::count(flat::read(grammar), input, chart);
-    codes::of_figure(counted, figure)
+    encoding::of_figure(counted, figure)
 }

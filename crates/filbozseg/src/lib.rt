@@ -1,10 +1,10 @@
 // The functions that C and Rust link. They take numbers, slices and arrays: a grammar is the flat row of crate flat, a state of the
-// recognizer the row of crate hand, and an answer is a number (crate codes). A number that is lent is written only with an answer that
+// recognizer the row of crate hand, and an answer is a number (crate encoding). A number that is lent is written only with an answer that
 // carries it.
 pub mod enumerate;
 
 use flat::Flat;
-ghost use Rattle.flat.specs.Flat.{grammarIn};
+ghost use Rattle.rows.specs.Flat.{grammarIn};
 ghost use Rattle.hand.specs.Hand.{stateOfRow};
 ghost use Rattle.results.specs.Check.{checkOf};
 ghost use Rattle.results.specs.Measure.{lengthOf, sameBuildOf};
@@ -20,7 +20,7 @@ pub extern "C" fn filbozseg_load(book: &[u8], grammar: &mut Flat, offset: &mut u
     let g = l.grammar;
     let outcome = l.outcome;
     flat::write(g, grammar);
-    codes::of_loading(outcome, offset)
+    encoding::of_loading(outcome, offset)
 }
 
 // Opens the recognizer: the state left is that of no bytes.
@@ -38,7 +38,7 @@ pub extern "C" fn filbozseg_open(
     let h = a.recognizer;
     let accepted = a.accepted;
     hand::write(h, hand);
-    codes::of_verdict(accepted)
+    encoding::of_verdict(accepted)
 }
 
 // Takes a byte. The state left is that with the byte, or, where the call is refused, the row found.
@@ -57,7 +57,7 @@ pub extern "C" fn filbozseg_take(
     let a = found.take(flat::read(grammar), byte, chart);
     let next = a.recognizer;
     let accepted = a.accepted;
-    codes::of_taking(accepted, next, hand)
+    encoding::of_taking(accepted, next, hand)
 }
 
 // Whether the offered derivation is one (reading) of the input.
@@ -72,7 +72,7 @@ pub extern "C" fn filbozseg_check(
         (checkOf (grammarIn (now (grammar .entry))) (now (input .entry)) (now (offered .entry)) (now (chart .entry)))
         c (now (chart .exit)) ⌝ }
 {
-    codes::of_verdict(checker::check(flat::read(grammar), input, offered, chart))
+    encoding::of_verdict(checker::check(flat::read(grammar), input, offered, chart))
 }
 
 // The length of an offered derivation, in tenths of a millimetre; where the call is refused, the number found.
@@ -89,7 +89,7 @@ pub extern "C" fn filbozseg_length(
         (now (tenths .entry)) c (now (chart .exit)) (now (tenths .exit)) ⌝ }
 {
     let measured = checker::length(flat::read(grammar), input, offered, chart);
-    codes::of_length(measured, tenths)
+    encoding::of_length(measured, tenths)
 }
 
 // Whether two offered derivations are the same build.
@@ -105,5 +105,5 @@ pub extern "C" fn filbozseg_same_build(
         (sameBuildOf (grammarIn (now (grammar .entry))) (now (input .entry)) (now (a .entry)) (now (b .entry)) (now (chart .entry)))
         c (now (chart .exit)) ⌝ }
 {
-    codes::of_verdict(checker::same_build(flat::read(grammar), input, a, b, chart))
+    encoding::of_verdict(checker::same_build(flat::read(grammar), input, a, b, chart))
 }
