@@ -30,11 +30,11 @@ use Rattle.results.specs.Answer.{Answer, refused, answered, check, decide}
 use Rattle.results.specs.Check.{listed, checkIn, checkOf}
 use Rattle.results.specs.Measure.{sum, rounded, unlisted, lengthIn, lengthOf, rulesUsed, sameBag, sameBuildIn, sameBuildOf}
 use Rattle.checker.specs.Build.{Low}
-use Rattle.checker.specs.Measure.{lengthOfRule, lengthsIn}
+use Rattle.measure.specs.Measure.{lengthOfRule, lengthsIn}
 use Rattle.checker.specs.Calls.{checkAnswer, lengthAnswer, buildAnswer}
 use Rattle.derivation.proofs.Whole.{listed-derivation}
 use Rattle.checker.proofs.Bags.{derivation-low}
-use Rattle.checker.proofs.Lengths.{sum-row}
+use Rattle.measure.proofs.Lengths.{sum-row}
 
 -- ---- a row that `is_derivation` affirms
 

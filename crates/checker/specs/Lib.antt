@@ -1,4 +1,3 @@
--- What the checker's calls say: the count of a derivation's rules, its length, and the answers.
+-- What the checker's calls say: the count of a derivation's rules, and the answers.
 pub mod Build
 pub mod Calls
-pub mod Measure

@@ -7,19 +7,17 @@ use numbers::wide_byte;
 use packed::Packed;
 use prepare::Judged;
 ghost use mathlib.Core.Path.{_≡_};
-ghost use Prim.Native.Nat.{_≤_};
 ghost use lib.ListN.{length};
 ghost use Rattle.cfg.specs.Listing.{L};
 ghost use Rattle.packed.specs.Packed.{cfgIn};
 ghost use Rattle.prepare.specs.Given.{checkingOf};
 ghost use Rattle.recognizer.specs.Verdict.{verdictOf};
 ghost use Rattle.results.specs.Check.{checkOf};
-ghost use Rattle.results.specs.Measure.{lengthOf, sameBuildOf, sum as sumOf, rounded as roundedOf};
-ghost use Rattle.checker.specs.Measure.{lengthsIn};
+ghost use Rattle.results.specs.Measure.{lengthOf, sameBuildOf};
+ghost use Rattle.measure.specs.Measure.{lengthsIn};
 ghost use Rattle.checker.specs.Calls.{measuredOf, checkAnswer, lengthAnswer, buildAnswer};
 
 mod build;
-pub mod measure;
 
 // The length in tenths of a millimetre, or why the call was refused.
 pub enum Measured {
@@ -38,14 +36,6 @@ fn check_offered(p: &Packed, start: usize, input: &[u8], offered: &[u16]) -> Ver
     }
 }
 
-// The total length of a derivation, in tenths.
-fn tenths(l: &[i16], e: &[u16]) -> i32
-    requires { ⌜ (length (now e) ≤ 1024) × (length (now l) ≡ 128) ⌝ }
-    ensures { λ r. ⌜ r ≡ roundedOf (sumOf (lengthsIn (now (l .entry))) (now (e .entry))) ⌝ }
-{
-    measure::rounded(measure::total(l, e))
-}
-
 // The length of an offered derivation.
 fn measure_offered(l: &[i16], p: &Packed, start: usize, input: &[u8], offered: &[u16]) -> Measured
     requires { ⌜ length (now l) ≡ 128 ⌝ }
@@ -53,7 +43,7 @@ fn measure_offered(l: &[i16], p: &Packed, start: usize, input: &[u8], offered: &
         ≡ lengthAnswer (lengthsIn (now (l .entry))) (L (cfgIn start (now (p .entry))) (now (input .entry))) (now (offered .entry)) ⌝ }
 {
     if is_derivation(p, start, input, offered) {
-        Measured::Tenths(tenths(l, offered))
+        Measured::Tenths(measure::tenths(l, offered))
     } else {
         Measured::Refused(Refusal::NotADerivation)
     }

@@ -25,7 +25,7 @@ use Rattle.results.specs.Answer.{Answer, Figure, refused}
 use Rattle.results.specs.Enumerate.{treeIn, countIn, countOf}
 use Rattle.tables.specs.Exact.{ChartTrue}
 use Rattle.first.proofs.Chart.{chart-packed}
-use Rattle.count.specs.Answer.{countOr, countFilled}
+use Rattle.counting.specs.Answer.{countOr, countFilled}
 
 module _ (g : Grammar) (w chart : List ℕ) (j : Judged) (judging : Judging g (length w) (length chart) j) where
   pub count-refused : (r : Refusal) → j ≡ Refused r → checkingOf (refused (numberOf r)) chart ≡ countOf g w chart

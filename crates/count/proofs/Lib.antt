@@ -1,4 +1,3 @@
 -- Laws of count.
-pub mod Loop
 pub mod Made
 pub mod Calls

@@ -25,12 +25,12 @@ use Rattle.tables.specs.Exact.{Packing, ChartTrue}
 use Rattle.first.specs.Answer.{enumerationOf}
 use Rattle.first.specs.Made.{FirstWritten}
 use Rattle.first.proofs.Root.{same, start}
-use Rattle.count.specs.Answer.{countOr, countTree, countFilled}
-use Rattle.count.specs.Made.{Stands, CountedOn, CountedMade}
+use Rattle.counting.specs.Answer.{countOr, countTree, countFilled}
+use Rattle.counting.specs.Made.{Stands, CountedOn, CountedMade}
 
 -- ---- the first element stands where it was handed out
 
-pub handed-stands : (l : List (List ℕ)) (chart out₀ out : List ℕ) (m : ℕ)
+handed-stands : (l : List (List ℕ)) (chart out₀ out : List ℕ) (m : ℕ)
     → enumerationOf (answered (handed m)) chart out ≡ handingOut (headOf l) (refused 13) chart out₀ → Stands l 0 out
 unfolding handingOut headOf
 handed-stands [] chart out₀ out m e = absurd (answered-apart (ap (λ (x : Enumeration). x .answer) e))

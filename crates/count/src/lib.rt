@@ -1,11 +1,12 @@
 // How many derivations (readings) an input has.
+use counting::Counted;
+use counting::count_on;
 use first::made::build;
 use first::made::exists;
 use first::made::write_first;
 use fit::FitTable;
 use grammar::Grammar;
 use grammar::Refusal;
-use next::made::advance_root;
 use numbers::wide_byte;
 use packed::Packed;
 use prepare::Judged;
@@ -19,46 +20,10 @@ ghost use Rattle.costs.specs.Span.{bytesOf};
 ghost use Rattle.packed.specs.Packed.{cfgIn};
 ghost use Rattle.prepare.specs.Given.{checkingOf};
 ghost use Rattle.results.specs.Enumerate.{countOf};
-ghost use Rattle.sizes.specs.Sizes.{maxRules, maxInput, side, cells, outputSize};
+ghost use Rattle.sizes.specs.Sizes.{maxRules, maxInput, side, cells};
 ghost use Rattle.tables.specs.Exact.{ChartTrue};
-ghost use Rattle.count.specs.Answer.{countedOf, countTree, countFilled};
-ghost use Rattle.count.specs.Made.{CountedOn, CountedMade};
-
-// The largest figure.
-const MOST: usize = 4096;
-
-// How many derivations there are, that there are more than 4,096, or why the call was refused.
-pub enum Counted {
-    Exactly(usize),
-    More,
-    Refused(Refusal),
-}
-
-// Counts the derivations, where the first one stands at the front of the buffer.
-fn count_on(
-    p: &Packed,
-    rules: usize,
-    fits: &FitTable,
-    chart: &[u32],
-    tables: &Tables,
-    start: usize,
-    n: usize,
-    buf: &mut [u16],
-) -> Counted
-    requires { ⌜ (rules ≤ maxRules) × (n < side) × (cells ≤ length (now chart)) × (outputSize ≤ length (now buf)) ⌝ }
-    ensures { λ a. ⌜ CountedOn (now (p .entry)) rules (now (fits .entry)) (now (chart .entry)) (now (tables .entry)) start n
-        (now (buf .entry)) (countedOf a) ⌝ }
-{
-    let mut i = 0;
-    while i < MOST {
-        let m = advance_root(p, rules, fits, chart, tables, start, n, buf);
-        if m == 0 {
-            return Counted::Exactly(i + 1);
-        }
-        i += 1;
-    }
-    Counted::More
-}
+ghost use Rattle.counting.specs.Answer.{countedOf, countTree, countFilled};
+ghost use Rattle.counting.specs.Made.{CountedMade};
 
 // Counts the derivations over tables that are made, or refuses with 13. The buffer is this function's own.
 fn count_made(

@@ -11,7 +11,7 @@ use lib.ListN.{getD, set, replicate, length-set}
 use lib.ListN as ListN
 use lib.Signed.{mag}
 use borrow.Author.Tests.{ltb-true, ltb-false}
-use Rattle.flat.specs.Fits.{DeclaredRule, Fits16}
+use Rattle.rows.specs.Fits.{DeclaredRule, Fits16}
 use Rattle.grammar.specs.declared.Symbol.{Symbol}
 use Rattle.grammar.specs.declared.Symbol.the-variants.{Nonterminal, Terminal}
 use Rattle.grammar.specs.declared.Place.{Place}

@@ -1,6 +1,6 @@
 -- What the exported functions return and leave, from what the functions that they call ensure.
 -- Assumes nothing.
-use Prim.Native.Nat.{ℕ, _+_, _<_}
+use Prim.Native.Nat.{ℕ, _<_}
 use native.Mathlib.Omega.{arith}
 use mathlib.Core.Bool.{Bool}
 use mathlib.Core.List.{List}
@@ -8,25 +8,21 @@ use mathlib.Core.Path.{_≡_, sym, ap, _∙_, subst}
 use lib.IntN.{ℤ}
 use lib.ListN.{getD}
 use Rattle.cfg.specs.Nullable.{Depth}
-use Rattle.flat.specs.Fits.{Fits16}
-use Rattle.flat.specs.Flat.{grammarIn, flatOf}
-use Rattle.flat.proofs.Round.{read-write}
+use Rattle.rows.specs.Fits.{Fits16}
+use Rattle.rows.specs.Flat.{grammarIn, flatOf}
+use Rattle.rows.proofs.Round.{read-write}
 use Rattle.grammar.specs.declared.Grammar.{Grammar}
-use Rattle.grammar.specs.declared.Refusal.{Refusal}
-use Rattle.grammar.specs.Number.{numberOf}
 use Rattle.grammar.specs.View.{wholeOf}
 use Rattle.hand.specs.Hand.{rowOf}
 use Rattle.loader.specs.declared.Loaded.{Loaded}
-use Rattle.loader.specs.declared.Outcome.{Outcome}
-use Rattle.loader.specs.declared.Outcome.the-variants as O
 use Rattle.loader.specs.Answer.{answerOf, loadingOf}
 use Rattle.results.specs.Answer.{Figure}
 use Rattle.results.specs.Check.{Checking}
 use Rattle.results.specs.Enumerate.{Enumeration}
 use Rattle.results.specs.Load.{Loading, loadOf}
 use Rattle.results.specs.Recognize.{State, Recognition}
-use Rattle.filbozseg.specs.Code.{verdictCode, rowLeft, loadCode, offsetLeft, lengthCode, tenthsLeft, handingCode, nodesLeft}
-use Rattle.filbozseg.specs.Code.{figureCode, figureLeft}
+use Rattle.codes.specs.Code.{verdictCode, rowLeft, loadCode, offsetLeft, lengthCode, tenthsLeft, handingCode, nodesLeft}
+use Rattle.codes.specs.Code.{figureCode, figureLeft}
 use Rattle.filbozseg.specs.Calls.{Loads, Opens, Takes, Checks, Measures, Hands, Counts}
 use Rattle.filbozseg.proofs.Fits.{load-fits}
 
@@ -51,20 +47,9 @@ module _ (book : List ℕ) (small : (i : ℕ) → getD book i 0 < 256) (l : Load
     depth = subst (λ (g : Grammar). Depth (wholeOf g) (l .grammar .depth)) (sym read-back) D;
   }
 
-  loads-of : (found code offset : ℕ) (row : List ℕ) → row ≡ flatOf (l .grammar) → code ≡ loadCode (answerOf (l .outcome))
+  pub loads-of : (found code offset : ℕ) (row : List ℕ) → row ≡ flatOf (l .grammar) → code ≡ loadCode (answerOf (l .outcome))
       → offset ≡ offsetLeft (answerOf (l .outcome)) found → Loads book found code row offset
   loads-of found code offset row e f k = rw (e, f, k) (row-loads found)
-
-  module _ (found : ℕ) (row : List ℕ) (written : row ≡ flatOf (l .grammar)) where
-    pub loads-accepted : l .outcome ≡ O.Accepted → Loads book found 1 row found
-    loads-accepted e =
-        loads-of found 1 found row written (ap (λ (x : Outcome). loadCode (answerOf x)) (sym e))
-        (ap (λ (x : Outcome). offsetLeft (answerOf x) found) (sym e))
-
-    pub loads-refused : (r : Refusal) (at code : ℕ) → l .outcome ≡ O.Refused r at → code ≡ 256 + numberOf r → Loads book found code row at
-    loads-refused r at code e c =
-        loads-of found code at row written (c ∙ ap (λ (x : Outcome). loadCode (answerOf x)) (sym e))
-        (ap (λ (x : Outcome). offsetLeft (answerOf x) found) (sym e))
 
 -- ---- the other calls: f is the call, on the grammar h, which was read as g, and v is what it gave
 

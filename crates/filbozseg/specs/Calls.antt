@@ -8,7 +8,7 @@ use mathlib.Core.Path.{_≡_}
 use lib.IntN.{ℤ}
 use lib.ListN.{getD}
 use Rattle.cfg.specs.Nullable.{Depth}
-use Rattle.flat.specs.Flat.{grammarIn, flatOf}
+use Rattle.rows.specs.Flat.{grammarIn, flatOf}
 use Rattle.grammar.specs.View.{wholeOf}
 use Rattle.hand.specs.Hand.{rowOf}
 use Rattle.results.specs.Answer.{Figure}
@@ -16,8 +16,8 @@ use Rattle.results.specs.Check.{Checking}
 use Rattle.results.specs.Enumerate.{Enumeration}
 use Rattle.results.specs.Load.{loadOf}
 use Rattle.results.specs.Recognize.{Recognition}
-use Rattle.filbozseg.specs.Code.{verdictCode, rowLeft, loadCode, offsetLeft, lengthCode, tenthsLeft, handingCode, nodesLeft}
-use Rattle.filbozseg.specs.Code.{figureCode, figureLeft}
+use Rattle.codes.specs.Code.{verdictCode, rowLeft, loadCode, offsetLeft, lengthCode, tenthsLeft, handingCode, nodesLeft}
+use Rattle.codes.specs.Code.{figureCode, figureLeft}
 
 -- the nullable depth that stands in a row
 abbrev pub depthIn : List ℕ → ℕ

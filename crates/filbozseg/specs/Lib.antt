@@ -1,3 +1,2 @@
 -- What the exported functions return and leave.
-pub mod Code
 pub mod Calls

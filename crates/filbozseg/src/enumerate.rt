@@ -1,9 +1,6 @@
 // The functions of first, next and count that C and Rust link.
-use super::code::of_refusal;
-use count::Counted;
-use first::Handed;
 use flat::Flat;
-ghost use Rattle.flat.specs.Flat.{grammarIn};
+ghost use Rattle.rows.specs.Flat.{grammarIn};
 ghost use Rattle.results.specs.Enumerate.{firstOf, nextOf, countOf};
 ghost use Rattle.filbozseg.specs.Calls.{Hands, Counts};
 
@@ -22,14 +19,7 @@ pub extern "C" fn filbozseg_first(
         (now (nodes .entry)) c (now (chart .exit)) (now (output .exit)) (now (nodes .exit)) ⌝ }
 {
     let handed = first::first(flat::read(grammar), input, chart, output);
-    match handed {
-        Handed::Nodes(n) => {
-            *nodes = n;
-            1
-        }
-        Handed::Nothing => 0, // no reading
-        Handed::Refused(r) => of_refusal(r),
-    }
+    encoding::of_handing(handed, nodes)
 }
 
 // The derivation after the offered one, written to the front of the output, and how many nodes it has; where none is handed out, the
@@ -48,14 +38,7 @@ pub extern "C" fn filbozseg_next(
         (now (nodes .entry)) c (now (chart .exit)) (now (output .exit)) (now (nodes .exit)) ⌝ }
 {
     let handed = next::next(flat::read(grammar), input, offered, chart, output);
-    match handed {
-        Handed::Nodes(n) => {
-            *nodes = n;
-            1
-        }
-        Handed::Nothing => 0, // none left
-        Handed::Refused(r) => of_refusal(r),
-    }
+    encoding::of_handing(handed, nodes)
 }
 
 // How many derivations the input has; where there are more than 4,096, and where the call is refused, the number is as found.
@@ -71,12 +54,5 @@ pub extern "C" fn filbozseg_count(
         (now (figure .entry)) c (now (chart .exit)) (now (figure .exit)) ⌝ }
 {
     let counted = count::count(flat::read(grammar), input, chart);
-    match counted {
-        Counted::Exactly(n) => {
-            *figure = n;
-            1
-        }
-        Counted::More => 2,
-        Counted::Refused(r) => of_refusal(r),
-    }
+    encoding::of_figure(counted, figure)
 }

@@ -1,14 +1,10 @@
 // The functions that C and Rust link. They take numbers, slices and arrays: a grammar is the flat row of crate flat, a state of the
-// recognizer the row of crate hand, and an answer is a number (module code). A number that is lent is written only with an answer that
+// recognizer the row of crate hand, and an answer is a number (crate encoding). A number that is lent is written only with an answer that
 // carries it.
-mod code;
 pub mod enumerate;
 
-use checker::Measured;
 use flat::Flat;
-use grammar::Verdict;
-use loader::Outcome;
-ghost use Rattle.flat.specs.Flat.{grammarIn};
+ghost use Rattle.rows.specs.Flat.{grammarIn};
 ghost use Rattle.hand.specs.Hand.{stateOfRow};
 ghost use Rattle.results.specs.Check.{checkOf};
 ghost use Rattle.results.specs.Measure.{lengthOf, sameBuildOf};
@@ -24,13 +20,7 @@ pub extern "C" fn filbozseg_load(book: &[u8], grammar: &mut Flat, offset: &mut u
     let g = l.grammar;
     let outcome = l.outcome;
     flat::write(g, grammar);
-    match outcome {
-        Outcome::Accepted => 1,
-        Outcome::Refused(r, at) => {
-            *offset = at;
-            code::of_refusal(r)
-        }
-    }
+    encoding::of_loading(outcome, offset)
 }
 
 // Opens the recognizer: the state left is that of no bytes.
@@ -48,7 +38,7 @@ pub extern "C" fn filbozseg_open(
     let h = a.recognizer;
     let accepted = a.accepted;
     hand::write(h, hand);
-    code::of_verdict(accepted)
+    encoding::of_verdict(accepted)
 }
 
 // Takes a byte. The state left is that with the byte, or, where the call is refused, the row found.
@@ -67,17 +57,7 @@ pub extern "C" fn filbozseg_take(
     let a = found.take(flat::read(grammar), byte, chart);
     let next = a.recognizer;
     let accepted = a.accepted;
-    match accepted {
-        Verdict::Refused(r) => code::of_refusal(r),
-        Verdict::Yes => {
-            hand::write(next, hand); // complete
-            1
-        }
-        Verdict::No => {
-            hand::write(next, hand);
-            0
-        }
-    }
+    encoding::of_taking(accepted, next, hand)
 }
 
 // Whether the offered derivation is one (reading) of the input.
@@ -92,7 +72,7 @@ pub extern "C" fn filbozseg_check(
         (checkOf (grammarIn (now (grammar .entry))) (now (input .entry)) (now (offered .entry)) (now (chart .entry)))
         c (now (chart .exit)) ⌝ }
 {
-    code::of_verdict(checker::check(flat::read(grammar), input, offered, chart))
+    encoding::of_verdict(checker::check(flat::read(grammar), input, offered, chart))
 }
 
 // The length of an offered derivation, in tenths of a millimetre; where the call is refused, the number found.
@@ -109,13 +89,7 @@ pub extern "C" fn filbozseg_length(
         (now (tenths .entry)) c (now (chart .exit)) (now (tenths .exit)) ⌝ }
 {
     let measured = checker::length(flat::read(grammar), input, offered, chart);
-    match measured {
-        Measured::Tenths(z) => {
-            *tenths = z;
-            1
-        }
-        Measured::Refused(r) => code::of_refusal(r),
-    }
+    encoding::of_length(measured, tenths)
 }
 
 // Whether two offered derivations are the same build.
@@ -131,5 +105,5 @@ pub extern "C" fn filbozseg_same_build(
         (sameBuildOf (grammarIn (now (grammar .entry))) (now (input .entry)) (now (a .entry)) (now (b .entry)) (now (chart .entry)))
         c (now (chart .exit)) ⌝ }
 {
-    code::of_verdict(checker::same_build(flat::read(grammar), input, a, b, chart))
+    encoding::of_verdict(checker::same_build(flat::read(grammar), input, a, b, chart))
 }

@@ -1,6 +1,2 @@
--- The laws of flat rows. What others cite: Judged, Round.
-pub mod Records
-pub mod Parts
+-- The laws of writing a flat row.
 pub mod Written
-pub mod Round
-pub mod Judged

@@ -14,8 +14,8 @@ use Rattle.grammar.specs.declared.Grammar.{Grammar}
 use Rattle.grammar.specs.Tagged.{tagOf, valueOf}
 use Rattle.grammar.specs.Zero.{zeroPlace}
 use Rattle.numbers.specs.Numbers.{countOf, unsignedOf}
-use Rattle.flat.specs.Flat.{flatPlace, flatRule, flatOf, flatSize, ruleNumbers}
-use Rattle.flat.proofs.Records.{put-two, put-three, flat-step}
+use Rattle.rows.specs.Flat.{flatPlace, flatRule, flatOf, flatSize, ruleNumbers}
+use Rattle.rows.proofs.Records.{put-two, put-three, flat-step}
 
 -- in f, what stands before b is as in f₀, and the first q elements of l follow, w numbers each
 pub record Written {A : Type 0} (flat : A → List ℕ) (w b : ℕ) (l : List A) (f₀ : List ℕ) (q : ℕ) (f : List ℕ) : Type 0 where

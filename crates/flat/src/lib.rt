@@ -5,7 +5,7 @@ mod writing;
 
 use grammar::Grammar;
 ghost use mathlib.Core.Path.{_≡_};
-ghost use Rattle.flat.specs.Flat.{flatSize, grammarIn, flatOf};
+ghost use Rattle.rows.specs.Flat.{flatSize, grammarIn, flatOf};
 
 // The numbers of a rule (its left side, its length, its count, and two for each place), and of a row.
 pub const RULE_NUMBERS: usize = 3 + 2 * sizes::MAX_PLACES;

@@ -1,32 +1,13 @@
-// The parts of a grammar, read from a row. Each number is judged whole: one that is too large for its place is read as a value that
-// check 8 refuses.
+// The parts of a grammar, read from a row.
 use super::Flat;
 use super::RULE_NUMBERS;
 use grammar::Place;
 use grammar::Rule;
-use grammar::Symbol;
+use rows::symbol;
 ghost use mathlib.Core.Path.{_≡_};
 ghost use Prim.Native.Nat.{_+_, _*_, _≤_};
 ghost use Rattle.sizes.specs.Sizes.{maxPlaces};
-ghost use Rattle.flat.specs.Flat.{symbolIn, placeIn, placesIn, ruleIn, rulesIn, flatSize, ruleNumbers};
-
-// The symbol of a tag and a value. What is neither a nonterminal nor a terminal is the nonterminal 255.
-fn symbol(tag: u16, value: u16) -> Symbol
-    ensures { λ s. ⌜ s ≡ symbolIn tag value ⌝ }
-{
-    let v = numbers::byte(value);
-    match tag {
-        0 => Symbol::Nonterminal(v),
-        1 => {
-            if value <= 255 {
-                Symbol::Terminal(v)
-            } else {
-                Symbol::Nonterminal(255)
-            }
-        }
-        _ => Symbol::Nonterminal(255),
-    }
-}
+ghost use Rattle.rows.specs.Flat.{placeIn, placesIn, ruleIn, rulesIn, flatSize, ruleNumbers};
 
 fn read_place(f: &Flat, at: usize) -> Place
     requires { ⌜ at + 2 ≤ flatSize ⌝ }

@@ -6,7 +6,7 @@ ghost use mathlib.Core.List.{_++_};
 ghost use mathlib.Core.Path.{_≡_};
 ghost use Prim.Native.Nat.{_+_, _≤_};
 ghost use lib.ListN.{length, take};
-ghost use Rattle.flat.specs.Flat.{flatRule, flatSize, ruleNumbers};
+ghost use Rattle.rows.specs.Flat.{flatRule, flatSize, ruleNumbers};
 
 // Writes the rule behind the numbers before at.
 pub fn write_rule(rule: Rule, at: usize, f: &mut Flat)

@@ -1,5 +1,5 @@
 // The lines go to standard output through a buffer of 64 KiB.
-use checker::measure::Lengths;
+use measure::Lengths;
 use fit::FitTable;
 use lister::Due;
 use lister::step::step;

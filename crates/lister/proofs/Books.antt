@@ -9,7 +9,7 @@ use native.Mathlib.Omega.{arith}
 use lib.IntN.{ℤ}
 use lib.ListN.{length}
 use Rattle.sizes.specs.Sizes.{maxRules}
-use Rattle.checker.specs.Measure.{lengthsIn}
+use Rattle.measure.specs.Measure.{lengthsIn}
 use Rattle.demands.specs.LoadDemand.{LoadRefused, LoadAccepted, LoadDemand}
 use Rattle.demands.proofs.LoadDemand.{load-demand}
 use Rattle.grammar.specs.declared.Grammar.{Grammar}

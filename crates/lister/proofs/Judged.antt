@@ -13,8 +13,8 @@ use Rattle.cfg.specs.Grammar.{rule}
 use Rattle.cfg.specs.Listing.{L}
 use Rattle.chart.specs.Column.{filled, complete}
 use Rattle.chart.proofs.Truth.{filled-length}
-use Rattle.checker.specs.Measure.{lengthsIn, lengthOfRule}
-use Rattle.checker.proofs.Lengths.{sum-row}
+use Rattle.measure.specs.Measure.{lengthsIn, lengthOfRule}
+use Rattle.measure.proofs.Lengths.{sum-row}
 use Rattle.costs.specs.Span.{bytesOf}
 use Rattle.first.proofs.Chart.{chart-packed}
 use Rattle.grammar.specs.declared.Grammar.{Grammar}

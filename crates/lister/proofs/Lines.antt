@@ -14,8 +14,8 @@ use lib.Seq.{drop-cons, getD-take}
 use Rattle.sizes.specs.Sizes.{maxRules, side}
 use Rattle.cfg.specs.Derivation.{Rising}
 use Rattle.cfg.specs.Listing.{L}
-use Rattle.count.specs.Made.{Stands}
-use Rattle.count.proofs.Loop.{last-element, next-element}
+use Rattle.counting.specs.Made.{Stands}
+use Rattle.counting.proofs.Loop.{last-element, next-element}
 use Rattle.descend.specs.Descend.{Given}
 use Rattle.next.specs.Made.{Following, Advanced, RootNext}
 use Rattle.packed.specs.Packed.{cfgIn}

@@ -1,26 +1,18 @@
 -- The length of the derivation at the front of the buffer, and its line.
 -- Assumes nothing.
-use Prim.Native.Nat.{ℕ, zero, suc, _+_, _/_, _≤_, _<_}
+use Prim.Native.Nat.{ℕ, _≤_, _<_}
 use mathlib.Core.List.{List}
 use mathlib.Core.Path.{_≡_, sym, ap, subst, _∙_}
 use native.Mathlib.Omega.{arith}
-use lib.IntN.{ℤ, pos, negsuc, negℤ}
+use lib.IntN.{ℤ}
 use lib.Signed.{mag}
 use mir.Syntax.{w32}
 use mir.Val.{toZ, ofZ}
-use Rattle.checker.proofs.Signed.{through}
+use Rattle.measure.proofs.Signed.{through}
 use Rattle.lines.specs.Put.{Put}
+use Rattle.lines.proofs.Bounds.{tenths-size}
 use Rattle.results.specs.Measure.{sum, rounded}
 use Rattle.text.specs.Line.{line}
-
-neg-size : (n : ℕ) → mag (negℤ (pos n)) ≤ n
-neg-size zero = omega arith
-neg-size (suc n) = omega arith
-
-rounded-small : (z : ℤ) → mag z ≤ 16777216 → mag (rounded z) ≤ 1677722
-unfolding rounded
-rounded-small (pos n) h = omega arith
-rounded-small (negsuc n) h = omega (arith, neg-size ((suc n + 5) / 10))
 
 -- a number that is small enough is kept by 32 bits
 abbrev kept : ℤ → ℤ
@@ -33,7 +25,7 @@ module _ (lengths : ℕ → ℤ) (e : List ℕ) (t u : ℤ) (total : (t ≡ sum 
   pub tenths-small : mag (kept u) ≤ 1677722
   tenths-small =
       kept-small u 1677722 (omega arith)
-      (subst (λ (x : ℤ). mag x ≤ 1677722) (sym tenths) (rounded-small (kept t) (kept-small t 16777216 (omega arith) (total .1))))
+      (subst (λ (x : ℤ). mag x ≤ 1677722) (sym tenths) (tenths-size (kept t) (kept-small t 16777216 (omega arith) (total .1))))
 
   pub line-put : (place r : ℕ) (out₀ out : List ℕ) → Put (line place e (kept u)) 0 r out₀ out
       → Put (line place e (rounded (sum lengths e))) 0 r out₀ out
@@ -42,7 +34,7 @@ module _ (lengths : ℕ → ℤ) (e : List ℕ) (t u : ℤ) (total : (t ≡ sum 
       omega (
         arith,
         subst (λ (x : ℤ). mag x ≤ 1677722) (sym tenths)
-            (rounded-small (kept t) (kept-small t 16777216 (omega arith) (total .1))),
+            (tenths-size (kept t) (kept-small t 16777216 (omega arith) (total .1))),
       ) in
       let same : kept t ≡ sum lengths e = through t (omega (arith, total .1)) ∙ total .0 in
       subst (λ (z : ℤ). Put (line place e z) 0 r out₀ out) (through u small ∙ tenths ∙ ap rounded same) P

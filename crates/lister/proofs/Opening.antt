@@ -7,7 +7,7 @@ use mathlib.Core.Path.{_≡_, refl, sym, ap, _∙_, subst}
 use native.Mathlib.Omega.{arith}
 use lib.Dec.{leb}
 use lib.IntN.{ℤ}
-use lib.ListN.{length, getD, drop, length-append, length-drop}
+use lib.ListN.{length, getD, drop, length-append, length-drop, List·getD-append}
 use borrow.Author.Tests.{leb-true, leb-false, not-true, not-false}
 use Rattle.sizes.specs.Sizes.{maxRules, maxInput, maxNodes, outputSize}
 use Rattle.sets.specs.Set.{has}
@@ -16,8 +16,7 @@ use Rattle.chart.specs.Cell.{cell}
 use Rattle.chart.specs.Column.{complete}
 use Rattle.choices.proofs.Root.{root-barren, root-exceeds}
 use Rattle.costs.specs.Span.{bytesOf}
-use Rattle.count.specs.Made.{Stands}
-use Rattle.count.proofs.Made.{handed-stands}
+use Rattle.counting.specs.Made.{Stands}
 use Rattle.descend.specs.Descend.{Given}
 use Rattle.first.specs.Answer.{enumerationOf}
 use Rattle.first.specs.Made.{FirstWritten}
@@ -66,7 +65,10 @@ handed-first : (l : List (List ℕ)) (chart out₀ out : List ℕ) (m : ℕ)
 unfolding handingOut headOf
 handed-first [] chart out₀ out m e = absurd (answered-apart (ap (λ (x : Enumeration). x .answer) e))
 handed-first (d ∷ l) chart out₀ out m e = record {
-  stands = handed-stands (d ∷ l) chart out₀ out m e;
+  stands = record {
+    there = omega arith;
+    here = λ y h. ap (λ (x : Enumeration). getD (x .output) y 0) e ∙ List·getD-append d (drop (length d) out₀) 0 y h;
+  };
   nodes = ap (λ (x : Enumeration). nodes-of (x .answer)) e;
   left = ap (λ (x : Enumeration). x .output) e;
 }

@@ -6,7 +6,7 @@ use mathlib.Core.Path.{_≡_, refl, sym, ap, ap₂, subst, _∙_}
 use lib.IntN.{ℤ}
 use lib.ListN.{length}
 use Rattle.cfg.specs.Listing.{L}
-use Rattle.checker.specs.Measure.{lengthsIn}
+use Rattle.measure.specs.Measure.{lengthsIn}
 use Rattle.packed.specs.Packed.{cfgIn}
 use Rattle.text.specs.Text.{textOf}
 use Rattle.text.proofs.Short.{text-lines}

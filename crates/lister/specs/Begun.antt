@@ -9,7 +9,7 @@ use lib.ListN.{length}
 use Rattle.sizes.specs.Sizes.{maxRules}
 use Rattle.cfg.specs.Listing.{L}
 use Rattle.chart.specs.Column.{complete}
-use Rattle.checker.specs.Measure.{lengthsIn}
+use Rattle.measure.specs.Measure.{lengthsIn}
 use Rattle.grammar.specs.declared.Grammar.{Grammar}
 use Rattle.packed.specs.Packed.{cfgIn}
 use Rattle.text.specs.Line.{refusedLine, noReadingLine}

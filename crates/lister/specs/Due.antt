@@ -7,7 +7,7 @@ use lib.IntN.{ℤ}
 use lib.ListN.{length, getD, take, drop}
 use Rattle.sizes.specs.Sizes.{maxRules, maxNodes, side}
 use Rattle.cfg.specs.Listing.{L}
-use Rattle.count.specs.Made.{Stands}
+use Rattle.counting.specs.Made.{Stands}
 use Rattle.descend.specs.Descend.{Given}
 use Rattle.packed.specs.Packed.{cfgIn}
 use Rattle.results.specs.Answer.{counted, more, most}

@@ -6,7 +6,7 @@ use mathlib.Core.Path.{_≡_}
 use lib.IntN.{ℤ}
 use lib.ListN.{length, take}
 use Rattle.cfg.specs.Listing.{L}
-use Rattle.count.specs.Made.{Stands}
+use Rattle.counting.specs.Made.{Stands}
 use Rattle.descend.specs.Descend.{Given}
 use Rattle.packed.specs.Packed.{cfgIn}
 use Rattle.results.specs.Measure.{sum, rounded}

@@ -1,6 +1,6 @@
 // What is printed first, from the bytes of the book and of the plate.
 use super::Due;
-use checker::measure::Lengths;
+use measure::Lengths;
 use first::made::build;
 use first::made::exists;
 use first::made::write_first;
@@ -96,7 +96,7 @@ fn begin_input(
         Judged::Refused(r) => Due::Refusal(wide_byte(grammar::number(r))),
         Judged::Passed => {
             *p = prepare::fill(g, input, chart);
-            *lengths = checker::measure::lengths_of(g);
+            *lengths = measure::lengths_of(g);
             begin_filled(p, wide_byte(g.start), input, chart, fits, tables, buf)
         }
     }

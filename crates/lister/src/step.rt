@@ -1,8 +1,8 @@
 // One line after the other.
 use super::Due;
-use checker::measure::Lengths;
-use checker::measure::rounded;
-use checker::measure::total;
+use measure::Lengths;
+use measure::rounded;
+use measure::total;
 use fit::FitTable;
 use lines::fixed::put_more;
 use lines::fixed::put_no_reading;
@@ -15,7 +15,7 @@ use tables::layout::Tables;
 ghost use mathlib.Core.Path.{_≡_};
 ghost use Prim.Native.Nat.{_+_, _<_, _≤_};
 ghost use lib.ListN.{length};
-ghost use Rattle.checker.specs.Measure.{lengthsIn};
+ghost use Rattle.measure.specs.Measure.{lengthsIn};
 ghost use Rattle.lines.specs.Put.{Put, lineSize};
 ghost use Rattle.sizes.specs.Sizes.{maxRules, maxNodes, side, cells, outputSize};
 ghost use Rattle.lister.specs.Due.{Sized};

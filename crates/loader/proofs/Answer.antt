@@ -15,9 +15,9 @@ use Rattle.grammar.specs.Zero.{zeroGrammar}
 use Rattle.grammar.proofs.RuleAt.{rule-past}
 use Rattle.results.specs.Load.{acceptedLoad, refusedLoad}
 use Rattle.loader.specs.Answer.{Refuses, Accepts}
-use Rattle.loader.specs.Nullable.{Exact}
+use Rattle.nullable.specs.Nullable.{Exact}
 use Rattle.loader.specs.declared.Outcome.the-variants.{Accepted, Refused}
-use Rattle.loader.proofs.Depth.{exact-depth}
+use Rattle.nullable.proofs.Depth.{exact-depth}
 
 -- a grammar of no rules has no nullable nonterminal
 zero-none : (k : ℕ) → Nullable (wholeOf zeroGrammar) k → ⊥

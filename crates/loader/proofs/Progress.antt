@@ -21,11 +21,11 @@ use Rattle.results.proofs.Loading.Run.{run-stop, run-next, run-done, step-forwa
 use Rattle.results.proofs.Loading.Commands.{step-kept}
 use Rattle.results.proofs.Loading.Valid.{valid-invariant, size-invariant}
 use Rattle.loader.specs.Answer.{loadingOf, Refuses, Accepts}
-use Rattle.loader.specs.Command.{stepOf, Bounded, Reads}
+use Rattle.commands.specs.Command.{stepOf, Bounded, Reads}
 use Rattle.loader.specs.Rule.{openedRule, placedRule}
 use Rattle.loader.specs.declared.Loaded.{Loaded}
-use Rattle.loader.specs.declared.command.Command.{Command}
-use Rattle.loader.specs.declared.command.Command.the-variants as C
+use Rattle.commands.specs.declared.Command.{Command}
+use Rattle.commands.specs.declared.Command.the-variants as C
 
 -- ---- the bounds of a command that was read
 

@@ -1,5 +1,3 @@
--- What loading promises, and what its parts compute.
+-- What loading promises, and the rules that it makes.
 pub mod Answer
-pub mod Command
 pub mod Rule
-pub mod Nullable

@@ -1,5 +1,5 @@
 // The loader: from the bytes of a book to a grammar, or to the refusal and the offset of the first fault.
-use crate::command::Command;
+use commands::Command;
 use grammar::Grammar;
 use grammar::Refusal;
 ghost use mathlib.Core.Bool.{true};
@@ -11,9 +11,6 @@ ghost use Rattle.grammar.specs.View.{wholeOf};
 ghost use Rattle.results.specs.Load.{loadOf};
 ghost use Rattle.loader.specs.Answer.{loadingOf, Refuses, Accepts};
 
-mod command;
-mod nullable;
-mod place;
 mod rule;
 
 pub enum Outcome {
@@ -62,7 +59,7 @@ pub fn load(bytes: &[u8]) -> Loaded
         let n = g.count;
         let q = rule::last_of(n);
         let open = g.rules[q];
-        let command = command::command_at(bytes, at, n, open.count);
+        let command = scanner::command_at(bytes, at, n, open.count);
         match command {
             Command::Start(k) => {
                 g.start = k;
@@ -74,7 +71,7 @@ pub fn load(bytes: &[u8]) -> Loaded
                 at += 4;
             }
             Command::Place(s) => {
-                g.rules[q] = place::placed(open, s);
+                g.rules[q] = rule::placed(open, s);
                 at += 2;
             }
             Command::End => {

@@ -1,7 +1,7 @@
 -- `flat::read` meets its contract: the grammar of the parts that were read.
 -- Assumes nothing.
 use borrow.Author.Needs.{needs}
-use Rattle.flat.proofs.Parts.{read-grammar-of}
+use Rattle.rows.proofs.Parts.{read-grammar-of}
 use Rattle.flat.proofs.read.Statement.{statement}
 use Rattle.flat.proofs.read.Tie as tie
 

@@ -6,7 +6,7 @@ use mathlib.Core.Path.{refl}
 use lib.ListN.{length-set, length-map, length-replicate, replicate}
 use borrow.Author.Needs.{needs}
 use Rattle.grammar.specs.Zero.{noRule}
-use Rattle.flat.specs.Flat.{flatRule, flatSize, ruleNumbers}
+use Rattle.rows.specs.Flat.{flatRule, flatSize, ruleNumbers}
 use Rattle.flat.proofs.Written.{Written, written-start, written-step, grammar-done}
 use Rattle.flat.proofs.write.Statement.{statement}
 use Rattle.flat.proofs.write.Tie as tie

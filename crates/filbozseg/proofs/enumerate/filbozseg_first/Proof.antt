@@ -1,56 +1,22 @@
--- `filbozseg::enumerate::filbozseg_first` meets its contract, one case for each answer.
+-- `filbozseg::enumerate::filbozseg_first` meets its contract.
 -- Assumes nothing.
 use borrow.Author.Needs.{needs}
 use Rattle.grammar.specs.declared.Grammar.{Grammar}
 use Rattle.results.specs.Enumerate.{firstOf}
-use Rattle.filbozseg.proofs.Codes.{handing-refused, code-handed, code-nothing, nodes-handed, nodes-nothing, nodes-refused}
 use Rattle.filbozseg.proofs.Given.{hands-of}
 use Rattle.filbozseg.proofs.enumerate.filbozseg_first.Statement.{statement}
 use Rattle.filbozseg.proofs.enumerate.filbozseg_first.Tie as tie
 
 returns : tie.Need-returns
 returns c =
-    let after-first = c .before .before .before .before .before .before .before in
-    let after-read = after-first .before .before .before in
-    let a = after-read .before .before .before .before .args in
-    hands-of (after-read .read .ensures)
-    (λ (g : Grammar). firstOf g (a .input .now) (a .chart .now) (a .output .now)) _ _ _ _
-    (after-first .first .ensures) (search code-handed) (search nodes-handed)
-
-returns-2 : tie.Need-returns-2
-returns-2 c =
     let after-first = c .before .before .before .before .before .before in
     let after-read = after-first .before .before .before in
     let a = after-read .before .before .before .before .args in
     hands-of (after-read .read .ensures)
     (λ (g : Grammar). firstOf g (a .input .now) (a .chart .now) (a .output .now)) _ _ _ _
-    (after-first .first .ensures) (search code-nothing) (search nodes-nothing)
-
-returns-3 : tie.Need-returns-3
-returns-3 c =
-    let after-first = c .before .before .before .before .before .before .before .before in
-    let after-read = after-first .before .before .before in
-    let a = after-read .before .before .before .before .args in
-    hands-of (after-read .read .ensures)
-    (λ (g : Grammar). firstOf g (a .input .now) (a .chart .now) (a .output .now)) _ _ _ _
-    (after-first .first .ensures) (search handing-refused) (search nodes-refused)
+    (after-first .first .ensures) (c .of-handing .ensures .0) (c .of-handing .ensures .1)
 
 pub filbozseg-first-spec : {M : Type 1} → statement M
 filbozseg-first-spec =
     tie.close
-    (tie.spec
-    (λ c κs. search needs)
-    (λ c κs. search needs)
-    (λ c. search needs)
-    (λ c. search needs)
-    (λ c. search needs)
-    (λ c κs. search needs)
-    (λ c. search needs)
-    (λ c. search needs)
-    returns
-    (λ c. search needs)
-    (λ c. search needs)
-    returns-2
-    (λ c. search needs)
-    (λ c. search needs)
-    returns-3)
+    (tie.spec (λ c κs. search needs) (λ c κs. search needs) (λ c κs. search needs) (λ c. search needs) (λ c. search needs) returns)

@@ -1,7 +1,7 @@
 -- `flat::reading::read_place` meets its contract: the place of the symbol that was read.
 -- Assumes nothing.
 use borrow.Author.Needs.{needs}
-use Rattle.flat.proofs.Parts.{read-place-of}
+use Rattle.rows.proofs.Parts.{read-place-of}
 use Rattle.flat.proofs.reading.read_place.Statement.{statement}
 use Rattle.flat.proofs.reading.read_place.Tie as tie
 

@@ -5,8 +5,8 @@ use native.Mathlib.Omega.{arith}
 use mathlib.Core.Path.{_≡_, refl}
 use lib.ListN.{length, take, length-set}
 use borrow.Author.Needs.{needs}
-use Rattle.flat.specs.Flat.{recordsFrom, placeIn, placesIn}
-use Rattle.flat.proofs.Records.{records-step, records-done}
+use Rattle.rows.specs.Flat.{recordsFrom, placeIn, placesIn}
+use Rattle.rows.proofs.Records.{records-step, records-done}
 use Rattle.flat.proofs.reading.read_places.Statement.{statement}
 use Rattle.flat.proofs.reading.read_places.Tie as tie
 

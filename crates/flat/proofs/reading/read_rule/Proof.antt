@@ -1,7 +1,7 @@
 -- `flat::reading::read_rule` meets its contract: the rule of the parts that were read.
 -- Assumes nothing.
 use borrow.Author.Needs.{needs}
-use Rattle.flat.proofs.Parts.{read-rule-of}
+use Rattle.rows.proofs.Parts.{read-rule-of}
 use Rattle.flat.proofs.reading.read_rule.Statement.{statement}
 use Rattle.flat.proofs.reading.read_rule.Tie as tie
 

@@ -4,7 +4,7 @@ use Prim.Native.Nat.{_≤_, _+_, _-_}
 use native.Mathlib.Omega.{arith}
 use lib.ListN.{length-set, length-map}
 use borrow.Author.Needs.{needs}
-use Rattle.flat.specs.Flat.{flatPlace}
+use Rattle.rows.specs.Flat.{flatPlace}
 use Rattle.flat.proofs.Written.{Written, written-start, place-step, rule-done}
 use Rattle.flat.proofs.writing.write_rule.Statement.{statement}
 use Rattle.flat.proofs.writing.write_rule.Tie as tie

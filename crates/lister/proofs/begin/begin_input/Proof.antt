@@ -6,7 +6,7 @@ use Rattle.lister.proofs.begin.begin_input.Statement.{statement}
 use Rattle.lister.proofs.begin.begin_input.Tie as tie
 use Rattle.lister.proofs.begin.begin_input.Reads as reads
 use Rattle.lister.proofs.begin.begin_input.Lts as lts
-use Rattle.checker.proofs.measure.lengths_of.Reads as lengths-of-reads
+use Rattle.measure.proofs.lengths_of.Reads as lengths-of-reads
 use Rattle.grammar.proofs.number.Reads as number-reads
 use Rattle.lister.proofs.begin.begin_filled.Reads as begin-filled-reads
 use Rattle.numbers.proofs.wide_byte.Reads as wide-byte-reads

@@ -7,8 +7,8 @@ use Rattle.lister.proofs.step.reading.Statement.{statement}
 use Rattle.lister.proofs.step.reading.Tie as tie
 use Rattle.lister.proofs.step.reading.Reads as reads
 use Rattle.lister.proofs.step.reading.Lts as lts
-use Rattle.checker.proofs.measure.rounded.Reads as rounded-reads
-use Rattle.checker.proofs.measure.total.Reads as total-reads
+use Rattle.measure.proofs.rounded.Reads as rounded-reads
+use Rattle.measure.proofs.total.Reads as total-reads
 use Rattle.lines.proofs.line.put_line.Reads as put-line-reads
 
 -- src/step.rt:49:43

@@ -1,0 +1,1 @@
+// The codes: definitions and theorems only.

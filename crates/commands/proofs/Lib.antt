@@ -1,0 +1,2 @@
+-- The laws of one step of loading.
+pub mod Steps

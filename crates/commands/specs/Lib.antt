@@ -1,0 +1,2 @@
+-- What a command means.
+pub mod Command

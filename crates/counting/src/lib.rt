@@ -1,0 +1,47 @@
+// Counting the derivations one after the other, from the first one on.
+use fit::FitTable;
+use grammar::Refusal;
+use next::made::advance_root;
+use packed::Packed;
+use tables::layout::Tables;
+ghost use Prim.Native.Nat.{_<_, _≤_};
+ghost use lib.ListN.{length};
+ghost use Rattle.sizes.specs.Sizes.{maxRules, side, cells, outputSize};
+ghost use Rattle.counting.specs.Answer.{countedOf};
+ghost use Rattle.counting.specs.Made.{CountedOn};
+
+// The largest figure.
+const MOST: usize = 4096;
+
+// How many derivations there are, that there are more than 4,096, or why the call was refused.
+pub enum Counted {
+    Exactly(usize),
+    More,
+    Refused(Refusal),
+}
+
+// Counts the derivations, where the first one stands at the front of the buffer.
+pub fn count_on(
+    p: &Packed,
+    rules: usize,
+    fits: &FitTable,
+    chart: &[u32],
+    tables: &Tables,
+    start: usize,
+    n: usize,
+    buf: &mut [u16],
+) -> Counted
+    requires { ⌜ (rules ≤ maxRules) × (n < side) × (cells ≤ length (now chart)) × (outputSize ≤ length (now buf)) ⌝ }
+    ensures { λ a. ⌜ CountedOn (now (p .entry)) rules (now (fits .entry)) (now (chart .entry)) (now (tables .entry)) start n
+        (now (buf .entry)) (countedOf a) ⌝ }
+{
+    let mut i = 0;
+    while i < MOST {
+        let m = advance_root(p, rules, fits, chart, tables, start, n, buf);
+        if m == 0 {
+            return Counted::Exactly(i + 1);
+        }
+        i += 1;
+    }
+    Counted::More
+}

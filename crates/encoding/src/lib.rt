@@ -1,0 +1,113 @@
+// The codes in which the exported functions return their answers, and what each answer leaves in the place that was lent for it. A code is
+// 0 for no and none; 1 for yes, loaded, measured, handed out and counted; 2 for more; 256 + n for refusal n.
+use checker::Measured;
+use counting::Counted;
+use first::Handed;
+use grammar::Refusal;
+use grammar::Verdict;
+use loader::Outcome;
+use recognizer::Recognizer;
+ghost use Prim.Native.Nat.{_+_};
+ghost use mathlib.Core.Path.{_≡_};
+ghost use Rattle.checker.specs.Calls.{measuredOf};
+ghost use Rattle.counting.specs.Answer.{countedOf};
+ghost use Rattle.first.specs.Answer.{handingOf};
+ghost use Rattle.grammar.specs.Number.{numberOf};
+ghost use Rattle.loader.specs.Answer.{answerOf};
+ghost use Rattle.recognizer.specs.Recognizer.{stateIn};
+ghost use Rattle.recognizer.specs.Verdict.{verdictOf};
+ghost use Rattle.codes.specs.Code.{verdictCode, rowLeft, loadCode, offsetLeft, lengthCode, tenthsLeft, handingCode, nodesLeft};
+ghost use Rattle.codes.specs.Code.{figureCode, figureLeft};
+
+pub fn of_refusal(r: Refusal) -> u32
+    ensures { λ c. ⌜ c ≡ 256 + numberOf r ⌝ }
+{
+    256 + (grammar::number(r) as u32)
+}
+
+// Opening, check and same build.
+pub fn of_verdict(v: Verdict) -> u32
+    ensures { λ c. ⌜ c ≡ verdictCode (verdictOf v) ⌝ }
+{
+    match v {
+        Verdict::Yes => 1,
+        Verdict::No => 0,
+        Verdict::Refused(r) => of_refusal(r),
+    }
+}
+
+// Loading: the offset is written only where the book is refused.
+pub fn of_loading(outcome: Outcome, offset: &mut usize) -> u32
+    ensures { λ c. ⌜ c ≡ loadCode (answerOf outcome) ⌝ }
+    ensures left { λ _. ⌜ now (offset .exit) ≡ offsetLeft (answerOf outcome) (now (offset .entry)) ⌝ }
+{
+    match outcome {
+        Outcome::Accepted => 1,
+        Outcome::Refused(r, at) => {
+            *offset = at;
+            of_refusal(r)
+        }
+    }
+}
+
+// Taking: the row of the new state is written unless the call is refused.
+pub fn of_taking(v: Verdict, next: Recognizer, hand: &mut [u16; hand::HAND]) -> u32
+    ensures { λ c. ⌜ c ≡ verdictCode (verdictOf v) ⌝ }
+    ensures left { λ _. ⌜ now (hand .exit) ≡ rowLeft (verdictOf v) (stateIn next) (now (hand .entry)) ⌝ }
+{
+    match v {
+        Verdict::Refused(r) => of_refusal(r),
+        Verdict::Yes => {
+            hand::write(next, hand);
+            1
+        }
+        Verdict::No => {
+            hand::write(next, hand);
+            0
+        }
+    }
+}
+
+// Length: the tenths are written unless the call is refused.
+pub fn of_length(measured: Measured, tenths: &mut i32) -> u32
+    ensures { λ c. ⌜ c ≡ lengthCode (measuredOf measured) ⌝ }
+    ensures left { λ _. ⌜ now (tenths .exit) ≡ tenthsLeft (measuredOf measured) (now (tenths .entry)) ⌝ }
+{
+    match measured {
+        Measured::Tenths(z) => {
+            *tenths = z;
+            1
+        }
+        Measured::Refused(r) => of_refusal(r),
+    }
+}
+
+// First and next: the nodes are written only where a derivation is handed out.
+pub fn of_handing(handed: Handed, nodes: &mut usize) -> u32
+    ensures { λ c. ⌜ c ≡ handingCode (handingOf handed) ⌝ }
+    ensures left { λ _. ⌜ now (nodes .exit) ≡ nodesLeft (handingOf handed) (now (nodes .entry)) ⌝ }
+{
+    match handed {
+        Handed::Nodes(n) => {
+            *nodes = n;
+            1
+        }
+        Handed::Nothing => 0,
+        Handed::Refused(r) => of_refusal(r),
+    }
+}
+
+// Count: the figure is written only where there is one.
+pub fn of_figure(counted: Counted, figure: &mut usize) -> u32
+    ensures { λ c. ⌜ c ≡ figureCode (countedOf counted) ⌝ }
+    ensures left { λ _. ⌜ now (figure .exit) ≡ figureLeft (countedOf counted) (now (figure .entry)) ⌝ }
+{
+    match counted {
+        Counted::Exactly(n) => {
+            *figure = n;
+            1
+        }
+        Counted::More => 2,
+        Counted::Refused(r) => of_refusal(r),
+    }
+}

@@ -1,0 +1,3 @@
+-- The laws of the sum and of its rounding.
+pub mod Signed
+pub mod Lengths

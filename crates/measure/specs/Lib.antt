@@ -1,0 +1,2 @@
+-- The lengths that are added up.
+pub mod Measure

@@ -1,0 +1,73 @@
+-- A set to which a pass adds nothing, and whose members are nullable, has exactly the nullable nonterminals: the steps of the loop of the
+-- search, with premises as its code gives them.
+-- Assumes nothing.
+use Prim.Native.Nat.{ℕ, zero, suc, _-_, _^_, _≤_, _<_}
+use native.Mathlib.Numerals.{add-one}
+use native.Mathlib.Omega.{arith}
+use mathlib.Core.Bool.{true}
+use mathlib.Core.Path.{_≡_, sym, _∙_, subst}
+use lib.ListN.{length, take, getD, length-take}
+use lib.Seq.{getD-take}
+use Rattle.sets.proofs.Laws.{has-empty}
+use Rattle.grammar.specs.declared.Grammar.{Grammar}
+use Rattle.grammar.specs.Valid.{validGrammar}
+use Rattle.grammar.specs.View.{wholeOf}
+use Rattle.grammar.specs.Zero.{noRule}
+use Rattle.grammar.proofs.All.{true-false}
+use Rattle.grammar.proofs.Bounds.{valid-count, grammar-parts}
+use Rattle.nullable.specs.Nullable.{pass, Exact}
+use Rattle.nullable.proofs.Pass.{pass-le, pass-word, pass-next, pass-same, widen-same}
+use Rattle.nullable.proofs.Empty.{Sound, widen-sound, Closed, closed-complete}
+
+-- ---- the loop of the search
+
+-- after a number of passes: the set is a word of nullable nonterminals, and next is what a pass makes of it
+pub record Searched (g : Grammar) (set next : ℕ) : Type 0 where
+  pub word : set < 2 ^ 32
+  pub sound : Sound (wholeOf g) set
+  pub passed : next ≡ pass (take (g .count) (g .rules)) set
+
+pub searched-first : (g : Grammar) (next : ℕ) → next ≡ pass (take (g .count) (g .rules)) 0 → Searched g 0 next
+searched-first g next e = record {
+  word = omega arith;
+  sound = λ k h. absurd (true-false h (has-empty k));
+  passed = e;
+}
+
+module _ (g : Grammar) (size : length (g .rules) ≡ 128) (valid : validGrammar g ≡ true) where
+  pass-sound : (set n : ℕ) → Sound (wholeOf g) set → n ≤ g .count → Sound (wholeOf g) (pass (take n (g .rules)) set)
+  unfolding pass
+  pass-sound set zero sound h = sound
+  pass-sound set (suc n) sound h =
+      let l : n < length (g .rules) = omega (arith, valid-count g valid) in
+      let e = rw add-one at (pass-next (g .rules) n set l) in
+      let w = widen-sound g size valid (pass (take n (g .rules)) set) n (pass-sound set n sound (omega arith)) h in
+      subst (Sound (wholeOf g)) (sym e) w
+
+  pub searched-next : (set next after : ℕ) → Searched g set next → after ≡ pass (take (g .count) (g .rules)) next → Searched g next after
+  searched-next set next after S e =
+      let p = S .passed in
+      record {
+        word = subst (λ (n : ℕ). n < 2 ^ 32) (sym p) (pass-word (take (g .count) (g .rules)) set (grammar-parts g valid .2) (S .word));
+        sound = subst (Sound (wholeOf g)) (sym p) (pass-sound set (g .count) (S .sound) (omega arith));
+        passed = e;
+      }
+
+  pub searched-falls : (set next : ℕ) → Searched g set next → (next ≡ set → ⊥) → 2 ^ 32 - next < 2 ^ 32 - set
+  searched-falls set next S n =
+      let p = S .passed in
+      let w = S .word in
+      omega (arith, pass-le (take (g .count) (g .rules)) set)
+
+  closed-of : (set : ℕ) → pass (take (g .count) (g .rules)) set ≡ set → Closed g size valid set
+  closed-of set e i h r =
+      let l : i < length (take (g .count) (g .rules)) = simp length-take (omega (arith, valid-count g valid)) in
+      let w = rw getD-take at (pass-same (take (g .count) (g .rules)) set e i l) in
+      widen-same set (getD (g .rules) i noRule) w r
+
+  pub searched-exact : (set next : ℕ) → Searched g set next → next ≡ set → Exact g set
+  searched-exact set next S e = record {
+    word = S .word;
+    sound = S .sound;
+    complete = closed-complete g size valid set (closed-of set (sym (S .passed) ∙ e));
+  }

@@ -1,0 +1,2 @@
+-- What the search for nullable nonterminals computes.
+pub mod Nullable

@@ -1,0 +1,98 @@
+// The nullable nonterminals of a grammar, as a set, and the nullable depth.
+use grammar::Grammar;
+use grammar::Place;
+use grammar::Rule;
+use grammar::Symbol;
+ghost use mathlib.Core.Bool.{true};
+ghost use mathlib.Core.Path.{_≡_};
+ghost use lib.ListN.{take};
+ghost use Rattle.sets.specs.Set.{card};
+ghost use Rattle.grammar.specs.Valid.{validPlace, validRule, validGrammar};
+ghost use Rattle.nullable.specs.Nullable.{placeIn, ruleIn, widen, pass, Exact};
+
+// Whether the place holds a nonterminal of the set.
+pub fn place_in(p: Place, set: u32) -> bool
+    requires { ⌜ validPlace p ≡ true ⌝ }
+    ensures { λ r. ⌜ r ≡ placeIn set p ⌝ }
+{
+    let s = p.symbol;
+    match s {
+        Symbol::Nonterminal(k) => sets::has(set, k as usize),
+        Symbol::Terminal(_) => false,
+    }
+}
+
+// Whether each place of the rule holds a nonterminal of the set.
+pub fn rule_in(rule: Rule, set: u32) -> bool
+    requires { ⌜ validRule rule ≡ true ⌝ }
+    ensures { λ r. ⌜ r ≡ ruleIn set rule ⌝ }
+{
+    let n = rule.count;
+    let mut q = 0;
+    while q < n {
+        let p = rule.places[q];
+        if !place_in(p, set) {
+            return false;
+        }
+        q += 1;
+    }
+    true
+}
+
+// The set, with the rule's left side where each of its places holds a nonterminal of the set.
+pub fn widened(rule: Rule, set: u32) -> u32
+    requires { ⌜ validRule rule ≡ true ⌝ }
+    ensures { λ r. ⌜ r ≡ widen rule set ⌝ }
+{
+    let k = rule.left;
+    if rule_in(rule, set) {
+        sets::with(set, k as usize)
+    } else {
+        set
+    }
+}
+
+// One pass over all rules, each of which finds what those before it added.
+pub fn nullable_pass(g: Grammar, set: u32) -> u32
+    requires { ⌜ validGrammar g ≡ true ⌝ }
+    ensures { λ r. ⌜ r ≡ pass (take (g .count) (g .rules)) set ⌝ }
+{
+    let n = g.count;
+    let mut s = set;
+    let mut i = 0;
+    while i < n {
+        let rule = g.rules[i];
+        s = widened(rule, s);
+        i += 1;
+    }
+    s
+}
+
+// The nullable nonterminals: passes until one adds nothing.
+pub fn nullable_set(g: Grammar) -> u32
+    requires { ⌜ validGrammar g ≡ true ⌝ }
+    ensures { λ r. ⌜ Exact g r ⌝ }
+{
+    let mut set = 0;
+    let mut next = nullable_pass(g, set);
+    while next != set {
+        set = next;
+        next = nullable_pass(g, set);
+    }
+    set
+}
+
+// A nullable depth: how many nonterminals are nullable.
+pub fn nullable_depth(set: u32) -> u8
+    ensures { λ r. ⌜ r ≡ card set ⌝ }
+{
+    let mut n = 0u8;
+    let mut k = 0;
+    while k < sizes::NONTERMINALS {
+        if sets::has(set, k) {
+            n += 1;
+        }
+        k += 1;
+    }
+    n
+}
