@@ -1,8 +1,8 @@
 // The lines go to standard output through a buffer of 64 KiB.
-use measure::Lengths;
 use fit::FitTable;
 use lister::Due;
 use lister::step::step;
+use measure::Lengths;
 use packed::Packed;
 use tables::layout::Tables;
 ghost use mathlib.Core.Path.{_≡_};

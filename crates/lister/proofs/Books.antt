@@ -2,7 +2,7 @@
 -- Assumes nothing.
 use Prim.Native.Nat.{ℕ, _≤_}
 use mathlib.Core.Bool.{true}
-use mathlib.Core.List.{List, [], _∷_}
+use mathlib.Core.List.{List}
 use mathlib.Core.Logic.{inl, inr}
 use mathlib.Core.Path.{_≡_, refl, sym, ap, subst, _∙_}
 use native.Mathlib.Omega.{arith}
@@ -10,20 +10,17 @@ use lib.IntN.{ℤ}
 use lib.ListN.{length}
 use Rattle.sizes.specs.Sizes.{maxRules}
 use Rattle.measure.specs.Measure.{lengthsIn}
-use Rattle.demands.specs.LoadDemand.{LoadRefused, LoadAccepted, LoadDemand}
+use Rattle.demands.specs.LoadDemand.{LoadDemand}
 use Rattle.demands.proofs.LoadDemand.{load-demand}
-use Rattle.grammar.specs.declared.Grammar.{Grammar}
 use Rattle.grammar.specs.declared.Refusal.{Refusal}
 use Rattle.grammar.specs.declared.Refusal.the-variants as R
 use Rattle.grammar.specs.Number.{numberOf}
 use Rattle.grammar.specs.Valid.{validGrammar}
 use Rattle.loader.specs.declared.Loaded.{Loaded}
-use Rattle.loader.specs.declared.Outcome.{Outcome}
 use Rattle.loader.specs.declared.Outcome.the-variants.{Accepted, Refused}
 use Rattle.loader.specs.Answer.{answerOf, loadingOf}
-use Rattle.results.specs.Answer.{LoadAnswer, refusedAt, loaded}
+use Rattle.results.specs.Answer.{refusedAt, loaded}
 use Rattle.results.specs.Load.{Loading, loadOf}
-use Rattle.text.specs.Line.{refusedLine}
 use Rattle.text.specs.Text.{inputText, loadedText, textOf}
 use Rattle.text.proofs.Depth.{text-depth}
 use Rattle.lister.specs.declared.Due.{Due}

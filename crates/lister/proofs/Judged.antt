@@ -54,7 +54,8 @@ module _ (g : Grammar) (w chart : List ℕ) (valid : validGrammar g ≡ true) (r
   nine (long-input v l) = (refl, input-fails w (inr l))
   nine (no-room v a b l) = absurd (omega arith)
 
-  pub input-refused : (j : Judged) → Judging g (length w) (length chart) j → (r : Refusal) → j ≡ Refused r → (b n : ℕ) → b ≡ numberOf r → n ≡ b
+  pub input-refused : (j : Judged) → Judging g (length w) (length chart) j → (r : Refusal) → j ≡ Refused r → (b n : ℕ)
+      → b ≡ numberOf r → n ≡ b
       → (p : List ℕ) (lengths : List ℤ) → length lengths ≡ maxRules → (fits tables buf : List ℕ)
       → InputBegun g w p lengths chart chart fits tables buf buf (RefusalDue n)
   unfolding inputText
@@ -127,7 +128,8 @@ module _ (g : Grammar) (w chart : List ℕ) (j : Judged) (judging : Judging g (l
         ∙ ap₂ (textBy (lengthsOf g)) empty-same (list-packed g p w (filling .1) s start)
         ∙ sym (decide-passed _ _ (inputCheck w ∷ []) (input-passes w (judged-some g (length w) (length chart) j judging is) a, tt))
 
-    pub input-begun : length (g .rules) ≡ maxRules → (fits tables buf₀ buf : List ℕ) (d : Due) → FilledBegun p s w chart' fits tables buf₀ buf d
+    pub input-begun : length (g .rules) ≡ maxRules → (fits tables buf₀ buf : List ℕ) (d : Due)
+        → FilledBegun p s w chart' fits tables buf₀ buf d
         → InputBegun g w p l chart chart' fits tables buf₀ buf d
     input-begun full fits tables buf₀ buf d F =
         let (v, a, b) = judged-ready g (length w) (length chart) j judging is in

@@ -2,10 +2,8 @@
 -- Assumes nothing.
 use Prim.Native.Nat.{ℕ, suc, _+_, _*_, _≤_, _<_, min}
 use mathlib.Core.List.{List, [], _∷_, _++_}
-use mathlib.Core.Logic.{dite}
-use mathlib.Core.Option.{none, some}
-use mathlib.Core.Path.{_≡_, refl, sym, ap, subst, _∙_}
-use native.Mathlib.Decide.{decLt}
+use mathlib.Core.Option.{some}
+use mathlib.Core.Path.{_≡_, refl, sym, ap, _∙_}
 use native.Mathlib.Numerals.{add-one}
 use native.Mathlib.Omega.{arith}
 use lib.IntN.{ℤ}
@@ -17,9 +15,9 @@ use Rattle.cfg.specs.Listing.{L}
 use Rattle.counting.specs.Made.{Stands}
 use Rattle.counting.proofs.Loop.{last-element, next-element}
 use Rattle.descend.specs.Descend.{Given}
-use Rattle.next.specs.Made.{Following, Advanced, RootNext}
+use Rattle.next.specs.Made.{Advanced, RootNext}
 use Rattle.packed.specs.Packed.{cfgIn}
-use Rattle.results.specs.Answer.{counted, more, most}
+use Rattle.results.specs.Answer.{most}
 use Rattle.results.specs.Enumerate.{figure}
 use Rattle.results.specs.Measure.{sum, rounded}
 use Rattle.results.proofs.Demand3.Figures.{figure-counted, figure-more}
@@ -28,7 +26,7 @@ use Rattle.results.proofs.Demand3.Rows.{at-member, after-next}
 use Rattle.text.specs.Line.{line, readingsLine}
 use Rattle.text.specs.Text.{linesFrom}
 use Rattle.lister.specs.declared.Due.the-variants.{Reading, Total, More}
-use Rattle.lister.specs.Due.{linesAt, Ahead, Holds}
+use Rattle.lister.specs.Due.{linesAt}
 use Rattle.lister.specs.Stepped.{Followed}
 
 largest : most ≡ 4096

@@ -1,9 +1,9 @@
 -- What is printed first, by the tests that the code makes once the chart is filled.
 -- Assumes nothing.
-use Prim.Native.Nat.{ℕ, _*_, _/_, _≤_, _<_}
-use mathlib.Core.Bool.{Bool, true, false, cond, not}
-use mathlib.Core.List.{List, [], _∷_, _++_, List·Memᴰ, List·Memᴰ·head}
-use mathlib.Core.Path.{_≡_, refl, sym, ap, _∙_, subst}
+use Prim.Native.Nat.{ℕ, _/_, _≤_, _<_}
+use mathlib.Core.Bool.{Bool, true, false, not}
+use mathlib.Core.List.{List, [], _∷_, _++_, List·Memᴰ}
+use mathlib.Core.Path.{_≡_, refl, sym, ap, _∙_}
 use native.Mathlib.Omega.{arith}
 use lib.Dec.{leb}
 use lib.IntN.{ℤ}
@@ -29,11 +29,11 @@ use Rattle.results.proofs.Demand3.Listed.{reading-even, reading-short}
 use Rattle.results.proofs.Demand3.Rows.{at-member}
 use Rattle.tables.specs.Exact.{Packing, ChartTrue}
 use Rattle.tables.specs.Layout.{costIn}
-use Rattle.text.specs.Line.{refusedLine, noReadingLine}
+use Rattle.text.specs.Line.{refusedLine}
 use Rattle.text.specs.Text.{textBy, listText}
 use Rattle.lister.specs.declared.Due.the-variants.{Refusal, NoReading, Reading}
 use Rattle.lister.specs.declared.Due.{Due}
-use Rattle.lister.specs.Due.{linesAt, Holds}
+use Rattle.lister.specs.Due.{linesAt}
 use Rattle.lister.specs.Begun.{TreeBegun, FilledBegun}
 
 -- ---- the text by the list of derivations

@@ -1,12 +1,12 @@
 // What is printed first, from the bytes of the book and of the plate.
 use super::Due;
-use measure::Lengths;
 use first::made::build;
 use first::made::exists;
 use first::made::write_first;
 use fit::FitTable;
 use grammar::Grammar;
 use loader::Outcome;
+use measure::Lengths;
 use numbers::wide_byte;
 use packed::Packed;
 use prepare::Judged;
@@ -17,7 +17,6 @@ ghost use Prim.Native.Nat.{_≤_};
 ghost use lib.ListN.{length};
 ghost use Rattle.costs.specs.Span.{bytesOf};
 ghost use Rattle.grammar.specs.Valid.{validGrammar};
-ghost use Rattle.packed.specs.Packed.{cfgIn};
 ghost use Rattle.sizes.specs.Sizes.{maxRules, maxInput, cells, outputSize};
 ghost use Rattle.tables.specs.Exact.{ChartTrue};
 ghost use Rattle.tables.specs.Layout.{tablesSize};

@@ -1,14 +1,14 @@
 // One line after the other.
 use super::Due;
-use measure::Lengths;
-use measure::rounded;
-use measure::total;
 use fit::FitTable;
 use lines::fixed::put_more;
 use lines::fixed::put_no_reading;
 use lines::fixed::put_readings;
 use lines::fixed::put_refused;
 use lines::line::put_line;
+use measure::Lengths;
+use measure::rounded;
+use measure::total;
 use next::made::advance_root;
 use packed::Packed;
 use tables::layout::Tables;
