@@ -23,7 +23,8 @@ module _ (p : List ℕ) (r : ℕ) (empty : List ℕ) where
     same : aloneIn (set tables (alonesAt + 8 * r + q) v) r q ≡ v
     same = getD-set-same tables (alonesAt + 8 * r + q) v 0 (omega (arith, S .long))
 
-    apart : (s n : ℕ) → ¬ (alonesAt + 8 * s + n ≡ alonesAt + 8 * r + q) → aloneIn (set tables (alonesAt + 8 * r + q) v) s n ≡ aloneIn tables s n
+    apart : (s n : ℕ) → ¬ (alonesAt + 8 * s + n ≡ alonesAt + 8 * r + q)
+        → aloneIn (set tables (alonesAt + 8 * r + q) v) s n ≡ aloneIn tables s n
     apart s n d = getD-set-other tables (alonesAt + 8 * r + q) (alonesAt + 8 * s + n) v 0 d
 
     here : (n : ℕ) → n < q + 1 → Dec (n ≡ q) → aloneIn (set tables (alonesAt + 8 * r + q) v) r n ≡ alone (fullIn empty) (placesIn p r) n
