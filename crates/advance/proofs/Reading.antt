@@ -21,7 +21,7 @@ use Rattle.tables.specs.Exact.{Packing}
 use Rattle.beyond.proofs.Codes.{tree-nonempty}
 use Rattle.advance.specs.declared.look.Step.{Step}
 use Rattle.advance.specs.declared.look.Step.the-variants.{No, End, Byte, Final, Node}
-use Rattle.advance.specs.Looked.{Looked, at-end, at-byte, no-byte, at-last, at-node, no-room, no-end, no-node}
+use Rattle.advance.specs.Looked.{LeavesIn, LeavesFound, Looked, at-end, at-byte, no-byte, at-last, at-node, no-room, no-end, no-node}
 
 -- ---- the tests
 
@@ -44,8 +44,10 @@ module _ {p : List ℕ} {r q : ℕ} {buf : List ℕ} {at a j budget m : ℕ} (e 
       pub look-beyond : j < a + c → Looked p r q buf at a j budget No
       look-beyond l = no-end (omega arith) (sym f ∙ y) (ap (λ (x : ℕ). a + x) d) l
 
-      pub look-last : {k : ℕ} → k ≡ valueIn p r q → a + c ≤ j → m ≤ q + 1 → Looked p r q buf at a j budget (Final k (a + c))
-      look-last g l n = at-last (omega arith) (omega arith) (sym f ∙ y) g (ap (λ (x : ℕ). a + x) d) l
+      pub look-last : {k : ℕ} {u : Bool} → k ≡ valueIn p r q → a + c ≤ j → LeavesFound p r (q + 1) m u → u ≡ true
+          → Looked p r q buf at a j budget (Final k (a + c))
+      look-last g l n v =
+          at-last (omega arith) (subst (LeavesIn p r (q + 1)) e (n v)) (sym f ∙ y) g (ap (λ (x : ℕ). a + x) d) l
 
       pub look-node : {k s : ℕ} → k ≡ valueIn p r q → a + c ≤ j → Sized p buf at s → s ≤ budget
           → Looked p r q buf at a j budget (Node k (a + c) s)

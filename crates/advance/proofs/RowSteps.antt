@@ -2,7 +2,7 @@
 -- Assumes nothing.
 use Prim.Native.Nat.{ℕ, _+_, _*_, _-_, _≤_, _<_}
 use mathlib.Core.List.{List, [], _∷_, _++_}
-use mathlib.Core.Path.{_≡_, refl, sym, ap, subst, _∙_}
+use mathlib.Core.Path.{_≡_, refl, sym, subst}
 use native.Mathlib.Omega.{arith}
 use lib.ListN.{length, length-append}
 use Rattle.sizes.specs.Sizes.{maxNodes}
@@ -13,7 +13,7 @@ use Rattle.enumeration.specs.Rows.{Row, Tree, SameSpan}
 use Rattle.enumeration.specs.Order.{Last}
 use Rattle.enumeration.proofs.Rows.{row-narrower}
 use Rattle.enumeration.proofs.Next.{own-next, own-last}
-use Rattle.choices.proofs.Stands.{end-stands, leaf-opened}
+use Rattle.choices.proofs.Stands.{leaf-opened}
 use Rattle.choices.proofs.NextRow.{end-ends, leaf-moves, leaf-ends, rest-stands, rest-moves}
 use Rattle.packed.proofs.Laws.{places-end}
 use Rattle.standing.specs.Standing.{StandsAt}
@@ -29,6 +29,7 @@ use Rattle.advance.specs.Looked.{Looked, at-end, at-byte, no-byte, at-la
 use Rattle.beyond.specs.Beyond.{Frame, NextAt}
 use Rattle.advance.specs.Advance.{NodeNext, RowNext, ChildNext}
 use Rattle.beyond.proofs.Codes.{tree-nonempty, stands-join, stands-same, kept-same, kept-behind, kept-then, next-none, next-some, next-same}
+use Rattle.advance.proofs.Leaves.{leaves-behind, leaves-move, leaves-end}
 use Rattle.advance.proofs.Reading.{opened-here, both-stand, child-here, size-here}
 
 -- the rows of the places from q on, as those of another list
@@ -115,7 +116,7 @@ module _ {p : List ℕ} {rules : ℕ} {fits chart tables : List ℕ} {r i j mask
           next-as p r q d (next-same (leaf-ends known o) (λ z. leaf-moves known o)
           (N .exact w G known g (o .row) (subst (StandsAt buf₀ at) (sym (o .coded)) S)))
 
-  -- ---- a node at the last place: it ends where the row does, and what comes after it comes after the row
+  -- ---- a node with only terminals behind it: its end stays, and what comes after it comes after the row
 
   pub row-last : {k b own : ℕ} {buf full rows : List ℕ} {n : ℕ} {t : Step} → i ≤ a → SameSpan (j - i) mask (b - a) own
       → NodeNext p rules fits chart tables k a b own budget at buf₀ buf n → Frame p rules fits chart tables r i j mask full rows
@@ -131,15 +132,12 @@ module _ {p : List ℕ} {rules : ℕ} {fits chart tables : List ℕ} {r i j mask
           → Row (Packing p) w (j - i) mask (tailIn p r q) a j budget f → StandsAt buf₀ at (code f)
           → Looked p r q buf₀ at a j budget (Final k b)
           → NextAt (Row (Packing p) w (j - i) mask (tailIn p r q) a j budget) (code f) buf at n
-      go {w} {f} G known R S (at-last c m t g d u) =
-          let D = tail-nonterminal p r q c t g ∙ ap (λ (s : List Symbol). nonterminal k ∷ s) (places-end p r (q + 1) m) in
-          let T = row-as p r q D R in
-          let (x, y, o) = opened-here buf₀ at S known l T d in
-          let z : b ≡ j = end-stands known (o .inside) (o .others) .0 in
-          next-as p r q D
-          (subst (λ (v : ℕ). NextAt (Tree (Packing p) w (j - i) mask k a v budget) (code f) buf at n) z
-          (last-next h (o .rising) (o .inside) known same N G
-          (subst (λ (v : ℕ). Tree (Packing p) w (j - i) mask k a v budget f) (sym z) T) S))
+      go {w} G known R S (at-last c m t g d u) =
+          let D = tail-nonterminal p r q c t g in
+          let (x, y, o) = opened-here buf₀ at S known l (row-as p r q D R) d in
+          let z = leaves-behind p r (q + 1) m in
+          next-as p r q D (next-same (leaves-end known z o) (leaves-move known z o)
+          (last-next h (o .rising) (o .inside) known same N G (o .child) (child-here buf₀ at S o)))
 
   -- ---- a node at another place: the places behind it move, or they are last
 
