@@ -1,8 +1,8 @@
 -- Places that hold only terminals: a row of them has no nodes and as many bytes, so what comes after a node before them, up to where it
 -- ends, comes after the row.
 -- Assumes nothing.
-use Prim.Native.Nat.{ℕ, zero, suc, _+_, _-_, _≤_}
-use mathlib.Core.Bool.{Bool, false}
+use Prim.Native.Nat.{ℕ, zero, suc, _+_, _-_, _≤_, _<_}
+use mathlib.Core.Bool.{Bool, true, false, true≢false}
 use mathlib.Core.List.{List, [], _∷_, _++_, append-nil}
 use mathlib.Core.Path.{_≡_, refl, sym, ap, subst, _∙_}
 use native.Mathlib.Decide.{ℕ-discrete}
@@ -34,6 +34,10 @@ leaves-more p r {from} {q} L e f s h l = go (ℕ-discrete s q)
     go : Dec (s ≡ q) → isNonterminalIn p r s ≡ false
     go (yes x) = ap (isNonterminalIn p r) x ∙ sym e ∙ f
     go (no x) = let z : ¬ (s ≡ q) = x in L s h (omega arith)
+
+pub leaves-not : (p : List ℕ) (r : ℕ) {from q m : ℕ} {b : Bool} → b ≡ isNonterminalIn p r q → b ≡ true → from ≤ q → q < m
+    → LeavesIn p r from m → ⊥
+leaves-not p r {q = q} e f h l L = true≢false (sym f ∙ e ∙ L q h l)
 
 pub leaves-all : (p : List ℕ) (r : ℕ) {from q m : ℕ} → LeavesIn p r from q → m ≤ q → LeavesIn p r from m
 leaves-all p r L h s u v = L s u (omega arith)

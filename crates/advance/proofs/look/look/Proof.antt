@@ -25,7 +25,8 @@ node c =
     let d = c .before .before .before .before .before .before in
     let e = d .before .before .before in
     look-node (e .before .before .before .count .ensures .0) (search needs) (e .before .is-nonterminal .ensures) (e .if2 .taken)
-    (d .wide .ensures) (c .before .before .before .before .value .ensures .0) (omega arith) (c .before .size .ensures) (omega arith)
+    (d .wide .ensures) (c .before .before .before .before .value .ensures .0) (omega arith)
+    (c .before .before .before .only-terminals .ensures) (search needs) (c .before .size .ensures) (omega arith)
 
 large : tie.Need-returns-6
 large c =
