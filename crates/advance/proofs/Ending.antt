@@ -60,8 +60,9 @@ module _ {p w : List ℕ} {cover set r j q a budget : ℕ} {f : Forest} (E : End
         go (ends-last _ _ D) = D
 
 -- the first number of what stands says where its first node ends
-pub ends-here : {G : Cfg} {w : List ℕ} {cover set k : ℕ} {places : List Symbol} {a j budget b c : ℕ} {f x y : Forest} (buf : List ℕ) (at : ℕ)
-    → StandsAt buf at (code f) → OpenedRow G w cover set k places a j budget f c x y → b ≡ a + getD buf (2 * at) 0 → c ≡ b
+pub ends-here : {G : Cfg} {w : List ℕ} {cover set k : ℕ} {places : List Symbol} {a j budget b c : ℕ} {f x y : Forest}
+    (buf : List ℕ) (at : ℕ) → StandsAt buf at (code f) → OpenedRow G w cover set k places a j budget f c x y
+    → b ≡ a + getD buf (2 * at) 0 → c ≡ b
 ends-here {a = a} {b = b} {c} {f} {x} {y} buf at S o e =
     let n = o .counted in
     let h = o .rising in

@@ -7,3 +7,4 @@ pub mod Reaching
 pub mod LastSteps
 pub mod ChildSteps
 pub mod NodeSteps
+pub mod Calls

@@ -56,8 +56,8 @@ module _ (p : List ℕ) {r k i j own budget n : ℕ} (at : ℕ) {buf₀ buf₁ w
 -- ---- where the last node of the row below is last
 
 -- the row below the tree that stands, and what comes after it
-below-next : {p : List ℕ} {rules : ℕ} {fits chart tables : List ℕ} {r k i j own budget : ℕ} (at : ℕ) {n : ℕ} {full rows buf₀ buf₁ w : List ℕ}
-    {mask : ℕ} {t f : Forest} (o : Of (Packing p) r k)
+below-next : {p : List ℕ} {rules : ℕ} {fits chart tables : List ℕ} {r k i j own budget : ℕ} (at : ℕ) {n : ℕ}
+    {full rows buf₀ buf₁ w : List ℕ} {mask : ℕ} {t f : Forest} (o : Of (Packing p) r k)
     → RowNext p rules fits chart tables r 0 i i j own (budget - 1) (at + 1) buf₀ full rows buf₁ n
     → Given p rules fits chart tables w → j ≤ length w → own ≡ insert k mask
     → OpenedNode (Packing p) w (j - i) mask k i j budget o t f → StandsAt buf₀ at (code t)

@@ -7,14 +7,13 @@ use native.Mathlib.Omega.{arith}
 use lib.ListN.{length, getD, length-append}
 use Rattle.sizes.specs.Sizes.{maxNodes}
 use Rattle.cfg.specs.Grammar.{Symbol}
-use Rattle.cfg.specs.Tree.{Forest, nodes, code}
+use Rattle.cfg.specs.Tree.{Forest, code}
 use Rattle.listing.proofs.Unique.{length-code}
-use Rattle.enumeration.specs.Rows.{Row, Tree}
+use Rattle.enumeration.specs.Rows.{Row}
 use Rattle.enumeration.specs.Order.{Last}
 use Rattle.choices.specs.Opened.{OpenedRow}
 use Rattle.choices.proofs.Stands.{leaf-opened}
 use Rattle.choices.proofs.NextRow.{leaf-moves, rest-stands, rest-moves}
-use Rattle.packed.specs.Packed.{valueIn}
 use Rattle.standing.specs.Standing.{StandsAt}
 use Rattle.standing.proofs.Stands.{stands-second}
 use Rattle.tables.specs.Exact.{Packing}
@@ -25,7 +24,7 @@ use Rattle.advance.specs.declared.look.Step.the-variants.{No, End, Byte,
 use Rattle.advance.specs.declared.reach.Found.{Found}
 use Rattle.advance.specs.declared.reach.Found.the-variants.{Nowhere, There}
 use Rattle.advance.specs.Looked.{Looked, at-end, at-byte, at-last, at-node}
-use Rattle.advance.specs.Reached.{Ends, ends-none, ends-leaf, ends-node, ends-last, LastNode, Reached, nowhere, there}
+use Rattle.advance.specs.Reached.{Ends, ends-none, ends-leaf, ends-node, ends-last, Reached, nowhere, there}
 use Rattle.beyond.specs.Beyond.{AfterAt}
 use Rattle.beyond.proofs.Codes.{stands-join}
 use Rattle.advance.proofs.Leaves.{leaves-behind, leaves-move, leaves-end}
@@ -85,7 +84,8 @@ module _ {p : List ℕ} {r q at a j budget : ℕ} {buf : List ℕ} (l : a ≤ j)
   reach-last {k = k} {b} L e = go (subst (Looked p r q buf at a j budget) e L)
     where
       go : Looked p r q buf at a j budget (Final k b) → Reached p r q buf at a j budget (There k a b at budget)
-      go (at-last c m t g d u) = there {c = a} {b = b} {to = at} {share = budget} (omega arith) (omega arith) u (omega arith) refl (λ w cover set f known R S.
+      go (at-last c m t g d u) = there {c = a} {b = b} {to = at} {share = budget} (omega arith) (omega arith) u (omega arith) refl
+          (λ w cover set f known R S.
           let D = tail-nonterminal p r q c t g in
           let (x, y, o) = opened-here buf at S known l (row-as p r q D R) d in
           let z = leaves-behind p r (q + 1) m in
@@ -108,7 +108,8 @@ module _ {p : List ℕ} {r q at a j budget : ℕ} {buf : List ℕ} (l : a ≤ j)
 
   module _ {k b s : ℕ} where
     passed : {w : List ℕ} {cover set : ℕ} {f : Forest} → Looked p r q buf at a j budget (Node k b s) → j ≤ length w
-        → Row (Packing p) w cover set (tailIn p r q) a j budget f → StandsAt buf at (code f) → Passed p w cover set r q k a j budget b s buf at f
+        → Row (Packing p) w cover set (tailIn p r q) a j budget f → StandsAt buf at (code f)
+        → Passed p w cover set r q k a j budget b s buf at f
     passed (at-node c t g d N Z u v) known R S =
         let (x, y, o) = opened-here buf at S known l (row-as p r q (tail-nonterminal p r q c t g) R) d in
         let z = size-here Z S o room in
@@ -123,7 +124,8 @@ module _ {p : List ℕ} {r q at a j budget : ℕ} {buf : List ℕ} (l : a ≤ j)
           stands = stands-second buf at (code x) (code y) s size (both-stand buf at S o);
         }
 
-    passed-ends : {w : List ℕ} {cover set : ℕ} {f : Forest} → Looked p r q buf at a j budget (Node k b s) → (P : Passed p w cover set r q k a j budget b s buf at f)
+    passed-ends : {w : List ℕ} {cover set : ℕ} {f : Forest} → Looked p r q buf at a j budget (Node k b s)
+        → (P : Passed p w cover set r q k a j budget b s buf at f)
         → Ends p w cover set r j (q + 1) b (budget - s) (P .rest) → Ends p w cover set r j q a budget f
     passed-ends {w} {cover} {set} {f} (at-node c t g d N Z u v) P E =
         ends-node b (P .first) (P .rest) t N

@@ -177,7 +177,8 @@ module _ {p : List ℕ} {rules : ℕ} {fits chart tables : List ℕ} {r i j mask
               numbers = code x ++ A .numbers;
               after = rest-moves known (B .opened) (B .count) {e = A .numbers} (A .after);
               size = omega (arith, length-append (code x) (A .numbers), B .size, A .size);
-              here = stands-join buf₀ buf₁ at s (code x) (A .numbers) (B .size) (child-here buf₀ at S (B .opened)) (A .here) (N .kept .before);
+              here = stands-join buf₀ buf₁ at s (code x) (A .numbers) (B .size) (child-here buf₀ at S (B .opened)) (A .here)
+                  (N .kept .before);
             }))
 
     pub row-child : {t : Step} {full rows buf : List ℕ} {m : ℕ} → Looked p r q buf₀ at a j budget t → t ≡ Node k b s → n ≤ 0

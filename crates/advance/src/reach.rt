@@ -1,5 +1,5 @@
-// The last node of the row that stands: the one with only terminals behind it. Its end stays, and it has all the nodes that the nodes before
-// it leave, so that no costs are asked for.
+// The last node of the row that stands: the one with only terminals behind it. Its end stays, and it has all the nodes that those before it
+// leave, so that no costs are asked for.
 use super::look::Step;
 use super::look::look;
 use packed::Packed;

@@ -1,12 +1,11 @@
--- The proof of the cycle of calls {child, last, node, row, turned}. Within a budget the measure of `turned` is 20 * budget + 1, that of `node`
--- 20 * budget + 2, of `child` and `last` 20 * budget + 3, and that of `row` at place q is 20 * budget + 12 - q.
+-- The proof of the cycle of calls {child, last, node, row, turned}.
 -- Assumes nothing.
-use Prim.Native.Nat.{ℕ, _+_, _*_, _-_, _<_}
+use Prim.Native.Nat.{ℕ}
 use native.Mathlib.Omega.{arith}
 use borrow.Author.Needs.{needs}
-use borrow.Fn.Kinds.{In}
-use borrow.Fn.PlainCycle.{Measures, is, falls, and}
 use Rattle.beyond.proofs.Frames.{frame-unmade}
+use Rattle.advance.proofs.Calls.{μ-child, child-at, child-below, μ-last, last-at, last-below, μ-node, node-at, node-below}
+use Rattle.advance.proofs.Calls.{μ-row, row-at, row-below, μ-turned, turned-at, turned-below}
 use Rattle.advance.proofs.Reading.{byte-room, node-room}
 use Rattle.advance.proofs.Reaching.{reach-room}
 use Rattle.advance.proofs.RowSteps.{row-none, row-end, row-byte, row-last, row-rest, row-child}
@@ -14,111 +13,42 @@ use Rattle.advance.proofs.ChildSteps.{child-dear, child-moved}
 use Rattle.advance.proofs.LastSteps.{last-none, last-still, last-moves}
 use Rattle.advance.proofs.NodeSteps.{node-none, node-last-moves, node-turned, turned-moves, turned-later}
 use Rattle.advance.proofs.child.child.Reads as child
-use Rattle.advance.proofs.child.child.Kinds as child-kinds
 use Rattle.advance.proofs.+child-child+last-last+next-node+row-row+turned-turned.Lts-child-child as child-lts
 use Rattle.advance.proofs.last.last.Reads as last
-use Rattle.advance.proofs.last.last.Kinds as last-kinds
 use Rattle.advance.proofs.+child-child+last-last+next-node+row-row+turned-turned.Lts-last-last as last-lts
 use Rattle.advance.proofs.next.node.Reads as node
-use Rattle.advance.proofs.next.node.Kinds as node-kinds
 use Rattle.advance.proofs.+child-child+last-last+next-node+row-row+turned-turned.Lts-next-node as node-lts
 use Rattle.advance.proofs.row.row.Reads as row
-use Rattle.advance.proofs.row.row.Kinds as row-kinds
 use Rattle.advance.proofs.+child-child+last-last+next-node+row-row+turned-turned.Lts-row-row as row-lts
 use Rattle.advance.proofs.turned.turned.Reads as turned
-use Rattle.advance.proofs.turned.turned.Kinds as turned-kinds
 use Rattle.advance.proofs.+child-child+last-last+next-node+row-row+turned-turned.Lts-turned-turned as turned-lts
-use Rattle.beyond.proofs.frame.rest_of.Reads as rest-of-reads
-use Rattle.beyond.proofs.later.later_rule.Reads as later-rule-reads
-use Rattle.advance.proofs.look.look.Reads as look-reads
-use Rattle.advance.proofs.look.rule_at.Reads as rule-at-reads
-use Rattle.advance.proofs.reach.reach.Reads as reach-reads
-use Rattle.beyond.proofs.moved.moved.Reads as moved-reads
-use Rattle.descend.proofs.open.child_set.Reads as child-set-reads
-use Rattle.descend.proofs.open.own_set.Reads as own-set-reads
+use Rattle.beyond.proofs.frame.rest_of.Reads as rest-of
+use Rattle.beyond.proofs.later.later_rule.Reads as later-rule
+use Rattle.beyond.proofs.moved.moved.Reads as moved
+use Rattle.advance.proofs.look.look.Reads as look
+use Rattle.advance.proofs.look.rule_at.Reads as rule-at
+use Rattle.advance.proofs.reach.reach.Reads as reach
+use Rattle.descend.proofs.open.child_set.Reads as child-set
+use Rattle.descend.proofs.open.own_set.Reads as own-set
 use Rattle.advance.proofs.+child-child+last-last+next-node+row-row+turned-turned.{statement}
 use Rattle.advance.proofs.+child-child+last-last+next-node+row-row+turned-turned.Tie.{close}
 
-abbrev μ-child : Measures 7 child-kinds.ps ℕ
-μ-child κs a = 20 * a .1 .1 .1 .1 .1 .1 .1 .1 .1 .1 .1 .1 .1 .1 .1 .0 + 3
-
-abbrev μ-last : Measures 5 last-kinds.ps ℕ
-μ-last κs a = 20 * a .1 .1 .1 .1 .1 .1 .1 .1 .1 .0 + 3
-
-abbrev μ-node : Measures 5 node-kinds.ps ℕ
-μ-node κs a = 20 * a .1 .1 .1 .1 .1 .1 .1 .1 .1 .0 + 2
-
-abbrev μ-row : Measures 7 row-kinds.ps ℕ
-μ-row κs a = 20 * a .1 .1 .1 .1 .1 .1 .1 .1 .1 .1 .1 .1 .1 .0 + (12 - a .1 .1 .1 .1 .1 .1 .1 .1 .0)
-
-abbrev μ-turned : Measures 5 turned-kinds.ps ℕ
-μ-turned κs a = 20 * a .1 .1 .1 .1 .1 .1 .1 .1 .1 .1 .0 + 1
-
--- what each is given at the measure t, and what a call of it asks below t
-abbrev child-at : ℕ → In 7 child-kinds.ps
-child-at t = and 7 child-kinds.ps (is 7 child-kinds.ps μ-child t) child.Pre
-
-abbrev child-below : ℕ → In 7 child-kinds.ps
-child-below t = and 7 child-kinds.ps (falls 7 child-kinds.ps _<_ μ-child t) child.Pre
-
-abbrev last-at : ℕ → In 5 last-kinds.ps
-last-at t = and 5 last-kinds.ps (is 5 last-kinds.ps μ-last t) last.Pre
-
-abbrev last-below : ℕ → In 5 last-kinds.ps
-last-below t = and 5 last-kinds.ps (falls 5 last-kinds.ps _<_ μ-last t) last.Pre
-
-abbrev node-at : ℕ → In 5 node-kinds.ps
-node-at t = and 5 node-kinds.ps (is 5 node-kinds.ps μ-node t) node.Pre
-
-abbrev node-below : ℕ → In 5 node-kinds.ps
-node-below t = and 5 node-kinds.ps (falls 5 node-kinds.ps _<_ μ-node t) node.Pre
-
-abbrev row-at : ℕ → In 7 row-kinds.ps
-row-at t = and 7 row-kinds.ps (is 7 row-kinds.ps μ-row t) row.Pre
-
-abbrev row-below : ℕ → In 7 row-kinds.ps
-row-below t = and 7 row-kinds.ps (falls 7 row-kinds.ps _<_ μ-row t) row.Pre
-
-abbrev turned-at : ℕ → In 5 turned-kinds.ps
-turned-at t = and 5 turned-kinds.ps (is 5 turned-kinds.ps μ-turned t) turned.Pre
-
-abbrev turned-below : ℕ → In 5 turned-kinds.ps
-turned-below t = and 5 turned-kinds.ps (falls 5 turned-kinds.ps _<_ μ-turned t) turned.Pre
-
 -- what each calls
 abbrev child-calls : ℕ → child-lts.Claims
-child-calls t = (
-  rest-of-reads.Asked,
-  rest-of-reads.Learnt,
-  child-set-reads.Asked,
-  child-set-reads.Learnt,
-  node-below t,
-  node.Post,
-  moved-reads.Asked,
-  moved-reads.Learnt,
-)
+child-calls t =
+    (rest-of.Asked, rest-of.Learnt, child-set.Asked, child-set.Learnt, node-below t, node.Post, moved.Asked, moved.Learnt)
 
 abbrev last-calls : ℕ → last-lts.Claims
-last-calls t =
-    (reach-reads.Asked, reach-reads.Learnt, child-set-reads.Asked, child-set-reads.Learnt, node-below t, node.Post)
+last-calls t = (reach.Asked, reach.Learnt, child-set.Asked, child-set.Learnt, node-below t, node.Post)
 
 abbrev node-calls : ℕ → node-lts.Claims
-node-calls t = (
-  rule-at-reads.Asked,
-  rule-at-reads.Learnt,
-  own-set-reads.Asked,
-  own-set-reads.Learnt,
-  last-below t,
-  last.Post,
-  turned-below t,
-  turned.Post,
-)
+node-calls t = (rule-at.Asked, rule-at.Learnt, own-set.Asked, own-set.Learnt, last-below t, last.Post, turned-below t, turned.Post)
 
 abbrev row-calls : ℕ → row-lts.Claims
-row-calls t = (look-reads.Asked, look-reads.Learnt, row-below t, row.Post, child-below t, child.Post)
+row-calls t = (look.Asked, look.Learnt, row-below t, row.Post, child-below t, child.Post)
 
 abbrev turned-calls : ℕ → turned-lts.Claims
-turned-calls t = (row-below t, row.Post, later-rule-reads.Asked, later-rule-reads.Learnt)
+turned-calls t = (row-below t, row.Post, later-rule.Asked, later-rule.Learnt)
 
 -- ---- child
 
@@ -150,7 +80,8 @@ last-node-requires t c κs =
 last-returns : (t : ℕ) → last-lts.Need-returns (last-calls t) (last-at t) last.Post
 last-returns t c =
     let d = c .before .before .before .before .before .before .before in
-    last-still (d .before .before .reach .ensures) (d .there .given .1) (c .before .before .before .before .before .child-set .ensures) (c .before .before .before .node .ensures)
+    last-still (d .before .before .reach .ensures) (d .there .given .1) (c .before .before .before .before .before .child-set .ensures)
+    (c .before .before .before .node .ensures)
     (omega arith)
 
 last-add-result : (t : ℕ) → last-lts.Need-add-result (last-calls t) (last-at t) last.Post
@@ -163,7 +94,8 @@ last-add-result t c =
 last-returns-3 : (t : ℕ) → last-lts.Need-returns-3 (last-calls t) (last-at t) last.Post
 last-returns-3 t c =
     let d = c .before .before .before .before .before .before .before in
-    last-moves (d .before .before .reach .ensures) (d .there .given .1) (c .before .before .before .before .before .child-set .ensures) (c .before .before .before .node .ensures)
+    last-moves (d .before .before .reach .ensures) (d .there .given .1) (c .before .before .before .before .before .child-set .ensures)
+    (c .before .before .before .node .ensures)
     (omega arith)
 
 -- ---- node
@@ -191,7 +123,8 @@ node-returns-3 t c =
     let x = d .before .before .before .before .before .before .pre in
     let y = d .before .if1 .left in
     let z = c .before .before .before .before .if2 .left in
-    node-turned (omega arith) (d .before .before .rule-at .ensures) (d .own-set .ensures) (omega arith) (c .before .before .before .before .before .before .before .last .ensures)
+    node-turned (omega arith) (d .before .before .rule-at .ensures) (d .own-set .ensures) (omega arith)
+    (c .before .before .before .before .before .before .before .last .ensures)
     (omega arith) (c .before .before .turned .ensures)
 
 -- ---- row

@@ -32,7 +32,8 @@ none c = (
 loop-again : tie.Need-loop-again Inv-loop μ-loop
 loop-again c =
     let d = c .before .before .before in
-    (omega arith, leaves-more (d .before .args .p .now) (d .before .args .r) (d .loop .inv .1) (c .before .is-nonterminal .ensures) (search needs))
+    let L = leaves-more (d .before .args .p .now) (d .before .args .r) (d .loop .inv .1) (c .before .is-nonterminal .ensures) in
+    (omega arith, L (search needs))
 
 pub only-terminals-spec : {M : Type 1} → statement M
 only-terminals-spec =
