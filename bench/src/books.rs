@@ -308,6 +308,23 @@ pub fn last_of_many() -> (Vec<u8>, Vec<u16>) {
     (book.bytes(), (0..512).flat_map(node).collect())
 }
 
+/// One reading, each node of which is looked at for another rule in vain, the costs being made for it: k → k+1 (and an empty
+/// node behind it, if `behind`) for the kinds below the last, last → A 0, last → A, and behind these, up to 128 rules, rules
+/// of all of them whose first kind has no tree over the marks.
+pub fn later_in_vain(last: u8, behind: bool) -> Vec<u8> {
+    const EMPTY: u8 = 30;
+    const NEVER: u8 = 31;
+    let mut book = Book::new(0);
+    (0..last).for_each(|k| {
+        book.rule(k, &[N(k + 1), N(EMPTY)][..1 + usize::from(behind)]);
+    });
+    book.rule(last, &[A, N(0)]).rule(last, &[A]).rule(EMPTY, &[]).rule(NEVER, &[T(b'B')]);
+    (last + 4..128).for_each(|r| {
+        book.rule(r % (last + 1), &[N(NEVER), N(EMPTY), N(EMPTY), N(EMPTY), N(EMPTY), N(EMPTY), N(EMPTY), N(EMPTY)]);
+    });
+    book.bytes()
+}
+
 /// A wide rule for each kind: k → eight of k+1, 31 → nothing, and k → A for each k if `marks`. Every kind is nullable, by
 /// trees of more than 512 parts but for the last ones.
 pub fn wide(marks: bool) -> Vec<u8> {

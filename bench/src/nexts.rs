@@ -106,7 +106,17 @@ pub fn nexts(sweep: usize) {
     time_advance("a wide rule for each kind", &books::wide(true), &a);
     heading(
         "NEXT: the worst advance provoked",
-        &["Next less first, in processor time: each node of the last reading is looked at."],
+        &["Count less first where there is one reading, in processor time: each of its nodes is looked at in vain."],
+    );
+    time_advance("another rule in vain, 30 kinds", &books::later_in_vain(29, false), &a[..17]);
+    time_advance("another rule in vain, 8 kinds", &books::later_in_vain(7, false), &a);
+    time_advance("a wider node in vain, 30 kinds", &books::later_in_vain(29, true), &a[..8]);
+    time_advance("a wider node in vain, 4 kinds", &books::later_in_vain(3, true), &a);
+    time_advance("deepest", &books::deepest().0, &a[..16]);
+    time_advance("bush of empty parts", &books::bush().0, &a[..1]);
+    heading(
+        "NEXT: of the last reading",
+        &["Next less first, in processor time: less than nothing where the way to the first reading is longer."],
     );
     let (book, reading) = books::last_of_many();
     time_next("deepest behind 95 wide rules", &book, &a, &reading);

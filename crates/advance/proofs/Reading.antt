@@ -1,6 +1,6 @@
 -- What stands at a place and at a node, by the tests that the code makes, and what a row that stands there says of it.
 -- Assumes nothing.
-use Prim.Native.Nat.{ℕ, _+_, _*_, _≤_, _<_}
+use Prim.Native.Nat.{ℕ, _+_, _*_, _-_, _≤_, _<_}
 use mathlib.Core.Bool.{Bool, true, false}
 use mathlib.Core.List.{List, _∷_, _++_}
 use mathlib.Core.Path.{_≡_, refl, sym, ap, subst, _∙_}
@@ -18,10 +18,11 @@ use Rattle.packed.proofs.Laws.{count-le}
 use Rattle.standing.specs.Standing.{StandsAt, Sized}
 use Rattle.standing.proofs.Stands.{stands-first}
 use Rattle.tables.specs.Exact.{Packing}
+use Rattle.suffixes.specs.Within.{tailIn}
 use Rattle.beyond.proofs.Codes.{tree-nonempty}
 use Rattle.advance.specs.declared.look.Step.{Step}
 use Rattle.advance.specs.declared.look.Step.the-variants.{No, End, Byte, Final, Node}
-use Rattle.advance.specs.Looked.{Looked, at-end, at-byte, no-byte, at-last, at-node, no-room, no-end, no-node}
+use Rattle.advance.specs.Looked.{LeavesIn, LeavesFound, Looked, at-end, at-byte, no-byte, at-last, at-node, no-room, no-end, no-node}
 
 -- ---- the tests
 
@@ -44,12 +45,15 @@ module _ {p : List ℕ} {r q : ℕ} {buf : List ℕ} {at a j budget m : ℕ} (e 
       pub look-beyond : j < a + c → Looked p r q buf at a j budget No
       look-beyond l = no-end (omega arith) (sym f ∙ y) (ap (λ (x : ℕ). a + x) d) l
 
-      pub look-last : {k : ℕ} → k ≡ valueIn p r q → a + c ≤ j → m ≤ q + 1 → Looked p r q buf at a j budget (Final k (a + c))
-      look-last g l n = at-last (omega arith) (omega arith) (sym f ∙ y) g (ap (λ (x : ℕ). a + x) d) l
+      pub look-last : {k : ℕ} {u : Bool} → k ≡ valueIn p r q → a + c ≤ j → LeavesFound p r (q + 1) m u → u ≡ true
+          → Looked p r q buf at a j budget (Final k (a + c))
+      look-last g l n v =
+          at-last (omega arith) (subst (LeavesIn p r (q + 1)) e (n .0 v)) (sym f ∙ y) g (ap (λ (x : ℕ). a + x) d) l
 
-      pub look-node : {k s : ℕ} → k ≡ valueIn p r q → a + c ≤ j → Sized p buf at s → s ≤ budget
-          → Looked p r q buf at a j budget (Node k (a + c) s)
-      look-node g l Z n = at-node (omega arith) (sym f ∙ y) g (ap (λ (x : ℕ). a + x) d) Z l n
+      pub look-node : {k s : ℕ} {u : Bool} → k ≡ valueIn p r q → a + c ≤ j → LeavesFound p r (q + 1) m u → u ≡ false → Sized p buf at s
+          → s ≤ budget → Looked p r q buf at a j budget (Node k (a + c) s)
+      look-node g l n v Z o =
+          at-node (omega arith) (sym f ∙ y) g (ap (λ (x : ℕ). a + x) d) (λ L. n .1 v (subst (LeavesIn p r (q + 1)) (sym e) L)) Z l o
 
     -- s is the number of its nodes
     pub look-large : {s : ℕ} → t ≡ true → Sized p buf at s → budget < s → Looked p r q buf at a j budget No
@@ -63,17 +67,11 @@ module _ {p : List ℕ} {r q : ℕ} {buf : List ℕ} {at a j budget : ℕ} {s : 
       go : Looked p r q buf at a j budget Byte → (q < maxPlaces) × (a < j)
       go (at-byte c t m) = (omega (arith, count-le p r), m)
 
-  pub last-room : {k b : ℕ} → s ≡ Final k b → (a ≤ b) × (b ≤ j)
-  last-room {k} {b} e = go (subst (Looked p r q buf at a j budget) e L)
-    where
-      go : Looked p r q buf at a j budget (Final k b) → (a ≤ b) × (b ≤ j)
-      go (at-last c m t g d x) = (omega arith, x)
-
   pub node-room : {k b n : ℕ} → s ≡ Node k b n → (q < maxPlaces) × (a ≤ b) × (b ≤ j) × (n ≤ budget) × (at + n ≤ maxNodes)
   node-room {k} {b} {n} e = go (subst (Looked p r q buf at a j budget) e L)
     where
       go : Looked p r q buf at a j budget (Node k b n) → (q < maxPlaces) × (a ≤ b) × (b ≤ j) × (n ≤ budget) × (at + n ≤ maxNodes)
-      go (at-node c t g d Z x y) = (omega (arith, count-le p r), omega arith, x, y, omega (arith, Z .small))
+      go (at-node c t g d N Z x y) = (omega (arith, count-le p r), omega arith, x, y, omega (arith, Z .small))
 
 -- ---- what stands
 
@@ -103,3 +101,13 @@ pub size-here : {p w : List ℕ} {cover set k : ℕ} {places : List Symbol} {a j
     → s ≡ nodes x
 size-here {k = k} {at = at} {buf = buf} {x = x} Z S o room =
     Z .exact k x (o .child .fit) (child-here buf at S o) (omega (arith, o .child .small))
+
+-- a node of k up to b with s nodes, the first of a row that stands, and the row behind it
+pub record Passed (p w : List ℕ) (cover set r q k a j budget b s : ℕ) (buf : List ℕ) (at : ℕ) (f : Forest) : Type 0 where
+  pub first : Forest
+  pub rest : Forest
+  pub opened : OpenedRow (Packing p) w cover set k (tailIn p r (q + 1)) a j budget f b first rest
+  pub count : s ≡ nodes first
+  pub size : length (code first) ≡ 2 * s
+  pub row : Row (Packing p) w cover set (tailIn p r (q + 1)) b j (budget - s) rest
+  pub stands : StandsAt buf (at + s) (code rest)

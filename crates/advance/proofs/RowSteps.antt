@@ -1,19 +1,18 @@
 -- The steps of a row, with premises as its code gives them.
 -- Assumes nothing.
 use Prim.Native.Nat.{ℕ, _+_, _*_, _-_, _≤_, _<_}
-use mathlib.Core.List.{List, [], _∷_, _++_}
-use mathlib.Core.Path.{_≡_, refl, sym, ap, subst, _∙_}
+use mathlib.Core.List.{List, _++_}
+use mathlib.Core.Path.{_≡_, refl, sym, subst}
 use native.Mathlib.Omega.{arith}
 use lib.ListN.{length, length-append}
 use Rattle.sizes.specs.Sizes.{maxNodes}
-use Rattle.cfg.specs.Grammar.{Symbol, nonterminal}
-use Rattle.cfg.specs.Tree.{Forest, code}
+use Rattle.cfg.specs.Grammar.{Symbol}
+use Rattle.cfg.specs.Tree.{Forest, nodes, code}
 use Rattle.listing.proofs.Unique.{length-code}
-use Rattle.enumeration.specs.Rows.{Row, Tree, SameSpan}
+use Rattle.enumeration.specs.Rows.{Row}
 use Rattle.enumeration.specs.Order.{Last}
-use Rattle.enumeration.proofs.Rows.{row-narrower}
-use Rattle.enumeration.proofs.Next.{own-next, own-last}
-use Rattle.choices.proofs.Stands.{end-stands, leaf-opened}
+use Rattle.choices.specs.Opened.{OpenedRow}
+use Rattle.choices.proofs.Stands.{leaf-opened}
 use Rattle.choices.proofs.NextRow.{end-ends, leaf-moves, leaf-ends, rest-stands, rest-moves}
 use Rattle.packed.proofs.Laws.{places-end}
 use Rattle.standing.specs.Standing.{StandsAt}
@@ -26,14 +25,16 @@ use Rattle.descend.proofs.RowSteps.{tail-terminal, tail-nonterminal}
 use Rattle.advance.specs.declared.look.Step.{Step}
 use Rattle.advance.specs.declared.look.Step.the-variants.{No, End, Byte, Final, Node}
 use Rattle.advance.specs.Looked.{Looked, at-end, at-byte, no-byte, at-last, at-node, no-room, no-end, no-node}
-use Rattle.beyond.specs.Beyond.{Frame, NextAt}
-use Rattle.advance.specs.Advance.{NodeNext, RowNext, ChildNext}
+use Rattle.advance.specs.Reached.{Ends}
+use Rattle.beyond.specs.Beyond.{Frame, AfterAt, NextAt}
+use Rattle.advance.specs.Advance.{RowNext, ChildNext}
 use Rattle.beyond.proofs.Codes.{tree-nonempty, stands-join, stands-same, kept-same, kept-behind, kept-then, next-none, next-some, next-same}
-use Rattle.advance.proofs.Reading.{opened-here, both-stand, child-here, size-here}
+use Rattle.advance.proofs.Ending.{ends-byte, ends-others, ends-row, ends-here}
+use Rattle.advance.proofs.Reading.{opened-here, both-stand, child-here, size-here, Passed}
 
 -- the rows of the places from q on, as those of another list
 module _ (p : List ℕ) (r q : ℕ) {w : List ℕ} {cover set a j budget : ℕ} {places : List Symbol} (d : tailIn p r q ≡ places) where
-  row-as : {f : Forest} → Row (Packing p) w cover set (tailIn p r q) a j budget f → Row (Packing p) w cover set places a j budget f
+  pub row-as : {f : Forest} → Row (Packing p) w cover set (tailIn p r q) a j budget f → Row (Packing p) w cover set places a j budget f
   row-as {f} R = subst (λ (s : List Symbol). Row (Packing p) w cover set s a j budget f) d R
 
   next-as : {c buf : List ℕ} {at n : ℕ} → NextAt (Row (Packing p) w cover set places a j budget) c buf at n
@@ -41,9 +42,14 @@ module _ (p : List ℕ) (r q : ℕ) {w : List ℕ} {cover set a j budget : ℕ} 
   next-as {c} {buf} {at} {n} N =
       subst (λ (s : List Symbol). NextAt (Row (Packing p) w cover set s a j budget) c buf at n) (sym d) N
 
+  pub after-as : {c buf : List ℕ} {at n : ℕ} → AfterAt (Row (Packing p) w cover set places a j budget) c buf at n
+      → AfterAt (Row (Packing p) w cover set (tailIn p r q) a j budget) c buf at n
+  after-as {c} {buf} {at} {n} N =
+      subst (λ (s : List Symbol). AfterAt (Row (Packing p) w cover set s a j budget) c buf at n) (sym d) N
+
 -- where nothing stands that is right, no row stands
 module _ {p : List ℕ} {r q a j budget at : ℕ} {buf : List ℕ} (l : a ≤ j) (room : at + budget ≤ maxNodes) where
-  none-stands : {w : List ℕ} {cover set : ℕ} {f : Forest} → Looked p r q buf at a j budget No → j ≤ length w
+  pub none-stands : {w : List ℕ} {cover set : ℕ} {f : Forest} → Looked p r q buf at a j budget No → j ≤ length w
       → Row (Packing p) w cover set (tailIn p r q) a j budget f → StandsAt buf at (code f) → ⊥
   none-stands (no-byte c n m) known R S =
       let (g, o) = leaf-opened known l (a + 1) (row-as p r q (tail-terminal p r q c n) R) (omega arith) in
@@ -60,17 +66,6 @@ module _ {p : List ℕ} {r q a j budget at : ℕ} {buf : List ℕ} (l : a ≤ j)
       let s = size-here Z S o room in
       omega (arith, o .child .small)
 
--- a node of k alone, up to b: what comes after it with what matters of the set comes after it with the set
-last-next : {p : List ℕ} {rules : ℕ} {fits chart tables : List ℕ} {i j mask k a b own budget at : ℕ} {n : ℕ}
-    {buf₀ buf w : List ℕ} {f : Forest} → i ≤ a → a ≤ b → b ≤ j → j ≤ length w → SameSpan (j - i) mask (b - a) own
-    → NodeNext p rules fits chart tables k a b own budget at buf₀ buf n → Given p rules fits chart tables w
-    → Tree (Packing p) w (j - i) mask k a b budget f → StandsAt buf₀ at (code f)
-    → NextAt (Tree (Packing p) w (j - i) mask k a b budget) (code f) buf at n
-last-next {p} {i = i} {j} {mask} {k} {a} {b} {budget = budget} {w = w} {f} h u v known same N G T S =
-    next-same (own-last (Packing p) w (j - i) mask a b budget (omega arith) (nonterminal k ∷ []) same (omega arith) (omega arith))
-    (λ e. own-next (Packing p) w (j - i) mask a b budget (omega arith) (nonterminal k ∷ []) same (omega arith) (omega arith))
-    (N .exact w G (omega arith) f (row-narrower (Packing p) w same (omega arith) (omega arith) (omega arith) f T) S)
-
 module _ {p : List ℕ} {rules : ℕ} {fits chart tables : List ℕ} {r i j mask q a budget at : ℕ} {buf₀ : List ℕ} (l : a ≤ j)
     (room : at + budget ≤ maxNodes) where
   -- ---- nothing, and the end
@@ -80,7 +75,7 @@ module _ {p : List ℕ} {rules : ℕ} {fits chart tables : List ℕ} {r i j mask
   row-none F L e = record {
     kept = kept-none;
     frame = F;
-    exact = λ w G known f R S. absurd (none-stands l room (subst (Looked p r q buf₀ at a j budget) e L) known R S);
+    exact = λ w G known f R S E. absurd (none-stands l room (subst (Looked p r q buf₀ at a j budget) e L) known R S);
   }
 
   pub row-end : {s : Step} {full rows : List ℕ} → Frame p rules fits chart tables r i j mask full rows
@@ -88,7 +83,7 @@ module _ {p : List ℕ} {rules : ℕ} {fits chart tables : List ℕ} {r i j mask
   row-end F L e = record {
     kept = kept-none;
     frame = F;
-    exact = λ w G known f R S. go known R (subst (Looked p r q buf₀ at a j budget) e L);
+    exact = λ w G known f R S E. go known R (subst (Looked p r q buf₀ at a j budget) e L);
   }
     where
       go : {w : List ℕ} {f : Forest} → j ≤ length w → Row (Packing p) w (j - i) mask (tailIn p r q) a j budget f
@@ -103,75 +98,87 @@ module _ {p : List ℕ} {rules : ℕ} {fits chart tables : List ℕ} {r i j mask
   row-byte {buf = buf} {n = n} L e N = record {
     kept = N .kept;
     frame = N .frame;
-    exact = λ w G known f R S. go G known R S (subst (Looked p r q buf₀ at a j budget) e L);
+    exact = λ w G known f R S E. go G known S E (subst (Looked p r q buf₀ at a j budget) e L);
   }
     where
-      go : {w : List ℕ} {f : Forest} → Given p rules fits chart tables w → j ≤ length w
-          → Row (Packing p) w (j - i) mask (tailIn p r q) a j budget f → StandsAt buf₀ at (code f)
-          → Looked p r q buf₀ at a j budget Byte → NextAt (Row (Packing p) w (j - i) mask (tailIn p r q) a j budget) (code f) buf at n
-      go {w} G known R S (at-byte c t m) =
-          let d = tail-terminal p r q c t in
-          let (g, o) = leaf-opened known l (a + 1) (row-as p r q d R) (omega arith) in
-          next-as p r q d (next-same (leaf-ends known o) (λ z. leaf-moves known o)
-          (N .exact w G known g (o .row) (subst (StandsAt buf₀ at) (sym (o .coded)) S)))
-
-  -- ---- a node at the last place: it ends where the row does, and what comes after it comes after the row
-
-  pub row-last : {k b own : ℕ} {buf full rows : List ℕ} {n : ℕ} {t : Step} → i ≤ a → SameSpan (j - i) mask (b - a) own
-      → NodeNext p rules fits chart tables k a b own budget at buf₀ buf n → Frame p rules fits chart tables r i j mask full rows
-      → Looked p r q buf₀ at a j budget t → t ≡ Final k b
-      → RowNext p rules fits chart tables r q a i j mask budget at buf₀ full rows buf n
-  row-last {k} {b} {buf = buf} {n = n} h same N F L e = record {
-    kept = N .kept;
-    frame = F;
-    exact = λ w G known f R S. go G known R S (subst (Looked p r q buf₀ at a j budget) e L);
-  }
-    where
-      go : {w : List ℕ} {f : Forest} → Given p rules fits chart tables w → j ≤ length w
-          → Row (Packing p) w (j - i) mask (tailIn p r q) a j budget f → StandsAt buf₀ at (code f)
-          → Looked p r q buf₀ at a j budget (Final k b)
+      go : {w : List ℕ} {f : Forest} → Given p rules fits chart tables w → j ≤ length w → StandsAt buf₀ at (code f)
+          → Ends p w (j - i) mask r j q a budget f → Looked p r q buf₀ at a j budget Byte
           → NextAt (Row (Packing p) w (j - i) mask (tailIn p r q) a j budget) (code f) buf at n
-      go {w} {f} G known R S (at-last c m t g d u) =
-          let D = tail-nonterminal p r q c t g ∙ ap (λ (s : List Symbol). nonterminal k ∷ s) (places-end p r (q + 1) m) in
-          let T = row-as p r q D R in
-          let (x, y, o) = opened-here buf₀ at S known l T d in
-          let z : b ≡ j = end-stands known (o .inside) (o .others) .0 in
-          next-as p r q D
-          (subst (λ (v : ℕ). NextAt (Tree (Packing p) w (j - i) mask k a v budget) (code f) buf at n) z
-          (last-next h (o .rising) (o .inside) known same N G
-          (subst (λ (v : ℕ). Tree (Packing p) w (j - i) mask k a v budget f) (sym z) T) S))
+      go {w} G known S E (at-byte c t m) =
+          let (g, o, D) = ends-byte E c t in
+          next-as p r q (tail-terminal p r q c t) (next-same (leaf-ends known o) (λ z. leaf-moves known o)
+          (N .exact w G known g (o .row) (subst (StandsAt buf₀ at) (sym (o .coded)) S) D))
+
+  -- ---- a node with only terminals behind it: it is last, and so is the row
+
+  pub row-last : {k b : ℕ} {full rows : List ℕ} {t : Step} → Frame p rules fits chart tables r i j mask full rows
+      → Looked p r q buf₀ at a j budget t → t ≡ Final k b
+      → RowNext p rules fits chart tables r q a i j mask budget at buf₀ full rows buf₀ 0
+  row-last {k} {b} F L e = record {
+    kept = kept-none;
+    frame = F;
+    exact = λ w G known f R S E. go E (subst (Looked p r q buf₀ at a j budget) e L);
+  }
+    where
+      go : {w : List ℕ} {f : Forest} → Ends p w (j - i) mask r j q a budget f → Looked p r q buf₀ at a j budget (Final k b)
+          → NextAt (Row (Packing p) w (j - i) mask (tailIn p r q) a j budget) (code f) buf₀ at 0
+      go E (at-last c m t g d u) = next-none (ends-row E c t m)
 
   -- ---- a node at another place: the places behind it move, or they are last
 
   module _ {k b s : ℕ} {full₁ rows₁ buf₁ : List ℕ} {n : ℕ}
       (N : RowNext p rules fits chart tables r (q + 1) b i j mask (budget - s) (at + s) buf₀ full₁ rows₁ buf₁ n) where
+    -- the node that stands and the row behind it, whose last node is last
+    behind : {w : List ℕ} {f : Forest} → j ≤ length w → StandsAt buf₀ at (code f) → Ends p w (j - i) mask r j q a budget f
+        → Looked p r q buf₀ at a j budget (Node k b s)
+        → (P : Passed p w (j - i) mask r q k a j budget b s buf₀ at f) × Ends p w (j - i) mask r j (q + 1) b (budget - s) (P .rest)
+    behind {w} {f} known S E (at-node c t g d M Z u v) = go (ends-others E c t M g)
+      where
+        go : (c : ℕ) × (x y : Forest) × OpenedRow (Packing p) w (j - i) mask k (tailIn p r (q + 1)) a j budget f c x y
+            × Ends p w (j - i) mask r j (q + 1) c (budget - nodes x) y
+            → (P : Passed p w (j - i) mask r q k a j budget b s buf₀ at f) × Ends p w (j - i) mask r j (q + 1) b (budget - s) (P .rest)
+        go (c, x, y, o', D) =
+            let h = ends-here buf₀ at S o' d in
+            let o = subst (λ (z : ℕ). OpenedRow (Packing p) w (j - i) mask k (tailIn p r (q + 1)) a j budget f z x y) h o' in
+            let z = size-here Z S o room in
+            let size : length (code x) ≡ 2 * s = omega (arith, length-code x) in (
+              record {
+                first = x;
+                rest = y;
+                opened = o;
+                count = z;
+                size = size;
+                row = rest-stands known o z;
+                stands = stands-second buf₀ at (code x) (code y) s size (both-stand buf₀ at S o);
+              },
+              subst (λ (v : ℕ). Ends p w (j - i) mask r j (q + 1) b (budget - v) y) (sym z)
+                  (subst (λ (z : ℕ). Ends p w (j - i) mask r j (q + 1) z (budget - nodes x) y) h D),
+            )
+
     pub row-rest : {t : Step} → Looked p r q buf₀ at a j budget t → t ≡ Node k b s → 0 < n
         → RowNext p rules fits chart tables r q a i j mask budget at buf₀ full₁ rows₁ buf₁ (s + n)
     row-rest L e m = record {
       kept = kept-behind (small (subst (Looked p r q buf₀ at a j budget) e L)) (N .kept);
       frame = N .frame;
-      exact = λ w G known f R S. go G known R S (subst (Looked p r q buf₀ at a j budget) e L);
+      exact = λ w G known f R S E. go G known S E (subst (Looked p r q buf₀ at a j budget) e L);
     }
       where
         small : Looked p r q buf₀ at a j budget (Node k b s) → s ≤ budget
-        small (at-node c t g d Z x y) = y
+        small (at-node c t g d M Z x y) = y
 
-        go : {w : List ℕ} {f : Forest} → Given p rules fits chart tables w → j ≤ length w
-            → Row (Packing p) w (j - i) mask (tailIn p r q) a j budget f → StandsAt buf₀ at (code f)
-            → Looked p r q buf₀ at a j budget (Node k b s)
+        go : {w : List ℕ} {f : Forest} → Given p rules fits chart tables w → j ≤ length w → StandsAt buf₀ at (code f)
+            → Ends p w (j - i) mask r j q a budget f → Looked p r q buf₀ at a j budget (Node k b s)
             → NextAt (Row (Packing p) w (j - i) mask (tailIn p r q) a j budget) (code f) buf₁ at (s + n)
-        go {w} G known R S (at-node c t g d Z u v) =
-            let D = tail-nonterminal p r q c t g in
-            let (x, y, o) = opened-here buf₀ at S known l (row-as p r q D R) d in
-            let z = size-here Z S o room in
-            let size : length (code x) ≡ 2 * s = omega (arith, length-code x) in
-            let T = stands-second buf₀ at (code x) (code y) s size (both-stand buf₀ at S o) in
-            let A = N .exact w G known y (rest-stands known o z) T .some m in
-            next-as p r q D (next-some (omega arith) (record {
+        go {w} G known S E (at-node c t g d M Z u v) =
+            let (B, D) = behind known S E (at-node c t g d M Z u v) in
+            let x = B .first in
+            let A = N .exact w G known (B .rest) (B .row) (B .stands) D .some m in
+            next-as p r q (tail-nonterminal p r q c t g) (next-some (omega arith) (record {
               numbers = code x ++ A .numbers;
-              after = rest-moves known o z {e = A .numbers} (A .after);
-              size = omega (arith, length-append (code x) (A .numbers), A .size);
-              here = stands-join buf₀ buf₁ at s (code x) (A .numbers) size (child-here buf₀ at S o) (A .here) (N .kept .before);
+              after = rest-moves known (B .opened) (B .count) {e = A .numbers} (A .after);
+              size = omega (arith, length-append (code x) (A .numbers), B .size, A .size);
+              here = stands-join buf₀ buf₁ at s (code x) (A .numbers) (B .size) (child-here buf₀ at S (B .opened)) (A .here)
+                  (N .kept .before);
             }))
 
     pub row-child : {t : Step} {full rows buf : List ℕ} {m : ℕ} → Looked p r q buf₀ at a j budget t → t ≡ Node k b s → n ≤ 0
@@ -180,23 +187,19 @@ module _ {p : List ℕ} {rules : ℕ} {fits chart tables : List ℕ} {r i j mask
     row-child {buf = buf} {m = m} L e h C = record {
       kept = kept-then none (N .kept) (C .kept);
       frame = C .frame;
-      exact = λ w G known f R S. go G known R S (subst (Looked p r q buf₀ at a j budget) e L);
+      exact = λ w G known f R S E. go G known S E (subst (Looked p r q buf₀ at a j budget) e L);
     }
       where
         none : n ≡ 0
         none = omega arith
 
-        go : {w : List ℕ} {f : Forest} → Given p rules fits chart tables w → j ≤ length w
-            → Row (Packing p) w (j - i) mask (tailIn p r q) a j budget f → StandsAt buf₀ at (code f)
-            → Looked p r q buf₀ at a j budget (Node k b s)
+        go : {w : List ℕ} {f : Forest} → Given p rules fits chart tables w → j ≤ length w → StandsAt buf₀ at (code f)
+            → Ends p w (j - i) mask r j q a budget f → Looked p r q buf₀ at a j budget (Node k b s)
             → NextAt (Row (Packing p) w (j - i) mask (tailIn p r q) a j budget) (code f) buf at m
-        go {w} {f} G known R S (at-node c t g d Z u v) =
-            let D = tail-nonterminal p r q c t g in
-            let (x, y, o) = opened-here buf₀ at S known l (row-as p r q D R) d in
-            let z = size-here Z S o room in
-            let size : length (code x) ≡ 2 * s = omega (arith, length-code x) in
-            let T = stands-second buf₀ at (code x) (code y) s size (both-stand buf₀ at S o) in
-            let rest = N .exact w G known y (rest-stands known o z) T .none none in
-            next-as p r q D (C .exact w G known c f x y o
-            (subst (λ (v : ℕ). Last (Row (Packing p) w (j - i) mask (tailIn p r (q + 1)) b j (budget - v)) (code y)) z rest)
-            (stands-same buf₀ buf₁ at (code x) (kept-same none (N .kept)) (child-here buf₀ at S o)))
+        go {w} {f} G known S E (at-node c t g d M Z u v) =
+            let (B, D) = behind known S E (at-node c t g d M Z u v) in
+            let x = B .first in
+            next-as p r q (tail-nonterminal p r q c t g) (C .exact w G known c f x (B .rest) (B .opened)
+            (subst (λ (v : ℕ). Last (Row (Packing p) w (j - i) mask (tailIn p r (q + 1)) b j (budget - v)) (code (B .rest))) (B .count)
+            (N .exact w G known (B .rest) (B .row) (B .stands) D .none none))
+            (stands-same buf₀ buf₁ at (code x) (kept-same none (N .kept)) (child-here buf₀ at S (B .opened))))

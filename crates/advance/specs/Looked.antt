@@ -1,7 +1,7 @@
 -- What stands at a place of a rule, and at a node, as the buffer's numbers say.
 -- Assumes nothing.
 use Prim.Native.Nat.{ℕ, _+_, _*_, _≤_, _<_}
-use mathlib.Core.Bool.{true, false}
+use mathlib.Core.Bool.{Bool, true, false}
 use mathlib.Core.List.{List}
 use mathlib.Core.Path.{_≡_}
 use lib.ListN.{getD}
@@ -11,16 +11,24 @@ use Rattle.standing.specs.Standing.{Sized}
 use Rattle.advance.specs.declared.look.Step.{Step}
 use Rattle.advance.specs.declared.look.Step.the-variants.{No, End, Byte, Final, Node}
 
--- what stands at place q of rule r, from a on, at node `at`: the end of the row, a byte, a node of k up to b at the last place, or one at
--- another place with s nodes in all; nothing where there is no byte, or where that node goes beyond j or the budget
+-- only terminals stand at the places of rule r from `from` on and below m
+abbrev pub LeavesIn : List ℕ → ℕ → ℕ → ℕ → Type 0
+LeavesIn p r from m = (q : ℕ) → from ≤ q → q < m → isNonterminalIn p r q ≡ false
+
+-- what is said of them is right
+abbrev pub LeavesFound : List ℕ → ℕ → ℕ → ℕ → Bool → Type 0
+LeavesFound p r from m b = (b ≡ true → LeavesIn p r from m) × (b ≡ false → LeavesIn p r from m → ⊥)
+
+-- what stands at place q of rule r, from a on, at node `at`: the end of the row, a byte, a node of k up to b with only terminals behind it,
+-- or one with others behind it and s nodes in all; nothing where there is no byte, or where that node goes beyond j or the budget
 pub data Looked (p : List ℕ) (r q : ℕ) (buf : List ℕ) (at a j budget : ℕ) : Step → Type 0 where
   at-end : countIn p r ≤ q → Looked p r q buf at a j budget End
   at-byte : q < countIn p r → isNonterminalIn p r q ≡ false → a < j → Looked p r q buf at a j budget Byte
   no-byte : q < countIn p r → isNonterminalIn p r q ≡ false → j ≤ a → Looked p r q buf at a j budget No
-  at-last : {k b : ℕ} → q < countIn p r → countIn p r ≤ q + 1 → isNonterminalIn p r q ≡ true → k ≡ valueIn p r q
+  at-last : {k b : ℕ} → q < countIn p r → LeavesIn p r (q + 1) (countIn p r) → isNonterminalIn p r q ≡ true → k ≡ valueIn p r q
       → b ≡ a + getD buf (2 * at) 0 → b ≤ j → Looked p r q buf at a j budget (Final k b)
   at-node : {k b s : ℕ} → q < countIn p r → isNonterminalIn p r q ≡ true → k ≡ valueIn p r q → b ≡ a + getD buf (2 * at) 0
-      → Sized p buf at s → b ≤ j → s ≤ budget → Looked p r q buf at a j budget (Node k b s)
+      → (LeavesIn p r (q + 1) (countIn p r) → ⊥) → Sized p buf at s → b ≤ j → s ≤ budget → Looked p r q buf at a j budget (Node k b s)
   no-room : q < countIn p r → isNonterminalIn p r q ≡ true → budget ≡ 0 → Looked p r q buf at a j budget No
   no-end : {b : ℕ} → q < countIn p r → isNonterminalIn p r q ≡ true → b ≡ a + getD buf (2 * at) 0 → j < b
       → Looked p r q buf at a j budget No

@@ -4,9 +4,9 @@ use packed::Packed;
 ghost use Prim.Native.Nat.{_+_, _<_, _≤_};
 ghost use lib.ListN.{length};
 ghost use Rattle.sizes.specs.Sizes.{maxRules, maxPlaces, side, maxNodes, outputSize};
-ghost use Rattle.advance.specs.Looked.{Looked, RuleRead};
+ghost use Rattle.advance.specs.Looked.{Looked, LeavesFound, RuleRead};
 
-// What stands in a row: nothing that is right, its end, a byte, a node of a nonterminal up to an end at the last place of the rule, or one
+// What stands in a row: nothing that is right, its end, a byte, a node of a nonterminal up to an end with only terminals behind it, or one
 // at another place, with the nodes of its tree.
 pub enum Step {
     No,
@@ -14,6 +14,21 @@ pub enum Step {
     Byte,
     Final(usize, usize),
     Node(usize, usize, usize),
+}
+
+// Whether only terminals stand at the places of rule r from `from` on and below m: then no node stands there.
+fn only_terminals(p: &Packed, r: usize, from: usize, m: usize) -> bool
+    requires { ⌜ (r < maxRules) × (m ≤ maxPlaces) ⌝ }
+    ensures { λ b. ⌜ LeavesFound (now (p .entry)) r from m b ⌝ }
+{
+    let mut q = from;
+    while q < m {
+        if packed::is_nonterminal(p, r, q) {
+            return false;
+        }
+        q += 1;
+    }
+    true
 }
 
 // What stands at place q of rule r, from a on and up to j at most, at node `at`.
@@ -43,7 +58,7 @@ pub fn look(
             return Step::No;
         }
         let k = packed::value(p, r, q);
-        if m <= q + 1 {
+        if only_terminals(p, r, q + 1, m) {
             return Step::Final(k, a + c);
         }
         let s = standing::size(p, buf, at);

@@ -1,13 +1,11 @@
-// The tree after the one that stands, in place: the row below it moves first, then its rule. Nothing is written until the successor is
-// certain, and the frame of a node is made when it is needed.
+// The tree after the one that stands, in place: the last node of the row below it moves first, which needs no frame, then what is before
+// that node, then its rule. Nothing is written until the successor is certain.
+use super::last::last;
 use super::look::rule_at;
-use super::row::row;
-use beyond::later::later_rule;
-use descend::open::UNMADE;
+use super::turned::turned;
 use descend::open::own_set;
 use fit::FitTable;
 use packed::Packed;
-use tables::layout::ROWS_SIZE;
 use tables::layout::Tables;
 ghost use Prim.Native.Nat.{_+_, _<_, _≤_};
 ghost use lib.ListN.{length};
@@ -40,19 +38,13 @@ pub fn node(
         return 0;
     }
     let own = own_set(mask, k);
-    let mut full = [UNMADE; sizes::NONTERMINALS];
-    let mut rows = [0u16; ROWS_SIZE];
-    let n = row(
+    let n = last(
         p,
         rules,
         fits,
         chart,
         tables,
-        &mut full,
-        &mut rows,
         r,
-        0,
-        i,
         i,
         j,
         own,
@@ -63,14 +55,12 @@ pub fn node(
     if n > 0 {
         return 1 + n;
     }
-    later_rule(
+    turned(
         p,
         rules,
         fits,
         chart,
         tables,
-        &mut full,
-        &mut rows,
         r,
         k,
         i,

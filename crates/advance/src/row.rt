@@ -1,10 +1,8 @@
-// The row after the one that stands, in place: its later places move first, then its first node, then that node's end. A node at the last
-// place has the whole budget and ends where the row does: no costs are asked for.
+// The row after the one that stands, in place, where its last node is last: its later places move first, then its first node, then that
+// node's end.
 use super::child::child;
 use super::look::Step;
 use super::look::look;
-use super::next::node;
-use descend::open::child_set;
 use fit::FitTable;
 use packed::Packed;
 use suffixes::rows::Rows;
@@ -16,7 +14,8 @@ ghost use Rattle.sizes.specs.Sizes.{maxRules, maxPlaces, side, cells, maxNodes,
 ghost use Rattle.beyond.specs.Beyond.{Frame};
 ghost use Rattle.advance.specs.Advance.{RowNext};
 
-// Writes the row of the places of rule r from q on, from a to j inside a span from i to j, after the one that stands at node `at`.
+// Writes the row of the places of rule r from q on, from a to j inside a span from i to j, after the one that stands at node `at`,
+// whose last node is last.
 pub fn row(
     p: &Packed,
     rules: usize,
@@ -63,10 +62,7 @@ pub fn row(
             buf,
             at,
         ),
-        Step::Final(k, b) => {
-            let set = child_set(j - i, mask, b - a);
-            node(p, rules, fits, chart, tables, k, a, b, set, budget, buf, at)
-        }
+        Step::Final(_, _) => 0,
         Step::Node(k, b, s) => {
             let n = row(
                 p,

@@ -2,7 +2,9 @@
 -- Assumes nothing.
 use Prim.Native.Nat.{ℕ, _+_, _-_, _≤_, _<_}
 use mathlib.Core.List.{List, [], _∷_}
-use mathlib.Core.Path.{_≡_, sym, subst, _∙_}
+use mathlib.Core.Logic.{_≢_}
+use mathlib.Core.Path.{_≡_, refl, sym, ap, subst, _∙_}
+use native.Mathlib.Decide.{ℕ-discrete, decLt}
 use native.Mathlib.Omega.{arith}
 use lib.ListN.{length, getD}
 use Rattle.sizes.specs.Sizes.{maxRules, maxNodes}
@@ -13,6 +15,7 @@ use Rattle.chart.specs.Cell.{fitsAt}
 use Rattle.costs.specs.Cut.{LeastCut, within}
 use Rattle.enumeration.specs.Rows.{Row, Tree}
 use Rattle.enumeration.specs.Order.{Min, After, Last}
+use Rattle.enumeration.proofs.Next.{node-last}
 use Rattle.choices.specs.SpanCosts.{SpanCosts}
 use Rattle.choices.specs.Opened.{OpenedNode}
 use Rattle.choices.proofs.Node.{rule-row}
@@ -25,7 +28,7 @@ use Rattle.suffixes.specs.Within.{tailIn, rowAt}
 use Rattle.descend.specs.Descend.{Given, Below, NodePut, RowFirst, Opened}
 use Rattle.descend.proofs.Codes.{kept-none, kept-open}
 use Rattle.descend.proofs.Given.{span-solved, rule-lowest, passed-dearer, rows-right}
-use Rattle.beyond.specs.Beyond.{LaterRule}
+use Rattle.beyond.specs.Beyond.{NoRules, LaterRule}
 use Rattle.beyond.proofs.Codes.{stands-join, first-stands, put-stands, next-none, next-some}
 
 -- the places of a rule, all of them, as the rule of the grammar has them
@@ -35,6 +38,42 @@ places-of p r k o = places-start p r ∙ sym (of-in 0 p r k o .3)
 -- a nonterminal that has a rule is one
 pub of-used : (p : List ℕ) (r k : ℕ) → Of (Packing p) r k → k < 32
 of-used p r k o = let u = of-in 0 p r k o in omega (arith, u .1, u .2)
+
+-- ---- no later rule
+
+pub none-yet : (p : List ℕ) (from k : ℕ) → NoRules p from from k
+none-yet p from k s u v e = absurd (omega arith)
+
+pub none-more : (p : List ℕ) {from q k l : ℕ} → NoRules p from q k → l ≡ leftIn p q → l ≢ k → NoRules p from (q + 1) k
+none-more p {from} {q} {k} N e d s u v = go (ℕ-discrete s q)
+  where
+    go : Dec (s ≡ q) → leftIn p s ≢ k
+    go (yes x) = λ f. d (e ∙ sym (ap (leftIn p) x) ∙ f)
+    go (no x) = let z : ¬ (s ≡ q) = x in N s u (omega arith)
+
+pub none-all : (p : List ℕ) {from q m k : ℕ} → NoRules p from q k → m ≤ q → NoRules p from m k
+none-all p N l s u v = N s u (omega arith)
+
+pub later-absent : {p : List ℕ} {rules : ℕ} {fits chart tables : List ℕ} {r k i j own budget at : ℕ} {buf : List ℕ} → i ≤ j
+    → NoRules p (r + 1) rules k → LaterRule p rules fits chart tables r k i j own budget at buf buf 0
+later-absent {p} {rules} {fits} {chart} {tables} {r} {k} {i} {j} {budget = budget} h N = record {
+  kept = kept-none;
+  exact = λ w G known mask e t f o x last.
+      next-none (subst (Last (Tree (Packing p) w (j - i) mask k i j budget)) (sym (x .coded))
+      (node-last (Packing p) w (j - i) mask k i j budget (omega arith) known (x .fresh) (x .room) r o
+      (record { forest = f; member = x .row; coded = refl })
+      (subst (λ (z : ℕ). Last (Row (Packing p) w (j - i) z (o .the .places) i j (budget - 1)) (code f)) e last)
+      (λ q u z. absurd (none G q u z))));
+}
+  where
+    before : {w : List ℕ} (q : ℕ) → Dec (q < rules) → Given p rules fits chart tables w → q < 128 → leftIn p q < 32 → q < rules
+    before q (yes y) G a c = y
+    before q (no y) G a c = let z = G .past q (omega arith) a in absurd (omega arith)
+
+    none : {w : List ℕ} → Given p rules fits chart tables w → (q : ℕ) → r < q → Of (Packing p) q k → ⊥
+    none G q u o = let (a, b, c, d) = of-in 0 p q k o in N q (omega arith) (before q (decLt q rules) G a c) b
+
+-- ---- a rule within the budget, or none
 
 module _ {p : List ℕ} {rules : ℕ} {fits chart tables : List ℕ} {r k i j own budget : ℕ} {full rows : List ℕ} {s : ℕ}
     (h : i ≤ j) (small : budget ≤ maxNodes) (O : Opened p rules fits chart tables (r + 1) k i j own budget full rows s) where

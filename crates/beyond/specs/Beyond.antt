@@ -2,7 +2,9 @@
 -- is promised where the tables are right for it.
 -- Assumes nothing.
 use Prim.Native.Nat.{ℕ, _+_, _*_, _-_, _≤_, _<_}
+use mathlib.Core.Bool.{Bool, true}
 use mathlib.Core.List.{List, _∷_}
+use mathlib.Core.Logic.{_≢_}
 use mathlib.Core.Path.{_≡_}
 use lib.ListN.{length, getD}
 use Rattle.sizes.specs.Sizes.{nonterminals, tooMany, side}
@@ -13,7 +15,7 @@ use Rattle.chart.specs.Cell.{cell}
 use Rattle.enumeration.specs.Rows.{Row, Tree, SameSpan}
 use Rattle.enumeration.specs.Order.{After, Last}
 use Rattle.choices.specs.Opened.{OpenedRow, OpenedNode}
-use Rattle.packed.specs.Packed.{countIn}
+use Rattle.packed.specs.Packed.{leftIn, countIn}
 use Rattle.standing.specs.Standing.{StandsAt}
 use Rattle.tables.specs.Layout.{rowsSize}
 use Rattle.tables.specs.Exact.{Packing}
@@ -78,6 +80,14 @@ pub record Moved (p : List ℕ) (rules : ℕ) (fits chart tables full rows : Lis
   pub rest : 0 < m → (s : ℕ) × (n ≡ m + s)
       × RowFirst p rules fits chart tables full rows r (q + 1) b i j mask (budget - m) (at + m) buf₀ buf s
   pub wider : m ≡ 0 → Widened p rules fits chart tables full rows r q k a b i j mask budget at buf₀ buf n
+
+-- no rule from `from` on and below q is one of k
+abbrev pub NoRules : List ℕ → ℕ → ℕ → ℕ → Type 0
+NoRules p from q k = (s : ℕ) → from ≤ s → s < q → leftIn p s ≢ k
+
+-- where that is said, there is none
+abbrev pub RulesSought : List ℕ → ℕ → ℕ → ℕ → Bool → Type 0
+RulesSought p rules from k b = b ≡ true → NoRules p from rules k
 
 -- where the tree at node `at` has rule r and the row below it is last, the tree of k after it
 pub record LaterRule (p : List ℕ) (rules : ℕ) (fits chart tables : List ℕ) (r k i j own budget at : ℕ) (buf₀ buf : List ℕ) (n : ℕ)

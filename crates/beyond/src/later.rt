@@ -10,10 +10,25 @@ use tables::layout::Tables;
 ghost use Prim.Native.Nat.{_+_, _<_, _≤_};
 ghost use lib.ListN.{length};
 ghost use Rattle.sizes.specs.Sizes.{maxRules, side, cells, maxNodes, outputSize};
-ghost use Rattle.beyond.specs.Beyond.{Frame, LaterRule};
+ghost use Rattle.beyond.specs.Beyond.{Frame, RulesSought, LaterRule};
+
+// Whether no rule of k has a number from `from` on and below `rules`.
+fn no_rule(p: &Packed, rules: usize, from: usize, k: usize) -> bool
+    requires { ⌜ rules ≤ maxRules ⌝ }
+    ensures { λ b. ⌜ RulesSought (now (p .entry)) rules from k b ⌝ }
+{
+    let mut r = from;
+    while r < rules {
+        if packed::left(p, r) == k {
+            return false;
+        }
+        r += 1;
+    }
+    true
+}
 
 // Writes the first tree of k over the span from i to j whose rule is beyond r. The result is the number of its nodes, 0 if there is none
-// within the budget.
+// within the budget. The costs are made only where k has a later rule.
 pub fn later_rule(
     p: &Packed,
     rules: usize,
@@ -36,6 +51,9 @@ pub fn later_rule(
     ensures { λ n. ⌜ LaterRule (now (p .entry)) rules (now (fits .entry)) (now (chart .entry)) (now (tables .entry)) r k i j own budget at
         (now (buf .entry)) (now (buf .exit)) n ⌝ }
 {
+    if no_rule(p, rules, r + 1, k) {
+        return 0;
+    }
     let s = open_node(
         p,
         rules,

@@ -15,21 +15,22 @@ beyond c =
 
 last : tie.Need-returns-4
 last c =
-    let d = c .before .before .before in
+    let d = c .before .before .before .before in
     let e = d .before .before .before in
     look-last (e .before .before .before .count .ensures .0) (search needs) (e .before .is-nonterminal .ensures) (e .if2 .taken)
-    (d .wide .ensures) (c .before .value .ensures .0) (omega arith) (omega arith)
+    (d .wide .ensures) (c .before .before .value .ensures .0) (omega arith) (c .before .only-terminals .ensures) (search needs)
 
 node : tie.Need-returns-5
 node c =
-    let d = c .before .before .before .before .before in
+    let d = c .before .before .before .before .before .before in
     let e = d .before .before .before in
     look-node (e .before .before .before .count .ensures .0) (search needs) (e .before .is-nonterminal .ensures) (e .if2 .taken)
-    (d .wide .ensures) (c .before .before .before .value .ensures .0) (omega arith) (c .before .size .ensures) (omega arith)
+    (d .wide .ensures) (c .before .before .before .before .value .ensures .0) (omega arith)
+    (c .before .before .before .only-terminals .ensures) (search needs) (c .before .size .ensures) (omega arith)
 
 large : tie.Need-returns-6
 large c =
-    let e = c .before .before .before .before .before .before .before .before in
+    let e = c .before .before .before .before .before .before .before .before .before in
     look-large (e .before .before .before .count .ensures .0) (search needs) (e .before .is-nonterminal .ensures) (e .if2 .taken)
     (c .before .size .ensures) (omega arith)
 
@@ -49,6 +50,7 @@ look-spec =
     beyond
     (λ c κs. search needs)
     (λ c. search needs)
+    (λ c κs. search needs)
     (λ c. search needs)
     last
     (λ c κs. search needs)

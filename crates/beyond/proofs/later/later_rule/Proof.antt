@@ -2,12 +2,12 @@
 -- Assumes nothing.
 use native.Mathlib.Omega.{arith}
 use borrow.Author.Needs.{needs}
-use Rattle.beyond.proofs.LaterRules.{later-none, later-some}
+use Rattle.beyond.proofs.LaterRules.{later-absent, later-none, later-some}
 use Rattle.beyond.proofs.later.later_rule.Statement.{statement}
 use Rattle.beyond.proofs.later.later_rule.Tie as tie
 
-returns : tie.Need-returns
-returns c = later-none (omega arith) (omega arith) (c .before .open-node .ensures) (omega arith)
+returns-2 : tie.Need-returns-2
+returns-2 c = later-none (omega arith) (omega arith) (c .before .open-node .ensures) (omega arith)
 
 put-node-requires : tie.Need-put-node-requires
 put-node-requires c κs =
@@ -22,13 +22,20 @@ row-requires c κs =
     let d = c .before .before .before .before .before in
     let o = d .before .before .before .open-node .ensures .room (omega arith) in
     let l = d .put-node .ensures .long in
+    let x = d .before .before .before .before .before .before .before .before .before .before .pre in
     omega arith
 
-returns-2 : tie.Need-returns-2
-returns-2 c =
+add-result : tie.Need-add-result
+add-result c =
     let d = c .before .before .before .before .before .before .before .before in
-    let x = d .before .before .before .before .before .before .before .before .pre in
-    let y = d .before .before .if1 .left in
+    let x = d .before .before .before .before .before .before .before .before .before .before .pre in
+    omega (arith, c .before .before .row .ensures .kept .few)
+
+returns-3 : tie.Need-returns-3
+returns-3 c =
+    let d = c .before .before .before .before .before .before .before .before in
+    let x = d .before .before .before .before .before .before .before .before .before .before .pre in
+    let y = d .before .before .if2 .left in
     later-some (omega arith) (omega arith) (d .before .before .before .open-node .ensures) (omega arith) (d .put-node .ensures)
     (c .before .before .row .ensures)
 
@@ -38,12 +45,15 @@ later-rule-spec =
     (tie.spec
     (λ c. search needs)
     (λ c κs. search needs)
-    returns
+    (λ c. later-absent (omega arith) (c .before .no-rule .ensures (search needs)))
+    (λ c. search needs)
+    (λ c κs. search needs)
+    returns-2
     (λ c. search needs)
     put-node-requires
     sub-row
     (λ c. search needs)
     row-requires
+    add-result
     (λ c. search needs)
-    (λ c. search needs)
-    returns-2)
+    returns-3)

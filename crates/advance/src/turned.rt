@@ -1,0 +1,77 @@
+// The tree after the one that stands, where the last node of the row below it is last: another node of the row moves, or its rule. The
+// frame of the node is this function's own.
+use super::row::row;
+use beyond::later::later_rule;
+use descend::open::UNMADE;
+use fit::FitTable;
+use packed::Packed;
+use tables::layout::ROWS_SIZE;
+use tables::layout::Tables;
+ghost use Prim.Native.Nat.{_+_, _<_, _≤_};
+ghost use lib.ListN.{length};
+ghost use Rattle.sizes.specs.Sizes.{maxRules, side, cells, maxNodes, outputSize};
+ghost use Rattle.advance.specs.Advance.{Turned};
+
+// Writes the tree of k over the span from i to j after the one of rule r that stands at node `at`. The result is the number of its nodes, 0
+// if there is none.
+pub fn turned(
+    p: &Packed,
+    rules: usize,
+    fits: &FitTable,
+    chart: &[u32],
+    tables: &Tables,
+    r: usize,
+    k: usize,
+    i: usize,
+    j: usize,
+    own: u32,
+    budget: usize,
+    buf: &mut [u16],
+    at: usize,
+) -> usize
+    requires { ⌜ (rules ≤ maxRules) × (r < maxRules) × (i ≤ j) × (j < side) × (cells ≤ length (now chart)) × (0 < budget)
+        × (at + budget ≤ maxNodes) × (outputSize ≤ length (now buf)) ⌝ }
+    ensures { λ n. ⌜ Turned (now (p .entry)) rules (now (fits .entry)) (now (chart .entry)) (now (tables .entry)) r k i j own budget at
+        (now (buf .entry)) (now (buf .exit)) n ⌝ }
+{
+    let mut full = [UNMADE; sizes::NONTERMINALS];
+    let mut rows = [0u16; ROWS_SIZE];
+    let n = row(
+        p,
+        rules,
+        fits,
+        chart,
+        tables,
+        &mut full,
+        &mut rows,
+        r,
+        0,
+        i,
+        i,
+        j,
+        own,
+        budget - 1,
+        buf,
+        at + 1,
+    );
+    if n > 0 {
+        return 1 + n;
+    }
+    later_rule(
+        p,
+        rules,
+        fits,
+        chart,
+        tables,
+        &mut full,
+        &mut rows,
+        r,
+        k,
+        i,
+        j,
+        own,
+        budget,
+        buf,
+        at,
+    )
+}

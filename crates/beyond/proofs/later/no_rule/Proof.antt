@@ -1,0 +1,35 @@
+-- `beyond::later::no_rule` meets its contract. The loop's invariant: no rule below r is one of k.
+-- The measure is rules - r. Assumes nothing.
+use Prim.Native.Nat.{_-_}
+use mathlib.Core.Bool.{false≢true}
+use native.Mathlib.Omega.{arith}
+use borrow.Author.Needs.{needs}
+use Rattle.beyond.specs.Beyond.{NoRules}
+use Rattle.beyond.proofs.LaterRules.{none-yet, none-more, none-all}
+use Rattle.beyond.proofs.later.no_rule.Statement.{statement}
+use Rattle.beyond.proofs.later.no_rule.Tie as tie
+
+abbrev Inv-loop : tie.InvT-loop
+Inv-loop p rules from k r₀ r = NoRules p from r k
+
+abbrev μ-loop : tie.MeasureT-loop
+μ-loop p rules from k r₀ r = rules - r
+
+loop-again : tie.Need-loop-again Inv-loop μ-loop
+loop-again c =
+    let d = c .before .before .before in
+    none-more (d .before .args .p .now) (d .loop .inv) (c .before .left .ensures) (search needs)
+
+pub no-rule-spec : {M : Type 1} → statement M
+no-rule-spec =
+    tie.close
+    (tie.spec
+    Inv-loop
+    μ-loop
+    (λ c. none-yet _ _ _)
+    (λ c κs. search needs)
+    (λ c e. absurd (false≢true e))
+    (λ c. search needs)
+    (λ c. omega arith)
+    loop-again
+    (λ c e. none-all (c .before .before .args .p .now) (c .before .loop .inv) (omega arith)))
