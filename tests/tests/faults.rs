@@ -26,8 +26,13 @@ const SOME: u64 = 40;
 /// The seed of the first book that shows a difference, with its text; after some of them come the books at the boundary of count.
 fn caught(reader: &dyn Reader) -> Option<(u64, String)> {
     let mut random = (0..WITHIN).map(|seed| {
-        let difference = compare_book(reader, &book(seed), seed, &mut Counts::default());
-        difference.err().map(|text| (seed, text))
+        let book = book(seed);
+        let difference = compare_book(reader, &book, seed, &mut Counts::default());
+        difference.err().map(|text| {
+            let named = format!("seed {seed} ({}), book {:02X?}", book.style, book.bytes);
+            assert!(text.starts_with(&named), "the seed and the book are not named: {text}");
+            (seed, text)
+        })
     });
     let boundary = || compare_boundary(reader).err().map(|text| (SOME, text));
     random.by_ref().take(SOME as usize).flatten().next().or_else(boundary).or_else(|| random.flatten().next())
@@ -66,6 +71,15 @@ fn every_fault_is_caught() {
         switch_on(Some(*fault));
         caught(&Faulty::default())
     });
+}
+
+/// Faults where the list is too large for the lister to make: the library, but for one answer.
+#[cfg(feature = "library")]
+#[test]
+fn every_fault_with_large_lists_is_caught() {
+    use faulty::large::Large;
+    let readers = Large::ALL.map(|which| (format!("{which:?}"), which));
+    all_caught(&readers, |which| caught(which));
 }
 
 #[test]

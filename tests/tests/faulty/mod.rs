@@ -3,6 +3,8 @@
 //! are made here, after its call.
 
 pub mod forgetful;
+#[cfg(feature = "library")]
+pub mod large;
 pub mod switches;
 
 use crate::lister::chart::cell;
