@@ -182,13 +182,15 @@ fn random_books() {
     let unlisted = if reader_under_test().by_listing() { &[] } else { DUE_UNLISTED };
     let both = reader_under_test().lists() && !reader_under_test().by_listing();
     let next = if both { DUE_UNLISTED_NEXT } else { &[] };
+    // With other books half as often is enough.
+    let usual = |due: u64| if from == 0 { due } else { due / 2 };
     for (name, due) in DUE.iter().chain(unlisted).chain(listing).chain(next) {
-        assert!(counts.get(name) >= *due, "{name}: came up {} times, due {due}", counts.get(name));
+        assert!(counts.get(name) >= usual(*due), "{name}: came up {} times, due {due}", counts.get(name));
     }
     for (number, (how, due)) in JUDGED.iter().flat_map(|number| OUT_OF_RANGE.iter().map(move |how| (number, how))) {
         let name = format!("{number}, {how}");
         let (count, possible) = (counts.get(&format!("refused 8: {name}")), !NO_SUCH.contains(&name.as_str()));
-        assert!(count >= *due || !possible, "{name}: came up {count} times, due {due}");
+        assert!(count >= usual(*due) || !possible, "{name}: came up {count} times, due {due}");
     }
     let skipped = counts.get("skipped: too large to list");
     assert!(skipped * 10 < counts.get("one derivation") + counts.get("two or more"), "{skipped} inputs skipped");
