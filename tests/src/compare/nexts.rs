@@ -53,11 +53,8 @@ impl Comparison<'_> {
             Some(_) if readings.len() < list.len() => self.thin(&mut offered, DRAWN),
             _ => (),
         }
-        self.counts.add(if offered.len() < list.len() {
-            "next: some offered"
-        } else {
-            "next: every derivation offered"
-        });
+        let all = offered.len() == list.len();
+        self.counts.add(if all { "next: every derivation offered" } else { "next: some offered" });
         let mut strangers: Vec<Row> =
             known.offered.iter().filter(|row| !trees::is_derivation(grammar, input, row)).cloned().collect();
         self.thin(&mut strangers, if self.reader.by_listing() { 3 } else { STRANGERS });

@@ -35,11 +35,7 @@ impl Comparison<'_> {
         input: &[u8],
         filled: &[u32],
     ) -> Result<(), String> {
-        let mut list = derivations(grammar, input, LIMIT, STEPS).ok();
-        let front = if list.is_none() { in_order(grammar, input, LIMIT, MOST + 1, SEARCH_STEPS).ok() } else { None };
-        // Fewer than asked for are the whole list.
-        let (front, whole) = (front.clone().filter(|rows| rows.len() > MOST), front.filter(|rows| rows.len() <= MOST));
-        list = list.or(whole);
+        let (list, front) = self.listed(grammar, input);
         let wider = derivations(grammar, input, WIDER, STEPS).ok();
         let tree = has_tree(grammar, input);
         match &list {
@@ -76,8 +72,8 @@ impl Comparison<'_> {
                 same("the lister's check against its list", yes, list.binary_search(row).is_ok())?;
             }
             let superfluous = self.classify(grammar, input, row, yes);
-            forbidden |=
-                superfluous && row.len() <= 2 * LIMIT && list.iter().flatten().last().is_some_and(|last| row < last);
+            let last = list.as_ref().and_then(|list| list.last());
+            forbidden |= superfluous && row.len() <= 2 * LIMIT && last.is_some_and(|last| row < last);
             let offer = Offer { input, filled, one: row, other: row };
             self.offered(flat, offer, "check", if yes { Answer::Yes } else { Answer::No }, None)?;
             if yes {
@@ -117,6 +113,19 @@ impl Comparison<'_> {
             self.walk(flat, input, filled, Walk { list, tree, place: 0 }, &offered, calls)?;
         }
         Ok(())
+    }
+
+    /// All derivations of an input; or, where the list is too large to make and the reader
+    /// does not make it either, the first 4,097 of them, unless that takes too long too.
+    fn listed(&self, grammar: &Grammar, input: &[u8]) -> (Option<Vec<Row>>, Option<Vec<Row>>) {
+        match derivations(grammar, input, LIMIT, STEPS) {
+            Ok(list) => (Some(list), None),
+            Err(_) if self.reader.by_listing() => (None, None),
+            Err(_) => match in_order(grammar, input, LIMIT, MOST + 1, SEARCH_STEPS) {
+                Ok(list) if list.len() <= MOST => (Some(list), None), // fewer than asked for: all of them
+                front => (None, front.ok()),
+            },
+        }
     }
 
     /// At most so many of the rows, the first and the last among them.
