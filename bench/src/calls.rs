@@ -1,12 +1,13 @@
 //! The calls that are timed, once over the proved library and once over the plain code, with the same arguments: a
 //! grammar is a flat row, which each call reads anew, and an answer is a number: 0 no; 1 yes, loaded, measured, handed
-//! out or counted; 2 more; 256 + n refusal n.
+//! out or counted; 2 more; 256 + n refusal n. The library's functions are those that the wrapper declares.
 
 use crate::plain::enumerator;
 use crate::plain::flat::{self, FLAT};
 pub use crate::plain::hand::Hand;
 use crate::plain::hand::{self, HAND};
 use crate::plain::{checker, loader, recognizer, Grammar, Refusal, CHART, INPUT};
+use filbozseg::sys;
 
 pub type Flat = [u16; FLAT];
 
@@ -32,133 +33,57 @@ pub trait Reader {
     }
 }
 
-mod c {
-    extern "C" {
-        pub fn filbozseg_load(book: *const u8, length: usize, grammar: *mut u16, offset: *mut usize) -> u32;
-        pub fn filbozseg_open(grammar: *const u16, hand: *mut u16, chart: *mut u32, length: usize) -> u32;
-        pub fn filbozseg_take(grammar: *const u16, hand: *mut u16, byte: u8, chart: *mut u32, length: usize) -> u32;
-        pub fn filbozseg_check(
-            grammar: *const u16,
-            input: *const u8,
-            input_length: usize,
-            offered: *const u16,
-            offered_length: usize,
-            chart: *mut u32,
-            length: usize,
-        ) -> u32;
-        pub fn filbozseg_length(
-            grammar: *const u16,
-            input: *const u8,
-            input_length: usize,
-            offered: *const u16,
-            offered_length: usize,
-            chart: *mut u32,
-            length: usize,
-            tenths: *mut i32,
-        ) -> u32;
-        pub fn filbozseg_same_build(
-            grammar: *const u16,
-            input: *const u8,
-            input_length: usize,
-            a: *const u16,
-            a_length: usize,
-            b: *const u16,
-            b_length: usize,
-            chart: *mut u32,
-            length: usize,
-        ) -> u32;
-        pub fn filbozseg_first(
-            grammar: *const u16,
-            input: *const u8,
-            input_length: usize,
-            chart: *mut u32,
-            length: usize,
-            out: *mut u16,
-            out_length: usize,
-            nodes: *mut usize,
-        ) -> u32;
-        pub fn filbozseg_next(
-            grammar: *const u16,
-            input: *const u8,
-            input_length: usize,
-            offered: *const u16,
-            offered_length: usize,
-            chart: *mut u32,
-            length: usize,
-            out: *mut u16,
-            out_length: usize,
-            nodes: *mut usize,
-        ) -> u32;
-        pub fn filbozseg_count(
-            grammar: *const u16,
-            input: *const u8,
-            input_length: usize,
-            chart: *mut u32,
-            length: usize,
-            count: *mut usize,
-        ) -> u32;
-    }
-}
-
 pub struct Proved;
 
 // SAFETY, of each call: the arrays and slices come from Rust references, so they are as long as the library is told,
 // and those that it writes overlap nothing.
 impl Reader for Proved {
     fn load(book: &[u8], flat: &mut Flat, offset: &mut usize) -> u32 {
-        unsafe { c::filbozseg_load(book.as_ptr(), book.len(), flat.as_mut_ptr(), offset) }
+        unsafe { sys::filbozseg_load(book.as_ptr(), book.len(), flat, offset) }
     }
 
     fn open(flat: &Flat, hand: &mut Hand, chart: &mut [u32]) -> u32 {
-        unsafe { c::filbozseg_open(flat.as_ptr(), hand.as_mut_ptr(), chart.as_mut_ptr(), chart.len()) }
+        unsafe { sys::filbozseg_open(flat, hand, chart.as_mut_ptr(), chart.len()) }
     }
 
     fn take(flat: &Flat, hand: &mut Hand, byte: u8, chart: &mut [u32]) -> u32 {
-        unsafe { c::filbozseg_take(flat.as_ptr(), hand.as_mut_ptr(), byte, chart.as_mut_ptr(), chart.len()) }
+        unsafe { sys::filbozseg_take(flat, hand, byte, chart.as_mut_ptr(), chart.len()) }
     }
 
     fn check(flat: &Flat, input: &[u8], offered: &[u16], chart: &mut [u32]) -> u32 {
         let (w, e) = (input.as_ptr(), offered.as_ptr());
-        unsafe { c::filbozseg_check(flat.as_ptr(), w, input.len(), e, offered.len(), chart.as_mut_ptr(), chart.len()) }
+        unsafe { sys::filbozseg_check(flat, w, input.len(), e, offered.len(), chart.as_mut_ptr(), chart.len()) }
     }
 
     fn length(flat: &Flat, input: &[u8], offered: &[u16], chart: &mut [u32], tenths: &mut i32) -> u32 {
         let (w, e) = (input.as_ptr(), offered.as_ptr());
         unsafe {
-            c::filbozseg_length(
-                flat.as_ptr(),
-                w,
-                input.len(),
-                e,
-                offered.len(),
-                chart.as_mut_ptr(),
-                chart.len(),
-                tenths,
-            )
+            sys::filbozseg_length(flat, w, input.len(), e, offered.len(), chart.as_mut_ptr(), chart.len(), tenths)
         }
     }
 
     fn same_build(flat: &Flat, input: &[u8], a: &[u16], b: &[u16], chart: &mut [u32]) -> u32 {
         let (w, x, y) = (input.as_ptr(), a.as_ptr(), b.as_ptr());
         unsafe {
-            let (g, sheet) = (flat.as_ptr(), chart.as_mut_ptr());
-            c::filbozseg_same_build(g, w, input.len(), x, a.len(), y, b.len(), sheet, chart.len())
+            let (g, sheet) = (flat, chart.as_mut_ptr());
+            sys::filbozseg_same_build(g, w, input.len(), x, a.len(), y, b.len(), sheet, chart.len())
         }
     }
 
     fn first(flat: &Flat, input: &[u8], chart: &mut [u32], out: &mut [u16], nodes: &mut usize) -> u32 {
         let (w, sheet, e) = (input.as_ptr(), chart.as_mut_ptr(), out.as_mut_ptr());
-        unsafe { c::filbozseg_first(flat.as_ptr(), w, input.len(), sheet, chart.len(), e, out.len(), nodes) }
+        unsafe { sys::filbozseg_first(flat, w, input.len(), sheet, chart.len(), e, out.len(), nodes) }
     }
+
     fn next(flat: &Flat, input: &[u8], offered: &[u16], chart: &mut [u32], out: &mut [u16], nodes: &mut usize) -> u32 {
         let (w, e) = (input.as_ptr(), offered.as_ptr());
         let ((x, cells), (o, numbers)) = ((chart.as_mut_ptr(), chart.len()), (out.as_mut_ptr(), out.len()));
-        unsafe { c::filbozseg_next(flat.as_ptr(), w, input.len(), e, offered.len(), x, cells, o, numbers, nodes) }
+        unsafe { sys::filbozseg_next(flat, w, input.len(), e, offered.len(), x, cells, o, numbers, nodes) }
     }
 
     fn count(flat: &Flat, input: &[u8], chart: &mut [u32], count: &mut usize) -> u32 {
         let (w, x) = (input.as_ptr(), chart.as_mut_ptr());
-        unsafe { c::filbozseg_count(flat.as_ptr(), w, input.len(), x, chart.len(), count) }
+        unsafe { sys::filbozseg_count(flat, w, input.len(), x, chart.len(), count) }
     }
 }
 

@@ -57,11 +57,24 @@ fn said(grammar: &Grammar, input: &[u8]) -> String {
     for &byte in input {
         text += &format!(" {:?}", recognizer.take(grammar, byte, &mut chart));
     }
+    let mut last = Vec::new();
     for item in grammar.readings(input).take(200) {
-        let tenths = item.as_ref().map(|reading| length(grammar, input, reading.numbers(), &mut chart));
-        text += &format!("\n{item:?} {tenths:?}");
+        let row = item.as_ref().map_or(vec![], |reading| reading.numbers().to_vec());
+        let checked = check(grammar, input, &row, &mut chart);
+        let tenths = length(grammar, input, &row, &mut chart);
+        let same = same_build(grammar, input, &row, &last, &mut chart);
+        text += &format!("\n{item:?} {checked:?} {tenths:?} {same:?}");
+        last = row;
     }
-    text + &format!("\n{:?}", count(grammar, input, &mut chart))
+    text += &format!("\n{:?}", count(grammar, input, &mut chart));
+    text + &format!(" {chart:?}")
+}
+
+/// What loading a book says, cut to each length.
+fn loads(book: &[u8]) -> String {
+    (0..=book.len())
+        .map(|length| format!("{:?}\n", load(&book[..length]).map(|grammar| grammar.row().to_vec())))
+        .collect()
 }
 
 #[test]
@@ -70,10 +83,12 @@ fn four_threads_say_what_one_says() {
     let inputs = [&b"A"[..], b"AA", b"", b"ACBABC", b"AAAAAAA", &[b'A'; 64]];
     let cases: Vec<_> = grammars.iter().flat_map(|grammar| inputs.map(|input| (grammar, input))).collect();
     let serial: Vec<_> = cases.iter().map(|(grammar, input)| said(grammar, input)).collect();
+    let loaded = [T, PAIRS, MIXED].map(loads);
     std::thread::scope(|scope| {
         for thread in 0..4 {
-            let (cases, serial) = (&cases, &serial);
+            let (cases, serial, loaded) = (&cases, &serial, &loaded);
             scope.spawn(move || {
+                assert_eq!([T, PAIRS, MIXED].map(loads), *loaded);
                 for at in (0..cases.len()).map(|at| (at + 9 * thread) % cases.len()) {
                     assert_eq!(said(cases[at].0, cases[at].1), serial[at]);
                 }

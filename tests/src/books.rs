@@ -35,6 +35,17 @@ impl Rng {
     }
 }
 
+/// The variable that sets the seed of a run's first book.
+pub const SEED: &str = "FILBOZSEG_SEED";
+
+/// The seed of a run's first book: what the variable says, or this one. The books after it have the seeds after it.
+pub fn first_seed(usual: u64) -> u64 {
+    match std::env::var(SEED) {
+        Ok(text) => text.parse().unwrap_or_else(|_| panic!("{SEED} is no number: {text}")),
+        Err(_) => usual,
+    }
+}
+
 /// A symbol of a draft: N nonterminal (kind), T terminal (mark).
 #[derive(Clone, Copy, PartialEq, Eq, Debug)]
 pub enum Sym {

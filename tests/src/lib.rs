@@ -5,7 +5,7 @@
 //! prints what came up in the random books and which book caught which fault.
 //! The reader under test is the lister itself, or the proved library with
 //! `--features library`, which also runs the built listing program beside the
-//! lister's text. `diff -r src/lister tests/faulty` shows the deliberate faults.
+//! lister's text. tests/faults.rs runs the lister with deliberate faults, one by one.
 
 pub mod books;
 pub mod compare;
@@ -13,6 +13,7 @@ pub mod compare;
 pub mod library;
 pub mod lister;
 pub mod reader;
+pub mod switches;
 pub mod text;
 
 /// The code under test: the lister itself, or the proved library with the

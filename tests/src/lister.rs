@@ -1,6 +1,7 @@
 //! The simple reference, written from document 01 alone: explicit trees, the
 //! definitions word by word, no cleverness. As a `Reader` it can stand in for the
-//! code under test.
+//! code under test. Where it asks for a `fault`, read "no": only tests/faults.rs
+//! compiles these files with faults to switch on.
 
 pub mod chart;
 pub mod grammar;
@@ -10,6 +11,7 @@ pub mod trees;
 pub mod walk;
 
 use crate::reader::{Answer, FlatGrammar, Hand, Reader, CELLS, FLAT, INPUT, OUTPUT};
+use crate::switches::{fault, Fault};
 use grammar::Grammar;
 use walk::Given;
 
@@ -30,7 +32,8 @@ fn yes_or_no(yes: bool) -> Answer {
 
 /// "Complete": whether the start nonterminal's bit stands in cell (0, n).
 fn complete(grammar: &Grammar, chart: &[u32], n: usize) -> Answer {
-    yes_or_no(chart[chart::cell(0, n)] >> grammar.start & 1 == 1)
+    let from = usize::from(fault(Fault::CompleteFromAnotherWord)).min(n);
+    yes_or_no(chart[chart::cell(from, n)] >> grammar.start & 1 == 1)
 }
 
 /// Checks 8, 9 and 10 of a call on an input; then the chart is filled.
@@ -43,14 +46,19 @@ fn filled(flat: &FlatGrammar, input: &[u8], chart: &mut [u32]) -> Result<Grammar
 
 /// Checks 8 to 11 in their order.
 pub fn judged(flat: &FlatGrammar, input: &[u8], cells: usize, output: usize) -> Result<Grammar, Answer> {
-    let grammar = grammar::from_flat(flat).ok_or(Answer::Refused(8))?;
-    if input.is_empty() || input.len() > INPUT {
+    let (nine, ten) = (input.is_empty() || input.len() > INPUT, cells < CELLS);
+    let eleven = output < OUTPUT - usize::from(fault(Fault::ElevenPasses1023));
+    if fault(Fault::NineBeforeEight) && nine {
         return Err(Answer::Refused(9));
     }
-    if cells < CELLS {
+    let grammar = grammar::from_flat(flat).ok_or(Answer::Refused(8))?;
+    if nine && !(fault(Fault::TenBeforeNine) && ten) {
+        return Err(Answer::Refused(9));
+    }
+    if ten && !(fault(Fault::ElevenBeforeTen) && eleven) {
         return Err(Answer::Refused(10));
     }
-    if output < OUTPUT {
+    if eleven {
         return Err(Answer::Refused(11));
     }
     Ok(grammar)
@@ -67,11 +75,12 @@ pub fn has_tree(grammar: &Grammar, input: &[u8]) -> bool {
     chart::derives(grammar, input)[0][usize::from(grammar.start)] >> input.len() & 1 == 1
 }
 
-/// The answer for what first, next or count gives; a row goes to the front of the output, and the number is how many nodes it has, or the count.
+/// The answer for what first, next or count gives; a row goes to the front of the output,
+/// and the number is how many nodes it has, or the count.
 fn answered(given: Given, out: &mut [u16], number: &mut usize) -> Answer {
     match given {
         Given::Row(row) => {
-            out[..row.len()].copy_from_slice(&row);
+            out.iter_mut().zip(&row).for_each(|(out, number)| *out = *number);
             *number = row.len() / 2;
             Answer::Nodes(*number)
         }
@@ -83,6 +92,19 @@ fn answered(given: Given, out: &mut [u16], number: &mut usize) -> Answer {
         }
         Given::More => Answer::More,
         Given::Refused(number) => Answer::Refused(number),
+    }
+}
+
+/// The faults of the order in which taking checks 10, 14 and 15: a refusal out of turn.
+fn out_of_turn(hand: &Hand, cells: usize) -> Option<Answer> {
+    let (count, ten) = (usize::from(hand[INPUT]), cells < CELLS);
+    let ten_first = fault(Fault::TenBeforeFourteen) || (fault(Fault::TenBeforeAMarkOver255) && count <= INPUT);
+    let fifteen_first = (fault(Fault::FifteenBeforeTen) && hand::marks(hand).is_some())
+        || (fault(Fault::FifteenBeforeAMarkOver255) && !ten);
+    match () {
+        _ if ten_first && ten => Some(Answer::Refused(10)),
+        _ if fifteen_first && count == INPUT => Some(Answer::Refused(15)),
+        _ => None,
     }
 }
 
@@ -114,6 +136,9 @@ impl Reader for Lister {
 
     fn take(&self, flat: &FlatGrammar, hand: &mut Hand, terminal: u8, chart: &mut [u32]) -> Answer {
         let Some(grammar) = grammar::from_flat(flat) else { return Answer::Refused(8) };
+        if let Some(refused) = out_of_turn(hand, chart.len()) {
+            return refused;
+        }
         let Some(mut marks) = hand::marks(hand) else { return Answer::Refused(14) };
         if chart.len() < CELLS {
             return Answer::Refused(10);
@@ -149,7 +174,8 @@ impl Reader for Lister {
         match filled(flat, input, chart) {
             Err(refused) => refused,
             Ok(grammar) => {
-                if [one, other].iter().all(|row| trees::is_derivation(&grammar, input, row)) {
+                let judged = if fault(Fault::BuildChecksOneRow) { [one, one] } else { [one, other] };
+                if judged.iter().all(|row| trees::is_derivation(&grammar, input, row)) {
                     yes_or_no(trees::same_build(one, other))
                 } else {
                     Answer::Refused(12)
@@ -186,11 +212,16 @@ impl Reader for Lister {
         out: &mut [u16],
         nodes: &mut usize,
     ) -> Answer {
-        match judged(flat, input, chart.len(), out.len()) {
+        let length = if fault(Fault::ElevenUnaskedByNext) { OUTPUT } else { out.len() };
+        match judged(flat, input, chart.len(), length) {
             Err(refused) => refused,
             Ok(grammar) => {
                 chart::fill(&grammar, input, chart);
-                answered(walk::next(&listed(&grammar, input).0, offered), out, nodes)
+                let (list, tree) = listed(&grammar, input);
+                if fault(Fault::ThirteenFromNext) && tree && list.is_empty() {
+                    return Answer::Refused(13);
+                }
+                answered(walk::next(&list, offered), out, nodes)
             }
         }
     }

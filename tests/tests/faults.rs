@@ -1,15 +1,22 @@
-//! The harness is not blind: deliberate faults in a copy of the lister, and readers
-//! that leave a lent place unwritten, each caught by the comparison over the same
-//! books that the random test uses.
+//! The harness is not blind: deliberate faults in the lister, and readers that leave a
+//! lent place unwritten, each caught by the comparison over the same books that the
+//! random test uses. The lister's files are compiled here once more, with faults to
+//! switch on; the comparison's own lister is the ordinary one.
 
-#[allow(dead_code)] // the copy is whole, and not all of it is called from here
 mod faulty;
+#[allow(dead_code)] // not all of it is called from here
+#[path = "../src"]
+mod compiled_again {
+    pub mod lister;
+}
 
+use compiled_again::lister;
 use faulty::forgetful::Forgets;
-use faulty::{set_faults, Faults};
+use faulty::switches::{self, switch_on, Fault};
+use faulty::Faulty;
 use outside_tests::books::book;
 use outside_tests::compare::{compare_book, compare_boundary, play_book, Counts};
-use outside_tests::reader::Reader;
+use outside_tests::reader::{self, Reader};
 use std::sync::atomic::{AtomicUsize, Ordering};
 
 /// A fault has to be caught within so many books.
@@ -19,8 +26,13 @@ const SOME: u64 = 40;
 /// The seed of the first book that shows a difference, with its text; after some of them come the books at the boundary of count.
 fn caught(reader: &dyn Reader) -> Option<(u64, String)> {
     let mut random = (0..WITHIN).map(|seed| {
-        let difference = compare_book(reader, &book(seed), seed, &mut Counts::default());
-        difference.err().map(|text| (seed, text))
+        let book = book(seed);
+        let difference = compare_book(reader, &book, seed, &mut Counts::default());
+        difference.err().map(|text| {
+            let named = format!("seed {seed} ({}), book {:02X?}", book.style, book.bytes);
+            assert!(text.starts_with(&named), "the seed and the book are not named: {text}");
+            (seed, text)
+        })
     });
     let boundary = || compare_boundary(reader).err().map(|text| (SOME, text));
     random.by_ref().take(SOME as usize).flatten().next().or_else(boundary).or_else(|| random.flatten().next())
@@ -53,13 +65,21 @@ fn all_caught<T: Sync>(cases: &[(String, T)], try_one: impl Fn(&T) -> Option<(u6
 
 #[test]
 fn every_fault_is_caught() {
-    let faults: Vec<(String, Faults)> =
-        Faults::one_by_one().into_iter().map(|(name, faults)| (name.to_string(), faults)).collect();
-    assert!(faults.len() >= 120);
-    all_caught(&faults, |faults| {
-        set_faults(*faults);
-        caught(&faulty::Lister)
+    let faults: Vec<(String, Fault)> = Fault::ALL.iter().map(|fault| (format!("{fault:?}"), *fault)).collect();
+    assert!(faults.len() >= 139);
+    all_caught(&faults, |fault| {
+        switch_on(Some(*fault));
+        caught(&Faulty::default())
     });
+}
+
+/// Faults where the list is too large for the lister to make: the library, but for one answer.
+#[cfg(feature = "library")]
+#[test]
+fn every_fault_with_large_lists_is_caught() {
+    use faulty::large::Large;
+    let readers = Large::ALL.map(|which| (format!("{which:?}"), which));
+    all_caught(&readers, |which| caught(which));
 }
 
 #[test]
@@ -71,26 +91,40 @@ fn every_place_left_unwritten_is_caught() {
 /// The faults that the walk of demand 3 has to turn down by itself.
 #[test]
 fn the_walk_alone_catches_what_it_has_to() {
-    let none = Faults::default();
     let faults = [
-        ("first never looks", Faults { first_never_looks: true, ..none }),
-        ("first forgets 13", Faults { thirteen_forgotten: true, ..none }),
-        ("next hands back", Faults { next_hands_back: true, ..none }),
-        ("none after the first", Faults { none_after_the_first: true, ..none }),
-        ("next skips one", Faults { next_skips_one: true, ..none }),
-        ("next begins again", Faults { next_begins_again: true, ..none }),
-        ("the last left out", Faults { last_left_out: true, ..none }),
-        ("12 forgotten", Faults { twelve_forgotten: true, ..none }),
-        ("12 finds the later", Faults { twelve_finds_the_later: true, ..none }),
-        ("output written on none", Faults { output_zero_with_none: true, ..none }),
-        ("count invented", Faults { count_invented: true, ..none }),
-        ("count one less", Faults { count_one_less: true, ..none }),
-        ("count forgets 13", Faults { count_thirteen_forgotten: true, ..none }),
+        Fault::FirstNeverLooks,
+        Fault::ThirteenForgotten,
+        Fault::FirstHandsOutTheLast,
+        Fault::FirstGoesOn,
+        Fault::NextHandsBack,
+        Fault::NoneAfterTheFirst,
+        Fault::NextSkipsOne,
+        Fault::NextBeginsAgain,
+        Fault::NextGoesBack,
+        Fault::LastLeftOut,
+        Fault::TwelveForgotten,
+        Fault::TwelveFindsTheLater,
+        Fault::OutputZeroWithNone,
+        Fault::CountInvented,
+        Fault::CountOneLess,
+        Fault::CountThirteenForgotten,
+        Fault::CountsWhatIsLeft,
+        Fault::BuildsCounted,
+        Fault::OrderReversed,
+        Fault::FewerNodesFirst,
+        Fault::RuleBeforeCover,
+        Fault::ListingLimit513,
+        Fault::ListingLimit511,
+        Fault::LimitCountsTerminals,
+        Fault::FewerTerminalsSuperfluous,
+        Fault::ChildOfItsOwnKindLetThrough,
+        Fault::EmptySiblingsSuperfluous,
     ];
-    all_caught(&faults.map(|(name, faults)| (name.to_string(), faults)), |faults| {
-        set_faults(*faults);
-        (0..100).find_map(|seed| {
-            let difference = play_book(&faulty::Lister, &book(seed), seed, 16, &mut Counts::default());
+    all_caught(&faults.map(|fault| (format!("{fault:?}"), fault)), |fault| {
+        switch_on(Some(*fault));
+        let reader = Faulty::default();
+        (0..WITHIN).find_map(|seed| {
+            let difference = play_book(&reader, &book(seed), seed, 16, &mut Counts::default());
             difference.err().map(|text| (seed, text))
         })
     });
@@ -104,14 +138,14 @@ fn passes(reader: &dyn Reader, books: u64) {
 }
 
 #[test]
-fn without_a_fault_the_copies_show_no_difference() {
-    set_faults(Faults::default());
-    passes(&faulty::Lister, 120);
+fn without_a_fault_there_is_no_difference() {
+    switch_on(None);
+    passes(&Faulty::default(), 120);
     passes(&Forgets::Nothing, 120);
 }
 
 #[test]
 fn another_legal_depth_is_accepted() {
-    set_faults(Faults { other_legal_depth: true, ..Faults::default() });
-    passes(&faulty::Lister, 60);
+    switch_on(Some(Fault::OtherLegalDepth));
+    passes(&Faulty::default(), 60);
 }

@@ -1,8 +1,10 @@
 //! Random books from fixed seeds: the reader under test beside the lister. What
-//! came up is printed, and each outcome has to come up often enough.
+//! came up is printed, and each outcome has to come up often enough. FILBOZSEG_SEED=N
+//! runs other books, of the seeds from N on; a difference is printed with the seed of
+//! its book and the book itself.
 
-use outside_tests::books::book;
-use outside_tests::compare::{compare_book, Counts};
+use outside_tests::books::{book, first_seed, SEED};
+use outside_tests::compare::{compare_book, compare_boundary, Counts};
 use outside_tests::reader::Reader;
 use outside_tests::reader_under_test;
 use std::time::Instant;
@@ -39,6 +41,7 @@ const DUE: &[(&str, u64)] = &[
     ("one derivation", 1000),
     ("two or more", 1000),
     ("the limit cuts some", 60),
+    ("the forbidden ancestor", 800),
     // Opening and taking.
     ("complete: yes", 5000),
     ("complete: no", 5000),
@@ -119,10 +122,16 @@ const OUT_OF_RANGE: &[(&str, u64)] = &[
 const NO_SUCH: &[&str] = &["a mark, up to 255", "a mark, 256", "a mark, low byte out of range"];
 
 /// The same for a reader that hands out the first without listing.
-const DUE_UNLISTED: &[(&str, u64)] = &[("first, too many to list: handed out", 80)];
+const DUE_UNLISTED: &[(&str, u64)] = &[("first, too many to list: handed out", 5)];
 
 /// The same for one that also hands out the next and counts without listing.
-const DUE_UNLISTED_NEXT: &[(&str, u64)] = &[("next, too many to list", 80), ("count: more", 40)];
+const DUE_UNLISTED_NEXT: &[(&str, u64)] = &[
+    ("next, too many to list", 5),
+    ("more than 4,096", 60),
+    ("count: more", 60),
+    ("next: every derivation offered", 3000),
+    ("next: some offered", 80),
+];
 
 /// The same for a reader that lists.
 const DUE_LISTING: &[(&str, u64)] = &[
@@ -147,13 +156,13 @@ const DUE_LISTING: &[(&str, u64)] = &[
 
 #[test]
 fn random_books() {
-    let began = Instant::now();
+    let (began, from) = (Instant::now(), first_seed(0));
     let half = |parity: u64| {
         let reader = reader_under_test();
         let mut counts = Counts::default();
-        for seed in (0..BOOKS).filter(|seed| seed % 2 == parity) {
+        for seed in (from..from + BOOKS).filter(|seed| seed % 2 == parity) {
             if let Err(difference) = compare_book(&reader, &book(seed), seed, &mut counts) {
-                panic!("{difference}");
+                panic!("{difference}\n{SEED}={seed} begins with this book");
             }
         }
         counts
@@ -164,7 +173,8 @@ fn random_books() {
         counts.merge(&half(0));
         counts.merge(&other.join().expect("no difference in the other half"));
     });
-    println!("{BOOKS} books in {:.1} s", began.elapsed().as_secs_f32());
+    compare_boundary(&reader_under_test()).expect("no difference at the boundary of count");
+    println!("{BOOKS} books from seed {from} on in {:.1} s", began.elapsed().as_secs_f32());
     for (name, count) in &counts.0 {
         println!("{count:8}  {name}");
     }
@@ -172,13 +182,15 @@ fn random_books() {
     let unlisted = if reader_under_test().by_listing() { &[] } else { DUE_UNLISTED };
     let both = reader_under_test().lists() && !reader_under_test().by_listing();
     let next = if both { DUE_UNLISTED_NEXT } else { &[] };
+    // With other books half as often is enough.
+    let usual = |due: u64| if from == 0 { due } else { due / 2 };
     for (name, due) in DUE.iter().chain(unlisted).chain(listing).chain(next) {
-        assert!(counts.get(name) >= *due, "{name}: came up {} times, due {due}", counts.get(name));
+        assert!(counts.get(name) >= usual(*due), "{name}: came up {} times, due {due}", counts.get(name));
     }
     for (number, (how, due)) in JUDGED.iter().flat_map(|number| OUT_OF_RANGE.iter().map(move |how| (number, how))) {
         let name = format!("{number}, {how}");
         let (count, possible) = (counts.get(&format!("refused 8: {name}")), !NO_SUCH.contains(&name.as_str()));
-        assert!(count >= *due || !possible, "{name}: came up {count} times, due {due}");
+        assert!(count >= usual(*due) || !possible, "{name}: came up {count} times, due {due}");
     }
     let skipped = counts.get("skipped: too large to list");
     assert!(skipped * 10 < counts.get("one derivation") + counts.get("two or more"), "{skipped} inputs skipped");

@@ -1,8 +1,8 @@
 //! Demand 3: random lists of the four calls on the reader under test, refused ones
 //! included, with rubbish in charts and outputs of different lengths, against the walk's
-//! machine of document 01, which is fed only which call comes.
+//! machine of document 01, which is fed only which call comes. FILBOZSEG_SEED=N runs other books.
 
-use outside_tests::books::book;
+use outside_tests::books::{book, first_seed, SEED};
 use outside_tests::compare::{play_book, Counts};
 use outside_tests::reader_under_test;
 
@@ -22,12 +22,13 @@ const DUE: &[(&str, u64)] = &[
 
 #[test]
 fn random_lists_of_calls() {
+    let from = first_seed(5000);
     let half = |parity: u64| {
         let mut counts = Counts::default();
-        for seed in (5000..5400).filter(|seed| seed % 2 == parity) {
+        for seed in (from..from + 400).filter(|seed| seed % 2 == parity) {
             let calls = [12, 24, 48][seed as usize / 2 % 3];
             if let Err(difference) = play_book(&reader_under_test(), &book(seed), seed, calls, &mut counts) {
-                panic!("{difference}");
+                panic!("{difference}\n{SEED}={seed} begins with this book");
             }
         }
         counts
@@ -42,6 +43,7 @@ fn random_lists_of_calls() {
         println!("{count:8}  {name}");
     }
     for (name, due) in DUE {
-        assert!(counts.get(name) >= *due, "{name}: came up {} times, due {due}", counts.get(name));
+        let due = if from == 5000 { *due } else { *due / 2 }; // with other books half as often is enough
+        assert!(counts.get(name) >= due, "{name}: came up {} times, due {due}", counts.get(name));
     }
 }

@@ -8,11 +8,13 @@ use crate::lister::trees::{self, Row, LIMIT};
 use crate::lister::walk::{self, Given};
 use crate::reader::{Answer, FlatGrammar, CELLS, OUTPUT};
 
-/// What is known of an input: all its derivations, unless they are too many to list;
-/// whether it has a tree of any size; and rows, some of which may be derivations.
+/// What is known of an input: all its derivations, unless they are too many to list, and
+/// then the first 4,097 of them, unless looking for them takes too long; whether it has a
+/// tree of any size; and rows, some of which may be derivations.
 #[derive(Clone, Copy)]
 pub(super) struct First<'a> {
     pub list: Option<&'a [Row]>,
+    pub front: Option<&'a [Row]>,
     pub tree: bool,
     pub offered: &'a [Row],
 }
@@ -28,6 +30,7 @@ impl Comparison<'_> {
         filled: &[u32],
         known: First,
     ) -> Result<(), String> {
+        let listed = known.list.or(known.front);
         if known.list.is_none() && self.reader.by_listing() {
             return Ok(());
         }
@@ -38,7 +41,7 @@ impl Comparison<'_> {
         due_chart.part_mut()[..CELLS].copy_from_slice(filled);
         let (input, before) = (Lent::of(input, 0x41), Lent::of(input, 0x41));
         let answer = self.reader.first(&mine, input.part(), chart.part_mut(), out.part_mut(), &mut nodes);
-        let given = match known.list {
+        let given = match listed {
             Some(list) => walk::first(list, known.tree),
             None => self.unlisted(flat, grammar, input.part(), &known, answer, out.part())?,
         };
@@ -54,7 +57,7 @@ impl Comparison<'_> {
         chart.against(&due_chart, "first: chart")?;
         out.against(&due_out, "first: output")?;
         input.against(&before, "first: the input lent")?;
-        let which = if known.list.is_some() { "first" } else { "first, too many to list" };
+        let which = if listed.is_some() { "first" } else { "first, too many to list" };
         self.counts.add(&match given {
             Given::Row(_) => format!("{which}: handed out"),
             Given::Refused(number) => format!("{which}: refused {number}"),

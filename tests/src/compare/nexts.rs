@@ -12,6 +12,10 @@ use crate::reader::{Answer, FlatGrammar, Reader, CELLS, OUTPUT};
 
 /// At most so many derivations of one input are offered to next where there are more than 400.
 const DRAWN: usize = 202;
+/// And so many where the list is too large to make, and only its front is known.
+const DRAWN_OF_MORE: usize = 22;
+/// At most so many rows that are none are offered to next.
+const STRANGERS: usize = 12;
 
 /// Count at its boundary, where the list is too long for the random books: exactly
 /// 4,096 derivations, and one more.
@@ -39,20 +43,22 @@ impl Comparison<'_> {
         known: First,
         readings: &[Row],
     ) -> Result<(), String> {
-        let Some(list) = known.list else { return self.unlisted_nexts(flat, grammar, input, filled, known) };
-        let heavy = input.len().pow(2) * grammar.rules.len() > 10_000;
-        let mut offered = readings.to_vec();
-        match (self.reader.by_listing(), heavy, readings.len() < list.len()) {
-            (true, ..) => self.thin(&mut offered, 3),
-            (_, true, _) => self.thin(&mut offered, 6),
-            (_, _, true) => self.thin(&mut offered, DRAWN),
+        let Some(list) = known.list.or(known.front) else {
+            return self.unlisted_nexts(flat, grammar, input, filled, known);
+        };
+        let mut offered = if known.list.is_some() { readings.to_vec() } else { list[..list.len() - 1].to_vec() };
+        match known.list {
+            _ if self.reader.by_listing() => self.thin(&mut offered, 3),
+            None => self.thin(&mut offered, DRAWN_OF_MORE),
+            Some(_) if readings.len() < list.len() => self.thin(&mut offered, DRAWN),
             _ => (),
         }
-        let strangers = if self.reader.by_listing() || heavy { 3 } else { 12 };
-        for _ in 0..strangers {
-            offered.push(known.offered[self.rng.below(known.offered.len())].clone());
-        }
-        for row in &offered {
+        let all = offered.len() == list.len();
+        self.counts.add(if all { "next: every derivation offered" } else { "next: some offered" });
+        let mut strangers: Vec<Row> =
+            known.offered.iter().filter(|row| !trees::is_derivation(grammar, input, row)).cloned().collect();
+        self.thin(&mut strangers, if self.reader.by_listing() { 3 } else { STRANGERS });
+        for row in offered.iter().chain(&strangers) {
             let given = self.next(flat, input, filled, row)?;
             same(&format!("next of {row:?}"), &given, &walk::next(list, row))?;
         }

@@ -9,9 +9,12 @@ use crate::lister::trees::{self, Row, LIMIT};
 use crate::lister::walk::Walk;
 use crate::lister::{has_tree, STEPS};
 use crate::reader::{Answer, FlatGrammar, CELLS};
+use crate::text::{in_order, MOST};
 
 /// At most so many derivations of one input are offered to each call.
 const MOST_OFFERED: usize = 400;
+/// Steps of the search for the first derivations in order where the list is too large to make.
+const SEARCH_STEPS: u64 = 200_000;
 
 /// An input with its filled chart, and one row or two that are offered for it.
 #[derive(Clone, Copy)]
@@ -32,14 +35,18 @@ impl Comparison<'_> {
         input: &[u8],
         filled: &[u32],
     ) -> Result<(), String> {
-        let list = derivations(grammar, input, LIMIT, STEPS).ok();
+        let (list, front) = self.listed(grammar, input);
         let wider = derivations(grammar, input, WIDER, STEPS).ok();
         let tree = has_tree(grammar, input);
         match &list {
             _ if !tree => self.counts.add("no tree"),
+            None if front.is_some() => self.counts.add("more than 4,096"),
             None => self.counts.add("skipped: too large to list"),
             Some(list) => {
                 self.counts.add(["only trees over the limit", "one derivation", "two or more"][list.len().min(2)]);
+                if list.len() > MOST {
+                    self.counts.add("more than 4,096");
+                }
                 if !list.is_empty() && wider.as_ref().is_some_and(|wider| wider.len() > list.len()) {
                     self.counts.add("the limit cuts some");
                 }
@@ -58,12 +65,15 @@ impl Comparison<'_> {
             self.thin(&mut offered, 6);
             pairs = 2;
         }
+        let mut forbidden = false;
         for row in &offered {
             let yes = trees::is_derivation(grammar, input, row);
             if let Some(list) = &list {
                 same("the lister's check against its list", yes, list.binary_search(row).is_ok())?;
             }
-            self.classify(grammar, input, row, yes);
+            let superfluous = self.classify(grammar, input, row, yes);
+            let last = list.as_ref().and_then(|list| list.last());
+            forbidden |= superfluous && row.len() <= 2 * LIMIT && last.is_some_and(|last| row < last);
             let offer = Offer { input, filled, one: row, other: row };
             self.offered(flat, offer, "check", if yes { Answer::Yes } else { Answer::No }, None)?;
             if yes {
@@ -71,6 +81,9 @@ impl Comparison<'_> {
             } else if self.rng.one_in(4) {
                 self.offered(flat, offer, "length", Answer::Refused(12), None)?;
             }
+        }
+        if forbidden {
+            self.counts.add("the forbidden ancestor");
         }
         for _ in 0..offered.len().min(pairs) {
             let from = if self.rng.one_in(4) || readings.is_empty() { &offered } else { &readings };
@@ -88,18 +101,31 @@ impl Comparison<'_> {
             });
             self.offered(flat, Offer { input, filled, one, other }, "same build", due, None)?;
         }
-        let known = First { list: list.as_deref(), tree, offered: &offered };
+        let known = First { list: list.as_deref(), front: front.as_deref(), tree, offered: &offered };
         self.first(flat, grammar, input, filled, known)?;
         let small = derivations(grammar, input, LIMIT, STEPS / 10).is_ok();
         if self.reader.lists() && (small || !self.reader.by_listing()) {
             self.nexts(flat, grammar, input, filled, known, &readings)?;
         }
-        if self.reader.lists() && small {
-            let list = list.expect("fewer steps sufficed");
+        let list = if small || !self.reader.by_listing() { list.or(front) } else { None };
+        if let (true, Some(list)) = (self.reader.lists(), list) {
             let calls = list.len().min(8) + 4;
             self.walk(flat, input, filled, Walk { list, tree, place: 0 }, &offered, calls)?;
         }
         Ok(())
+    }
+
+    /// All derivations of an input; or, where the list is too large to make and the reader
+    /// does not make it either, the first 4,097 of them, unless that takes too long too.
+    fn listed(&self, grammar: &Grammar, input: &[u8]) -> (Option<Vec<Row>>, Option<Vec<Row>>) {
+        match derivations(grammar, input, LIMIT, STEPS) {
+            Ok(list) => (Some(list), None),
+            Err(_) if self.reader.by_listing() => (None, None),
+            Err(_) => match in_order(grammar, input, LIMIT, MOST + 1, SEARCH_STEPS) {
+                Ok(list) if list.len() <= MOST => (Some(list), None), // fewer than asked for: all of them
+                front => (None, front.ok()),
+            },
+        }
     }
 
     /// At most so many of the rows, the first and the last among them.
@@ -151,8 +177,9 @@ impl Comparison<'_> {
         Ok(())
     }
 
-    /// Why a row is no derivation, as far as it is the row of a tree of the input.
-    fn classify(&mut self, grammar: &Grammar, input: &[u8], row: &[u16], yes: bool) {
+    /// Why a row is no derivation, as far as it is the row of a tree of the input; whether
+    /// it has superfluous recursion.
+    fn classify(&mut self, grammar: &Grammar, input: &[u8], row: &[u16], yes: bool) -> bool {
         if let (false, Some((tree, _))) = (yes, trees::tree_of(grammar, grammar.start, row)) {
             if tree.terminals() == input && tree.row() == row {
                 if tree.nodes > LIMIT {
@@ -160,8 +187,10 @@ impl Comparison<'_> {
                 }
                 if tree.has_superfluous_recursion() {
                     self.counts.add("offered: superfluous recursion");
+                    return true;
                 }
             }
         }
+        false
     }
 }

@@ -4,7 +4,7 @@ use super::lent::{offset, same, Counts, Lent};
 use super::{Comparison, WIDER};
 use crate::books::{Book, Rng};
 use crate::lister::listing::derivations;
-use crate::lister::trees::{Row, LIMIT};
+use crate::lister::trees::{self, Row, LIMIT};
 use crate::lister::walk::{Call, Given, Walk};
 use crate::lister::{chart, grammar, has_tree, STEPS};
 use crate::reader::{Answer, FlatGrammar, Reader, CELLS, OUTPUT};
@@ -49,7 +49,8 @@ impl Caller {
 }
 
 impl Comparison<'_> {
-    /// The walk of demand 3: a random list of calls, chart and output anew each time.
+    /// The walk of demand 3: a random list of calls, chart and output anew each time. A
+    /// list of more than 4,096 may be cut, if fewer calls come than are left of it.
     pub(super) fn walk(
         &mut self,
         flat: &FlatGrammar,
@@ -59,6 +60,7 @@ impl Comparison<'_> {
         offered: &[Row],
         calls: usize,
     ) -> Result<(), String> {
+        let grammar = grammar::from_flat(flat).expect("a loaded grammar passes check 8");
         let mut caller = Caller::default();
         for number in 0..calls {
             let call = match (number, self.rng.below(9)) {
@@ -69,7 +71,7 @@ impl Comparison<'_> {
             };
             let row =
                 if call == Call::NextWithNoDerivation { self.stranger(&caller, offered) } else { caller.copy.clone() };
-            if call == Call::NextWithNoDerivation && walk.list.binary_search(&row).is_ok() {
+            if call == Call::NextWithNoDerivation && trees::is_derivation(&grammar, input, &row) {
                 continue;
             }
             if self.rng.one_in(8) {

@@ -1,8 +1,9 @@
 //! The chart (sheet) by its definition: opening, a column as the least sets over
 //! the chart as found, and apart from that which nonterminals derive which spans.
 
-use super::grammar::{empty_heights, Grammar, Symbol};
+use super::grammar::{empty_heights, heights_in, Grammar, Symbol};
 use crate::reader::CELLS;
+use crate::switches::{fault, Fault};
 
 /// For each position a and nonterminal k the set of positions b, as bits, such
 /// that k stands for the span from a up to, not including, b.
@@ -26,12 +27,14 @@ pub fn members(mut set: u128) -> impl Iterator<Item = usize> {
 /// each a fitting terminal or a nonterminal that stands for its piece.
 pub fn ends_of_row(places: &[Symbol], i: usize, input: &[u8], ends: &Ends) -> u128 {
     let mut here = 1_u128 << i;
-    for place in places {
+    for (p, place) in places.iter().enumerate() {
+        let only_blank = fault(Fault::BlankFirstPlaceOnlyBlank) && p == 0;
         let mut next = 0;
         for a in members(here) {
             match *place {
                 Symbol::Terminal(t) if a < input.len() && input[a] == t => next |= 1 << (a + 1),
                 Symbol::Terminal(_) => (),
+                Symbol::Nonterminal(k) if only_blank && ends[a][usize::from(k)] >> a & 1 == 1 => next |= 1 << a,
                 Symbol::Nonterminal(k) => next |= ends[a][usize::from(k)],
             }
         }
@@ -47,10 +50,12 @@ pub fn ends_of_row(places: &[Symbol], i: usize, input: &[u8], ends: &Ends) -> u1
 pub fn fill_column(grammar: &Grammar, input: &[u8], chart: &mut [u32]) {
     let n = input.len();
     let mut ends: Ends = vec![[0; 32]; n + 1];
+    let nullable = if fault(Fault::EmptyPieceFromTheNullableSet) { empty_heights(grammar) } else { [None; 32] };
     for a in 0..n {
-        for b in a..n {
+        for b in a..n + usize::from(fault(Fault::ColumnNotCleared)) {
             for k in 0..32 {
-                if chart[cell(a, b)] >> k & 1 == 1 {
+                let from_the_set = fault(Fault::EmptyPieceFromTheNullableSet) && a == b;
+                if if from_the_set { nullable[k].is_some() } else { chart[cell(a, b)] >> k & 1 == 1 } {
                     ends[a][k] |= 1 << b;
                 }
             }
@@ -68,19 +73,22 @@ pub fn fill_column(grammar: &Grammar, input: &[u8], chart: &mut [u32]) {
                 }
             }
         }
-        if !changed {
+        if !changed || fault(Fault::OnePassColumn) {
             break;
         }
     }
-    for i in 0..=n {
+    if fault(Fault::IdlesAfterTheFirst) && n > 1 {
+        return;
+    }
+    for i in 0..=n - usize::from(fault(Fault::ForgetsTheEmptySpan)) {
         chart[cell(i, n)] = (0..32).filter(|k| ends[i][*k] >> n & 1 == 1).map(|k| 1 << k).sum();
     }
 }
 
 /// Opening fills all cells: the nullable nonterminals for the span 0 to 0, else zero.
 pub fn open(grammar: &Grammar, chart: &mut [u32]) {
-    let heights = empty_heights(grammar);
-    chart[..CELLS].fill(0);
+    let heights = if fault(Fault::OnePassInOpening) { heights_in(grammar, 1) } else { empty_heights(grammar) };
+    chart[..CELLS - usize::from(fault(Fault::OpeningLeavesTheLastWord))].fill(0);
     chart[0] = (0..32).filter(|k| heights[*k].is_some()).map(|k| 1 << k).sum();
 }
 

@@ -2,6 +2,7 @@
 //! nonterminals (blank kinds).
 
 use crate::reader::{record, FlatGrammar, FLAT, PLACES, RULES};
+use crate::switches::{fault, low_byte, Fault};
 
 /// What a place holds: document 01's kind or mark.
 #[derive(Clone, Copy, PartialEq, Eq, Debug)]
@@ -42,28 +43,38 @@ pub fn load(book: &[u8]) -> Result<Grammar, (u8, usize)> {
             0x50 => 0,
             _ => return Err((2, at)),
         };
+        let cut = book.len() < at + 1 + operands;
+        let kind_over =
+            |most: u8| matches!(command, 0x10 | 0x20 | 0x30) && book.get(at + 1).is_some_and(|kind| *kind > most);
+        if fault(Fault::OneBeforeThree) && cut {
+            return Err((1, book.len()));
+        }
         // 3: out of turn. 10 is the first command and only there; 30 and 40 need an open rule.
         let in_turn = match command {
             0x10 => at == 0,
+            0x50 if fault(Fault::EndAcceptedFirst) => true,
             0x20 | 0x50 => at > 0,
             _ => at > 0 && !grammar.rules.is_empty(),
         };
         if !in_turn {
             return Err((3, at));
         }
+        if fault(Fault::FourBeforeOne) && kind_over(31) {
+            return Err((4, at));
+        }
         // 1: the book ends inside the command.
-        if book.len() < at + 1 + operands {
+        if cut {
             return Err((1, book.len()));
         }
         // 4: a kind over 31.
-        if matches!(command, 0x10 | 0x20 | 0x30) && book[at + 1] > 31 {
-            return Err((4, at));
+        if kind_over(31 + u8::from(fault(Fault::Kind32Accepted))) {
+            return Err((4, at + usize::from(fault(Fault::OffsetOfTheOperand))));
         }
         match command {
             0x10 => grammar.start = book[at + 1],
             0x20 => {
                 // 5: the 129th rule.
-                if grammar.rules.len() == RULES {
+                if grammar.rules.len() == RULES + usize::from(fault(Fault::Rule129Accepted)) {
                     return Err((5, at));
                 }
                 let length = i16::from_le_bytes([book[at + 2], book[at + 3]]);
@@ -72,7 +83,7 @@ pub fn load(book: &[u8]) -> Result<Grammar, (u8, usize)> {
             0x30 | 0x40 => {
                 // 6: the ninth place of a rule.
                 let places = &mut grammar.rules.last_mut().expect("a rule is open").places;
-                if places.len() == PLACES {
+                if places.len() == PLACES + usize::from(fault(Fault::NinthPlaceAccepted)) {
                     return Err((6, at));
                 }
                 let value = book[at + 1];
@@ -80,7 +91,8 @@ pub fn load(book: &[u8]) -> Result<Grammar, (u8, usize)> {
             }
             _ => {
                 // 7: a further byte after 50.
-                return if book.len() == at + 1 { Ok(grammar) } else { Err((7, at + 1)) };
+                let ends = book.len() == at + 1 || fault(Fault::ByteAfterTheEndIgnored);
+                return if ends { Ok(grammar) } else { Err((7, at + 1)) };
             }
         }
         at += 1 + operands;
@@ -93,12 +105,12 @@ pub fn to_flat(grammar: &Grammar, depth: u16) -> FlatGrammar {
     flat[0] = u16::from(grammar.start);
     flat[1] = grammar.rules.len() as u16;
     flat[2] = depth;
-    for (number, rule) in grammar.rules.iter().enumerate() {
+    for (number, rule) in grammar.rules.iter().enumerate().take(RULES) {
         let at = record(number);
         flat[at] = u16::from(rule.left);
         flat[at + 1] = rule.length as i16 as u16;
         flat[at + 2] = rule.places.len() as u16;
-        for (p, place) in rule.places.iter().enumerate() {
+        for (p, place) in rule.places.iter().enumerate().take(PLACES) {
             let (tag, value) = match *place {
                 Symbol::Nonterminal(k) => (0, k),
                 Symbol::Terminal(t) => (1, t),
@@ -115,23 +127,33 @@ pub fn to_flat(grammar: &Grammar, depth: u16) -> FlatGrammar {
 /// used place holds no symbol: a tag other than 0 and 1, or a mark over 255. Unused
 /// records, unused places and the depth are not looked at.
 pub fn from_flat(flat: &FlatGrammar) -> Option<Grammar> {
-    let (start, rules) = (flat[0], usize::from(flat[1]));
-    if start > 31 || rules > RULES {
+    let start = low_byte(flat[0], Fault::StartByItsLowByte);
+    let rules = usize::from(low_byte(flat[1], Fault::RulesByTheirLowByte));
+    if start > 31 || rules > RULES || unused_number_read(flat) {
         return None;
     }
     let mut grammar = Grammar { start: start as u8, rules: Vec::new() };
     for number in 0..rules {
         let at = record(number);
-        let (left, length, places) = (flat[at], flat[at + 1] as i16, usize::from(flat[at + 2]));
-        if left > 31 || places > PLACES {
+        let (left, length) = (low_byte(flat[at], Fault::LeftSideByItsLowByte), flat[at + 1] as i16);
+        let places = usize::from(low_byte(flat[at + 2], Fault::PlacesByTheirLowByte));
+        if (left > 31 && !fault(Fault::Check8ForgetsLeftSides)) || places > PLACES {
             return None;
         }
-        let mut rule = Rule { left: left as u8, length: i32::from(length), places: Vec::new() };
+        if fault(Fault::Check8ReadsUnusedPlaces) && (places..PLACES).any(|p| flat[at + 3 + 2 * p] > 1) {
+            return None;
+        }
+        let mut rule = Rule { left: left as u8 & 31, length: i32::from(length), places: Vec::new() };
+        if fault(Fault::UnsignedLength) {
+            rule.length = i32::from(length as u16);
+        }
         for p in 0..places {
-            let (tag, value) = (flat[at + 3 + 2 * p], flat[at + 4 + 2 * p]);
+            let (tag, value) = (low_byte(flat[at + 3 + 2 * p], Fault::TagByItsLowByte), flat[at + 4 + 2 * p]);
             rule.places.push(match tag {
-                0 if value <= 31 => Symbol::Nonterminal(value as u8),
-                1 if value <= 255 => Symbol::Terminal(value as u8),
+                0 if low_byte(value, Fault::KindByItsLowByte) <= 31 => Symbol::Nonterminal(value as u8),
+                1 if low_byte(value, Fault::MarkByItsLowByte) <= 255 => Symbol::Terminal(value as u8),
+                2 if fault(Fault::Tag2ATerminal) && value <= 255 => Symbol::Terminal(value as u8),
+                2.. if fault(Fault::EveryOtherTagATerminal) && value <= 255 => Symbol::Terminal(value as u8),
                 _ => return None,
             });
         }
@@ -140,13 +162,24 @@ pub fn from_flat(flat: &FlatGrammar) -> Option<Grammar> {
     Some(grammar)
 }
 
+/// Two of the faults of check 8: it looks at the depth, or at unused records.
+fn unused_number_read(flat: &FlatGrammar) -> bool {
+    (fault(Fault::Check8ReadsTheDepth) && flat[2] > 32)
+        || (fault(Fault::Check8ReadsUnusedRecords) && (0..RULES).any(|rule| flat[record(rule)] > 31))
+}
+
 /// For each nonterminal the height of its lowest empty tree, None if it is not
 /// nullable (blank). Round h finds those that have a rule all of whose places
 /// are nonterminals with an empty tree lower than h. A round without a find ends it.
 pub fn empty_heights(grammar: &Grammar) -> [Option<u16>; 32] {
+    heights_in(grammar, if fault(Fault::OnePassNullable) { 1 } else { u16::MAX })
+}
+
+/// The same, in so many rounds at most; in a last one a find counts at once.
+pub fn heights_in(grammar: &Grammar, rounds: u16) -> [Option<u16>; 32] {
     let mut heights = [None; 32];
-    for h in 1.. {
-        let lower = heights;
+    for h in 1..=rounds {
+        let mut lower = heights;
         for rule in &grammar.rules {
             let empty = rule.places.iter().all(|place| match place {
                 Symbol::Nonterminal(k) => lower[usize::from(*k)].is_some(),
@@ -155,6 +188,9 @@ pub fn empty_heights(grammar: &Grammar) -> [Option<u16>; 32] {
             let known = &mut heights[usize::from(rule.left)];
             if empty && known.is_none() {
                 *known = Some(h);
+            }
+            if h == rounds {
+                lower = heights;
             }
         }
         if heights == lower {

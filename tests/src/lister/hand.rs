@@ -1,11 +1,19 @@
 //! The plate in hand as a row: the check of one handed in, and the one of given marks.
 
 use crate::reader::{Hand, HAND, INPUT};
+use crate::switches::{fault, low_byte, Fault};
 
 /// The used marks of a hand; None if its count is over 64 or a used mark is over 255.
 pub fn marks(hand: &Hand) -> Option<Vec<u8>> {
-    let count = usize::from(hand[INPUT]);
-    if count > INPUT || hand[..count].iter().any(|mark| *mark > 255) {
+    let count = usize::from(low_byte(hand[INPUT], Fault::HandCountByItsLowByte));
+    let judged = match () {
+        _ if fault(Fault::LastMarkOfAHandUnjudged) => count.saturating_sub(1),
+        _ if fault(Fault::Check14ReadsUnusedMarks) => INPUT,
+        _ => count,
+    };
+    let most = 255 + u16::from(fault(Fault::Mark256InAHandAccepted));
+    let over = |mark: &u16| low_byte(*mark, Fault::HandMarksByTheirLowByte) > most;
+    if count > INPUT || hand[..judged].iter().any(over) {
         return None;
     }
     Some(hand[..count].iter().map(|mark| *mark as u8).collect())

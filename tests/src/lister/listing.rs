@@ -4,6 +4,7 @@
 use super::chart::{derives, ends_of_row, members, Ends};
 use super::grammar::{Grammar, Symbol};
 use super::trees::{Child, Node, Row};
+use crate::switches::{fault, Fault};
 use std::rc::Rc;
 
 /// Said instead of a list where building it would take too many steps.
@@ -47,6 +48,7 @@ struct Builder<'a> {
 ///   input: so no other node is, and trees with such a node below are not built;
 /// - a nonterminal that stands at a span in no parse tree of the input is not needed.
 pub fn derivations(grammar: &Grammar, input: &[u8], limit: usize, steps: u64) -> Result<Vec<Row>, TooLarge> {
+    let limit = limit + usize::from(fault(Fault::ListingLimit513)) - usize::from(fault(Fault::ListingLimit511));
     let n = input.len();
     let start = usize::from(grammar.start);
     let derives = derives(grammar, input);
@@ -65,7 +67,24 @@ pub fn derivations(grammar: &Grammar, input: &[u8], limit: usize, steps: u64) ->
     rows.sort();
     // Each once, and no row begins another: "the first number that differs" orders them.
     assert!(rows.windows(2).all(|two| !two[1].starts_with(&two[0])));
+    out_of_order(&mut rows);
     Ok(rows)
+}
+
+/// The faults of the order: without one the rows stay as they are.
+fn out_of_order(rows: &mut [Row]) {
+    if fault(Fault::OrderReversed) {
+        rows.reverse();
+    }
+    if fault(Fault::FewerNodesFirst) {
+        rows.sort_by_key(Vec::len);
+    }
+    if fault(Fault::RuleBeforeCover) {
+        rows.sort_by_key(|row| row.chunks(2).flat_map(|node| [node[1], node[0]]).collect::<Row>());
+    }
+    if fault(Fault::NumbersOrderedAsText) {
+        rows.sort_by_key(|row| row.iter().map(u16::to_string).collect::<Vec<_>>());
+    }
 }
 
 impl Builder<'_> {

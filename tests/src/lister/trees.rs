@@ -2,6 +2,7 @@
 //! preorder row of a tree.
 
 use super::grammar::{Grammar, Symbol};
+use crate::switches::{fault, Fault};
 use std::rc::Rc;
 
 /// A derivation (reading) as it is written: for each node in preorder how many
@@ -40,6 +41,9 @@ impl Node {
                 }
             }
         }
+        if fault(Fault::LimitCountsTerminals) {
+            nodes += children.iter().filter(|child| matches!(child, Child::Leaf(_))).count();
+        }
         Node { rule, children, nonterminal: grammar.rules[rule].left, cover, nodes }
     }
 
@@ -57,15 +61,27 @@ impl Node {
     /// covers never grow downward: only nodes of equal cover need be looked into.
     pub fn recurs(&self) -> bool {
         fn inside(node: &Node, nonterminal: u8, cover: usize) -> bool {
-            let mut equal = node.below().filter(|n| n.cover == cover);
+            let mut equal = node.below().filter(|n| n.cover == cover || fault(Fault::FewerTerminalsSuperfluous));
             equal.any(|n| n.nonterminal == nonterminal || inside(n, nonterminal, cover))
         }
-        inside(self, self.nonterminal, self.cover)
+        if fault(Fault::ChildOfItsOwnKindLetThrough) {
+            return self.below().any(|n| n.cover == self.cover && inside(n, self.nonterminal, self.cover));
+        }
+        inside(self, self.nonterminal, self.cover) || (fault(Fault::EmptySiblingsSuperfluous) && self.twin_blanks())
+    }
+
+    /// Whether two children are empty and of one kind: no recursion, but for a fault.
+    fn twin_blanks(&self) -> bool {
+        let blanks: Vec<u8> = self.below().filter(|n| n.cover == 0).map(|n| n.nonterminal).collect();
+        (1..blanks.len()).any(|at| blanks[..at].contains(&blanks[at]))
     }
 
     /// Document 01: some part has a proper descendant part of the same kind that
     /// covers the same marks.
     pub fn has_superfluous_recursion(&self) -> bool {
+        if fault(Fault::NoForbiddenSet) || (fault(Fault::EmptyRecursionLetThrough) && self.cover == 0) {
+            return false;
+        }
         self.recurs() || self.below().any(Node::has_superfluous_recursion)
     }
 
@@ -119,26 +135,52 @@ pub fn tree_of<'a>(grammar: &Grammar, nonterminal: u8, row: &'a [u16]) -> Option
 /// tree of the start nonterminal over the whole input, without superfluous
 /// recursion, of at most 512 nodes, written exactly so.
 pub fn is_derivation(grammar: &Grammar, input: &[u8], row: &[u16]) -> bool {
-    if row.len() > 2 * LIMIT {
+    let limit = LIMIT + usize::from(fault(Fault::Limit513)) - usize::from(fault(Fault::Limit511));
+    if row.len() > 2 * limit || fault(Fault::CheckAlwaysNo) {
         return false; // two numbers for each node: more than 512 nodes, or no row of a tree
     }
-    match tree_of(grammar, grammar.start, row) {
+    match tree_of(grammar, root(grammar, row), row) {
         None => false,
         Some((tree, _)) => {
-            tree.terminals() == input && tree.nodes <= LIMIT && !tree.has_superfluous_recursion() && tree.row() == row
+            covers(&tree, input) && tree.nodes <= limit && !tree.has_superfluous_recursion() && written(&tree, row)
         }
     }
+}
+
+/// The nonterminal of the root: the start.
+fn root(grammar: &Grammar, row: &[u16]) -> u8 {
+    let first = row.get(1).and_then(|rule| grammar.rules.get(usize::from(*rule)));
+    match first {
+        Some(rule) if fault(Fault::AnyStartAccepted) => rule.left,
+        _ => grammar.start,
+    }
+}
+
+/// Whether the tree's terminals are the input.
+fn covers(tree: &Node, input: &[u8]) -> bool {
+    tree.terminals() == input || (fault(Fault::FrontStretchAccepted) && input.starts_with(&tree.terminals()))
+}
+
+/// Whether the row is the tree's, number by number.
+fn written(tree: &Node, row: &[u16]) -> bool {
+    tree.row() == row
+        || (fault(Fault::TailAccepted) && row.starts_with(&tree.row()))
+        || (fault(Fault::CoversNotCompared) && row.len() == 2 * tree.nodes)
 }
 
 /// Stack length in tenths: the rule lengths of all nodes of a row, empty ones
 /// too, added up and rounded, halves away from zero.
 pub fn tenths(grammar: &Grammar, row: &[u16]) -> i32 {
-    round(row.chunks(2).map(|node| grammar.rules[usize::from(node[1])].length).sum())
+    let measured = row.chunks(2).filter(|node| node[0] > 0 || !fault(Fault::EmptyLengthsLeftOut));
+    round(measured.map(|node| grammar.rules[usize::from(node[1])].length).sum())
 }
 
 /// Hundredths rounded to tenths, halves away from zero.
 pub fn round(sum: i32) -> i32 {
-    let tenths = (sum.abs() + 5) / 10;
+    if fault(Fault::HalfUpward) {
+        return (sum + 5).div_euclid(10);
+    }
+    let tenths = (sum.abs() + 5 - i32::from(fault(Fault::HalfTowardZero))) / 10;
     if sum < 0 {
         -tenths
     } else {
@@ -149,8 +191,14 @@ pub fn round(sum: i32) -> i32 {
 /// Same build: the rules of the non-empty nodes agree as a bag.
 pub fn same_build(one: &[u16], other: &[u16]) -> bool {
     let bag = |row: &[u16]| {
-        let mut rules: Vec<u16> = row.chunks_exact(2).filter(|node| node[0] > 0).map(|node| node[1]).collect();
-        rules.sort();
+        let counts = |node: &&[u16]| node[0] > 0 || fault(Fault::EmptyNodesInTheBuild);
+        let mut rules: Vec<u16> = row.chunks_exact(2).filter(counts).map(|node| node[1]).collect();
+        if !fault(Fault::BuildInOrder) {
+            rules.sort();
+        }
+        if fault(Fault::BuildAsASet) {
+            rules.dedup();
+        }
         rules
     };
     bag(one) == bag(other)

@@ -1,7 +1,8 @@
 //! First, next and count as functions of the list of all derivations, and the
 //! walk of demand 3 as its own machine.
 
-use super::trees::Row;
+use super::trees::{same_build, Row};
+use crate::switches::{fault, Fault};
 
 /// What first, next or count gives: a row handed out, or an answer without one.
 #[derive(Clone, PartialEq, Eq, Debug)]
@@ -16,28 +17,69 @@ pub enum Given {
 
 /// First. `list` is document 01's L; `tree` says whether the input has a tree of any size.
 pub fn first(list: &[Row], tree: bool) -> Given {
-    match list.first() {
+    let found = match () {
+        _ if fault(Fault::GreatestRuleFirst) => first_by(list, |at, number| if at % 2 == 1 { !number } else { number }),
+        _ if fault(Fault::LargestCoverFirst) => first_by(list, |at, number| if at % 2 == 0 { !number } else { number }),
+        _ if fault(Fault::FirstHandsOutTheSecond) => list.get(1).or(list.first()),
+        _ if fault(Fault::FirstHandsOutTheLast) => list.last(),
+        _ => list.first(),
+    };
+    match found {
+        _ if fault(Fault::FirstNeverLooks) => Given::NoDerivation,
         Some(row) => Given::Row(row.clone()),
-        None if tree => Given::Refused(13),
+        None if fault(Fault::ThirteenForgotten) => Given::NoDerivation,
+        None if tree || fault(Fault::ThirteenWithoutATree) => Given::Refused(13),
         None => Given::NoDerivation,
     }
 }
 
+/// The first in another order: by these numbers in place of those of a row. Only faults ask for it.
+fn first_by(list: &[Row], key: impl Fn(usize, u16) -> u16) -> Option<&Row> {
+    list.iter().min_by_key(|row| row.iter().enumerate().map(|(at, number)| key(at, *number)).collect::<Row>())
+}
+
 /// Next, offered any row.
 pub fn next(list: &[Row], offered: &[u16]) -> Given {
+    let row = |place: usize| Given::Row(list[place].clone());
     match list.iter().position(|row| row == offered) {
+        None if fault(Fault::TwelveForgotten) => Given::NoneLeft,
+        None if fault(Fault::TwelveForTheEmptyRowForgotten) && offered.is_empty() && !list.is_empty() => row(0),
+        None if fault(Fault::TwelveFindsTheLater) => {
+            list.iter().position(|row| row[..] > *offered).map_or(Given::Refused(12), row)
+        }
         None => Given::Refused(12),
-        Some(place) if place + 1 < list.len() => Given::Row(list[place + 1].clone()),
+        Some(place) if fault(Fault::NextSkipsOne) && place + 2 < list.len() => row(place + 2),
+        Some(place) if fault(Fault::NextBeginsAgain) && place + 1 == list.len() => row(0),
+        Some(place) if fault(Fault::LastLeftOut) && place + 2 == list.len() => Given::NoneLeft,
+        Some(place) if fault(Fault::NextGoesBack) && place > 0 => row(place - 1),
+        Some(0) if fault(Fault::NoneAfterTheFirst) => Given::NoneLeft,
+        Some(place) if fault(Fault::NextHandsBack) => row(place),
+        Some(place) if place + 1 < list.len() => row(place + 1),
         Some(_) => Given::NoneLeft,
     }
 }
 
 /// Count.
 pub fn count(list: &[Row], tree: bool) -> Given {
-    match list.len() {
-        0 if tree => Given::Refused(13),
+    match counted(list) {
+        0 if fault(Fault::CountThirteenForgotten) => Given::Count(0),
+        0 if tree || fault(Fault::CountThirteenWithoutATree) => Given::Refused(13),
+        4096 if fault(Fault::MoreAt4096) => Given::More,
+        4097 if fault(Fault::CountedAt4097) => Given::Count(4097),
         n if n <= 4096 => Given::Count(n),
         _ => Given::More,
+    }
+}
+
+/// How many there are.
+fn counted(list: &[Row]) -> usize {
+    let new_build = |at: &usize| !list[..*at].iter().any(|row| same_build(row, &list[*at]));
+    match list.len() {
+        n if fault(Fault::CountInvented) => n + 1,
+        n if fault(Fault::CountOneLess) => n.saturating_sub(1),
+        n if fault(Fault::CountByItsLowByte) => n % 256,
+        n if fault(Fault::BuildsCounted) => (0..n).filter(new_build).count(),
+        n => n,
     }
 }
 

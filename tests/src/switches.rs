@@ -1,0 +1,180 @@
+//! The switches of the deliberate faults, by name. In the ordinary build the answer to
+//! each is no, a constant, so that nothing of a fault is left in the code. tests/faults.rs
+//! compiles the lister once more, with switches of its own that it can turn on.
+
+/// Whether a fault is switched on: none is.
+pub const fn fault(_: Fault) -> bool {
+    false
+}
+
+/// The number; with that fault, of which there is none, only its low byte.
+pub const fn low_byte(number: u16, _: Fault) -> u16 {
+    number
+}
+
+macro_rules! faults {
+    ($($name:ident),* $(,)?) => {
+        /// The deliberate faults.
+        #[derive(Clone, Copy, PartialEq, Eq, Debug)]
+        pub enum Fault {
+            $($name,)*
+            /// No fault: the depth is the one result left open.
+            OtherLegalDepth,
+        }
+
+        impl Fault {
+            /// Every one that has to be caught.
+            pub const ALL: &'static [Fault] = &[$(Fault::$name),*];
+        }
+    };
+}
+
+faults! {
+    FourBeforeOne,
+    OneBeforeThree,
+    EndAcceptedFirst,
+    Kind32Accepted,
+    OffsetOfTheOperand,
+    Rule129Accepted,
+    NinthPlaceAccepted,
+    ByteAfterTheEndIgnored,
+    Check8ReadsTheDepth,
+    Check8ReadsUnusedRecords,
+    Check8ForgetsLeftSides,
+    UnsignedLength,
+    OnePassNullable,
+    OnePassInOpening,
+    BlankFirstPlaceOnlyBlank,
+    ColumnNotCleared,
+    EmptyPieceFromTheNullableSet,
+    OnePassColumn,
+    IdlesAfterTheFirst,
+    WritesAnotherWord,
+    WritesBehindTheCells,
+    ForgetsTheEmptySpan,
+    OpeningLeavesTheLastWord,
+    FewerTerminalsSuperfluous,
+    NoForbiddenSet,
+    EmptyRecursionLetThrough,
+    ChildOfItsOwnKindLetThrough,
+    EmptySiblingsSuperfluous,
+    CheckAlwaysNo,
+    Limit513,
+    Limit511,
+    AnyStartAccepted,
+    FrontStretchAccepted,
+    TailAccepted,
+    CoversNotCompared,
+    EmptyLengthsLeftOut,
+    HalfTowardZero,
+    HalfUpward,
+    EmptyNodesInTheBuild,
+    BuildInOrder,
+    BuildAsASet,
+    ListingLimit513,
+    ListingLimit511,
+    LimitCountsTerminals,
+    OrderReversed,
+    FewerNodesFirst,
+    RuleBeforeCover,
+    NumbersOrderedAsText,
+    FirstNeverLooks,
+    ThirteenForgotten,
+    NoneAfterTheFirst,
+    NextHandsBack,
+    CountInvented,
+    CompleteFromAnotherWord,
+    NineBeforeEight,
+    TenBeforeNine,
+    OutputClearedBehind,
+    StartKeptWithARefusal,
+    Depth32,
+    DepthOneTooLow,
+    TenBeforeFourteen,
+    FifteenBeforeTen,
+    HandKeepsRubbish,
+    TwelveSpoilsTheChart,
+    BuildChecksOneRow,
+    // numbers judged by their low byte only
+    StartByItsLowByte,
+    RulesByTheirLowByte,
+    LeftSideByItsLowByte,
+    PlacesByTheirLowByte,
+    TagByItsLowByte,
+    KindByItsLowByte,
+    MarkByItsLowByte,
+    HandCountByItsLowByte,
+    HandMarksByTheirLowByte,
+    // other numbers judged wrongly
+    Tag2ATerminal,
+    EveryOtherTagATerminal,
+    Check8ReadsUnusedPlaces,
+    Mark256InAHandAccepted,
+    LastMarkOfAHandUnjudged,
+    Check14ReadsUnusedMarks,
+    TenBeforeAMarkOver255,
+    FifteenBeforeAMarkOver255,
+    // lent places written without cause
+    RefusedTakeClearsTheHand,
+    RefusedTakeNormalisesTheHand,
+    OffsetZeroWhenLoaded,
+    TenthsZeroWhenRefused,
+    TenthsZeroWithTwelve,
+    // lent places written in part
+    RowWrittenWithoutItsEnd,
+    DepthUnwritten,
+    RefusedRowWrittenWithoutItsHead,
+    OpenedHandWithoutItsCount,
+    RefusedOpeningLeavesTheHand,
+    TakenHandWithoutItsCount,
+    // first
+    GreatestRuleFirst,
+    LargestCoverFirst,
+    FirstHandsOutTheSecond,
+    FirstHandsOutTheLast,
+    ThirteenWithoutATree,
+    ElevenPasses1023,
+    ElevenBeforeTen,
+    OneNumberTooMany,
+    NodesCountsNumbers,
+    NodesZeroWhenRefused,
+    NodesZeroWithAReading,
+    OutputZeroWhenRefused,
+    NodesZeroWithoutAReading,
+    NodesZeroWithThirteen,
+    OutputZeroWithoutAReading,
+    OutputZeroWithThirteen,
+    // next
+    NextSkipsOne,
+    NextBeginsAgain,
+    LastLeftOut,
+    NextGoesBack,
+    TwelveForgotten,
+    TwelveForTheEmptyRowForgotten,
+    TwelveFindsTheLater,
+    ThirteenFromNext,
+    ElevenUnaskedByNext,
+    TwelveLeavesTheChart,
+    NoneLeavesTheChart,
+    OfferedCopiedToTheOutput,
+    OutputZeroWithNone,
+    OutputZeroWithTwelve,
+    NodesZeroWithNone,
+    NodesZeroWithTwelve,
+    // count
+    CountOneLess,
+    CountByItsLowByte,
+    BuildsCounted,
+    MoreAt4096,
+    CountedAt4097,
+    CountThirteenForgotten,
+    CountThirteenWithoutATree,
+    CountUnwritten,
+    CountWrittenWithMore,
+    CountZeroWhenRefused,
+    CountZeroWithThirteen,
+    // what is kept between calls
+    FirstGoesOn,
+    NextKeepsItsOwnPlace,
+    CountsWhatIsLeft,
+}

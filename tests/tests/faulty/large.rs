@@ -1,0 +1,109 @@
+//! The library, but for one answer on inputs with more than 4,096 derivations.
+
+use outside_tests::library::Library;
+use outside_tests::reader::{Answer, FlatGrammar, Hand, Reader};
+
+/// What is wrong where there are more than 4,096.
+#[derive(Clone, Copy, PartialEq, Eq, Debug)]
+pub enum Large {
+    FirstHandsOutTheSecond,
+    NextSkipsOne,
+    NextHandsBack,
+    NoneAfterAny,
+    CountedTo4096,
+}
+
+impl Large {
+    pub const ALL: [Large; 5] = [
+        Large::FirstHandsOutTheSecond,
+        Large::NextSkipsOne,
+        Large::NextHandsBack,
+        Large::NoneAfterAny,
+        Large::CountedTo4096,
+    ];
+
+    /// Whether this is the fault, and the input one where it shows.
+    fn shows(self, which: Large, flat: &FlatGrammar, input: &[u8], chart: &mut [u32]) -> bool {
+        self == which && Library.count(flat, input, chart, &mut 0) == Answer::More
+    }
+}
+
+impl Reader for Large {
+    fn load(&self, book: &[u8], flat: &mut FlatGrammar, offset: &mut usize) -> Answer {
+        Library.load(book, flat, offset)
+    }
+
+    fn open(&self, flat: &FlatGrammar, hand: &mut Hand, chart: &mut [u32]) -> Answer {
+        Library.open(flat, hand, chart)
+    }
+
+    fn take(&self, flat: &FlatGrammar, hand: &mut Hand, terminal: u8, chart: &mut [u32]) -> Answer {
+        Library.take(flat, hand, terminal, chart)
+    }
+
+    fn check(&self, flat: &FlatGrammar, input: &[u8], offered: &[u16], chart: &mut [u32]) -> Answer {
+        Library.check(flat, input, offered, chart)
+    }
+
+    fn length(&self, flat: &FlatGrammar, input: &[u8], offered: &[u16], chart: &mut [u32], tenths: &mut i32) -> Answer {
+        Library.length(flat, input, offered, chart, tenths)
+    }
+
+    fn same_build(&self, flat: &FlatGrammar, input: &[u8], one: &[u16], other: &[u16], chart: &mut [u32]) -> Answer {
+        Library.same_build(flat, input, one, other, chart)
+    }
+
+    fn first(&self, flat: &FlatGrammar, input: &[u8], chart: &mut [u32], out: &mut [u16], nodes: &mut usize) -> Answer {
+        match Library.first(flat, input, chart, out, nodes) {
+            Answer::Nodes(n) if self.shows(Large::FirstHandsOutTheSecond, flat, input, chart) => {
+                let first = out[..2 * n].to_vec();
+                Library.next(flat, input, &first, chart, out, nodes)
+            }
+            answer => answer,
+        }
+    }
+
+    fn lists(&self) -> bool {
+        true
+    }
+
+    fn next(
+        &self,
+        flat: &FlatGrammar,
+        input: &[u8],
+        offered: &[u16],
+        chart: &mut [u32],
+        out: &mut [u16],
+        nodes: &mut usize,
+    ) -> Answer {
+        let (found, found_nodes) = (out.to_vec(), *nodes);
+        match Library.next(flat, input, offered, chart, out, nodes) {
+            Answer::Nodes(n) if self.shows(Large::NextSkipsOne, flat, input, chart) => {
+                let next = out[..2 * n].to_vec();
+                Library.next(flat, input, &next, chart, out, nodes)
+            }
+            Answer::Nodes(_) if self.shows(Large::NextHandsBack, flat, input, chart) => {
+                out.copy_from_slice(&found);
+                out[..offered.len()].copy_from_slice(offered);
+                *nodes = offered.len() / 2;
+                Answer::Nodes(*nodes)
+            }
+            Answer::Nodes(_) if self.shows(Large::NoneAfterAny, flat, input, chart) => {
+                out.copy_from_slice(&found);
+                *nodes = found_nodes;
+                Answer::NoneLeft
+            }
+            answer => answer,
+        }
+    }
+
+    fn count(&self, flat: &FlatGrammar, input: &[u8], chart: &mut [u32], count: &mut usize) -> Answer {
+        match Library.count(flat, input, chart, count) {
+            Answer::More if *self == Large::CountedTo4096 => {
+                *count = 4096;
+                Answer::Count(4096)
+            }
+            answer => answer,
+        }
+    }
+}
