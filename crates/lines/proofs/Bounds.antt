@@ -7,7 +7,8 @@ use lib.IntN.{ℤ, pos, negsuc, negℤ}
 use lib.Signed.{mag}
 use Rattle.results.specs.Answer.{most}
 use Rattle.results.specs.Measure.{rounded}
-use Rattle.lines.specs.Put.{maxPlace, maxTenths}
+use Rattle.digits.specs.Put.{maxTenths}
+use Rattle.lines.specs.Sizes.{maxPlace}
 
 pub places : most ≡ maxPlace
 unfolding most

@@ -1,6 +1,3 @@
--- The laws of what is written into a buffer. What others cite: Writing, Decimal, Bounds.
-pub mod Writing
-pub mod Decimal
-pub mod Signed
+-- The laws of the lines that are written. What others cite: Bounds.
 pub mod Lines
 pub mod Bounds

@@ -15,9 +15,10 @@ use mir.Facts.{toZ-ofZ}
 use Rattle.results.specs.Answer.{counted}
 use Rattle.text.specs.Number.{decimal, signedDecimal}
 use Rattle.text.specs.Line.{newline, space, point, colon, equals, parts, lengthEnd, line, readingsWord, refusedLine, readingsLine}
-use Rattle.lines.specs.Put.{Put, nodeSize, maxTenths}
-use Rattle.lines.proofs.Writing.{put-append, put-same}
-use Rattle.lines.proofs.Decimal.{digits-16}
+use Rattle.digits.specs.Put.{Put, maxTenths}
+use Rattle.digits.proofs.Writing.{put-append, put-same}
+use Rattle.digits.proofs.Decimal.{digits-16}
+use Rattle.lines.specs.Sizes.{nodeSize}
 
 -- ---- a node
 

@@ -1,2 +1,2 @@
--- What it is to write bytes into a buffer, and the sizes of lines.
-pub mod Put
+-- The sizes of lines.
+pub mod Sizes

@@ -1,10 +1,9 @@
 // The lines of the listing program, written into a lent buffer.
 pub mod fixed;
 pub mod line;
-pub mod number;
 
 ghost use mathlib.Core.Path.{_≡_};
-ghost use Rattle.lines.specs.Put.{lineSize};
+ghost use Rattle.lines.specs.Sizes.{lineSize};
 
 // The byte behind each line.
 pub const NEWLINE: u8 = 10;

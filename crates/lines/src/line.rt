@@ -1,9 +1,9 @@
 // The line of a derivation (reading), written into a buffer. Each function answers where what it wrote ends.
 use super::NEWLINE;
-use super::number::put_byte;
-use super::number::put_bytes;
-use super::number::put_decimal;
-use super::number::put_signed;
+use digits::put_byte;
+use digits::put_bytes;
+use digits::put_decimal;
+use digits::put_signed;
 ghost use mathlib.Core.List.{_∷_, _++_};
 ghost use Prim.Native.Nat.{_+_, _*_, _≤_};
 ghost use lib.ListN.{length, take};
@@ -11,7 +11,8 @@ ghost use lib.Signed.{mag};
 ghost use Rattle.sizes.specs.Sizes.{maxNodes};
 ghost use Rattle.text.specs.Number.{decimal};
 ghost use Rattle.text.specs.Line.{space, point, parts, lengthEnd, line};
-ghost use Rattle.lines.specs.Put.{Put, nodeSize, endSize, lineSize, maxPlace, maxTenths};
+ghost use Rattle.digits.specs.Put.{Put, maxTenths};
+ghost use Rattle.lines.specs.Sizes.{nodeSize, endSize, lineSize, maxPlace};
 
 const SPACE: u8 = 32;
 

@@ -1,9 +1,9 @@
 // The lines go to standard output through a buffer of 64 KiB.
 use fit::FitTable;
 use lister::Due;
-use lister::step::step;
 use measure::Lengths;
 use packed::Packed;
+use stepper::step::step;
 use tables::layout::Tables;
 ghost use mathlib.Core.Path.{_≡_};
 ghost use Prim.Native.Nat.{_+_, _≤_};

@@ -1,8 +1,4 @@
--- Laws of the listing program.
+-- Laws of the listing program's first step.
 pub mod Opening
 pub mod Judged
 pub mod Books
-pub mod Lines
-pub mod Stepping
-pub mod Measured
-pub mod Printed

@@ -1,5 +1,3 @@
--- What the listing program prints next, and what its first step and each further one do.
+-- What the listing program prints next, and what its first step does.
 pub mod Due
 pub mod Begun
-pub mod Stepped
-pub mod Run

@@ -1,7 +1,6 @@
-// The listing program up to its output: what is printed first, and one line after the other.
+// The listing program up to its output, its first step: what is printed first.
 
 pub mod begin;
-pub mod step;
 
 // What is printed next.
 pub enum Due {

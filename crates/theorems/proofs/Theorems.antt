@@ -32,7 +32,7 @@
 --   count/src/lib.rt       count        countOf
 --
 -- That the lines which the listing program writes, from its first step until its last, are textOf of book and plate is
--- lister/proofs/Printed.antt: printed-text.
+-- stepper/proofs/Printed.antt: printed-text.
 --
 -- `tools/trace-check` reads the table above and fails if a call lacks its equality or has a `requires`. With the last three, demand-3 is a
 -- claim about the code's first, next and count.

@@ -2,7 +2,7 @@
 -- Assumes nothing.
 use native.Mathlib.Omega.{arith}
 use borrow.Author.Needs.{needs}
-use Rattle.lines.proofs.Decimal.{digits-16}
+use Rattle.digits.proofs.Decimal.{digits-16}
 use Rattle.lines.proofs.Lines.{refused-done}
 use Rattle.lines.proofs.fixed.put_refused.Statement.{statement}
 use Rattle.lines.proofs.fixed.put_refused.Tie as tie

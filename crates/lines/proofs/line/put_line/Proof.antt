@@ -4,7 +4,7 @@ use Prim.Native.Nat.{_*_}
 use native.Mathlib.Omega.{arith}
 use lib.ListN.{take}
 use borrow.Author.Needs.{needs}
-use Rattle.lines.proofs.Decimal.{digits-16}
+use Rattle.digits.proofs.Decimal.{digits-16}
 use Rattle.lines.proofs.Lines.{through-size, line-done}
 use Rattle.lines.proofs.line.put_line.Statement.{statement}
 use Rattle.lines.proofs.line.put_line.Tie as tie

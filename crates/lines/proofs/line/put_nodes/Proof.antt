@@ -6,8 +6,9 @@ use native.Mathlib.Omega.{arith}
 use lib.ListN.{take}
 use borrow.Author.Needs.{needs}
 use Rattle.text.specs.Line.{parts}
-use Rattle.lines.specs.Put.{Put, nodeSize}
-use Rattle.lines.proofs.Writing.{put-none}
+use Rattle.digits.specs.Put.{Put}
+use Rattle.digits.proofs.Writing.{put-none}
+use Rattle.lines.specs.Sizes.{nodeSize}
 use Rattle.lines.proofs.Lines.{nodes-step, nodes-done}
 use Rattle.lines.proofs.line.put_nodes.Statement.{statement}
 use Rattle.lines.proofs.line.put_nodes.Tie as tie

@@ -1,9 +1,0 @@
--- `lines::number::put_byte` meets its contract.
--- Assumes nothing.
-use borrow.Author.Needs.{needs}
-use Rattle.lines.proofs.Writing.{put-one}
-use Rattle.lines.proofs.number.put_byte.Statement.{statement}
-use Rattle.lines.proofs.number.put_byte.Tie as tie
-
-pub put-byte-spec : {M : Type 1} → statement M
-put-byte-spec = tie.close (tie.spec (λ c. search needs) (λ c. search needs) (λ c. search needs) (λ c. search (put-one, needs)))

@@ -1,0 +1,2 @@
+// The listing program up to its output, after its first step.
+pub mod step;

@@ -1,0 +1,121 @@
+// One line after the other.
+use fit::FitTable;
+use lines::fixed::put_more;
+use lines::fixed::put_no_reading;
+use lines::fixed::put_readings;
+use lines::fixed::put_refused;
+use lines::line::put_line;
+use lister::Due;
+use measure::Lengths;
+use measure::rounded;
+use measure::total;
+use next::made::advance_root;
+use packed::Packed;
+use tables::layout::Tables;
+ghost use mathlib.Core.Path.{_≡_};
+ghost use Prim.Native.Nat.{_+_, _<_, _≤_};
+ghost use lib.ListN.{length};
+ghost use Rattle.measure.specs.Measure.{lengthsIn};
+ghost use Rattle.digits.specs.Put.{Put};
+ghost use Rattle.lines.specs.Sizes.{lineSize};
+ghost use Rattle.sizes.specs.Sizes.{maxRules, maxNodes, side, cells, outputSize};
+ghost use Rattle.lister.specs.Due.{Sized};
+ghost use Rattle.stepper.specs.Stepped.{lineIn, Followed, Stepped};
+
+// The lines of derivations at most.
+const MOST: usize = 4096;
+
+// The bytes of the line that was printed, and what is printed next.
+pub struct Printed {
+    pub length: usize,
+    pub due: Due,
+}
+
+// The last line was printed.
+fn last(length: usize) -> Printed
+    ensures { λ r. ⌜ (r .length ≡ length) × (r .due ≡ Due.Nothing) ⌝ }
+{
+    Printed {
+        length,
+        due: Due::Nothing,
+    }
+}
+
+// Writes the line of derivation i, which stands in the buffer.
+fn reading(lengths: &Lengths, buf: &[u16], i: usize, nodes: usize, out: &mut [u8]) -> usize
+    requires { ⌜ (length (now lengths) ≡ maxRules) × (i < 4096) × (nodes ≤ maxNodes) × (outputSize ≤ length (now buf))
+        × (lineSize ≤ length (now out)) ⌝ }
+    ensures { λ r. ⌜ Put (lineIn (lengthsIn (now (lengths .entry))) (i + 1) nodes (now (buf .entry))) 0 r
+        (now (out .entry)) (now (out .exit)) ⌝ }
+{
+    let z = rounded(total(lengths, &buf[..2 * nodes]));
+    put_line(i + 1, buf, nodes, z, out)
+}
+
+// What is printed after derivation i, which stands in the buffer: the one after it stands there then, if there is one.
+fn following(
+    p: &Packed,
+    rules: usize,
+    fits: &FitTable,
+    chart: &[u32],
+    tables: &Tables,
+    start: usize,
+    n: usize,
+    i: usize,
+    buf: &mut [u16],
+) -> Due
+    requires { ⌜ (rules ≤ maxRules) × (n < side) × (i < 4096) × (cells ≤ length (now chart)) × (outputSize ≤ length (now buf)) ⌝ }
+    ensures { λ d. ⌜ Followed (now (p .entry)) rules (now (fits .entry)) (now (chart .entry)) (now (tables .entry)) start n i
+        (now (buf .entry)) (now (buf .exit)) d ⌝ }
+{
+    let nodes = advance_root(p, rules, fits, chart, tables, start, n, buf);
+    if nodes == 0 {
+        return Due::Total(i + 1);
+    }
+    if i + 1 == MOST {
+        return Due::More;
+    }
+    Due::Reading {
+        start,
+        rules,
+        n,
+        i: i + 1,
+        nodes,
+    }
+}
+
+// Writes the line that is due.
+pub fn step(
+    due: Due,
+    p: &Packed,
+    lengths: &Lengths,
+    fits: &FitTable,
+    chart: &[u32],
+    tables: &Tables,
+    buf: &mut [u16],
+    out: &mut [u8],
+) -> Printed
+    requires { ⌜ Sized due × (length (now lengths) ≡ maxRules) × (cells ≤ length (now chart)) × (outputSize ≤ length (now buf))
+        × (lineSize ≤ length (now out)) ⌝ }
+    ensures { λ r. ⌜ Stepped (lengthsIn (now (lengths .entry))) (now (p .entry)) (now (fits .entry)) (now (chart .entry))
+        (now (tables .entry)) due (now (buf .entry)) (now (buf .exit)) (now (out .entry)) (now (out .exit)) (r .length) (r .due) ⌝ }
+{
+    match due {
+        Due::Refusal(n) => last(put_refused(n, out)),
+        Due::NoReading => last(put_no_reading(out)),
+        Due::Reading {
+            start,
+            rules,
+            n,
+            i,
+            nodes,
+        } => {
+            let length = reading(lengths, buf, i, nodes, out);
+            let then = following(p, rules, fits, chart, tables, start, n, i, buf);
+            Printed { length, due: then }
+        }
+        Due::Total(n) => last(put_readings(n, out)),
+        Due::More => last(put_more(out)),
+        Due::Nothing => last(0),
+    }
+}
