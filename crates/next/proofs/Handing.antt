@@ -1,14 +1,11 @@
 -- What next hands out once the tables are made, by the tests that the code makes.
 -- Assumes nothing.
-use Prim.Native.Nat.{ℕ, _+_, _*_, _/_, _≤_, _<_}
+use Prim.Native.Nat.{ℕ, _*_, _/_, _≤_}
 use mathlib.Core.Bool.{true}
 use mathlib.Core.List.{List, _++_, List·Memᴰ}
-use mathlib.Core.Logic.{dite}
-use mathlib.Core.Path.{_≡_, refl, sym, ap, subst, _∙_}
-use native.Mathlib.Decide.{ℕ-discrete}
+use mathlib.Core.Path.{_≡_, refl, ap, _∙_}
 use native.Mathlib.Omega.{arith}
-use lib.ListN.{length, getD, set, drop, length-set}
-use lib.Seq.{getD-set-same, getD-set-other}
+use lib.ListN.{length, drop}
 use Rattle.sizes.specs.Sizes.{maxRules, maxNodes, outputSize}
 use Rattle.cfg.specs.Listing.{L}
 use Rattle.descend.specs.Descend.{Given}
@@ -18,28 +15,11 @@ use Rattle.results.specs.Check.{listed}
 use Rattle.results.specs.Enumerate.{afterIn, handingOut}
 use Rattle.results.proofs.Demand3.Rows.{listed-member}
 use Rattle.results.proofs.Demand3.Listed.{reading-short}
-use Rattle.first.specs.Answer.{enumerationOf}
-use Rattle.first.proofs.Front.{front-put}
+use Rattle.initial.specs.Written.{enumerationOf}
+use Rattle.initial.proofs.Front.{front-put}
+use Rattle.successor.specs.Advanced.{Copied, Following, Advanced, RootNext}
 use Rattle.next.specs.Answer.{nextTree}
-use Rattle.next.specs.Made.{Copied, Following, Advanced, RootNext, NextMade}
-
--- ---- copies
-
-pub copied-start : {from to : List ℕ} → Copied 0 from to to
-copied-start = record { long = refl; front = λ x h. absurd (omega arith); behind = λ x h. refl }
-
-pub copied-step : {i : ℕ} {from to₀ to : List ℕ} → i < length to → Copied i from to₀ to
-    → Copied (i + 1) from to₀ (set to i (getD from i 0))
-copied-step {i} {from} {to₀} {to} room C = record {
-  long = length-set to i (getD from i 0) ∙ C .long;
-  front = λ x h. dite (ℕ-discrete x i)
-      (λ e. subst (λ (y : ℕ). getD (set to i (getD from i 0)) y 0 ≡ getD from y 0) (sym e) (getD-set-same to i (getD from i 0) 0 room))
-      (λ d. getD-set-other to i x (getD from i 0) 0 d ∙ C .front x (omega arith));
-  behind = λ x h. getD-set-other to i x (getD from i 0) 0 (λ e. absurd (omega arith)) ∙ C .behind x (omega arith);
-}
-
-pub copied-done : {i n : ℕ} {from to₀ to : List ℕ} → i ≤ n → n ≤ i → Copied i from to₀ to → Copied n from to₀ to
-copied-done {i} {n} {from} {to₀} {to} a b C = subst (λ (x : ℕ). Copied x from to₀ to) (omega arith) C
+use Rattle.next.specs.Made.{NextMade}
 
 -- ---- the element after d, handed out
 

@@ -7,7 +7,7 @@ use Rattle.cfg.specs.Listing.{L}
 use Rattle.results.specs.Answer.{refused, answered, nothing, check, decide}
 use Rattle.results.specs.Enumerate.{Enumeration, afterIn, handingOut}
 use Rattle.results.specs.Measure.{unlisted}
-use Rattle.first.specs.Answer.{enumerationOf}
+use Rattle.initial.specs.Written.{enumerationOf}
 
 -- next of a derivation: the one after it in L, or "none"
 abbrev pub nextTree : Cfg → List ℕ → List ℕ → List ℕ → List ℕ → Enumeration

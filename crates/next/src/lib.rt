@@ -1,13 +1,15 @@
 // The derivation (reading) after one that is offered.
 use derivation::is_derivation;
 use first::Handed;
-use first::made::build;
 use fit::FitTable;
 use grammar::Grammar;
 use grammar::Refusal;
+use initial::build;
 use numbers::wide_byte;
 use packed::Packed;
 use prepare::Judged;
+use successor::advance_root;
+use successor::copy;
 use tables::layout::TABLES_SIZE;
 use tables::layout::Tables;
 ghost use mathlib.Core.Bool.{true};
@@ -16,7 +18,8 @@ ghost use Prim.Native.Nat.{_<_, _≤_};
 ghost use lib.ListN.{length};
 ghost use Rattle.cfg.specs.Listing.{L};
 ghost use Rattle.costs.specs.Span.{bytesOf};
-ghost use Rattle.first.specs.Answer.{handingOf, enumerationOf};
+ghost use Rattle.initial.specs.Written.{enumerationOf};
+ghost use Rattle.first.specs.Answer.{handingOf};
 ghost use Rattle.packed.specs.Packed.{cfgIn};
 ghost use Rattle.results.specs.Check.{listed};
 ghost use Rattle.results.specs.Enumerate.{nextOf};
@@ -24,8 +27,6 @@ ghost use Rattle.sizes.specs.Sizes.{maxRules, maxInput, side, cells, outputSize
 ghost use Rattle.tables.specs.Exact.{ChartTrue};
 ghost use Rattle.next.specs.Answer.{nextTree, nextFilled};
 ghost use Rattle.next.specs.Made.{NextMade};
-
-pub mod made;
 
 // The derivation after the offered one, over tables that are made. The buffer is this function's own: the output is written only with what
 // comes after.
@@ -46,12 +47,12 @@ fn next_made(
         (now (offered .entry)) (now (out .entry)) (now (out .exit)) (handingOf a) ⌝ }
 {
     let mut buf = [0u16; sizes::OUTPUT];
-    made::copy(offered, offered.len(), &mut buf);
-    let m = made::advance_root(p, rules, fits, chart, tables, start, n, &mut buf);
+    copy(offered, offered.len(), &mut buf);
+    let m = advance_root(p, rules, fits, chart, tables, start, n, &mut buf);
     if m == 0 {
         return Handed::Nothing;
     }
-    made::copy(&buf, 2 * m, out);
+    copy(&buf, 2 * m, out);
     Handed::Nodes(m)
 }
 
