@@ -24,7 +24,8 @@ use Rattle.results.specs.Enumerate.{Enumeration, onOutput, nextIn, nextOf}
 use Rattle.results.specs.Measure.{unlisted}
 use Rattle.results.proofs.Decide.{decide-first, decide-passed}
 use Rattle.initial.specs.Written.{enumerationOf}
-use Rattle.next.specs.Answer.{nextTree, nextFilled}
+use Rattle.following.specs.Made.{nextTree}
+use Rattle.next.specs.Answer.{nextFilled}
 
 -- ---- whether what is offered is a derivation
 

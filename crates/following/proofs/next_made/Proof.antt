@@ -1,10 +1,10 @@
--- `next::next_made` meets its contract: the derivation after the offered one is written to the buffer and, if there is one, copied to
+-- `following::next_made` meets its contract: the derivation after the offered one is written to the buffer and, if there is one, copied to
 -- the output.
 -- Assumes nothing.
 use borrow.Author.Needs.{needs}
-use Rattle.next.proofs.Handing.{made-none, made-next}
-use Rattle.next.proofs.next_made.Statement.{statement}
-use Rattle.next.proofs.next_made.Tie as tie
+use Rattle.following.proofs.Handing.{made-none, made-next}
+use Rattle.following.proofs.next_made.Statement.{statement}
+use Rattle.following.proofs.next_made.Tie as tie
 
 returns : tie.Need-returns
 returns c = search made-none

@@ -4,12 +4,17 @@ use Prim.Native.Nat.{ℕ}
 use mathlib.Core.List.{List, List·Memᴰ}
 use mathlib.Core.Path.{_≡_}
 use lib.ListN.{length}
+use Rattle.cfg.specs.Grammar.{Cfg}
 use Rattle.cfg.specs.Listing.{L}
 use Rattle.descend.specs.Descend.{Given}
 use Rattle.packed.specs.Packed.{cfgIn}
-use Rattle.results.specs.Answer.{Answer, Handing}
+use Rattle.results.specs.Answer.{Answer, Handing, answered, nothing}
+use Rattle.results.specs.Enumerate.{Enumeration, afterIn, handingOut}
 use Rattle.initial.specs.Written.{enumerationOf}
-use Rattle.next.specs.Answer.{nextTree}
+
+-- next of a derivation: the one after it in L, or "none"
+abbrev pub nextTree : Cfg → List ℕ → List ℕ → List ℕ → List ℕ → Enumeration
+nextTree G w offered chart out = handingOut (afterIn offered (L G w)) (answered nothing) chart out
 
 -- the answer and the output left are those of next for any input of n bytes that the tables are made for, if what is offered is one of its
 -- derivations
