@@ -17,8 +17,9 @@ use Rattle.tables.specs.Exact.{Packing}
 use Rattle.suffixes.specs.Within.{tailIn}
 use Rattle.descend.specs.Descend.{Given, RowFirst}
 use Rattle.descend.proofs.Codes.{kept-none, kept-join}
-use Rattle.beyond.specs.Beyond.{RestMade, NextAt, Moved}
-use Rattle.beyond.proofs.WiderNodes.{all-rests, rest-first}
+use Rattle.beyond.specs.Beyond.{RestMade, NextAt}
+use Rattle.wider.specs.Wider.{Moved}
+use Rattle.wider.proofs.WiderNodes.{all-rests, rest-first}
 use Rattle.advance.specs.Advance.{NodeNext, ChildNext}
 use Rattle.beyond.proofs.Codes.{stands-join, first-stands, kept-then, next-some}
 use Rattle.beyond.proofs.Frames.{made-frame, made-below}

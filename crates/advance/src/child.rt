@@ -1,13 +1,13 @@
 // The row after the one that stands, where the places behind its first node are last: that node moves, or its end.
 use super::next::node;
 use beyond::frame::rest_of;
-use beyond::moved::moved;
-use descend::open::child_set;
 use fit::FitTable;
+use nodes::child_set;
 use packed::Packed;
 use suffixes::rows::Rows;
 use tables::layout::Full;
 use tables::layout::Tables;
+use wider::moved::moved;
 ghost use Prim.Native.Nat.{_+_, _<_, _≤_};
 ghost use lib.ListN.{length};
 ghost use Rattle.sizes.specs.Sizes.{maxRules, maxPlaces, side, cells, maxNodes, outputSize};

@@ -2,8 +2,8 @@
 use super::next::node;
 use super::reach::Found;
 use super::reach::reach;
-use descend::open::child_set;
 use fit::FitTable;
+use nodes::child_set;
 use packed::Packed;
 use tables::layout::Tables;
 ghost use Prim.Native.Nat.{_+_, _<_, _≤_};

@@ -3,8 +3,8 @@
 use super::last::last;
 use super::look::rule_at;
 use super::turned::turned;
-use descend::open::own_set;
 use fit::FitTable;
+use nodes::own_set;
 use packed::Packed;
 use tables::layout::Tables;
 ghost use Prim.Native.Nat.{_+_, _<_, _≤_};

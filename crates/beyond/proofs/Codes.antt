@@ -13,7 +13,8 @@ use Rattle.listing.proofs.Unique.{length-code}
 use Rattle.enumeration.specs.Rows.{Tree}
 use Rattle.enumeration.specs.Order.{Min, After, Last}
 use Rattle.standing.specs.Standing.{StandsAt}
-use Rattle.descend.specs.Descend.{FirstAt, Kept, NodePut}
+use Rattle.nodes.specs.Numbers.{NodePut}
+use Rattle.descend.specs.Descend.{FirstAt, Kept}
 use Rattle.beyond.specs.Beyond.{AfterAt, NextAt}
 
 -- ---- what stands

@@ -25,7 +25,8 @@ use Rattle.packed.proofs.Laws.{places-start, of-in, in-of}
 use Rattle.tables.specs.Layout.{costIn, fullIn}
 use Rattle.tables.specs.Exact.{Packing}
 use Rattle.suffixes.specs.Within.{tailIn, rowAt}
-use Rattle.descend.specs.Descend.{Given, Below, NodePut, RowFirst, Opened}
+use Rattle.nodes.specs.Numbers.{NodePut}
+use Rattle.descend.specs.Descend.{Given, Below, RowFirst, Opened}
 use Rattle.descend.proofs.Codes.{kept-none, kept-open}
 use Rattle.descend.proofs.Given.{span-solved, rule-lowest, passed-dearer, rows-right}
 use Rattle.beyond.specs.Beyond.{NoRules, LaterRule}

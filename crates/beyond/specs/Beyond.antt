@@ -1,28 +1,27 @@
--- What comes after what stands in a buffer, and what is written where that is a wider node or a later rule. What is promised of the input
--- is promised where the tables are right for it.
+-- What comes after what stands in a buffer, and what is written where that is a later rule. What is promised of the input is promised where
+-- the tables are right for it.
 -- Assumes nothing.
 use Prim.Native.Nat.{ℕ, _+_, _*_, _-_, _≤_, _<_}
 use mathlib.Core.Bool.{Bool, true}
-use mathlib.Core.List.{List, _∷_}
+use mathlib.Core.List.{List}
 use mathlib.Core.Logic.{_≢_}
 use mathlib.Core.Path.{_≡_}
 use lib.ListN.{length, getD}
 use Rattle.sizes.specs.Sizes.{nonterminals, tooMany, side}
 use Rattle.sets.specs.Set.{insert}
-use Rattle.cfg.specs.Grammar.{nonterminal, Of}
-use Rattle.cfg.specs.Tree.{Forest, nodes, code}
+use Rattle.cfg.specs.Grammar.{Of}
+use Rattle.cfg.specs.Tree.{Forest, code}
 use Rattle.chart.specs.Cell.{cell}
-use Rattle.enumeration.specs.Rows.{Row, Tree, SameSpan}
+use Rattle.enumeration.specs.Rows.{Row, Tree}
 use Rattle.enumeration.specs.Order.{After, Last}
-use Rattle.choices.specs.Opened.{OpenedRow, OpenedNode}
-use Rattle.packed.specs.Packed.{leftIn, countIn}
+use Rattle.choices.specs.Opened.{OpenedNode}
+use Rattle.packed.specs.Packed.{leftIn}
 use Rattle.standing.specs.Standing.{StandsAt}
 use Rattle.tables.specs.Layout.{rowsSize}
 use Rattle.tables.specs.Exact.{Packing}
-use Rattle.suffixes.specs.Within.{tailIn}
 use Rattle.suffixes.specs.Rows.{RowsPut}
 use Rattle.solve.specs.Solve.{Solved}
-use Rattle.descend.specs.Descend.{Given, Kept, RowFirst}
+use Rattle.descend.specs.Descend.{Given, Kept}
 
 -- ---- the frame of a node
 
@@ -61,25 +60,6 @@ pub record NextAt (P : Forest → Type 0) (d buf : List ℕ) (at n : ℕ) : Type
   pub some : 0 < n → AfterAt P d buf at n
 
 -- ---- the functions
-
--- the row of the places of rule r from q on, from a to j inside a span from i to j, after one that begins with a node of k up to b, where
--- the places behind that node are last and the node is, within what those places leave
-pub record Widened (p : List ℕ) (rules : ℕ) (fits chart tables full rows : List ℕ) (r q k a b i j mask budget at : ℕ)
-    (buf₀ buf : List ℕ) (n : ℕ) : Type 0 where
-  pub kept : Kept budget at n buf₀ buf
-  pub exact : Made p rules fits chart tables r i j mask full rows → (w : List ℕ) → Given p rules fits chart tables w → j ≤ length w
-      → q < countIn p r → (f x y : Forest) → OpenedRow (Packing p) w (j - i) mask k (tailIn p r (q + 1)) a j budget f b x y
-      → Last (Row (Packing p) w (j - i) mask (tailIn p r (q + 1)) b j (budget - nodes x)) (code y)
-      → (own : ℕ) → SameSpan (j - i) mask (b - a) own
-      → Last (Tree (Packing p) w (b - a) own k a b (budget - getD rows (side * (q + 1) + b) 0)) (code x)
-      → NextAt (Row (Packing p) w (j - i) mask (nonterminal k ∷ tailIn p r (q + 1)) a j budget) (code f) buf at n
-
--- where the node at place q has moved to m nodes, the first row of the places behind it is written after it; where it has not, a wider one
-pub record Moved (p : List ℕ) (rules : ℕ) (fits chart tables full rows : List ℕ) (r q k a b i j mask budget at m : ℕ)
-    (buf₀ buf : List ℕ) (n : ℕ) : Type 0 where
-  pub rest : 0 < m → (s : ℕ) × (n ≡ m + s)
-      × RowFirst p rules fits chart tables full rows r (q + 1) b i j mask (budget - m) (at + m) buf₀ buf s
-  pub wider : m ≡ 0 → Widened p rules fits chart tables full rows r q k a b i j mask budget at buf₀ buf n
 
 -- no rule from `from` on and below q is one of k
 abbrev pub NoRules : List ℕ → ℕ → ℕ → ℕ → Type 0

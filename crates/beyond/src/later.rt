@@ -1,8 +1,8 @@
 // The first tree of a later rule.
 use descend::first;
 use descend::open::open_node;
-use descend::open::put_node;
 use fit::FitTable;
+use nodes::put_node;
 use packed::Packed;
 use suffixes::rows::Rows;
 use tables::layout::Full;

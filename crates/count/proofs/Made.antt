@@ -22,9 +22,8 @@ use Rattle.results.specs.Enumerate.{Enumeration, headOf, handingOut, figure}
 use Rattle.results.proofs.Answers.{answered-apart}
 use Rattle.tables.specs.Layout.{costIn}
 use Rattle.tables.specs.Exact.{Packing, ChartTrue}
-use Rattle.first.specs.Answer.{enumerationOf}
-use Rattle.first.specs.Made.{FirstWritten}
-use Rattle.first.proofs.Root.{same, start}
+use Rattle.initial.specs.Written.{enumerationOf, FirstWritten}
+use Rattle.initial.proofs.Root.{same, start}
 use Rattle.counting.specs.Answer.{countOr, countTree, countFilled}
 use Rattle.counting.specs.Made.{Stands, CountedOn, CountedMade}
 

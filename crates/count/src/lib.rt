@@ -1,12 +1,12 @@
 // How many derivations (readings) an input has.
 use counting::Counted;
 use counting::count_on;
-use first::made::build;
-use first::made::exists;
-use first::made::write_first;
 use fit::FitTable;
 use grammar::Grammar;
 use grammar::Refusal;
+use initial::build;
+use initial::exists;
+use initial::write_first;
 use numbers::wide_byte;
 use packed::Packed;
 use prepare::Judged;

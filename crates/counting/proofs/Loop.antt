@@ -17,7 +17,7 @@ use Rattle.results.specs.Enumerate.{figure}
 use Rattle.results.proofs.Demand3.Figures.{figure-counted, figure-more}
 use Rattle.results.proofs.Demand3.Listed.{L-rising}
 use Rattle.results.proofs.Demand3.Rows.{at-member, after-next, after-last}
-use Rattle.next.specs.Made.{Begins, Following, Advanced, RootNext}
+use Rattle.successor.specs.Advanced.{Begins, Following, Advanced, RootNext}
 use Rattle.counting.specs.Made.{Stands, CountedOn}
 
 -- ---- one advance

@@ -9,7 +9,7 @@ use Rattle.descend.specs.Descend.{Given}
 use Rattle.packed.specs.Packed.{cfgIn}
 use Rattle.results.specs.Answer.{Answer, answered, Figure}
 use Rattle.results.specs.Enumerate.{figure}
-use Rattle.next.specs.Made.{Begins}
+use Rattle.successor.specs.Advanced.{Begins}
 use Rattle.counting.specs.Answer.{countTree}
 
 -- element i of the list, from 0, stands at the front of the buffer

@@ -1,8 +1,8 @@
 // Counting the derivations one after the other, from the first one on.
 use fit::FitTable;
 use grammar::Refusal;
-use next::made::advance_root;
 use packed::Packed;
+use successor::advance_root;
 use tables::layout::Tables;
 ghost use Prim.Native.Nat.{_<_, _≤_};
 ghost use lib.ListN.{length};

@@ -5,11 +5,12 @@ use mathlib.Core.List.{List, [], _∷_, _++_}
 use mathlib.Core.Path.{_≡_, refl, sym, ap, _∙_}
 use native.Mathlib.Decide.{ℕ-discrete, decLt}
 use native.Mathlib.Omega.{arith}
-use lib.ListN.{length, set, getD, length-set, length-append, List·getD-append}
-use lib.Seq.{getD-append-add, getD-set-same, getD-set-other}
+use lib.ListN.{length, getD, length-append, List·getD-append}
+use lib.Seq.{getD-append-add}
 use Rattle.cfg.specs.Tree.{Forest}
 use Rattle.enumeration.specs.Order.{Min}
-use Rattle.descend.specs.Descend.{FirstAt, Kept, NodePut}
+use Rattle.nodes.specs.Numbers.{NodePut}
+use Rattle.descend.specs.Descend.{FirstAt, Kept}
 
 -- ---- no nodes
 
@@ -59,15 +60,6 @@ module _ {at m n : ℕ} {out₁ out₂ : List ℕ} where
     }
 
 -- ---- a node and n nodes below it
-
-pub node-put : {c r at : ℕ} (out : List ℕ) → 2 * at + 1 < length out → NodePut c r at out (set (set out (2 * at) c) (2 * at + 1) r)
-node-put {c} {r} {at} out l = record {
-  long = length-set (set out (2 * at) c) (2 * at + 1) r ∙ length-set out (2 * at) c;
-  cover =
-      getD-set-other (set out (2 * at) c) (2 * at + 1) (2 * at) r 0 (λ e. omega arith) ∙ getD-set-same out (2 * at) c 0 (omega arith);
-  rule = getD-set-same (set out (2 * at) c) (2 * at + 1) r 0 (omega (arith, length-set out (2 * at) c));
-  other = λ x d e. getD-set-other (set out (2 * at) c) (2 * at + 1) x r 0 e ∙ getD-set-other out (2 * at) x c 0 d;
-}
 
 module _ {at n c r : ℕ} {out₀ out₁ out₂ : List ℕ} (P : NodePut c r at out₀ out₁) where
   pub kept-open : {budget : ℕ} → 0 < budget → Kept (budget - 1) (at + 1) n out₁ out₂ → Kept budget at (1 + n) out₀ out₂

@@ -20,7 +20,8 @@ use Rattle.packed.proofs.Laws.{places-start, of-in, in-of, in-of-places}
 use Rattle.tables.specs.Layout.{costIn, fullIn}
 use Rattle.tables.specs.Exact.{Packing}
 use Rattle.suffixes.specs.Within.{tailIn, rowAt}
-use Rattle.descend.specs.Descend.{Given, Below, NodePut, NodeFirst, RowFirst, Opened}
+use Rattle.nodes.specs.Numbers.{NodePut}
+use Rattle.descend.specs.Descend.{Given, Below, NodeFirst, RowFirst, Opened}
 use Rattle.descend.proofs.Codes.{kept-none, kept-open, first-open}
 use Rattle.descend.proofs.Given.{node-used, span-solved, rule-lowest, passed-dearer, rows-right}
 

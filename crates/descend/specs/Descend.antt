@@ -2,7 +2,6 @@
 -- Assumes nothing.
 use Prim.Native.Nat.{ℕ, _+_, _*_, _-_, _≤_, _<_}
 use mathlib.Core.List.{List}
-use mathlib.Core.Logic.{_≢_}
 use mathlib.Core.Path.{_≡_}
 use lib.ListN.{length, getD}
 use Rattle.sizes.specs.Sizes.{maxRules, tooMany}
@@ -40,13 +39,6 @@ pub record Kept (budget at n : ℕ) (out₀ out : List ℕ) : Type 0 where
   pub few : n ≤ budget
   pub before : (x : ℕ) → x < 2 * at → getD out x 0 ≡ getD out₀ x 0
   pub after : (x : ℕ) → 2 * (at + n) ≤ x → getD out x 0 ≡ getD out₀ x 0
-
--- the numbers of node `at` are that it covers c bytes and has rule r; all others are as found
-pub record NodePut (c r at : ℕ) (out₀ out : List ℕ) : Type 0 where
-  pub long : length out ≡ length out₀
-  pub cover : getD out (2 * at) 0 ≡ c
-  pub rule : getD out (2 * at + 1) 0 ≡ r
-  pub other : (x : ℕ) → x ≢ 2 * at → x ≢ 2 * at + 1 → getD out x 0 ≡ getD out₀ x 0
 
 -- the n nodes written from node `at` on are the first tree of the nonterminal k over the span from i to j within the budget, in which no
 -- nonterminal of the mask stands over the whole span, if there is such a tree

@@ -34,7 +34,7 @@ pub fn node(
     ensures { λ n. ⌜ NodeFirst (now (p .entry)) rules (now (fits .entry)) (now (chart .entry)) (now (tables .entry)) k i j mask budget at
         (now (out .entry)) (now (out .exit)) n ⌝ }
 {
-    let own = open::own_set(mask, k);
+    let own = nodes::own_set(mask, k);
     let mut full = [open::UNMADE; sizes::NONTERMINALS];
     let mut rows = [0u16; ROWS_SIZE];
     let r = open::open_node(
@@ -55,7 +55,7 @@ pub fn node(
     if r >= sizes::MAX_RULES {
         return 0;
     }
-    open::put_node(j - i, r, out, at);
+    nodes::put_node(j - i, r, out, at);
     1
         + row(
             p,
@@ -124,7 +124,7 @@ pub fn row(
             at,
         ),
         Step::Node(k, b, share) => {
-            let set = open::child_set(j - i, mask, b - a);
+            let set = nodes::child_set(j - i, mask, b - a);
             let m = node(p, rules, fits, chart, tables, k, a, b, set, share, out, at);
             m
                 + row(

@@ -9,42 +9,13 @@ use suffixes::rows::put_rows;
 use tables::layout::Full;
 use tables::layout::Tables;
 ghost use mathlib.Core.Path.{_≡_};
-ghost use Prim.Native.Nat.{_-_, _<_, _≤_};
+ghost use Prim.Native.Nat.{_<_, _≤_};
 ghost use lib.ListN.{length};
-ghost use Rattle.sizes.specs.Sizes.{maxRules, nonterminals, side, cells, maxNodes, outputSize};
-ghost use Rattle.sets.specs.Set.{insert};
-ghost use Rattle.enumeration.specs.Rows.{SameSpan};
+ghost use Rattle.sizes.specs.Sizes.{maxRules, nonterminals, side, cells};
 ghost use Rattle.tables.specs.Layout.{rowsSize};
 ghost use Rattle.chart.specs.Cell.{cell};
 ghost use Rattle.solve.specs.Solve.{Solved};
-ghost use Rattle.descend.specs.Descend.{NodePut, MaybeSolved, Opened};
-
-// The mask with the nonterminal k in it.
-pub fn own_set(mask: u32, k: usize) -> u32
-    ensures { λ set. ⌜ (k < nonterminals → set ≡ insert k mask) ⌝ }
-{
-    if k < sizes::NONTERMINALS {
-        sets::with(mask, k)
-    } else {
-        mask
-    }
-}
-
-// Of the mask over `cover` bytes, what matters for a child over c bytes: all of it over as many, else nothing.
-pub fn child_set(cover: usize, mask: u32, c: usize) -> u32
-    ensures { λ set. ⌜ SameSpan cover mask c set ⌝ }
-{
-    if c == cover { mask } else { 0 }
-}
-
-// Writes the numbers of node `at`: how many bytes it covers, and its rule.
-pub fn put_node(c: usize, r: usize, out: &mut [u16], at: usize)
-    requires { ⌜ (c < side) × (r < maxRules) × (at < maxNodes) × (outputSize ≤ length (now out)) ⌝ }
-    ensures { λ _. ⌜ NodePut c r at (now (out .entry)) (now (out .exit)) ⌝ }
-{
-    out[2 * at] = c as u16;
-    out[2 * at + 1] = r as u16;
-}
+ghost use Rattle.descend.specs.Descend.{MaybeSolved, Opened};
 
 // Stands in front of costs that are not made: no cost is as large.
 pub const UNMADE: u16 = 65535;

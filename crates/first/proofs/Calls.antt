@@ -23,7 +23,8 @@ use Rattle.prepare.proofs.Packing.{list-packed}
 use Rattle.results.specs.Answer.{Answer, Handing, refused}
 use Rattle.results.specs.Enumerate.{treeIn, onOutput, firstIn, firstOf}
 use Rattle.tables.specs.Exact.{ChartTrue}
-use Rattle.first.specs.Answer.{enumerationOf, firstFilled}
+use Rattle.initial.specs.Written.{enumerationOf}
+use Rattle.first.specs.Answer.{firstFilled}
 use Rattle.first.proofs.Chart.{chart-packed}
 
 -- the chart was filled, and the packed bytes have the rules of the grammar

@@ -1,26 +1,22 @@
--- The facts that the tables ask for, from what fills the chart and what makes the fit table.
+-- The facts on a chart that the tables ask for, from what fills it.
 -- Assumes nothing.
 use Prim.Native.Nat.{ℕ, _≤_}
 use mathlib.Core.Bool.{true≢false}
 use mathlib.Core.List.{List}
-use mathlib.Core.Path.{_≡_, refl, sym, ap, _∙_, subst}
-use native.Mathlib.Omega.{arith}
+use mathlib.Core.Path.{_≡_, refl, sym, _∙_, subst}
 use lib.ListN.{length}
 use Rattle.sizes.specs.Sizes.{cells}
-use Rattle.cfg.specs.Grammar.{Symbol, rule}
-use Rattle.chart.specs.Cell.{fitsAt}
+use Rattle.cfg.specs.Grammar.{rule}
 use Rattle.chart.specs.Column.{filled}
 use Rattle.chart.proofs.Truth.{filled-true}
 use Rattle.costs.specs.Span.{bytesOf}
 use Rattle.costs.proofs.Span.{tree-parse}
-use Rattle.fit.specs.Fit.{fitIn, Told}
 use Rattle.grammar.specs.declared.Grammar.{Grammar}
 use Rattle.grammar.specs.View.{grammarOf}
-use Rattle.packed.specs.Packed.{fitsPlace, cfgIn}
-use Rattle.packed.proofs.Laws.{cfg-in-bounded, count-le}
-use Rattle.packed.proofs.Fitting.{symbol-terminal}
+use Rattle.packed.specs.Packed.{cfgIn}
+use Rattle.packed.proofs.Laws.{cfg-in-bounded}
 use Rattle.prepare.proofs.Packing.{filled-packed}
-use Rattle.tables.specs.Exact.{Packing, FitTold, ChartTrue}
+use Rattle.tables.specs.Exact.{Packing, ChartTrue}
 
 -- a chart filled for the packed grammar leaves out no nonterminal that has a tree
 pub chart-true : (p w chart : List ℕ) → length w ≤ 64 → cells ≤ length chart
@@ -35,10 +31,3 @@ pub chart-packed : (g : Grammar) (p w chart chart' : List ℕ) → length w ≤ 
     → ChartTrue p (bytesOf w) chart' (length w)
 chart-packed g p w chart chart' h c (e, same) =
     subst (λ (x : List ℕ). ChartTrue p (bytesOf w) x (length w)) (filled-packed g p w same chart _ refl ∙ sym e) (chart-true p w chart h c)
-
--- the fit table of an input tells what fits its bytes
-pub fit-told : (p w t : List ℕ) → length w ≤ 64 → Told p w t → FitTold (fitsAt w) p t (length w)
-unfolding fitIn fitsPlace
-fit-told p w t h told a r q l m n e =
-    told .exact a r q (omega arith) m (omega (arith, count-le p r))
-    ∙ ap (λ (s : Symbol). fitsPlace w s a) (symbol-terminal p r q e)

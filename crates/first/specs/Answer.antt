@@ -19,14 +19,6 @@ handingOf (Nodes n) = answered (handed n)
 handingOf Nothing = answered nothing
 handingOf (Refused r) = refused (numberOf r)
 
--- what the call answered, and what it left in chart and output
-abbrev pub enumerationOf : Answer Handing → List ℕ → List ℕ → Enumeration
-enumerationOf a chart out = record { answer = a; chart = chart; output = out }
-
--- first over trees: the first of L, or refusal 13
-abbrev pub firstTree : Cfg → List ℕ → List ℕ → List ℕ → Enumeration
-firstTree G w chart out = handingOut (headOf (L G w)) (refused 13) chart out
-
 -- first over a chart that is filled: the first of L; without one refusal 13 where the chart is complete, else "no reading"
 abbrev pub firstFilled : Cfg → List ℕ → List ℕ → List ℕ → Enumeration
 firstFilled G w chart out = handingOut (headOf (L G w)) (cond (complete G (length w) chart) (refused 13) (answered nothing)) chart out

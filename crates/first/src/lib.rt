@@ -13,7 +13,8 @@ ghost use Rattle.costs.specs.Span.{bytesOf};
 ghost use Rattle.packed.specs.Packed.{cfgIn};
 ghost use Rattle.results.specs.Enumerate.{firstOf};
 ghost use Rattle.tables.specs.Exact.{ChartTrue};
-ghost use Rattle.first.specs.Answer.{handingOf, enumerationOf, firstTree, firstFilled};
+ghost use Rattle.initial.specs.Written.{enumerationOf, firstTree};
+ghost use Rattle.first.specs.Answer.{handingOf, firstFilled};
 
 pub mod made;
 
@@ -33,7 +34,7 @@ fn first_tree(p: &Packed, start: usize, input: &[u8], chart: &[u32], out: &mut [
 {
     let fits = fit::table(p, input);
     let mut tables = [0u16; TABLES_SIZE];
-    let rules = made::build(p, input, &fits, chart, &mut tables);
+    let rules = initial::build(p, input, &fits, chart, &mut tables);
     made::first_made(p, rules, &fits, chart, &tables, start, input.len(), out)
 }
 

@@ -18,9 +18,8 @@ use Rattle.choices.proofs.Root.{root-barren, root-exceeds}
 use Rattle.costs.specs.Span.{bytesOf}
 use Rattle.counting.specs.Made.{Stands}
 use Rattle.descend.specs.Descend.{Given}
-use Rattle.first.specs.Answer.{enumerationOf}
-use Rattle.first.specs.Made.{FirstWritten}
-use Rattle.first.proofs.Root.{same, start}
+use Rattle.initial.specs.Written.{enumerationOf, FirstWritten}
+use Rattle.initial.proofs.Root.{same, start}
 use Rattle.packed.specs.Packed.{cfgIn}
 use Rattle.results.specs.Answer.{Answer, Handing, refused, answered, handed, nothing, most}
 use Rattle.results.specs.Enumerate.{Enumeration, headOf, handingOut}

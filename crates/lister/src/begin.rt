@@ -1,10 +1,10 @@
 // What is printed first, from the bytes of the book and of the plate.
 use super::Due;
-use first::made::build;
-use first::made::exists;
-use first::made::write_first;
 use fit::FitTable;
 use grammar::Grammar;
+use initial::build;
+use initial::exists;
+use initial::write_first;
 use loader::Outcome;
 use measure::Lengths;
 use numbers::wide_byte;

@@ -1,88 +1,20 @@
--- What next hands out once the tables are made, by the tests that the code makes.
+-- What next hands out over the tables of an input.
 -- Assumes nothing.
-use Prim.Native.Nat.{ℕ, _+_, _*_, _/_, _≤_, _<_}
+use Prim.Native.Nat.{ℕ, _≤_}
 use mathlib.Core.Bool.{true}
-use mathlib.Core.List.{List, _++_, List·Memᴰ}
-use mathlib.Core.Logic.{dite}
-use mathlib.Core.Path.{_≡_, refl, sym, ap, subst, _∙_}
-use native.Mathlib.Decide.{ℕ-discrete}
-use native.Mathlib.Omega.{arith}
-use lib.ListN.{length, getD, set, drop, length-set}
-use lib.Seq.{getD-set-same, getD-set-other}
-use Rattle.sizes.specs.Sizes.{maxRules, maxNodes, outputSize}
+use mathlib.Core.List.{List}
+use mathlib.Core.Path.{_≡_, refl}
+use lib.ListN.{length}
+use Rattle.sizes.specs.Sizes.{maxRules, outputSize}
 use Rattle.cfg.specs.Listing.{L}
 use Rattle.descend.specs.Descend.{Given}
 use Rattle.packed.specs.Packed.{cfgIn}
-use Rattle.results.specs.Answer.{Answer, Handing, answered, handed, nothing}
+use Rattle.results.specs.Answer.{Answer, Handing}
 use Rattle.results.specs.Check.{listed}
-use Rattle.results.specs.Enumerate.{afterIn, handingOut}
 use Rattle.results.proofs.Demand3.Rows.{listed-member}
 use Rattle.results.proofs.Demand3.Listed.{reading-short}
-use Rattle.first.specs.Answer.{enumerationOf}
-use Rattle.first.proofs.Front.{front-put}
-use Rattle.next.specs.Answer.{nextTree}
-use Rattle.next.specs.Made.{Copied, Following, Advanced, RootNext, NextMade}
-
--- ---- copies
-
-pub copied-start : {from to : List ℕ} → Copied 0 from to to
-copied-start = record { long = refl; front = λ x h. absurd (omega arith); behind = λ x h. refl }
-
-pub copied-step : {i : ℕ} {from to₀ to : List ℕ} → i < length to → Copied i from to₀ to
-    → Copied (i + 1) from to₀ (set to i (getD from i 0))
-copied-step {i} {from} {to₀} {to} room C = record {
-  long = length-set to i (getD from i 0) ∙ C .long;
-  front = λ x h. dite (ℕ-discrete x i)
-      (λ e. subst (λ (y : ℕ). getD (set to i (getD from i 0)) y 0 ≡ getD from y 0) (sym e) (getD-set-same to i (getD from i 0) 0 room))
-      (λ d. getD-set-other to i x (getD from i 0) 0 d ∙ C .front x (omega arith));
-  behind = λ x h. getD-set-other to i x (getD from i 0) 0 (λ e. absurd (omega arith)) ∙ C .behind x (omega arith);
-}
-
-pub copied-done : {i n : ℕ} {from to₀ to : List ℕ} → i ≤ n → n ≤ i → Copied i from to₀ to → Copied n from to₀ to
-copied-done {i} {n} {from} {to₀} {to} a b C = subst (λ (x : ℕ). Copied x from to₀ to) (omega arith) C
-
--- ---- the element after d, handed out
-
-module _ (l : List (List ℕ)) (d chart out : List ℕ) where
-  pub none-handed : (buf : List ℕ) (m : ℕ) → Advanced l d buf m → m ≡ 0
-      → enumerationOf (answered nothing) chart out ≡ handingOut (afterIn d l) (answered nothing) chart out
-  unfolding handingOut
-  none-handed buf m A h = rw (A .none-left h)
-
-  pub next-handed : (buf out' : List ℕ) (m : ℕ) → Advanced l d buf m → (m ≡ 0 → ⊥) → m ≤ maxNodes → outputSize ≤ length out
-      → Copied (2 * m) buf out out'
-      → enumerationOf (answered (handed m)) chart out' ≡ handingOut (afterIn d l) (answered nothing) chart out
-  unfolding handingOut
-  next-handed buf out' m A h few room C = go (A .next (omega arith))
-    where
-      go : Following l d buf m → enumerationOf (answered (handed m)) chart out' ≡ handingOut (afterIn d l) (answered nothing) chart out
-      go F =
-          let size = F .size in
-          let half : m ≡ length (F .numbers) / 2 = omega arith in
-          let put = front-put (F .numbers) out out' (C .long) (omega arith)
-          (λ x k. C .front x (omega arith) ∙ F .here x k) (λ x k. C .behind x (omega arith)) in
-          rw (F .after, put)
-          (ap (λ (x : ℕ). enumerationOf (answered (handed x)) chart (F .numbers ++ drop (length (F .numbers)) out)) half)
-
--- ---- over tables that are made
-
-module _ (p : List ℕ) (rules : ℕ) (fits chart tables : List ℕ) (s n : ℕ) (offered out fresh buf₀ buf : List ℕ) (m : ℕ)
-    (C : Copied (length offered) offered fresh buf₀) (R : RootNext p rules fits chart tables s n buf₀ buf m) where
-  advanced-offered : (w : List ℕ) → n ≡ length w → Given p rules fits chart tables w → List·Memᴰ offered (L (cfgIn s p) w)
-      → Advanced (L (cfgIn s p) w) offered buf m
-  advanced-offered w to given i = R .exact w to given offered i (C .front)
-
-  pub made-none : m ≡ 0 → NextMade p rules fits chart tables s n offered out out (answered nothing)
-  made-none h = record {
-    exact = λ w to given i. none-handed (L (cfgIn s p) w) offered chart out buf m (advanced-offered w to given i) h;
-  }
-
-  pub made-next : (out' : List ℕ) → (m ≡ 0 → ⊥) → outputSize ≤ length out → Copied (2 * m) buf out out'
-      → NextMade p rules fits chart tables s n offered out out' (answered (handed m))
-  made-next out' h room D = record {
-    exact = λ w to given i.
-        next-handed (L (cfgIn s p) w) offered chart out buf out' m (advanced-offered w to given i) h (R .kept .few) room D;
-  }
+use Rattle.initial.specs.Written.{enumerationOf}
+use Rattle.following.specs.Made.{nextTree, NextMade}
 
 -- ---- the tables of an input are right for it
 

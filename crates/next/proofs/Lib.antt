@@ -1,4 +1,3 @@
 -- Laws of next.
-pub mod Root
 pub mod Handing
 pub mod Calls

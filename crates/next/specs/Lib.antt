@@ -1,3 +1,2 @@
--- What next gives, and what its parts do once the tables are made.
+-- What next gives.
 pub mod Answer
-pub mod Made

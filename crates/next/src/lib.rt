@@ -1,59 +1,29 @@
 // The derivation (reading) after one that is offered.
 use derivation::is_derivation;
 use first::Handed;
-use first::made::build;
-use fit::FitTable;
+use following::next_made;
 use grammar::Grammar;
 use grammar::Refusal;
+use initial::build;
 use numbers::wide_byte;
 use packed::Packed;
 use prepare::Judged;
 use tables::layout::TABLES_SIZE;
-use tables::layout::Tables;
 ghost use mathlib.Core.Bool.{true};
 ghost use mathlib.Core.Path.{_≡_};
-ghost use Prim.Native.Nat.{_<_, _≤_};
+ghost use Prim.Native.Nat.{_≤_};
 ghost use lib.ListN.{length};
 ghost use Rattle.cfg.specs.Listing.{L};
 ghost use Rattle.costs.specs.Span.{bytesOf};
-ghost use Rattle.first.specs.Answer.{handingOf, enumerationOf};
+ghost use Rattle.initial.specs.Written.{enumerationOf};
+ghost use Rattle.first.specs.Answer.{handingOf};
 ghost use Rattle.packed.specs.Packed.{cfgIn};
 ghost use Rattle.results.specs.Check.{listed};
 ghost use Rattle.results.specs.Enumerate.{nextOf};
-ghost use Rattle.sizes.specs.Sizes.{maxRules, maxInput, side, cells, outputSize};
+ghost use Rattle.sizes.specs.Sizes.{maxInput, cells, outputSize};
 ghost use Rattle.tables.specs.Exact.{ChartTrue};
-ghost use Rattle.next.specs.Answer.{nextTree, nextFilled};
-ghost use Rattle.next.specs.Made.{NextMade};
-
-pub mod made;
-
-// The derivation after the offered one, over tables that are made. The buffer is this function's own: the output is written only with what
-// comes after.
-fn next_made(
-    p: &Packed,
-    rules: usize,
-    fits: &FitTable,
-    chart: &[u32],
-    tables: &Tables,
-    start: usize,
-    n: usize,
-    offered: &[u16],
-    out: &mut [u16],
-) -> Handed
-    requires { ⌜ (rules ≤ maxRules) × (n < side) × (cells ≤ length (now chart)) × (length (now offered) ≤ outputSize)
-        × (outputSize ≤ length (now out)) ⌝ }
-    ensures { λ a. ⌜ NextMade (now (p .entry)) rules (now (fits .entry)) (now (chart .entry)) (now (tables .entry)) start n
-        (now (offered .entry)) (now (out .entry)) (now (out .exit)) (handingOf a) ⌝ }
-{
-    let mut buf = [0u16; sizes::OUTPUT];
-    made::copy(offered, offered.len(), &mut buf);
-    let m = made::advance_root(p, rules, fits, chart, tables, start, n, &mut buf);
-    if m == 0 {
-        return Handed::Nothing;
-    }
-    made::copy(&buf, 2 * m, out);
-    Handed::Nodes(m)
-}
+ghost use Rattle.following.specs.Made.{nextTree};
+ghost use Rattle.next.specs.Answer.{nextFilled};
 
 // The derivation after the offered one, where the chart is filled. The tables are this function's own.
 fn next_tree(

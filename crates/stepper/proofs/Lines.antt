@@ -15,7 +15,7 @@ use Rattle.cfg.specs.Listing.{L}
 use Rattle.counting.specs.Made.{Stands}
 use Rattle.counting.proofs.Loop.{last-element, next-element}
 use Rattle.descend.specs.Descend.{Given}
-use Rattle.next.specs.Made.{Advanced, RootNext}
+use Rattle.successor.specs.Advanced.{Advanced, RootNext}
 use Rattle.packed.specs.Packed.{cfgIn}
 use Rattle.results.specs.Answer.{most}
 use Rattle.results.specs.Enumerate.{figure}

@@ -11,7 +11,7 @@ use lib.Seq.{getD-take, ext-getD}
 use Rattle.sizes.specs.Sizes.{maxRules, maxNodes, side, outputSize}
 use Rattle.cfg.specs.Listing.{L}
 use Rattle.digits.specs.Put.{Put}
-use Rattle.next.specs.Made.{Begins}
+use Rattle.successor.specs.Advanced.{Begins}
 use Rattle.packed.specs.Packed.{cfgIn}
 use Rattle.results.specs.Answer.{counted, more}
 use Rattle.results.specs.Measure.{sum, rounded}

@@ -24,12 +24,12 @@ use Rattle.advance.proofs.turned.turned.Reads as turned
 use Rattle.advance.proofs.+child-child+last-last+next-node+row-row+turned-turned.Lts-turned-turned as turned-lts
 use Rattle.beyond.proofs.frame.rest_of.Reads as rest-of
 use Rattle.beyond.proofs.later.later_rule.Reads as later-rule
-use Rattle.beyond.proofs.moved.moved.Reads as moved
+use Rattle.wider.proofs.moved.moved.Reads as moved
 use Rattle.advance.proofs.look.look.Reads as look
 use Rattle.advance.proofs.look.rule_at.Reads as rule-at
 use Rattle.advance.proofs.reach.reach.Reads as reach
-use Rattle.descend.proofs.open.child_set.Reads as child-set
-use Rattle.descend.proofs.open.own_set.Reads as own-set
+use Rattle.nodes.proofs.child_set.Reads as child-set
+use Rattle.nodes.proofs.own_set.Reads as own-set
 use Rattle.advance.proofs.+child-child+last-last+next-node+row-row+turned-turned.{statement}
 use Rattle.advance.proofs.+child-child+last-last+next-node+row-row+turned-turned.Tie.{close}
 

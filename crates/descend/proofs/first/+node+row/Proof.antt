@@ -16,10 +16,10 @@ use Rattle.descend.proofs.first.row.Reads as row
 use Rattle.descend.proofs.first.row.Kinds as row-kinds
 use Rattle.descend.proofs.first.+node+row.Lts-row as row-lts
 use Rattle.choose.proofs.look.look.Reads as look-reads
-use Rattle.descend.proofs.open.child_set.Reads as child-set-reads
+use Rattle.nodes.proofs.child_set.Reads as child-set-reads
 use Rattle.descend.proofs.open.open_node.Reads as open-node-reads
-use Rattle.descend.proofs.open.own_set.Reads as own-set-reads
-use Rattle.descend.proofs.open.put_node.Reads as put-node-reads
+use Rattle.nodes.proofs.own_set.Reads as own-set-reads
+use Rattle.nodes.proofs.put_node.Reads as put-node-reads
 use Rattle.descend.proofs.first.+node+row.{statement}
 use Rattle.descend.proofs.first.+node+row.Tie.{close}
 

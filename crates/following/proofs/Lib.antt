@@ -1,0 +1,2 @@
+-- Laws of what next hands out, once the tables are made.
+pub mod Handing

@@ -1,0 +1,2 @@
+-- What next hands out, once the tables are made.
+pub mod Made

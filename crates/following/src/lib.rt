@@ -1,0 +1,40 @@
+// Next over tables that are made: the derivation after an offered one, handed out.
+use first::Handed;
+use fit::FitTable;
+use packed::Packed;
+use successor::advance_root;
+use successor::copy;
+use tables::layout::Tables;
+ghost use Prim.Native.Nat.{_<_, _≤_};
+ghost use lib.ListN.{length};
+ghost use Rattle.first.specs.Answer.{handingOf};
+ghost use Rattle.sizes.specs.Sizes.{maxRules, side, cells, outputSize};
+ghost use Rattle.following.specs.Made.{NextMade};
+
+// The derivation after the offered one, over tables that are made. The buffer is this function's own: the output is written only with what
+// comes after.
+pub fn next_made(
+    p: &Packed,
+    rules: usize,
+    fits: &FitTable,
+    chart: &[u32],
+    tables: &Tables,
+    start: usize,
+    n: usize,
+    offered: &[u16],
+    out: &mut [u16],
+) -> Handed
+    requires { ⌜ (rules ≤ maxRules) × (n < side) × (cells ≤ length (now chart)) × (length (now offered) ≤ outputSize)
+        × (outputSize ≤ length (now out)) ⌝ }
+    ensures { λ a. ⌜ NextMade (now (p .entry)) rules (now (fits .entry)) (now (chart .entry)) (now (tables .entry)) start n
+        (now (offered .entry)) (now (out .entry)) (now (out .exit)) (handingOf a) ⌝ }
+{
+    let mut buf = [0u16; sizes::OUTPUT];
+    copy(offered, offered.len(), &mut buf);
+    let m = advance_root(p, rules, fits, chart, tables, start, n, &mut buf);
+    if m == 0 {
+        return Handed::Nothing;
+    }
+    copy(&buf, 2 * m, out);
+    Handed::Nodes(m)
+}

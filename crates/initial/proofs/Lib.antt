@@ -1,0 +1,6 @@
+-- Laws of the first derivation, once the tables are made.
+pub mod Fitting
+pub mod Input
+pub mod Front
+pub mod Root
+pub mod Writing

@@ -1,0 +1,39 @@
+-- What is handed out at the root, by the list L of the packed grammar, where a tree has few enough nodes: the first tree.
+-- Assumes nothing.
+use Prim.Native.Nat.{ℕ, _*_, _/_}
+use mathlib.Core.List.{List, _++_}
+use mathlib.Core.Path.{_≡_, refl, ap}
+use native.Mathlib.Omega.{arith}
+use lib.ListN.{length, drop}
+use Rattle.sizes.specs.Sizes.{maxNodes}
+use Rattle.sets.specs.Set.{empty}
+use Rattle.chart.proofs.SameRules.{SameRules}
+use Rattle.choices.proofs.Root.{root-begins}
+use Rattle.enumeration.specs.Order.{Min}
+use Rattle.enumeration.specs.Rows.{Tree}
+use Rattle.packed.specs.Packed.{cfgIn}
+use Rattle.results.specs.Answer.{answered, handed}
+use Rattle.results.specs.Enumerate.{headOf, handingOut}
+use Rattle.tables.specs.Exact.{Packing}
+use Rattle.initial.specs.Written.{enumerationOf, firstTree}
+
+module _ (p w : List ℕ) (s : ℕ) where
+  -- the start symbol makes no difference to the rules
+  pub same : SameRules (Packing p) (cfgIn s p)
+  unfolding cfgIn
+  same r = refl
+
+  pub start : s ≡ cfgIn s p .start
+  unfolding cfgIn
+  start = refl
+
+  module _ (chart out : List ℕ) where
+    pub first-handed : (c n : ℕ) (e out' : List ℕ) (m : ℕ) → c ≡ length w → n ≡ length w
+        → Min (Tree (Packing p) w c empty s 0 n maxNodes) e
+        → length e ≡ 2 * m → out' ≡ e ++ drop (length e) out
+        → enumerationOf (answered (handed m)) chart out' ≡ firstTree (cfgIn s p) w chart out
+    unfolding handingOut headOf
+    first-handed c n e out' m cover to M l f =
+        let half : m ≡ length e / 2 = omega arith in
+        rw (root-begins (Packing p) (cfgIn s p) same w start cover to M .1, f)
+        (ap (λ (x : ℕ). enumerationOf (answered (handed x)) chart (e ++ drop (length e) out)) half)

@@ -1,0 +1,15 @@
+-- `initial::build` meets its contract: the tables are right for the input.
+-- Assumes nothing.
+use borrow.Author.Needs.{needs}
+use Rattle.initial.proofs.Writing.{built}
+use Rattle.initial.proofs.build.Statement.{statement}
+use Rattle.initial.proofs.build.Tie as tie
+
+returns : tie.Need-returns
+returns c =
+    let after-rules = c .before .before in
+    let (short, _, _, told, cells) = after-rules .before .before .before .pre in
+    built _ _ _ _ _ _ short told cells (after-rules .rule-count .ensures) (c .tabulate .ensures)
+
+pub build-spec : {M : Type 1} → statement M
+build-spec = tie.close (tie.spec (λ c κs. search needs) (λ c κs. search needs) returns)

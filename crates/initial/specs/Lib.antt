@@ -1,0 +1,2 @@
+-- The first derivation, once the tables are made.
+pub mod Written

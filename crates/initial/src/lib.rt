@@ -1,0 +1,70 @@
+// The tables of an input, and over tables that are made: whether there is a derivation, and the first one.
+use descend::first::node;
+use fit::FitTable;
+use numbers::wide;
+use packed::Packed;
+use tables::layout::Tables;
+use tables::layout::cost;
+use tabulate::ends::tabulate;
+ghost use mathlib.Core.Path.{_≡_};
+ghost use Prim.Native.Nat.{_<_, _≤_};
+ghost use lib.Dec.{leb};
+ghost use lib.ListN.{length};
+ghost use Rattle.sizes.specs.Sizes.{cells, maxNodes, outputSize};
+ghost use Rattle.costs.specs.Span.{bytesOf};
+ghost use Rattle.descend.specs.Descend.{Given};
+ghost use Rattle.fit.specs.Fit.{Told};
+ghost use Rattle.tables.specs.Exact.{ChartTrue};
+ghost use Rattle.tables.specs.Layout.{costIn, tablesSize};
+ghost use Rattle.initial.specs.Written.{FirstWritten};
+
+// Makes the tables of the input, for which the chart is filled and the fit table made. Answers one past the last number that has a rule.
+pub fn build(p: &Packed, input: &[u8], fits: &FitTable, chart: &[u32], tables: &mut Tables) -> usize
+    requires { ⌜ (length (now input) ≤ 64) × (cells ≤ length (now chart)) × (length (now tables) ≡ tablesSize)
+        × Told (now p) (now input) (now fits) × ChartTrue (now p) (bytesOf (now input)) (now chart) (length (now input)) ⌝ }
+    ensures { λ rules. ⌜ (rules ≤ 128)
+        × Given (now (p .entry)) rules (now (fits .entry)) (now (chart .entry)) (now (tables .exit)) (now (input .entry)) ⌝ }
+{
+    let rules = packed::rule_count(p);
+    tabulate(p, rules, fits, chart, input.len(), tables);
+    rules
+}
+
+// Whether a derivation exists: a tree of the start symbol over n bytes has at most 512 nodes.
+pub fn exists(tables: &Tables, start: usize, n: usize) -> bool
+    requires { ⌜ n < 65 ⌝ }
+    ensures { λ b. ⌜ b ≡ leb (costIn (now (tables .entry)) start 0 n) maxNodes ⌝ }
+{
+    wide(cost(tables, start, 0, n)) <= sizes::MAX_NODES
+}
+
+// Writes the first derivation to the front of the output, and answers how many nodes it has.
+pub fn write_first(
+    p: &Packed,
+    rules: usize,
+    fits: &FitTable,
+    chart: &[u32],
+    tables: &Tables,
+    start: usize,
+    n: usize,
+    out: &mut [u16],
+) -> usize
+    requires { ⌜ (rules ≤ 128) × (n < 65) × (cells ≤ length (now chart)) × (outputSize ≤ length (now out)) ⌝ }
+    ensures { λ m. ⌜ FirstWritten (now (p .entry)) rules (now (fits .entry)) (now (chart .entry)) (now (tables .entry)) start n
+        (now (out .entry)) (now (out .exit)) m ⌝ }
+{
+    node(
+        p,
+        rules,
+        fits,
+        chart,
+        tables,
+        start,
+        0,
+        n,
+        0,
+        sizes::MAX_NODES,
+        out,
+        0,
+    )
+}

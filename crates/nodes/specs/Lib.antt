@@ -1,0 +1,2 @@
+-- The numbers of one node.
+pub mod Numbers

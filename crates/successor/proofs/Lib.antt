@@ -1,0 +1,3 @@
+-- Laws of the derivation after one, once the tables are made.
+pub mod Copies
+pub mod Root

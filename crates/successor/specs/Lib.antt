@@ -1,0 +1,2 @@
+-- The derivation after one, once the tables are made.
+pub mod Advanced

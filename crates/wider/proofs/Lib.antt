@@ -1,0 +1,2 @@
+-- Laws of a wider node.
+pub mod WiderNodes

@@ -1,0 +1,21 @@
+-- `wider::moved::moved` meets its contract.
+-- Assumes nothing.
+use borrow.Author.Needs.{needs}
+use Rattle.wider.proofs.WiderNodes.{moved-rest, moved-wider}
+use Rattle.wider.proofs.moved.moved.Statement.{statement}
+use Rattle.wider.proofs.moved.moved.Tie as tie
+
+pub moved-spec : {M : Type 1} → statement M
+moved-spec =
+    tie.close
+    (tie.spec
+    (λ c. search needs)
+    (λ c. search needs)
+    (λ c. search needs)
+    (λ c κs. search needs)
+    (λ c. search needs)
+    (λ c. search needs)
+    (λ c. search (needs, moved-rest))
+    (λ c κs. search needs)
+    (λ c. search needs)
+    (λ c. search (needs, moved-wider)))
