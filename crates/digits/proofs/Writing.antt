@@ -1,4 +1,4 @@
--- Bytes written into a buffer: nothing, one byte, one piece behind another, and the buffer's front when all is written.
+-- Bytes written into a buffer: nothing, one byte, one piece behind another.
 -- Assumes nothing.
 use Prim.Native.Nat.{ℕ, _+_, _≤_, _<_}
 use native.Mathlib.Numerals.{add-one}
@@ -28,10 +28,6 @@ put-append {x} {y} {at} {mid} {end} {o₁} p q =
 
 pub put-same : {x y : List ℕ} {at end : ℕ} {o₁ o₂ : List ℕ} → x ≡ y → Put x at end o₁ o₂ → Put y at end o₁ o₂
 put-same {at = at} {end} {o₁} {o₂} e p = subst (λ (l : List ℕ). Put l at end o₁ o₂) e p
-
--- what is written from the start of a buffer is its front
-pub put-whole : {x : List ℕ} {end : ℕ} {o₁ o₂ : List ℕ} → Put x 0 end o₁ o₂ → take end o₂ ≡ x
-put-whole p = p .front
 
 -- ---- bytes, one after the other
 
