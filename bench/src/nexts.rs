@@ -92,6 +92,24 @@ fn time_next(name: &str, book: &[u8], input: &[u8], offered: &[u16]) {
     line(&format!("{name}, {} marks: {next}", input.len()), times);
 }
 
+/// A whole call of next, offered the first reading.
+fn time_whole_next(name: &str, book: &[u8], input: &[u8]) {
+    let flat = loaded(book);
+    let (mut c, mut x, mut n) = (chart(), output(), 0);
+    assert_eq!(Proved::first(&flat, input, &mut c, &mut x, &mut n), 1);
+    let offered = x[..2 * n].to_vec();
+    let (code, _) = next_both(&flat, input, &offered);
+    let (mut d, mut y, mut m) = (chart(), output(), 0);
+    let times = differences(
+        || sink(Proved::next(black_box(&flat), input, &offered, &mut c, &mut x, &mut n)),
+        || (),
+        || sink(Plain::next(black_box(&flat), input, &offered, &mut d, &mut y, &mut m)),
+        || (),
+    );
+    let next = if code == 1 { "one more" } else { "none" };
+    line(&format!("{name}, {} marks: {next}", input.len()), times);
+}
+
 pub fn nexts(sweep: usize) {
     let a = [b'A'; 64];
     heading(
@@ -124,6 +142,13 @@ pub fn nexts(sweep: usize) {
     time_next("deepest", &book, &input, &reading);
     let (book, input, reading) = books::bush();
     time_next("bush of empty parts", &book, &input, &reading);
+    heading(
+        "NEXT: the whole call",
+        &["Offered the first reading, in processor time: filling, check, tables and one advance."],
+    );
+    time_whole_next("0 -> 0 0 | A", &books::pairs(), &a);
+    time_whole_next("expressions, 40 rules", &books::expressions(), &books::expression());
+    time_whole_next("dense full book", &books::dense(), &a);
     heading("COUNT", &["The whole call, in processor time."]);
     time_count("0 -> 0 0 | A", &books::pairs(), &a[..9]);
     time_count("0 -> 0 0 | A", &books::pairs(), &a);
