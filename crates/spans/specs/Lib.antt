@@ -1,2 +1,3 @@
--- Spans as bits, and the cuts that begin with a piece inside the span by them.
+-- Spans as bits, the cuts that begin with a piece inside the span by them, and how they are written.
 pub mod Spans
+pub mod Ends

@@ -1,0 +1,48 @@
+-- The ends and the starts as they are written: what one cell, one column and the flags of one start add to the words.
+-- Assumes nothing.
+use Prim.Native.Nat.{ℕ, suc, _+_, _*_, _≤_, _<_}
+use mathlib.Core.Bool.{Bool, true, false}
+use mathlib.Core.List.{List}
+use mathlib.Core.Logic.{_⊎_}
+use mathlib.Core.Path.{_≡_}
+use lib.ListN.{length, getD}
+use Rattle.sizes.specs.Sizes.{maxInput, maxRules, maxPlaces, nonterminals}
+use Rattle.sets.specs.Set.{has}
+use Rattle.chart.specs.Cell.{cell}
+use Rattle.packed.specs.Packed.{countIn}
+use Rattle.spans.specs.Spans.{endsSize, endsOf, startsSize, startsOf}
+
+-- ---- ends
+
+-- b was added to the ends from i of each member of the word, and nothing else
+pub record EndPut (i b word : ℕ) (ends ends' : List ℕ) : Type 0 where
+  pub long : length ends' ≡ endsSize
+  pub keeps : (x j : ℕ) → has j (getD ends x 0) ≡ true → has j (getD ends' x 0) ≡ true
+  pub all : (k : ℕ) → has k word ≡ true → has b (endsOf ends' i k) ≡ true
+  pub sound : (x j : ℕ) → has j (getD ends' x 0) ≡ true
+      → (has j (getD ends x 0) ≡ true) ⊎ ((j ≡ b) × ((k : ℕ) × (k < 32) × (x ≡ nonterminals * i + k) × (has k word ≡ true)))
+
+-- the same, and b was added to the reach of i if the word has a member
+pub record CellPut (i b word : ℕ) (ends reach ends' reach' : List ℕ) : Type 0 where
+  pub put : EndPut i b word ends ends'
+  pub long : length reach' ≡ maxInput
+  pub keeps : (x j : ℕ) → has j (getD reach x 0) ≡ true → has j (getD reach' x 0) ≡ true
+  pub all : (k : ℕ) → has k word ≡ true → has b (getD reach' i 0) ≡ true
+  pub high : (k : ℕ) → 32 ≤ k → has k word ≡ false
+
+-- the spans that are told: those that end before b, and those of the starts before i that end at b
+abbrev pub ToldTo : ℕ → ℕ → ℕ → ℕ → Type 0
+ToldTo b i a c = (a < c) × ((c < b) ⊎ ((c ≡ b) × (a < i)))
+
+-- the words tell these spans of the chart, and have no end of another span
+pub record EndsTo (chart : List ℕ) (b i : ℕ) (ends reach : List ℕ) : Type 0 where
+  pub sound : (a k c : ℕ) → k < 32 → a < c → has c (endsOf ends a k) ≡ true → ToldTo b i a c × (has k (cell chart a c) ≡ true)
+  pub all : (a k c : ℕ) → k < 32 → ToldTo b i a c → has k (cell chart a c) ≡ true → has c (endsOf ends a k) ≡ true
+  pub high : (a k c : ℕ) → 32 ≤ k → ToldTo b i a c → has k (cell chart a c) ≡ false
+  pub reaches : (a k c : ℕ) → ToldTo b i a c → has k (cell chart a c) ≡ true → has c (getD reach a 0) ≡ true
+
+-- the spans that end before b' are told where those were that end before b
+pub record ColumnsPut (chart : List ℕ) (b b' : ℕ) (ends reach ends' reach' : List ℕ) : Type 0 where
+  pub long : length ends' ≡ endsSize
+  pub reach-long : length reach' ≡ maxInput
+  pub step : EndsTo chart b 0 ends reach → EndsTo chart b' 0 ends' reach'
