@@ -14,34 +14,9 @@ use Rattle.sets.specs.Pairs.{Lowest, Without}
 use Rattle.sets.proofs.Laws.{has-empty, has-insert, has-insert-same, has-insert-other, insert-new, has-high}
 use Rattle.chart.specs.Cell.{cell}
 use Rattle.grammar.proofs.All.{true-false}
+use Rattle.spans.proofs.Rows.{row-keeps, row-has, row-sound}
 use Rattle.spans.specs.Spans.{endsSize, endsOf}
 use Rattle.spans.specs.Ends.{EndPut, CellPut, ToldTo, EndsTo, ColumnsPut}
-
--- ---- a word of a row with one member more
-
--- what a row has after b is put into its word z
-row-keeps : (row : List ℕ) (z b v : ℕ) → z < length row → v ≡ insert b (getD row z 0) → (x j : ℕ) → has j (getD row x 0) ≡ true
-    → has j (getD (set row z v) x 0) ≡ true
-row-keeps row z b v l e x j h = go (ℕ-discrete x z)
-  where
-    go : Dec (x ≡ z) → has j (getD (set row z v) x 0) ≡ true
-    go (yes d) = subst (λ (y : ℕ). has j (getD (set row z v) y 0) ≡ true) (sym d)
-        (ap (has j) (getD-set-same row z v 0 l ∙ e) ∙ has-insert j b (getD row z 0) (subst (λ (y : ℕ). has j (getD row y 0) ≡ true) d h))
-    go (no d) = ap (has j) (getD-set-other row z x v 0 d) ∙ h
-
-row-has : (row : List ℕ) (z b v : ℕ) → z < length row → v ≡ insert b (getD row z 0) → has b (getD (set row z v) z 0) ≡ true
-row-has row z b v l e = ap (has b) (getD-set-same row z v 0 l ∙ e) ∙ has-insert-same b (getD row z 0)
-
-row-sound : (row : List ℕ) (z b v : ℕ) → z < length row → v ≡ insert b (getD row z 0) → (x j : ℕ)
-    → has j (getD (set row z v) x 0) ≡ true → (has j (getD row x 0) ≡ true) ⊎ ((j ≡ b) × (x ≡ z))
-row-sound row z b v l e x j h = go (ℕ-discrete x z) (ℕ-discrete j b)
-  where
-    go : Dec (x ≡ z) → Dec (j ≡ b) → (has j (getD row x 0) ≡ true) ⊎ ((j ≡ b) × (x ≡ z))
-    go (yes d) (yes f) = inr (f, d)
-    go (yes d) (no f) = inl (subst (λ (y : ℕ). has j (getD row y 0) ≡ true) (sym d)
-        (sym (has-insert-other j b (getD row z 0) f) ∙ ap (has j) (sym (getD-set-same row z v 0 l ∙ e))
-        ∙ subst (λ (y : ℕ). has j (getD (set row z v) y 0) ≡ true) d h))
-    go (no d) f = inl (ap (has j) (sym (getD-set-other row z x v 0 d)) ∙ h)
 
 -- ---- the members of a word
 

@@ -10,7 +10,8 @@ use Rattle.sizes.specs.Sizes.{maxInput, maxRules, maxPlaces, nonterminals}
 use Rattle.sets.specs.Set.{has}
 use Rattle.chart.specs.Cell.{cell}
 use Rattle.packed.specs.Packed.{countIn}
-use Rattle.spans.specs.Spans.{endsSize, endsOf, startsSize, startsOf}
+use Rattle.cells.specs.Flags.{Fit, Sets, Cutting}
+use Rattle.spans.specs.Spans.{endsSize, endsOf, startsSize, startsOf, StartsTold}
 
 -- ---- ends
 
@@ -46,3 +47,29 @@ pub record ColumnsPut (chart : List ℕ) (b b' : ℕ) (ends reach ends' reach' :
   pub long : length ends' ≡ endsSize
   pub reach-long : length reach' ≡ maxInput
   pub step : EndsTo chart b 0 ends reach → EndsTo chart b' 0 ends' reach'
+
+-- ---- starts
+
+-- i was added to the starts of rule r at the places from 1 on that its flags have, and nothing else; and to what is live of the rule
+pub record RulePut (p : List ℕ) (r i flags : ℕ) (starts live starts' live' : List ℕ) : Type 0 where
+  pub long : length starts' ≡ startsSize
+  pub live-long : length live' ≡ maxRules
+  pub keeps : (x j : ℕ) → has j (getD starts x 0) ≡ true → has j (getD starts' x 0) ≡ true
+  pub all : (q : ℕ) → 0 < q → q < countIn p r → has q flags ≡ true → has i (startsOf starts' r q) ≡ true
+  pub sound : (x j : ℕ) → has j (getD starts' x 0) ≡ true
+      → (has j (getD starts x 0) ≡ true)
+      ⊎ ((j ≡ i) × ((q : ℕ) × (0 < q) × (q < countIn p r) × (x ≡ maxPlaces * r + q) × (has q flags ≡ true)))
+  pub live-keeps : (x j : ℕ) → has j (getD live x 0) ≡ true → has j (getD live' x 0) ≡ true
+  pub lives : (q : ℕ) → 0 < q → q < countIn p r → has q flags ≡ true → has i (getD live' r 0) ≡ true
+
+-- the starts of these rules from j on are told, and live
+pub record StartsFrom (fit : Fit) (sets : Sets) (p : List ℕ) (rules j n : ℕ) (starts live : List ℕ) : Type 0 where
+  pub told : (r : ℕ) → r < rules → StartsTold fit sets p r j n starts
+  pub lives : (r q a : ℕ) → r < rules → 0 < q → q < countIn p r → has a (startsOf starts r q) ≡ true → has a (getD live r 0) ≡ true
+
+-- with the flags of the start i the starts from i on are told where those behind it were
+pub record FlagsPut (p : List ℕ) (rules i : ℕ) (flags starts live starts' live' : List ℕ) : Type 0 where
+  pub long : length starts' ≡ startsSize
+  pub live-long : length live' ≡ maxRules
+  pub step : (fit : Fit) (sets : Sets) (n : ℕ) → i < n → ((r : ℕ) → r < rules → Cutting fit sets p r i n (getD flags r 0))
+      → StartsFrom fit sets p rules (i + 1) n starts live → StartsFrom fit sets p rules i n starts' live'

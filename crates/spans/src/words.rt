@@ -15,6 +15,9 @@ pub const STARTS_SIZE: usize = sizes::MAX_RULES * sizes::MAX_PLACES;
 
 pub type Starts = [u64; STARTS_SIZE];
 
+// One word for each rule: the starts of all its places from 1 on.
+pub type Live = [u64; sizes::MAX_RULES];
+
 pub fn tied_ends() -> usize
     ensures { λ n. ⌜ n ≡ endsSize ⌝ }
 {
