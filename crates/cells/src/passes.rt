@@ -45,7 +45,7 @@ fn place_cuts(
 }
 
 // The places q of rule r such that the places q.. cut the span from i to n.
-fn rule_mask(
+pub fn rule_mask(
     p: &Packed,
     r: usize,
     i: usize,
@@ -68,7 +68,7 @@ fn rule_mask(
 }
 
 // The set, with the left side of rule r in it if all its places cut the span.
-fn added(p: &Packed, r: usize, m: u32, own: u32) -> u32
+pub fn added(p: &Packed, r: usize, m: u32, own: u32) -> u32
     requires { ⌜ r < 128 ⌝ }
     ensures { λ v. ⌜ v ≡ addedIn (now (p .entry)) r m own ⌝ }
 {
