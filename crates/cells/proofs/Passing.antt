@@ -26,7 +26,7 @@ use Rattle.cells.proofs.Owned.{owned-here, owned-end, cutting-owned, in
 -- ---- adding the left side of a rule
 
 module _ (p : List ℕ) (r v own : ℕ) where
-  added-le : own ≤ addedIn p r v own
+  pub added-le : own ≤ addedIn p r v own
   unfolding addedIn
   added-le = go (has 0 v && ltb (leftIn p r) 32)
     where
@@ -35,7 +35,7 @@ module _ (p : List ℕ) (r v own : ℕ) where
       go false = omega arith
 
   -- each member was one, or is the left side of the rule, whose places all cut the span
-  added-within : (T : ℕ) → Within own T → (leftIn p r < 32 → has 0 v ≡ true → has (leftIn p r) T ≡ true) → Within (addedIn p r v own) T
+  pub added-within : (T : ℕ) → Within own T → (leftIn p r < 32 → has 0 v ≡ true → has (leftIn p r) T ≡ true) → Within (addedIn p r v own) T
   unfolding addedIn
   added-within T s f = go (has 0 v && ltb (leftIn p r) 32) refl
     where

@@ -10,7 +10,6 @@ use mathlib.Core.Path.{_≡_}
 use lib.ListN.{length, getD}
 use Rattle.sizes.specs.Sizes.{maxRules}
 use Rattle.sets.specs.Set.{has}
-use Rattle.sets.specs.Pairs.{Common}
 use Rattle.cfg.specs.Grammar.{nonterminal}
 use Rattle.packed.specs.Packed.{countIn, symbolIn, leftIn}
 use Rattle.cells.specs.Flags.{Fit, Sets, Cutting, Inner, owned}
@@ -35,8 +34,52 @@ Agrees kinds made x = (x < 2 ^ 32) × ((k : ℕ) → has k kinds ≡ true → ha
 abbrev pub Exact : Fit → Sets → List ℕ → ℕ → ℕ → ℕ → ℕ → ℕ → ℕ → Type 0
 Exact fit sets p r i n kinds made v = (x : ℕ) → Agrees kinds made x → Cutting fit (owned sets i n x) p r i n v
 
--- rule r was looked at, where the cell's set was own: its flags v, what of the set they go by, and the set own' with its left side
-pub record Looked (p : List ℕ) (r i n start inside last kinds own made v own' : ℕ) : Type 0 where
-  pub common : Common own kinds made
-  pub result : own' ≡ addedIn p r v own
-  pub exact : (fit : Fit) (sets : Sets) → Given fit sets p r i n start inside last kinds → Exact fit sets p r i n kinds made v
+-- rule r was looked at, or need not be, where the cell's set was own; own' is the set with its left side
+pub record Put (p : List ℕ) (r i n start inside last kinds own : ℕ) (flags made flags' made' : List ℕ) (own' : ℕ) : Type 0 where
+  pub long : length flags' ≡ maxRules
+  pub made-long : length made' ≡ maxRules
+  pub other : (s : ℕ) → s ≢ r → getD flags' s 0 ≡ getD flags s 0
+  pub made-other : (s : ℕ) → s ≢ r → getD made' s 0 ≡ getD made s 0
+  pub result : own' ≡ addedIn p r (getD flags' r 0) own
+  pub agrees : Agrees kinds (getD made' r 0) own
+  pub exact : (fit : Fit) (sets : Sets) → Given fit sets p r i n start inside last kinds
+      → Exact fit sets p r i n kinds (getD made' r 0) (getD flags' r 0)
+
+-- the same, where the flags that stand are right and add nothing
+pub record Again (p : List ℕ) (r i n start inside last kinds own : ℕ) (flags made flags' made' : List ℕ) (own' : ℕ) : Type 0 where
+  pub put : ((fit : Fit) (sets : Sets) → Given fit sets p r i n start inside last kinds
+      → Exact fit sets p r i n kinds (getD made r 0) (getD flags r 0))
+      → (leftIn p r < 32 → has 0 (getD flags r 0) ≡ true → has (leftIn p r) own ≡ true)
+      → Put p r i n start inside last kinds own flags made flags' made' own'
+
+-- ---- all rules
+
+-- what is known of the rules below a number
+abbrev pub Givens : Fit → Sets → List ℕ → ℕ → ℕ → ℕ → ℕ → List ℕ → List ℕ → List ℕ → Type 0
+Givens fit sets p rules i n start insides lasts kinds =
+    (r : ℕ) → r < rules → Given fit sets p r i n start (getD insides r 0) (getD lasts r 0) (getD kinds r 0)
+
+-- the rules below m were looked at; own has nothing that a closed set lacks
+pub record State (p : List ℕ) (rules i n start : ℕ) (insides lasts kinds : List ℕ) (m own : ℕ) (flags made : List ℕ) : Type 0 where
+  pub long : length flags ≡ maxRules
+  pub made-long : length made ≡ maxRules
+  pub exact : (r : ℕ) → r < m → (fit : Fit) (sets : Sets)
+      → Given fit sets p r i n start (getD insides r 0) (getD lasts r 0) (getD kinds r 0)
+      → Exact fit sets p r i n (getD kinds r 0) (getD made r 0) (getD flags r 0)
+  pub closed : (r : ℕ) → r < m → leftIn p r < 32 → has 0 (getD flags r 0) ≡ true → has (leftIn p r) own ≡ true
+  pub sound : (fit : Fit) (sets : Sets) → Givens fit sets p rules i n start insides lasts kinds → (T : ℕ) → ClosedAt fit sets p i n T
+      → Within own T
+
+-- the rules were looked at again, and own became v; if nothing was added, all flags go by it
+pub record Passed (p : List ℕ) (rules i n start : ℕ) (insides lasts kinds : List ℕ) (m own v : ℕ) (flags made : List ℕ) : Type 0 where
+  pub state : State p rules i n start insides lasts kinds rules v flags made
+  pub grows : own ≤ v
+  pub fresh : v ≡ own → (r : ℕ) → r < m → Agrees (getD kinds r 0) (getD made r 0) v
+
+-- v is the least closed set, and the flags are those of v
+pub record Closed (p : List ℕ) (rules i n start : ℕ) (insides lasts kinds : List ℕ) (v : ℕ) (flags : List ℕ) : Type 0 where
+  pub long : length flags ≡ maxRules
+  pub sound : (fit : Fit) (sets : Sets) → Givens fit sets p rules i n start insides lasts kinds → (T : ℕ) → ClosedAt fit sets p i n T
+      → Within v T
+  pub settled : (fit : Fit) (sets : Sets) → Givens fit sets p rules i n start insides lasts kinds
+      → (r : ℕ) → r < rules → Settled fit sets p r i n v (getD flags r 0)

@@ -47,9 +47,12 @@ module _ (p : List ℕ) (m i flags : ℕ) (starts live starts' live' : List ℕ)
                 → (i ≤ a) × (a < n) × (cuts fit sets (tail p m q) a n ≡ true)
             go (inl x) = let u = told .sound q a z l x in (omega (arith, u .0), u .1, u .2)
             go (inr (d, (j, _, k, e, x))) =
-                let f : q ≡ j = omega arith in
-                (omega arith, omega arith, ap (λ (y : ℕ). cuts fit sets (tail p m q) y n) d ∙ sym (cut q (omega arith))
-                ∙ ap (λ (y : ℕ). has y flags) f ∙ x)
+                let f : q ≡ j = omega arith in (
+                  omega arith,
+                  omega arith,
+                  ap (λ (y : ℕ). cuts fit sets (tail p m q) y n) d ∙ sym (cut q (omega arith))
+                      ∙ ap (λ (y : ℕ). has y flags) f ∙ x,
+                )
 
         all : (q a : ℕ) → 0 < q → q < countIn p m → i ≤ a → a < n → cuts fit sets (tail p m q) a n ≡ true
             → has a (startsOf starts' m q) ≡ true

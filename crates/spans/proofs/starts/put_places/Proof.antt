@@ -11,7 +11,7 @@ use Rattle.spans.proofs.starts.put_places.Statement.{statement}
 use Rattle.spans.proofs.starts.put_places.Tie as tie
 
 abbrev Inv-loop : tie.InvT-loop
-Inv-loop p r i flags starts₀ live₀ count q₀ starts live q = 
+Inv-loop p r i flags starts₀ live₀ count q₀ starts live q =
     (0 < q) × (count ≡ countIn p r) × (count ≤ 8) × ((q ≤ count) ⊎ (q ≡ 1)) × PlacesTo p r i flags starts₀ live₀ q starts live
 
 abbrev μ-loop : tie.MeasureT-loop
