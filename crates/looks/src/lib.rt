@@ -1,11 +1,13 @@
 // Looking at the rules at one cell of a column, until nothing is added; a rule is looked at again only if its flags can have changed.
+pub mod passes;
+
 use cells::passes::added;
 use cells::passes::rule_mask;
 use packed::Packed;
 ghost use mathlib.Core.Path.{_≡_};
-ghost use Prim.Native.Nat.{_<_, _≤_};
+ghost use Prim.Native.Nat.{_<_};
 ghost use lib.ListN.{length};
-ghost use Rattle.looks.specs.Looks.{Put, Again, State, Passed, Closed};
+ghost use Rattle.looks.specs.Looks.{Put, Again};
 
 // Looks at rule r at the cell (i, n) of which `own` is known.
 fn look(
@@ -33,7 +35,7 @@ fn look(
 }
 
 // The first look at rule r: without inner cuts, and where the set has none of its kinds, it has no flags.
-fn look_first(
+pub fn look_first(
     p: &Packed,
     r: usize,
     i: usize,
@@ -62,7 +64,7 @@ fn look_first(
 }
 
 // A further look at rule r, if its flags can have changed.
-fn look_again(
+pub fn look_again(
     p: &Packed,
     r: usize,
     i: usize,
