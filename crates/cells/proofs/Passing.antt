@@ -50,7 +50,7 @@ module _ (p : List ℕ) (r v own : ℕ) where
       go true e k h = new k e (ℕ-discrete k (leftIn p r)) h
       go false e k h = s k h
 
-  added-same : addedIn p r v own ≡ own → leftIn p r < 32 → has 0 v ≡ true → has (leftIn p r) own ≡ true
+  pub added-same : addedIn p r v own ≡ own → leftIn p r < 32 → has 0 v ≡ true → has (leftIn p r) own ≡ true
   unfolding addedIn
   added-same e l h = insert-same→has (leftIn p r) own
       (sym (ap (λ (b : Bool). cond b (insert (leftIn p r) own) own)

@@ -2,3 +2,5 @@
 pub mod Depend
 pub mod Looking
 pub mod States
+pub mod Gather
+pub mod Nothing

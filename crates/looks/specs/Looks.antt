@@ -83,3 +83,30 @@ pub record Closed (p : List ℕ) (rules i n start : ℕ) (insides lasts kinds : 
       → Within v T
   pub settled : (fit : Fit) (sets : Sets) → Givens fit sets p rules i n start insides lasts kinds
       → (r : ℕ) → r < rules → Settled fit sets p r i n v (getD flags r 0)
+
+-- ---- the kinds of the rules
+
+-- v' has what v has, and the nonterminal in place q of rule r if the places behind it cut the empty span
+pub record KindAt (p : List ℕ) (r q last v v' : ℕ) : Type 0 where
+  pub keeps : (k : ℕ) → has k v ≡ true → has k v' ≡ true
+  pub here : (k : ℕ) → symbolIn p r q ≡ nonterminal k → k < 32 → has (q + 1) last ≡ true → has k v' ≡ true
+
+-- the kinds of the rules below a number
+pub record KindsAll (p : List ℕ) (rules : ℕ) (lasts kinds : List ℕ) : Type 0 where
+  pub long : length kinds ≡ maxRules
+  pub each : (r : ℕ) → r < rules → Kinds p r (getD lasts r 0) (getD kinds r 0)
+
+-- ---- the empty span at n
+
+-- the rules below m were looked at, and own became v
+pub record EmptyPassed (p : List ℕ) (n m own v : ℕ) (lasts : List ℕ) : Type 0 where
+  pub long : length lasts ≡ maxRules
+  pub grows : own ≤ v
+  pub sound : (fit : Fit) (sets : Sets) (T : ℕ) → ClosedAt fit sets p n n T → Within own T → Within v T
+  pub settled : v ≡ own → (fit : Fit) (sets : Sets) (r : ℕ) → r < m → Settled fit sets p r n n v (getD lasts r 0)
+
+-- v is the least closed set, and the words are its flags
+pub record EmptyClosed (p : List ℕ) (rules n v : ℕ) (lasts : List ℕ) : Type 0 where
+  pub long : length lasts ≡ maxRules
+  pub sound : (fit : Fit) (sets : Sets) (T : ℕ) → ClosedAt fit sets p n n T → Within v T
+  pub settled : (fit : Fit) (sets : Sets) (r : ℕ) → r < rules → Settled fit sets p r n n v (getD lasts r 0)

@@ -1,4 +1,6 @@
 // Looking at the rules at one cell of a column, until nothing is added; a rule is looked at again only if its flags can have changed.
+pub mod empty;
+pub mod kinds;
 pub mod passes;
 
 use cells::passes::added;

@@ -8,6 +8,8 @@ use mathlib.Core.Path.{_≡_, refl, sym, ap, _∙_, subst}
 use native.Mathlib.Decide.{ℕ-discrete, decLt}
 use native.Mathlib.Numerals.{add-one}
 use native.Mathlib.Omega.{arith}
+use lib.ListN.{length, getD, set, length-set}
+use lib.Seq.{getD-set-same, getD-set-other}
 use Rattle.sets.specs.Set.{has, insert}
 use Rattle.sets.specs.Pairs.{Meeting}
 use Rattle.sets.proofs.Laws.{has-empty, has-insert, has-insert-same}
@@ -16,7 +18,7 @@ use Rattle.packed.specs.Packed.{countIn}
 use Rattle.grammar.proofs.All.{true-false}
 use Rattle.cells.specs.Flags.{Fit, Sets, tail, inner-leaf, inner-node, InnerAt, Inner}
 use Rattle.cells.proofs.Bits.{has-if-same, has-if-other}
-use Rattle.spans.specs.Spans.{Known, Near, CanBegin, BeginsAt, Begins, BeginsNear}
+use Rattle.spans.specs.Spans.{Known, Near, CanBegin, BeginsAt, Begins, BeginsNear, AllBegin}
 use Rattle.spans.proofs.Places.{none-cuts}
 
 -- ---- whether a rule can have an inner cut
@@ -105,3 +107,32 @@ module _ (fit : Fit) (p : List ℕ) (r i n : ℕ) (ends starts : List ℕ) (last
           λ c. absurd (true-false (begins-never sets known near q h c) not),
         );
       }
+
+-- ---- every rule
+
+module _ (fit : Fit) (p : List ℕ) (rules i n : ℕ) (ends starts : List ℕ) (reach : ℕ) (live lasts : List ℕ) where
+  -- the words of the rules below m are right
+  pub record AllTo (m : ℕ) (insides : List ℕ) : Type 0 where
+    pub long : length insides ≡ 128
+    pub done : (r : ℕ) → r < m → BeginsNear fit p r i n ends starts reach (getD live r 0) (getD lasts r 0) (getD insides r 0)
+
+  pub all-start : (insides : List ℕ) → length insides ≡ 128 → AllTo 0 insides
+  all-start insides e = record { long = e; done = λ r l. absurd (omega arith) }
+
+  pub all-step : (m v : ℕ) (insides : List ℕ) → m < 128 → BeginsNear fit p m i n ends starts reach (getD live m 0) (getD lasts m 0) v
+      → AllTo m insides → AllTo (m + 1) (set insides m v)
+  all-step m v insides b one to = record { long = length-set insides m v ∙ to .long; done = λ r l. go r l (ℕ-discrete r m) }
+    where
+      go : (r : ℕ) → r < m + 1 → Dec (r ≡ m)
+          → BeginsNear fit p r i n ends starts reach (getD live r 0) (getD lasts r 0) (getD (set insides m v) r 0)
+      go r l (yes d) =
+          subst (λ (y : ℕ). BeginsNear fit p y i n ends starts reach (getD live y 0) (getD lasts y 0) (getD (set insides m v) y 0)) (sym d)
+          (subst (λ (y : ℕ). BeginsNear fit p m i n ends starts reach (getD live m 0) (getD lasts m 0) y)
+          (sym (getD-set-same insides m v 0 (omega (arith, to .long)))) one)
+      go r l (no d) =
+          let u : r ≢ m = d in
+          subst (λ (y : ℕ). BeginsNear fit p r i n ends starts reach (getD live r 0) (getD lasts r 0) y)
+          (sym (getD-set-other insides m r v 0 d)) (to .done r (omega arith))
+
+  pub all-done : (m : ℕ) (insides : List ℕ) → rules ≤ m → AllTo m insides → AllBegin fit p rules i n ends starts reach live lasts insides
+  all-done m insides h to = record { long = to .long; each = λ r l. to .done r (omega arith) }

@@ -73,3 +73,8 @@ pub record Begins (fit : Fit) (p : List ℕ) (r i n : ℕ) (ends starts : List �
 -- the same where also reach and live are as they say
 pub record BeginsNear (fit : Fit) (p : List ℕ) (r i n : ℕ) (ends starts : List ℕ) (reach live last v : ℕ) : Type 0 where
   pub exact : (sets : Sets) → Known fit sets p r i n ends starts last → Near sets p r i n starts reach live → Inner fit sets p r i n v
+
+-- the same of each rule below a number
+pub record AllBegin (fit : Fit) (p : List ℕ) (rules i n : ℕ) (ends starts : List ℕ) (reach : ℕ) (live lasts insides : List ℕ) : Type 0 where
+  pub long : length insides ≡ maxRules
+  pub each : (r : ℕ) → r < rules → BeginsNear fit p r i n ends starts reach (getD live r 0) (getD lasts r 0) (getD insides r 0)
