@@ -1,59 +1,57 @@
--- `columns::fill` meets its contract. The loop's invariant: the bytes passed are taken.
--- The measure is what is left of the input. Assumes nothing.
 use borrow.Author.Needs.{needs}
-use Rattle.columns.proofs.Filling.{fill-start}
-use lib.Seq.{length-take-le}
-use mathlib.Core.Path.{sym, _∙_}
-use Rattle.columns.proofs.Filling.{fill-step, fill-done}
-use Rattle.packed.specs.Packed.{cfgIn}
-use Rattle.chart.specs.Column.{extendedBy}
-use lib.ListN.{length, take}
-use native.Mathlib.Omega.{arith}
-use mathlib.Core.Path.{_≡_, refl}
-use mathlib.Core.List.{[]}
-use Prim.Native.Nat.{_≤_, _-_}
 use Rattle.columns.proofs.fill.Statement.{statement}
 use Rattle.columns.proofs.fill.Tie as tie
+use Rattle.columns.proofs.fill.Reads as reads
+use Rattle.columns.proofs.fill.Lts as lts
+use Rattle.columns.proofs.column.Reads as column-reads
+use Rattle.columns.proofs.open_chart.Reads as open-chart-reads
+use Rattle.spans.proofs.ends.put_column.Reads as put-column-reads
 
 abbrev Inv-loop : tie.InvT-loop
-Inv-loop p w chart₀ m₀ chart m = (m ≤ length w) × (length chart ≡ length chart₀) × (chart ≡ extendedBy (cfgIn 0 p) [] (take m w) chart₀)
+Inv-loop p w chart₀ ends₀ reach₀ m₀ chart ends reach m = ?
 
 abbrev μ-loop : tie.MeasureT-loop
-μ-loop p w chart₀ m₀ chart m = length w - m
+μ-loop p w chart₀ ends₀ reach₀ m₀ chart ends reach m = ?
 
+-- src/lib.rt:174:5
 open-chart-requires : tie.Need-open-chart-requires Inv-loop μ-loop
 open-chart-requires c κs = search needs
 
+-- src/lib.rt:178:5
 loop-holds : tie.Need-loop-holds Inv-loop μ-loop
-loop-holds c = (omega arith, refl, fill-start _ _)
+loop-holds c = search needs
 
+-- src/lib.rt:179:9
+put-column-requires : tie.Need-put-column-requires Inv-loop μ-loop
+put-column-requires c κs = search needs
+
+-- src/lib.rt:180:9
 add-m : tie.Need-add-m Inv-loop μ-loop
-add-m c = omega arith
+add-m c = search needs
 
-slice-aggregate-write-column : tie.Need-slice-aggregate-write-column Inv-loop μ-loop
-slice-aggregate-write-column c = sym (length-take-le _ _ (omega arith))
+-- src/lib.rt:181:19
+slice-aggregate-column : tie.Need-slice-aggregate-column Inv-loop μ-loop
+slice-aggregate-column c = search needs
 
-write-column-requires : tie.Need-write-column-requires Inv-loop μ-loop
-write-column-requires c κs = (omega arith, omega arith)
+-- src/lib.rt:181:9
+column-requires : tie.Need-column-requires Inv-loop μ-loop
+column-requires c κs = search needs
 
+-- src/lib.rt:178:5
 loop-less : tie.Need-loop-less Inv-loop μ-loop
-loop-less c = omega arith
+loop-less c = search needs
 
+-- src/lib.rt:178:5
 loop-again : tie.Need-loop-again Inv-loop μ-loop
-loop-again c =
-    let l = c .before .before .before .before .before .before in
-    let d = c .before .before in
-    let w = c .before .before .before .before .before .before .before .before .before .before .before .before .before .args .w .now in
-    let e = fill-step _ w _ (l .loop .m) _ _ _ refl (omega arith) (l .loop .inv .2) (d .write-column .ensures) in
-    (omega arith, d .write-column .kept .1 .1 .1 .0 ∙ l .loop .inv .1, e)
+loop-again c = search needs
 
+-- src/lib.rt:170:1
 same-length : tie.Need-same-length Inv-loop μ-loop
-same-length c = c .before .loop .inv .1 ∙ c .before .before .before .before .open-chart .kept .1 .0
+same-length c = search needs
 
+-- src/lib.rt:170:1
 returns : tie.Need-returns Inv-loop μ-loop
-returns c =
-    fill-done _ (c .before .before .before .before .before .before .before .before .args .w .now) _ (c .before .loop .m) _ _ (omega arith)
-    (c .before .before .before .before .open-chart .ensures) (c .before .loop .inv .2)
+returns c = search needs
 
 pub fill-spec : {M : Type 1} → statement M
 fill-spec =
@@ -63,9 +61,10 @@ fill-spec =
     μ-loop
     open-chart-requires
     loop-holds
+    put-column-requires
     add-m
-    slice-aggregate-write-column
-    write-column-requires
+    slice-aggregate-column
+    column-requires
     loop-less
     loop-again
     same-length

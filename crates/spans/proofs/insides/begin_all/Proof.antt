@@ -9,7 +9,7 @@ use Rattle.spans.proofs.insides.begin_all.Statement.{statement}
 use Rattle.spans.proofs.insides.begin_all.Tie as tie
 
 abbrev Inv-loop : tie.InvT-loop
-Inv-loop p rules w i n ends starts reach live lasts insides₀ r₀ insides r = 
+Inv-loop p rules w i n ends starts reach live lasts insides₀ r₀ insides r =
     (r ≤ rules) × AllTo (fitsAt w) p rules i n ends starts reach live lasts r insides
 
 abbrev μ-loop : tie.MeasureT-loop
@@ -22,7 +22,7 @@ begins-near-requires : tie.Need-begins-near-requires Inv-loop μ-loop
 begins-near-requires c κs = (omega arith, omega arith, omega arith)
 
 loop-again : tie.Need-loop-again Inv-loop μ-loop
-loop-again c = 
+loop-again c =
     (omega arith, all-step _ _ _ _ _ _ _ _ _ _ _ _ _ (omega arith) (c .begins-near .ensures) (c .before .before .before .before .loop .inv .1))
 
 returns : tie.Need-returns Inv-loop μ-loop
