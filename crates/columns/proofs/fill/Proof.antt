@@ -1,57 +1,43 @@
+-- `columns::fill` meets its contract. The loop's invariant: the bytes passed are taken, and the columns before them told.
+-- The measure is what is left of the input. Assumes nothing.
 use borrow.Author.Needs.{needs}
+use native.Mathlib.Omega.{arith}
+use mathlib.Core.Path.{refl, sym, _∙_}
+use Prim.Native.Nat.{_-_}
+use lib.ListN.{length}
+use lib.Seq.{length-take-le}
+use Rattle.columns.proofs.Filling.{fill-done, told-next, FillTo, fill-zero, fill-go}
 use Rattle.columns.proofs.fill.Statement.{statement}
 use Rattle.columns.proofs.fill.Tie as tie
-use Rattle.columns.proofs.fill.Reads as reads
-use Rattle.columns.proofs.fill.Lts as lts
-use Rattle.columns.proofs.column.Reads as column-reads
-use Rattle.columns.proofs.open_chart.Reads as open-chart-reads
-use Rattle.spans.proofs.ends.put_column.Reads as put-column-reads
 
 abbrev Inv-loop : tie.InvT-loop
-Inv-loop p w chart₀ ends₀ reach₀ m₀ chart ends reach m = ?
+Inv-loop p w chart₀ ends₀ reach₀ m₀ chart ends reach m = FillTo p w chart₀ m chart ends reach
 
 abbrev μ-loop : tie.MeasureT-loop
-μ-loop p w chart₀ ends₀ reach₀ m₀ chart ends reach m = ?
+μ-loop p w chart₀ ends₀ reach₀ m₀ chart ends reach m = length w - m
 
--- src/lib.rt:174:5
-open-chart-requires : tie.Need-open-chart-requires Inv-loop μ-loop
-open-chart-requires c κs = search needs
-
--- src/lib.rt:178:5
 loop-holds : tie.Need-loop-holds Inv-loop μ-loop
-loop-holds c = search needs
+loop-holds c = fill-zero _ _ _
 
--- src/lib.rt:179:9
 put-column-requires : tie.Need-put-column-requires Inv-loop μ-loop
-put-column-requires c κs = search needs
+put-column-requires c κs = (omega arith, omega (arith, c .before .before .before .before .loop .inv .long), search needs, search needs)
 
--- src/lib.rt:180:9
-add-m : tie.Need-add-m Inv-loop μ-loop
-add-m c = search needs
-
--- src/lib.rt:181:19
 slice-aggregate-column : tie.Need-slice-aggregate-column Inv-loop μ-loop
-slice-aggregate-column c = search needs
+slice-aggregate-column c = sym (length-take-le _ _ (omega arith))
 
--- src/lib.rt:181:9
 column-requires : tie.Need-column-requires Inv-loop μ-loop
-column-requires c κs = search needs
+column-requires c κs = (omega arith, omega arith, search told-next)
 
--- src/lib.rt:178:5
-loop-less : tie.Need-loop-less Inv-loop μ-loop
-loop-less c = search needs
-
--- src/lib.rt:178:5
 loop-again : tie.Need-loop-again Inv-loop μ-loop
-loop-again c = search needs
+loop-again c = search fill-go
 
--- src/lib.rt:170:1
 same-length : tie.Need-same-length Inv-loop μ-loop
-same-length c = search needs
+same-length c = c .before .loop .inv .long ∙ c .before .before .before .before .open-chart .kept .1 .0
 
--- src/lib.rt:170:1
 returns : tie.Need-returns Inv-loop μ-loop
-returns c = search needs
+returns c = 
+    fill-done _ (c .before .before .before .before .before .before .before .before .args .w .now) _ (c .before .loop .m) _ _ (omega arith)
+    (c .before .before .before .before .open-chart .ensures) (c .before .loop .inv .taken)
 
 pub fill-spec : {M : Type 1} → statement M
 fill-spec =
@@ -59,13 +45,13 @@ fill-spec =
     (tie.spec
     Inv-loop
     μ-loop
-    open-chart-requires
+    (λ c κs. search needs)
     loop-holds
     put-column-requires
-    add-m
+    (λ c. omega arith)
     slice-aggregate-column
     column-requires
-    loop-less
+    (λ c. omega arith)
     loop-again
     same-length
     returns)
