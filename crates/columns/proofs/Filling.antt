@@ -16,7 +16,7 @@ use Rattle.chart.proofs.Written.{written-length}
 use Rattle.spans.specs.Spans.{endsSize}
 use Rattle.spans.specs.Ends.{EndsTo, ColumnsPut}
 use Rattle.columns.specs.Columns.{columnOf}
-use Rattle.columns.proofs.Writing.{ends-zero, told-on}
+use Rattle.columns.proofs.Telling.{ends-zero, told-on}
 
 -- a store at the end of what was stored so far
 pub set-next : (pre l : List ℕ) (i b : ℕ) → length pre ≡ i → i < length l → set (pre ++ drop i l) i b ≡ (pre ++ (b ∷ [])) ++ drop (i + 1) l
@@ -77,7 +77,8 @@ pub told-found : (chart : List ℕ) (n : ℕ) (ends reach : List ℕ) → Column
     → EndsTo chart n 0 ends reach
 told-found chart n ends reach put = put .step (ends-zero chart)
 
-pub told-next : (chart : List ℕ) (m m' : ℕ) (ends reach ends' reach' : List ℕ) → m' ≡ m + 1 → ColumnsPut chart m (m + 1) ends reach ends' reach'
+pub told-next : (chart : List ℕ) (m m' : ℕ) (ends reach ends' reach' : List ℕ) → m' ≡ m + 1
+    → ColumnsPut chart m (m + 1) ends reach ends' reach'
     → EndsTo chart m 0 ends reach → EndsTo chart m' 0 ends' reach'
 told-next chart m m' ends reach ends' reach' e put to = subst (λ (x : ℕ). EndsTo chart x 0 ends' reach') (sym e) (put .step to)
 

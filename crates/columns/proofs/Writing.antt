@@ -3,7 +3,7 @@
 use Prim.Native.Nat.{ℕ, zero, suc, _+_, _*_, _-_, _^_, _≤_, _<_}
 use mathlib.Core.Bool.{true, false}
 use mathlib.Core.List.{List}
-use mathlib.Core.Logic.{_≢_, inl, inr}
+use mathlib.Core.Logic.{_≢_, inl}
 use mathlib.Core.Path.{_≡_, refl, sym, ap, _∙_, subst}
 use native.Mathlib.Decide.{ℕ-discrete}
 use native.Mathlib.Omega.{arith}
@@ -19,8 +19,8 @@ use Rattle.chart.proofs.Written.{index-inj, written-length, written-other, writ
 use Rattle.packed.specs.Packed.{Used, cfgIn}
 use Rattle.cells.specs.Flags.{Sets, Cutting}
 use Rattle.cells.specs.Passes.{Settled}
-use Rattle.spans.specs.Spans.{endsSize, endsOf, startsSize, EndsTold, Known, Near, AllBegin}
-use Rattle.spans.specs.Ends.{ToldTo, EndsTo, StartsFrom, FlagsPut}
+use Rattle.spans.specs.Spans.{endsOf, startsSize, EndsTold, Known, Near, AllBegin}
+use Rattle.spans.specs.Ends.{EndsTo, StartsFrom, FlagsPut}
 use Rattle.looks.specs.Looks.{Givens, KindsAll, Closed, EmptyClosed}
 use Rattle.columns.specs.Columns.{columnOf, Around, WrittenFrom, CellWritten, LowerWritten}
 use Rattle.columns.proofs.Cell.{column-closed-at, cell-is, flags-are}
@@ -111,13 +111,13 @@ pub cell-written : (p w : List ℕ) (rules n i v reached : ℕ) (ends reach last
     → Closed p rules i n (cell chart i i) insides lasts kinds v flags
     → FlagsPut p rules i flags starts live starts' live'
     → CellWritten p w rules n i ends reach lasts chart starts live (set chart (index i n) v) starts' live'
-cell-written p w rules n i v reached ends reach lasts kinds insides flags chart starts live starts' live' small few used order word e depends
-    inner closed put = record {
+cell-written p w rules n i v reached ends reach lasts kinds insides flags chart starts live starts' live' small few used order
+    word e depends inner closed put = record {
       long = length-set chart (index i n) v;
-  room = put .long;
-  live-room = put .live-long;
-  step = λ found room around j next from. step p w found rules n small i j v reached ends reach lasts kinds insides flags chart starts live
-          starts' live' room few used order next word e around from depends inner closed put;
+      room = put .long;
+      live-room = put .live-long;
+      step = λ found room around j next from. step p w found rules n small i j v reached ends reach lasts kinds insides flags chart
+          starts live starts' live' room few used order next word e around from depends inner closed put;
     }
 
 -- ---- where a column begins and ends
@@ -127,7 +127,7 @@ zero-word zero y = refl
 zero-word (suc m) zero = refl
 zero-word (suc m) (suc y) = zero-word m y
 
-zero-has : (k x j : ℕ) → has j (getD (replicate k 0) x 0) ≡ true → ⊥
+pub zero-has : (k x j : ℕ) → has j (getD (replicate k 0) x 0) ≡ true → ⊥
 zero-has k x j h = true-false h (ap (has j) (zero-word k x) ∙ has-empty j)
 
 module _ (p w found : List ℕ) (rules n own : ℕ) (lasts : List ℕ) (small : n ≤ 64) (room : cells ≤ length found) (used : Used p rules)
@@ -167,8 +167,8 @@ module _ (p w found : List ℕ) (rules n own : ℕ) (lasts : List ℕ) (small : 
   pub column-start-zero : WrittenFrom p w found rules n n (set found (index n n) own) (replicate startsSize 0) (replicate 128 0)
   column-start-zero = column-start startsSize 128 refl refl
 
-pub column-done : (p w found : List ℕ) (rules n i : ℕ) (chart starts live : List ℕ) → i ≤ 0 → WrittenFrom p w found rules n i chart starts live
-    → chart ≡ columnOf p w n found
+pub column-done : (p w found : List ℕ) (rules n i : ℕ) (chart starts live : List ℕ) → i ≤ 0
+    → WrittenFrom p w found rules n i chart starts live → chart ≡ columnOf p w n found
 column-done p w found rules n i chart starts live h from = ext-getD 0 chart (columnOf p w n found)
     (from .long ∙ sym (written-length (cfgIn 0 p) (fitsAt w) n found)) (λ x _. from .cells x (λ a l. absurd (omega arith)))
 
@@ -217,40 +217,6 @@ pub column-length : (p w : List ℕ) (rules n own : ℕ) (ends reach lasts chart
 column-length p w rules n own ends reach lasts chart chart' small room used word closed to lower =
     ap length (column-written p w rules n own ends reach lasts chart chart' small room used word closed to lower)
     ∙ written-length (cfgIn 0 p) (fitsAt w) n chart
-
--- ---- the ends
-
-ends-none : (chart : List ℕ) (k l : ℕ) → EndsTo chart 0 0 (replicate k 0) (replicate l 0)
-ends-none chart k l =
-    record {
-      sound = λ a j c _ _ x. absurd (zero-has k (32 * a + j) c x);
-      all = λ a j c _ told x. absurd (nothing a c told);
-      high = λ a j c _ told. absurd (nothing a c told);
-      reaches = λ a j c told x. absurd (nothing a c told);
-    }
-  where
-    nothing : (a c : ℕ) → ToldTo 0 0 a c → ⊥
-    nothing a c (l, inl h) = omega arith
-    nothing a c (l, inr h) = omega (arith, h .1)
-
-pub ends-zero : (chart : List ℕ) → EndsTo chart 0 0 (replicate endsSize 0) (replicate 64 0)
-ends-zero chart = ends-none chart endsSize 64
-
--- a column written changes nothing in the columns before it
-pub told-on : (p w chart chart' : List ℕ) (n : ℕ) (ends reach : List ℕ) → n ≤ 64 → chart' ≡ columnOf p w n chart → EndsTo chart n 0 ends reach
-    → EndsTo chart' n 0 ends reach
-told-on p w chart chart' n ends reach small e to =
-    record {
-      sound = λ a k c h l x. let u = to .sound a k c h l x in (u .0, ap (has k) (same a c (u .0)) ∙ u .1);
-      all = λ a k c h told x. to .all a k c h told (ap (has k) (sym (same a c told)) ∙ x);
-      high = λ a k c h told. ap (has k) (same a c told) ∙ to .high a k c h told;
-      reaches = λ a k c told x. to .reaches a k c told (ap (has k) (sym (same a c told)) ∙ x);
-    }
-  where
-    same : (a c : ℕ) → ToldTo n 0 a c → cell chart' a c ≡ cell chart a c
-    same a c (l, inl h) = ap (λ (x : List ℕ). cell x a c) e
-        ∙ written-cell-other (cfgIn 0 p) (fitsAt w) n chart small a c (omega arith) (λ d. absurd (omega arith))
-    same a c (l, inr h) = absurd (omega (arith, h .1))
 
 -- a cell of the first row stands at its end
 pub cell-first-row : (chart : List ℕ) (n : ℕ) → getD chart n 0 ≡ cell chart 0 n

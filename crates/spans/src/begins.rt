@@ -10,7 +10,7 @@ ghost use Prim.Native.Nat.{ℕ, _<_, _≤_};
 ghost use Rattle.chart.specs.Cell.{fitsAt};
 ghost use Rattle.packed.specs.Packed.{isNonterminalIn, countIn};
 ghost use Rattle.cells.specs.Flags.{Fit};
-ghost use Rattle.spans.specs.Spans.{CanBegin, Follows, BeginsAt, Begins, BeginsNear};
+ghost use Rattle.spans.specs.Spans.{Follows, BeginsAt, Begins};
 
 // Whether the places q.. of rule r cut the span from a to n, the starts from j on being told.
 fn follows(p: &Packed, r: usize, q: usize, a: usize, n: usize, starts: &Starts, last: u32) -> bool
@@ -92,7 +92,7 @@ fn begins_at(
 }
 
 // The places of rule r at which such a cut of the span from i to n begins.
-fn begins(
+pub fn begins(
     p: &Packed,
     r: usize,
     w: &[u8],
@@ -113,40 +113,4 @@ fn begins(
         q += 1;
     }
     v
-}
-
-// Whether a rule can have an inner cut of the span from i to n at all.
-fn can_begin(i: usize, n: usize, reach: u64, live: u64) -> bool
-    requires { ⌜ (i < n) × (n ≤ 64) ⌝ }
-    ensures { λ f. ⌜ CanBegin i n reach live f ⌝ }
-{
-    if i + 1 < n {
-        return sets::wide::meets(sets::wide::with(reach, i + 1), live);
-    }
-    true
-}
-
-// The places of rule r at which such a cut begins, by the sets of all ends and of all starts too: a rule that can have none is passed over.
-pub fn begins_near(
-    p: &Packed,
-    r: usize,
-    w: &[u8],
-    i: usize,
-    n: usize,
-    ends: &Ends,
-    starts: &Starts,
-    reach: u64,
-    live: u64,
-    last: u32,
-) -> u32
-    requires { ⌜ (r < 128) × (i < n) × (n ≤ 64) ⌝ }
-    ensures { λ v.
-        ⌜ BeginsNear (fitsAt (now (w .entry))) (now (p .entry)) r i n
-        (now (ends .entry)) (now (starts .entry)) reach live last v ⌝ }
-{
-    if can_begin(i, n, reach, live) {
-        begins(p, r, w, i, n, ends, starts, last)
-    } else {
-        0
-    }
 }

@@ -35,7 +35,7 @@ same-length : tie.Need-same-length Inv-loop μ-loop
 same-length c = c .before .loop .inv .long ∙ c .before .before .before .before .open-chart .kept .1 .0
 
 returns : tie.Need-returns Inv-loop μ-loop
-returns c = 
+returns c =
     fill-done _ (c .before .before .before .before .before .before .before .before .args .w .now) _ (c .before .loop .m) _ _ (omega arith)
     (c .before .before .before .before .open-chart .ensures) (c .before .loop .inv .taken)
 

@@ -1,9 +1,9 @@
--- `spans::begins::can_begin` meets its contract.
+-- `spans::insides::can_begin` meets its contract.
 -- Assumes nothing.
 use borrow.Author.Needs.{needs}
 use Rattle.spans.proofs.Rules.{can-meet, can-always}
-use Rattle.spans.proofs.begins.can_begin.Statement.{statement}
-use Rattle.spans.proofs.begins.can_begin.Tie as tie
+use Rattle.spans.proofs.insides.can_begin.Statement.{statement}
+use Rattle.spans.proofs.insides.can_begin.Tie as tie
 
 returns : tie.Need-returns
 returns c = search can-meet

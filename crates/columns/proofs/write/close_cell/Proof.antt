@@ -1,9 +1,9 @@
--- `columns::close_cell` meets its contract.
+-- `columns::write::close_cell` meets its contract.
 -- Assumes nothing.
 use borrow.Author.Needs.{needs}
 use Rattle.columns.proofs.Writing.{cell-written}
-use Rattle.columns.proofs.close_cell.Statement.{statement}
-use Rattle.columns.proofs.close_cell.Tie as tie
+use Rattle.columns.proofs.write.close_cell.Statement.{statement}
+use Rattle.columns.proofs.write.close_cell.Tie as tie
 
 returns : tie.Need-returns
 returns c = search cell-written

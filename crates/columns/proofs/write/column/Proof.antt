@@ -1,9 +1,9 @@
--- `columns::column` meets its contract.
+-- `columns::write::column` meets its contract.
 -- Assumes nothing.
 use borrow.Author.Needs.{needs}
 use Rattle.columns.proofs.Writing.{column-written, column-length}
-use Rattle.columns.proofs.column.Statement.{statement}
-use Rattle.columns.proofs.column.Tie as tie
+use Rattle.columns.proofs.write.column.Statement.{statement}
+use Rattle.columns.proofs.write.column.Tie as tie
 
 same-length : tie.Need-same-length
 same-length c = search column-length

@@ -1,9 +1,9 @@
--- `spans::begins::begins_near` meets its contract.
+-- `spans::insides::begins_near` meets its contract.
 -- Assumes nothing.
 use borrow.Author.Needs.{needs}
 use Rattle.spans.proofs.Rules.{near-looked, near-passed}
-use Rattle.spans.proofs.begins.begins_near.Statement.{statement}
-use Rattle.spans.proofs.begins.begins_near.Tie as tie
+use Rattle.spans.proofs.insides.begins_near.Statement.{statement}
+use Rattle.spans.proofs.insides.begins_near.Tie as tie
 
 returns : tie.Need-returns
 returns c = search near-looked
