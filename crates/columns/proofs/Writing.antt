@@ -17,7 +17,7 @@ use Rattle.chart.specs.Cell.{cell, index, fitsAt}
 use Rattle.chart.proofs.Cut.{bool-ext}
 use Rattle.chart.proofs.Written.{index-inj, written-length, written-other, written-cell-other}
 use Rattle.packed.specs.Packed.{Used, cfgIn}
-use Rattle.cells.specs.Flags.{Sets, Cutting}
+use Rattle.cells.specs.Flags.{Sets}
 use Rattle.cells.specs.Passes.{Settled}
 use Rattle.spans.specs.Spans.{endsOf, startsSize, EndsTold, Known, Near, AllBegin}
 use Rattle.spans.specs.Ends.{EndsTo, StartsFrom, FlagsPut}

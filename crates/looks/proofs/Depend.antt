@@ -2,13 +2,12 @@
 -- cuts has no flags where the set has none of these.
 -- Assumes nothing.
 use Prim.Native.Nat.{ℕ, zero, suc, _+_, _-_, _^_, _≤_, _<_}
-use mathlib.Core.Bool.{Bool, true, false}
+use mathlib.Core.Bool.{true, false}
 use mathlib.Core.List.{List}
-use mathlib.Core.Path.{_≡_, refl, sym, ap, _∙_, subst}
+use mathlib.Core.Path.{_≡_, sym, ap, _∙_}
 use native.Mathlib.Decide.{decLt}
 use native.Mathlib.Numerals.{add-one}
 use native.Mathlib.Omega.{arith}
-use lib.ListN.{length, getD}
 use borrow.Author.Tests.{ne-eqb}
 use Rattle.sets.specs.Set.{has}
 use Rattle.sets.proofs.Laws.{has-empty, has-high}
@@ -18,10 +17,10 @@ use Rattle.chart.proofs.Cut.{bool-ext}
 use Rattle.packed.specs.Packed.{countIn, symbolIn}
 use Rattle.packed.proofs.Laws.{places-step, places-end}
 use Rattle.grammar.proofs.All.{true-false}
-use Rattle.cells.specs.Flags.{Fit, Sets, tail, Cutting, Inner, owned}
+use Rattle.cells.specs.Flags.{Fit, Sets, tail, Cutting, owned}
 use Rattle.cells.proofs.First.{FirstCut, first-inner, first-empty, first-whole, cuts-first, first-cuts}
 use Rattle.cells.proofs.Owned.{owned-here, owned-end, cuts-owned, inner-to, inner-from}
-use Rattle.looks.specs.Looks.{Kinds, Given, Agrees, Exact}
+use Rattle.looks.specs.Looks.{Given, Agrees, Exact}
 
 -- no places cut no span that is not empty
 none-cuts : (fit : Fit) (sets : Sets) (p : List ℕ) (r q a n : ℕ) → countIn p r ≤ q → a < n → cuts fit sets (tail p r q) a n ≡ false

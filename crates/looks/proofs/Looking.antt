@@ -1,22 +1,20 @@
 -- One rule, looked at or passed over: what the steps of the code give.
 -- Assumes nothing.
-use Prim.Native.Nat.{ℕ, _+_, _^_, _≤_, _<_}
+use Prim.Native.Nat.{ℕ, _^_, _<_}
 use mathlib.Core.Bool.{Bool, true, false, cond, _&&_}
 use mathlib.Core.List.{List}
-use mathlib.Core.Logic.{_≢_}
-use mathlib.Core.Path.{_≡_, refl, sym, ap, ap₂, _∙_, subst}
+use mathlib.Core.Path.{_≡_, refl, sym, ap, _∙_, subst}
 use native.Mathlib.Omega.{arith}
-use native.Mathlib.Decide.{decLt}
 use lib.Dec.{ltb}
 use lib.ListN.{length, getD, set, length-set}
 use lib.Seq.{getD-set-same, getD-set-other}
-use borrow.Author.Tests.{lt-ltb, ltb-true}
+use borrow.Author.Tests.{ltb-true}
 use Rattle.sets.specs.Set.{has, insert}
 use Rattle.sets.specs.Pairs.{Common}
 use Rattle.sets.proofs.Laws.{has-empty, insert-old}
 use Rattle.packed.specs.Packed.{leftIn}
 use Rattle.grammar.proofs.All.{and-parts, true-false}
-use Rattle.cells.specs.Flags.{Fit, Sets, Cutting, owned}
+use Rattle.cells.specs.Flags.{Fit, Sets, owned}
 use Rattle.cells.specs.Passes.{RuleMask, addedIn}
 use Rattle.cells.proofs.Owned.{owned-here, owned-end, cutting-owned, inner-owned}
 use Rattle.looks.specs.Looks.{Given, Agrees, Exact, Put, Again}

@@ -1,7 +1,6 @@
 -- Passes over the empty span at n: what the steps of the code give.
 -- Assumes nothing.
-use Prim.Native.Nat.{ℕ, _+_, _^_, _≤_, _<_}
-use mathlib.Core.Bool.{Bool, true}
+use Prim.Native.Nat.{ℕ, _+_, _≤_, _<_}
 use mathlib.Core.List.{List}
 use mathlib.Core.Logic.{_≢_}
 use mathlib.Core.Path.{_≡_, refl, sym, ap, _∙_, subst}
@@ -9,15 +8,14 @@ use native.Mathlib.Decide.{ℕ-discrete}
 use native.Mathlib.Omega.{arith}
 use lib.ListN.{length, getD, set, length-set}
 use lib.Seq.{getD-set-same, getD-set-other}
-use Rattle.sets.specs.Set.{has}
 use Rattle.sets.proofs.Laws.{has-empty}
 use Rattle.cfg.specs.Grammar.{Symbol}
 use Rattle.chart.specs.Cell.{cuts}
 use Rattle.chart.proofs.Rounds.{sub-empty}
-use Rattle.packed.specs.Packed.{leftIn, placesIn, symbolIn}
+use Rattle.packed.specs.Packed.{placesIn, symbolIn}
 use Rattle.packed.proofs.Laws.{places-start}
 use Rattle.grammar.proofs.All.{true-false}
-use Rattle.cells.specs.Flags.{Fit, Sets, Cutting, Inner, InnerCut, inner-leaf, inner-node, owned}
+use Rattle.cells.specs.Flags.{Fit, Sets, Cutting, InnerCut, inner-leaf, inner-node, owned}
 use Rattle.cells.specs.Passes.{Within, ClosedAt, Settled, RuleMask, addedIn}
 use Rattle.cells.proofs.Owned.{owned-here, owned-mono}
 use Rattle.cells.proofs.Passing.{added-le, added-within, added-same}

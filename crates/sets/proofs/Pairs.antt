@@ -1,6 +1,6 @@
 -- The common members of two sets, a member of a set that is not empty, and a set without one of its members.
 -- Those that speak of the width are proved for every width n. Assumes nothing.
-use Prim.Native.Nat.{ℕ, zero, suc, _+_, _*_, _-_, _/_, _%_, _^_, _≤_, _<_}
+use Prim.Native.Nat.{ℕ, zero, suc, _-_, _/_, _%_, _^_, _≤_, _<_}
 use mathlib.Core.Bool.{Bool, true, false, _&&_, not}
 use mathlib.Core.Logic.{_≢_}
 use mathlib.Core.Path.{_≡_, refl, sym, ap, ap₂, _∙_}
@@ -10,7 +10,7 @@ use lib.Bits.{bitAnd, and-step, and-lt}
 use lib.Count.{under, trailingZeros}
 use lib.Dec.{eqb}
 use borrow.Author.Tests.{eq-eqb, ne-eqb}
-use Rattle.sets.specs.Set.{has, insert}
+use Rattle.sets.specs.Set.{has}
 use Rattle.sets.specs.Pairs.{Meeting, Lowest, Without}
 use Rattle.sets.proofs.Halving.{has-zero, has-suc, has-zero-true, has-zero-false, insert-fresh}
 use Rattle.sets.proofs.Laws.{has-empty}

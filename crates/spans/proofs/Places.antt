@@ -6,9 +6,8 @@ use mathlib.Core.List.{List}
 use mathlib.Core.Path.{_≡_, refl, sym, ap, _∙_, subst}
 use native.Mathlib.Numerals.{add-one}
 use native.Mathlib.Omega.{arith}
-use lib.Dec.{eqb}
 use borrow.Author.Tests.{ne-eqb}
-use Rattle.sets.specs.Set.{has, insert}
+use Rattle.sets.specs.Set.{has}
 use Rattle.sets.specs.Pairs.{Meeting}
 use Rattle.cfg.specs.Grammar.{Symbol, nonterminal, terminal, Terminal}
 use Rattle.chart.specs.Cell.{cuts, fitsAt}
@@ -17,8 +16,8 @@ use Rattle.packed.specs.Packed.{countIn, isNonterminalIn, valueIn, terminalIn, 
 use Rattle.packed.proofs.Fitting.{symbol-nonterminal, symbol-terminal}
 use Rattle.packed.proofs.Laws.{places-end}
 use Rattle.grammar.proofs.All.{true-false}
-use Rattle.cells.specs.Flags.{Fit, Sets, tail, Cutting, inner-leaf, inner-node, InnerAt}
-use Rattle.spans.specs.Spans.{endsOf, startsOf, StartsTold, Known, Follows, BeginsAt}
+use Rattle.cells.specs.Flags.{Fit, Sets, tail, inner-leaf, inner-node, InnerAt}
+use Rattle.spans.specs.Spans.{endsOf, startsOf, Known, Follows, BeginsAt}
 
 -- no places cut no span that is not empty
 pub none-cuts : (fit : Fit) (sets : Sets) (p : List ℕ) (r q a n : ℕ) → countIn p r ≤ q → a < n → cuts fit sets (tail p r q) a n ≡ false

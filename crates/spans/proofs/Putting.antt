@@ -1,22 +1,20 @@
 -- Adding the ends of one cell and of one column: what the steps of the code give.
 -- Assumes nothing.
-use Prim.Native.Nat.{ℕ, suc, _+_, _*_, _^_, _≤_, _<_}
-use mathlib.Core.Bool.{Bool, true, false}
+use Prim.Native.Nat.{ℕ, _+_, _*_, _^_, _<_}
+use mathlib.Core.Bool.{true}
 use mathlib.Core.List.{List}
-use mathlib.Core.Logic.{_≢_, _⊎_, inl, inr}
-use mathlib.Core.Path.{_≡_, refl, sym, ap, _∙_, subst}
+use mathlib.Core.Logic.{_⊎_, inl, inr}
+use mathlib.Core.Path.{_≡_, sym, ap, _∙_, subst}
 use native.Mathlib.Decide.{ℕ-discrete}
 use native.Mathlib.Omega.{arith}
 use lib.ListN.{length, getD, set, length-set}
-use lib.Seq.{getD-set-same, getD-set-other}
 use Rattle.sets.specs.Set.{has, insert}
 use Rattle.sets.specs.Pairs.{Lowest, Without}
-use Rattle.sets.proofs.Laws.{has-empty, has-insert, has-insert-same, has-insert-other, insert-new, has-high}
-use Rattle.chart.specs.Cell.{cell}
+use Rattle.sets.proofs.Laws.{has-empty, has-insert, has-insert-other, insert-new, has-high}
 use Rattle.grammar.proofs.All.{true-false}
 use Rattle.spans.proofs.Rows.{row-keeps, row-has, row-sound}
 use Rattle.spans.specs.Spans.{endsSize, endsOf}
-use Rattle.spans.specs.Ends.{EndPut, CellPut, ToldTo, EndsTo, ColumnsPut}
+use Rattle.spans.specs.Ends.{EndPut, CellPut}
 
 -- ---- the members of a word
 

@@ -16,7 +16,7 @@ use Rattle.sets.proofs.Laws.{has-empty, has-insert, has-insert-same}
 use Rattle.chart.specs.Cell.{cuts}
 use Rattle.packed.specs.Packed.{countIn}
 use Rattle.grammar.proofs.All.{true-false}
-use Rattle.cells.specs.Flags.{Fit, Sets, tail, inner-leaf, inner-node, InnerAt, Inner}
+use Rattle.cells.specs.Flags.{Fit, Sets, tail, inner-leaf, inner-node, InnerAt}
 use Rattle.cells.proofs.Bits.{has-if-same, has-if-other}
 use Rattle.spans.specs.Spans.{Known, Near, CanBegin, BeginsAt, Begins, BeginsNear, AllBegin}
 use Rattle.spans.proofs.Places.{none-cuts}

@@ -1,7 +1,7 @@
 -- `sets::without` meets its contract: the member's power of two is taken away. Assumes nothing.
-use mathlib.Core.Path.{_≡_, ap}
+use mathlib.Core.Path.{ap}
 use native.Mathlib.Omega.{arith}
-use Prim.Native.Nat.{_*_, _-_, _%_, _^_}
+use Prim.Native.Nat.{_-_}
 use borrow.Author.Needs.{needs}
 use Rattle.sets.proofs.Machine.{shift-one}
 use Rattle.sets.proofs.Pairs.{taken-away, without-is}

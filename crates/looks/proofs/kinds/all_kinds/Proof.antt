@@ -1,6 +1,5 @@
 -- `looks::kinds::all_kinds` meets its contract. The loop's invariant: those of the rules passed.
 -- The measure is what is left of the rules. Assumes nothing.
-use borrow.Author.Needs.{needs}
 use native.Mathlib.Omega.{arith}
 use Prim.Native.Nat.{_≤_, _-_}
 use Rattle.looks.proofs.Gather.{AllTo, all-start, all-step, all-done}

@@ -1,7 +1,6 @@
 -- `spans::ends::put_members` meets its contract. The loop's invariant: the members taken out of the word are done.
 -- The measure is what is left of the word. Assumes nothing.
 use borrow.Author.Needs.{needs}
-use native.Mathlib.Omega.{arith}
 use Rattle.spans.proofs.Putting.{PutTo, put-start, put-step, put-done, rest-less}
 use Rattle.spans.proofs.ends.put_members.Statement.{statement}
 use Rattle.spans.proofs.ends.put_members.Tie as tie

@@ -1,6 +1,5 @@
 -- `spans::insides::begin_all` meets its contract. The loop's invariant: the words of the rules passed are right.
 -- The measure is what is left of the rules. Assumes nothing.
-use borrow.Author.Needs.{needs}
 use native.Mathlib.Omega.{arith}
 use Prim.Native.Nat.{_≤_, _-_}
 use Rattle.chart.specs.Cell.{fitsAt}
