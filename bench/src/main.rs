@@ -6,6 +6,7 @@ mod calls;
 mod firsts;
 mod nexts;
 mod program;
+mod spans;
 mod timing;
 
 use bench::{books, plain, random};
@@ -382,7 +383,7 @@ fn sweep(count: usize) {
 fn main() {
     let count = std::env::args()
         .nth(1)
-        .map_or(200, |n| n.parse().expect("usage: bench [BOOKS IN THE SWEEP [first|next|program]]"));
+        .map_or(200, |n| n.parse().expect("usage: bench [BOOKS IN THE SWEEP [first|next|program|spans]]"));
     println!(
         "The proved library (C functions of libfilbozseg.a) beside the same algorithms in plain Rust. Load average {}.",
         load_average()
@@ -399,11 +400,15 @@ fn main() {
     if only.as_deref() == Some("program") {
         return program::program();
     }
+    if only.as_deref() == Some("spans") {
+        return spans::spans(&cases());
+    }
     loads();
     println!("\nBOOKS of the fill, 64 marks each; results are equal on both sides");
     let list = cases();
     let worst = fills(&list);
     takes(&list[..2]);
+    spans::spans(&list);
     overheads(&list);
     checks();
     firsts::firsts(count / 10);

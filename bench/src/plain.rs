@@ -10,6 +10,7 @@ pub mod listing;
 pub mod loader;
 pub mod packed;
 pub mod recognizer;
+pub mod spans;
 pub mod tables;
 
 pub const RULES: usize = 128;

@@ -1,12 +1,11 @@
 -- Membership after an insertion that depends on a test; and tests.
 -- Assumes nothing.
 use Prim.Native.Nat.{ℕ}
-use mathlib.Core.Bool.{Bool, true, false, cond, _&&_, false≢true}
+use mathlib.Core.Bool.{Bool, true, false, cond, _&&_}
 use mathlib.Core.Logic.{_≢_}
 use mathlib.Core.Path.{_≡_, refl, sym, _∙_}
 use Rattle.sets.specs.Set.{has, insert}
 use Rattle.sets.proofs.Laws.{has-insert-same, has-insert-other}
-use Rattle.grammar.proofs.All.{and-both}
 
 module _ (q v : ℕ) where
   pub has-if-same : (f : Bool) → has q v ≡ false → has q (cond f (insert q v) v) ≡ f
@@ -16,9 +15,6 @@ module _ (q v : ℕ) where
   pub has-if-other : (f : Bool) (j : ℕ) → j ≢ q → has j (cond f (insert q v) v) ≡ has j v
   has-if-other true j d = has-insert-other j q v d
   has-if-other false j d = refl
-
-pub not-both : (a b : Bool) → (a && b) ≡ false → a ≡ true → b ≡ true → ⊥
-not-both a b e f g = false≢true (sym e ∙ and-both a b f g)
 
 -- ---- what the branches of the code give
 

@@ -2,7 +2,6 @@
 pub mod Bits
 pub mod Owned
 pub mod First
-pub mod Inner
 pub mod Mask
 pub mod Passing
 pub mod Rule

@@ -55,12 +55,12 @@ module _ (fit : Fit) (sets : Sets) (i n : ℕ) where
   pub cutting-owned : (p : List ℕ) (v r a w : ℕ) → i < a → a ≤ n → Cutting fit sets p r a n w → Cutting fit (owned sets i n v) p r a n w
   cutting-owned p v r a w l h c q m = c q m ∙ sym (cuts-owned v a l h (tail p r q))
 
-  inner-to : (v : ℕ) (s : Symbol) (rest : List Symbol) → InnerCut fit sets n s rest i → InnerCut fit (owned sets i n v) n s rest i
+  pub inner-to : (v : ℕ) (s : Symbol) (rest : List Symbol) → InnerCut fit sets n s rest i → InnerCut fit (owned sets i n v) n s rest i
   inner-to v s rest (inner-leaf t e l f c) = inner-leaf t e l f (cuts-owned v (suc i) (omega arith) l rest ∙ c)
   inner-to v s rest (inner-node k b e l m h c) =
       inner-node k b e l m (ap (has k) (owned-end sets i n v i b (omega arith)) ∙ h) (cuts-owned v b l (omega arith) rest ∙ c)
 
-  inner-from : (v : ℕ) (s : Symbol) (rest : List Symbol) → InnerCut fit (owned sets i n v) n s rest i → InnerCut fit sets n s rest i
+  pub inner-from : (v : ℕ) (s : Symbol) (rest : List Symbol) → InnerCut fit (owned sets i n v) n s rest i → InnerCut fit sets n s rest i
   inner-from v s rest (inner-leaf t e l f c) = inner-leaf t e l f (sym (cuts-owned v (suc i) (omega arith) l rest) ∙ c)
   inner-from v s rest (inner-node k b e l m h c) =
       inner-node k b e l m (ap (has k) (sym (owned-end sets i n v i b (omega arith))) ∙ h)

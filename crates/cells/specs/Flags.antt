@@ -1,17 +1,15 @@
 -- Flags: for a rule and a start, the set of the places from which on the rule's places cut the span up to the column's end. What such a
 -- word means, also where only the cuts are meant whose first piece lies inside the span.
 -- Assumes nothing.
-use Prim.Native.Nat.{ℕ, suc, _+_, _*_, _-_, _≤_, _<_}
+use Prim.Native.Nat.{ℕ, suc, _-_, _≤_, _<_}
 use mathlib.Core.Bool.{Bool, true, cond, _&&_}
 use mathlib.Core.List.{List}
 use mathlib.Core.Logic.{_↔_}
 use mathlib.Core.Path.{_≡_}
 use lib.Dec.{eqb}
-use lib.ListN.{length, getD}
-use Rattle.sizes.specs.Sizes.{maxRules, side}
 use Rattle.sets.specs.Set.{has}
 use Rattle.cfg.specs.Grammar.{Symbol, nonterminal, terminal, Terminal}
-use Rattle.chart.specs.Cell.{cell, cuts}
+use Rattle.chart.specs.Cell.{cuts}
 use Rattle.packed.specs.Packed.{countIn, symbolIn, placesFrom}
 
 -- which terminals fit the byte at a position
@@ -25,14 +23,6 @@ Sets = ℕ → ℕ → ℕ
 -- the symbols of the places of rule r from q on
 abbrev pub tail : List ℕ → ℕ → ℕ → List Symbol
 tail p r q = placesFrom p r q (countIn p r - q)
-
--- the words of the flags: one for each start and rule
-abbrev pub flagsSize : ℕ
-flagsSize = side * maxRules
-
--- the flags of rule r at the start a
-abbrev pub flag : List ℕ → ℕ → ℕ → ℕ
-flag flags a r = getD flags (maxRules * a + r) 0
 
 -- v has q exactly if the places q.. of rule r cut the span from a to n
 abbrev pub Cutting : Fit → Sets → List ℕ → ℕ → ℕ → ℕ → ℕ → Type 0
@@ -56,26 +46,3 @@ Inner fit sets p r a n v = (q : ℕ) → q < countIn p r → (has q v ≡ true) 
 -- the sets, but v for the span from i to n
 unfoldable pub owned : Sets → ℕ → ℕ → ℕ → Sets
 owned sets i n v a b = cond (eqb a i && eqb b n) v (sets a b)
-
--- what is known when the start i is looked at: the sets of the spans from i that end before n, and the flags of rule r at the later starts
-pub record Later (fit : Fit) (sets : Sets) (p : List ℕ) (r i n : ℕ) (chart flags : List ℕ) : Type 0 where
-  pub cells : (b : ℕ) → i < b → b < n → sets i b ≡ cell chart i b
-  pub rests : (b : ℕ) → i < b → b ≤ n → Cutting fit sets p r b n (flag flags b r)
-
--- f says whether k is in the set of a span from i to some b between i and n, at which the flags of rule r have q
-pub record Between (k r q i n : ℕ) (chart flags : List ℕ) (f : Bool) : Type 0 where
-  pub found : f ≡ true → (b : ℕ) × (i < b) × (b < n) × (has k (cell chart i b) ≡ true) × (has q (flag flags b r) ≡ true)
-  pub all : (b : ℕ) → i < b → b < n → has k (cell chart i b) ≡ true → has q (flag flags b r) ≡ true → f ≡ true
-
--- f says whether an inner cut begins at place q
-pub record InnerPlace (fit : Fit) (p : List ℕ) (r q i n : ℕ) (chart flags : List ℕ) (f : Bool) : Type 0 where
-  pub exact : (sets : Sets) → Later fit sets p r i n chart flags → (f ≡ true) ↔ InnerAt fit sets p r i n q
-
--- v is the set of the places at which an inner cut begins
-pub record InnerMask (fit : Fit) (p : List ℕ) (r i n : ℕ) (chart flags : List ℕ) (v : ℕ) : Type 0 where
-  pub exact : (sets : Sets) → Later fit sets p r i n chart flags → Inner fit sets p r i n v
-
--- the same of each rule below a number
-pub record InnerMasks (fit : Fit) (p : List ℕ) (rules i n : ℕ) (chart flags masks : List ℕ) : Type 0 where
-  pub long : length masks ≡ 128
-  pub each : (r : ℕ) → r < rules → InnerMask fit p r i n chart flags (getD masks r 0)

@@ -1,4 +1,3 @@
-// One cell of a column of the chart: where cuts of its span begin, and passes of the rules until nothing is added.
+// One rule at one cell of a column of the chart: from which of its places on it cuts the span.
 pub mod begins;
-pub mod flags;
 pub mod passes;

@@ -1,21 +1,11 @@
-// Passes of the rules over one cell of a column, until nothing is added.
+// One rule at one cell of a column: its flags, and the set with its left side.
 use super::begins::both;
 use super::begins::with_if;
-use super::flags::Flags;
 use packed::Packed;
 ghost use mathlib.Core.Path.{_≡_};
 ghost use Prim.Native.Nat.{_<_, _≤_};
-ghost use lib.ListN.{length};
 ghost use Rattle.packed.specs.Packed.{symbolIn};
-ghost use Rattle.cells.specs.Passes.{placeCuts, RuleMask, addedIn, Stepped, Passed, Closing};
-ghost use Rattle.cells.specs.Flags.{flagsSize};
-
-// The first word where i is before n, else the second.
-fn pick(i: usize, n: usize, before: u32, at: u32) -> u32
-    ensures { λ x. ⌜ (i < n → x ≡ before) × (n ≤ i → x ≡ at) ⌝ }
-{
-    if i < n { before } else { at }
-}
+ghost use Rattle.cells.specs.Passes.{placeCuts, RuleMask, addedIn};
 
 // Whether the places q.. of rule r cut a span, v having that of the places behind q.
 fn place_cuts(
@@ -45,7 +35,7 @@ fn place_cuts(
 }
 
 // The places q of rule r such that the places q.. cut the span from i to n.
-fn rule_mask(
+pub fn rule_mask(
     p: &Packed,
     r: usize,
     i: usize,
@@ -68,7 +58,7 @@ fn rule_mask(
 }
 
 // The set, with the left side of rule r in it if all its places cut the span.
-fn added(p: &Packed, r: usize, m: u32, own: u32) -> u32
+pub fn added(p: &Packed, r: usize, m: u32, own: u32) -> u32
     requires { ⌜ r < 128 ⌝ }
     ensures { λ v. ⌜ v ≡ addedIn (now (p .entry)) r m own ⌝ }
 {
@@ -79,71 +69,4 @@ fn added(p: &Packed, r: usize, m: u32, own: u32) -> u32
         }
     }
     own
-}
-
-// Rule r at the cell (i, n) of which `own` is known.
-fn rule_step(
-    p: &Packed,
-    r: usize,
-    i: usize,
-    n: usize,
-    own: u32,
-    start: u32,
-    inner: u32,
-    flags: &mut Flags,
-) -> u32
-    requires { ⌜ (r < 128) × (i ≤ n) × (n ≤ 64) × (length (now flags) ≡ flagsSize) ⌝ }
-    ensures { λ v. ⌜ Stepped (now (p .entry)) r i n own start inner (now (flags .entry)) (now (flags .exit)) v ⌝ }
-{
-    let empty = pick(i, n, start, own);
-    let last = pick(i, n, flags[sizes::MAX_RULES * n + r], 0);
-    let m = rule_mask(p, r, i, n, empty, own, inner, last);
-    flags[sizes::MAX_RULES * i + r] = m;
-    added(p, r, m, own)
-}
-
-// The rules below a number, once.
-fn pass(
-    p: &Packed,
-    rules: usize,
-    i: usize,
-    n: usize,
-    own: u32,
-    start: u32,
-    masks: &[u32; 128],
-    flags: &mut Flags,
-) -> u32
-    requires { ⌜ (rules ≤ 128) × (i ≤ n) × (n ≤ 64) × (length (now flags) ≡ flagsSize) ⌝ }
-    ensures { λ v. ⌜ Passed (now (p .entry)) rules i n own start (now (masks .entry)) (now (flags .entry)) rules v (now (flags .exit)) ⌝ }
-{
-    let mut v = own;
-    let mut r = 0;
-    while r < rules {
-        v = rule_step(p, r, i, n, v, start, masks[r], flags);
-        r += 1;
-    }
-    v
-}
-
-// These rules, until nothing is added.
-pub fn closure(
-    p: &Packed,
-    rules: usize,
-    i: usize,
-    n: usize,
-    start: u32,
-    masks: &[u32; 128],
-    flags: &mut Flags,
-) -> u32
-    requires { ⌜ (rules ≤ 128) × (i ≤ n) × (n ≤ 64) × (length (now flags) ≡ flagsSize) ⌝ }
-    ensures { λ v. ⌜ Closing (now (p .entry)) rules i n start (now (masks .entry)) (now (flags .entry)) v (now (flags .exit)) ⌝ }
-{
-    let mut own: u32 = 0;
-    loop {
-        let next = pass(p, rules, i, n, own, start, masks, flags);
-        if next == own {
-            return next;
-        }
-        own = next;
-    }
 }

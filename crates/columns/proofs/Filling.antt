@@ -12,7 +12,11 @@ use Rattle.chart.specs.Cell.{fitsAt}
 use Rattle.chart.specs.Column.{written, opened, extended, extendedBy, filled}
 use Rattle.chart.proofs.Filled.{extendedBy-append}
 use Rattle.packed.specs.Packed.{cfgIn}
+use Rattle.chart.proofs.Written.{written-length}
+use Rattle.spans.specs.Spans.{endsSize}
+use Rattle.spans.specs.Ends.{EndsTo, ColumnsPut}
 use Rattle.columns.specs.Columns.{columnOf}
+use Rattle.columns.proofs.Telling.{ends-zero, told-on}
 
 -- a store at the end of what was stored so far
 pub set-next : (pre l : List ℕ) (i b : ℕ) → length pre ≡ i → i < length l → set (pre ++ drop i l) i b ≡ (pre ++ (b ∷ [])) ++ drop (i + 1) l
@@ -66,3 +70,53 @@ module _ (p w start : List ℕ) where
   unfolding filled
   fill-done m chart found h e f = f ∙ ap (λ (x : List ℕ). extendedBy (cfgIn 0 p) [] x start) (take-all m w h)
       ∙ ap (extendedBy (cfgIn 0 p) [] w) e
+
+-- ---- the ends, while an input is taken
+
+pub told-found : (chart : List ℕ) (n : ℕ) (ends reach : List ℕ) → ColumnsPut chart 0 n (replicate endsSize 0) (replicate 64 0) ends reach
+    → EndsTo chart n 0 ends reach
+told-found chart n ends reach put = put .step (ends-zero chart)
+
+pub told-next : (chart : List ℕ) (m m' : ℕ) (ends reach ends' reach' : List ℕ) → m' ≡ m + 1
+    → ColumnsPut chart m (m + 1) ends reach ends' reach'
+    → EndsTo chart m 0 ends reach → EndsTo chart m' 0 ends' reach'
+told-next chart m m' ends reach ends' reach' e put to = subst (λ (x : ℕ). EndsTo chart x 0 ends' reach') (sym e) (put .step to)
+
+module _ (p w start : List ℕ) where
+  -- m bytes are taken, and the columns before m told
+  pub record FillTo (m : ℕ) (chart ends reach : List ℕ) : Type 0 where
+    pub within : m ≤ length w
+    pub long : length chart ≡ length start
+    pub taken : chart ≡ extendedBy (cfgIn 0 p) [] (take m w) start
+    pub told : EndsTo chart m 0 ends reach
+    pub ends-long : length ends ≡ endsSize
+    pub reach-long : length reach ≡ 64
+
+  fill-from : (k l : ℕ) → k ≡ endsSize → l ≡ 64 → EndsTo start 0 0 (replicate k 0) (replicate l 0)
+      → FillTo 0 start (replicate k 0) (replicate l 0)
+  fill-from k l e f to =
+      record {
+        within = omega arith;
+        long = refl;
+        taken = fill-start p start;
+        told = to;
+        ends-long = length-replicate {A = ℕ} k 0 ∙ e;
+        reach-long = length-replicate {A = ℕ} l 0 ∙ f;
+      }
+
+  pub fill-zero : FillTo 0 start (replicate endsSize 0) (replicate 64 0)
+  fill-zero = fill-from endsSize 64 refl refl (ends-zero start)
+
+  pub fill-go : (m m' : ℕ) (chart chart' ends reach ends' reach' : List ℕ) → m' ≡ m + 1 → m < length w → length w ≤ 64
+      → ColumnsPut chart m (m + 1) ends reach ends' reach' → chart' ≡ columnOf p (take m' w) m' chart → FillTo m chart ends reach
+      → FillTo m' chart' ends' reach'
+  fill-go m m' chart chart' ends reach ends' reach' e l small put f to =
+      record {
+        within = omega arith;
+        long = ap length f ∙ written-length (cfgIn 0 p) (fitsAt (take m' w)) m' chart ∙ to .long;
+        taken = fill-step p w start m m' chart chart' e l (to .taken) f;
+        told = told-on p (take m' w) chart chart' m' ends' reach' (omega arith) f
+            (told-next chart m m' ends reach ends' reach' e put (to .told));
+        ends-long = put .long;
+        reach-long = put .reach-long;
+      }

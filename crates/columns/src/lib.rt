@@ -1,9 +1,11 @@
 // The chart's columns: writing one, opening, filling for a whole input, and the bit "complete".
-use cells::begins::inner_masks;
-use cells::flags::FLAGS_SIZE;
-use cells::flags::Flags;
-use cells::passes::closure;
+mod write;
+
 use packed::Packed;
+use spans::ends::put_column;
+use spans::ends::put_columns;
+use spans::words::ENDS_SIZE;
+use write::column;
 ghost use mathlib.Core.List.{_++_};
 ghost use mathlib.Core.Path.{_≡_};
 ghost use Prim.Native.Nat.{_≤_};
@@ -12,44 +14,18 @@ ghost use Rattle.sizes.specs.Sizes.{cells};
 ghost use Rattle.sets.specs.Set.{has as inSet};
 ghost use Rattle.chart.specs.Cell.{cell};
 ghost use Rattle.chart.specs.Column.{opened, filled};
-ghost use Rattle.packed.specs.Packed.{Used, cfgIn};
-ghost use Rattle.cells.specs.Flags.{flagsSize};
-ghost use Rattle.columns.specs.Columns.{columnOf, CellWritten};
+ghost use Rattle.packed.specs.Packed.{cfgIn};
+ghost use Rattle.columns.specs.Columns.{columnOf};
 
-// Writes the cell (i, n), those of the later starts being written.
-fn close_cell(
-    p: &Packed,
-    rules: usize,
-    w: &[u8],
-    i: usize,
-    n: usize,
-    chart: &mut [u32],
-    flags: &mut Flags,
-)
-    requires { ⌜ (rules ≤ 128) × Used (now p) rules × (i ≤ n) × (n ≤ 64)
-        × (cells ≤ length (now chart)) × (length (now flags) ≡ flagsSize) ⌝ }
-    ensures { λ _.
-        ⌜ CellWritten (now (p .entry)) (now (w .entry)) rules n i
-        (now (chart .entry)) (now (flags .entry)) (now (chart .exit)) (now (flags .exit)) ⌝ }
-{
-    let mut masks = [0u32; 128];
-    inner_masks(p, rules, w, i, n, chart, flags, &mut masks);
-    let own = closure(p, rules, i, n, chart[sizes::SIDE * i + i], &masks, flags);
-    chart[sizes::SIDE * i + n] = own;
-}
-
-// Writes column n.
+// Writes column n of the chart as found.
 pub fn write_column(p: &Packed, w: &[u8], n: usize, chart: &mut [u32])
     requires { ⌜ (n ≤ 64) × (cells ≤ length (now chart)) ⌝ }
     ensures { λ _. ⌜ now (chart .exit) ≡ columnOf (now (p .entry)) (now (w .entry)) n (now (chart .entry)) ⌝ }
 {
-    let rules = packed::rule_count(p);
-    let mut flags = [0u32; FLAGS_SIZE];
-    let mut i = n + 1;
-    while i > 0 {
-        i -= 1;
-        close_cell(p, rules, w, i, n, chart, &mut flags);
-    }
+    let mut ends = [0u64; ENDS_SIZE];
+    let mut reach = [0u64; 64];
+    put_columns(n, chart, &mut ends, &mut reach);
+    column(p, w, n, &ends, &reach, chart);
 }
 
 fn clear(chart: &mut [u32])
@@ -79,10 +55,13 @@ pub fn fill(p: &Packed, w: &[u8], chart: &mut [u32])
     ensures { λ _. ⌜ now (chart .exit) ≡ filled (cfgIn 0 (now (p .entry))) (now (w .entry)) (now (chart .entry)) ⌝ }
 {
     open_chart(p, chart);
+    let mut ends = [0u64; ENDS_SIZE];
+    let mut reach = [0u64; 64];
     let mut m = 0;
     while m < w.len() {
+        put_column(m, chart, &mut ends, &mut reach);
         m += 1;
-        write_column(p, &w[..m], m, chart);
+        column(p, &w[..m], m, &ends, &reach, chart);
     }
 }
 

@@ -1,4 +1,5 @@
 pub mod Halving
 pub mod Laws
 pub mod Card
+pub mod Pairs
 pub mod Machine

@@ -26,7 +26,9 @@ or-is-insert (suc k) w =
     ∙ ap₂ (λ (x y : ℕ). x * 2 + y) (or-is-insert k (w / 2)) (max-zero (w % 2))
     ∙ sym (insert-suc k w)
 
--- the shift loses no bit
-pub shift-or-is-insert : (k w : ℕ) → k < 32 → bitOr w (1 * 2 ^ k % 2 ^ 32) ≡ insert k w
-shift-or-is-insert k w h =
-    ap (bitOr w) (shl-exact 1 k 32 (lit< tt) (omega arith) ∙ one-mul (2 ^ k)) ∙ or-is-insert k w
+-- the shift loses no bit, in sets of every width
+pub shift-one : (n k : ℕ) → k < n → 1 * 2 ^ k % 2 ^ n ≡ 2 ^ k
+shift-one n k h = shl-exact 1 k n (lit< tt) (omega arith) ∙ one-mul (2 ^ k)
+
+pub shift-or-is-insert : (n k w : ℕ) → k < n → bitOr w (1 * 2 ^ k % 2 ^ n) ≡ insert k w
+shift-or-is-insert n k w h = ap (bitOr w) (shift-one n k h) ∙ or-is-insert k w

@@ -1,7 +1,7 @@
 -- `columns::complete` meets its contract.
 -- Assumes nothing.
 use borrow.Author.Needs.{needs}
-use Rattle.columns.proofs.Column.{cell-first-row}
+use Rattle.columns.proofs.Writing.{cell-first-row}
 use Rattle.sets.specs.Set.{has}
 use mathlib.Core.Path.{ap, _∙_}
 use Rattle.columns.proofs.complete.Statement.{statement}

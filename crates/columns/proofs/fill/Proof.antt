@@ -1,59 +1,43 @@
--- `columns::fill` meets its contract. The loop's invariant: the bytes passed are taken.
+-- `columns::fill` meets its contract. The loop's invariant: the bytes passed are taken, and the columns before them told.
 -- The measure is what is left of the input. Assumes nothing.
 use borrow.Author.Needs.{needs}
-use Rattle.columns.proofs.Filling.{fill-start}
-use lib.Seq.{length-take-le}
-use mathlib.Core.Path.{sym, _∙_}
-use Rattle.columns.proofs.Filling.{fill-step, fill-done}
-use Rattle.packed.specs.Packed.{cfgIn}
-use Rattle.chart.specs.Column.{extendedBy}
-use lib.ListN.{length, take}
 use native.Mathlib.Omega.{arith}
-use mathlib.Core.Path.{_≡_, refl}
-use mathlib.Core.List.{[]}
-use Prim.Native.Nat.{_≤_, _-_}
+use mathlib.Core.Path.{sym, _∙_}
+use Prim.Native.Nat.{_-_}
+use lib.ListN.{length}
+use lib.Seq.{length-take-le}
+use Rattle.columns.proofs.Filling.{fill-done, told-next, FillTo, fill-zero, fill-go}
 use Rattle.columns.proofs.fill.Statement.{statement}
 use Rattle.columns.proofs.fill.Tie as tie
 
 abbrev Inv-loop : tie.InvT-loop
-Inv-loop p w chart₀ m₀ chart m = (m ≤ length w) × (length chart ≡ length chart₀) × (chart ≡ extendedBy (cfgIn 0 p) [] (take m w) chart₀)
+Inv-loop p w chart₀ ends₀ reach₀ m₀ chart ends reach m = FillTo p w chart₀ m chart ends reach
 
 abbrev μ-loop : tie.MeasureT-loop
-μ-loop p w chart₀ m₀ chart m = length w - m
-
-open-chart-requires : tie.Need-open-chart-requires Inv-loop μ-loop
-open-chart-requires c κs = search needs
+μ-loop p w chart₀ ends₀ reach₀ m₀ chart ends reach m = length w - m
 
 loop-holds : tie.Need-loop-holds Inv-loop μ-loop
-loop-holds c = (omega arith, refl, fill-start _ _)
+loop-holds c = fill-zero _ _ _
 
-add-m : tie.Need-add-m Inv-loop μ-loop
-add-m c = omega arith
+put-column-requires : tie.Need-put-column-requires Inv-loop μ-loop
+put-column-requires c κs = (omega arith, omega (arith, c .before .before .before .before .loop .inv .long), search needs, search needs)
 
-slice-aggregate-write-column : tie.Need-slice-aggregate-write-column Inv-loop μ-loop
-slice-aggregate-write-column c = sym (length-take-le _ _ (omega arith))
+slice-aggregate-column : tie.Need-slice-aggregate-column Inv-loop μ-loop
+slice-aggregate-column c = sym (length-take-le _ _ (omega arith))
 
-write-column-requires : tie.Need-write-column-requires Inv-loop μ-loop
-write-column-requires c κs = (omega arith, omega arith)
-
-loop-less : tie.Need-loop-less Inv-loop μ-loop
-loop-less c = omega arith
+column-requires : tie.Need-column-requires Inv-loop μ-loop
+column-requires c κs = (omega arith, omega arith, search told-next)
 
 loop-again : tie.Need-loop-again Inv-loop μ-loop
-loop-again c =
-    let l = c .before .before .before .before .before .before in
-    let d = c .before .before in
-    let w = c .before .before .before .before .before .before .before .before .before .before .before .before .before .args .w .now in
-    let e = fill-step _ w _ (l .loop .m) _ _ _ refl (omega arith) (l .loop .inv .2) (d .write-column .ensures) in
-    (omega arith, d .write-column .kept .1 .1 .1 .0 ∙ l .loop .inv .1, e)
+loop-again c = search fill-go
 
 same-length : tie.Need-same-length Inv-loop μ-loop
-same-length c = c .before .loop .inv .1 ∙ c .before .before .before .before .open-chart .kept .1 .0
+same-length c = c .before .loop .inv .long ∙ c .before .before .before .before .open-chart .kept .1 .0
 
 returns : tie.Need-returns Inv-loop μ-loop
 returns c =
     fill-done _ (c .before .before .before .before .before .before .before .before .args .w .now) _ (c .before .loop .m) _ _ (omega arith)
-    (c .before .before .before .before .open-chart .ensures) (c .before .loop .inv .2)
+    (c .before .before .before .before .open-chart .ensures) (c .before .loop .inv .taken)
 
 pub fill-spec : {M : Type 1} → statement M
 fill-spec =
@@ -61,12 +45,13 @@ fill-spec =
     (tie.spec
     Inv-loop
     μ-loop
-    open-chart-requires
+    (λ c κs. search needs)
     loop-holds
-    add-m
-    slice-aggregate-write-column
-    write-column-requires
-    loop-less
+    put-column-requires
+    (λ c. omega arith)
+    slice-aggregate-column
+    column-requires
+    (λ c. omega arith)
     loop-again
     same-length
     returns)

@@ -1,0 +1,128 @@
+// One column of the chart, written cell by cell from the last start down, by spans as bits.
+use looks::empty::empty_closure;
+use looks::kinds::all_kinds;
+use looks::passes::closure;
+use packed::Packed;
+use spans::insides::begin_all;
+use spans::starts::put_flags;
+use spans::words::Ends;
+use spans::words::Live;
+use spans::words::Reach;
+use spans::words::STARTS_SIZE;
+use spans::words::Starts;
+ghost use mathlib.Core.Path.{_≡_};
+ghost use Prim.Native.Nat.{_<_, _≤_};
+ghost use lib.ListN.{length};
+ghost use Rattle.sizes.specs.Sizes.{cells};
+ghost use Rattle.packed.specs.Packed.{Used};
+ghost use Rattle.spans.specs.Spans.{startsSize};
+ghost use Rattle.spans.specs.Ends.{EndsTo};
+ghost use Rattle.looks.specs.Looks.{KindsAll};
+ghost use Rattle.columns.specs.Columns.{columnOf, CellWritten, LowerWritten};
+
+// Writes the cell (i, n), those of the later starts being written.
+fn close_cell(
+    p: &Packed,
+    rules: usize,
+    w: &[u8],
+    i: usize,
+    n: usize,
+    ends: &Ends,
+    reach: &Reach,
+    lasts: &[u32; 128],
+    kinds: &[u32; 128],
+    chart: &mut [u32],
+    starts: &mut Starts,
+    live: &mut Live,
+)
+    requires { ⌜ (rules ≤ 128) × Used (now p) rules × (i < n) × (n ≤ 64) × KindsAll (now p) rules (now lasts) (now kinds)
+        × (cells ≤ length (now chart)) × (length (now starts) ≡ startsSize) × (length (now live) ≡ 128) ⌝ }
+    ensures { λ _.
+        ⌜ CellWritten (now (p .entry)) (now (w .entry)) rules n i (now (ends .entry)) (now (reach .entry)) (now (lasts .entry))
+        (now (chart .entry)) (now (starts .entry)) (now (live .entry)) (now (chart .exit)) (now (starts .exit)) (now (live .exit)) ⌝ }
+{
+    let mut insides = [0u32; 128];
+    let mut flags = [0u32; 128];
+    let mut made = [0u32; 128];
+    begin_all(
+        p,
+        rules,
+        w,
+        i,
+        n,
+        ends,
+        starts,
+        reach[i],
+        live,
+        lasts,
+        &mut insides,
+    );
+    let own = closure(
+        p,
+        rules,
+        i,
+        n,
+        chart[sizes::SIDE * i + i],
+        &insides,
+        lasts,
+        kinds,
+        &mut flags,
+        &mut made,
+    );
+    put_flags(p, rules, i, &flags, starts, live);
+    chart[sizes::SIDE * i + n] = own;
+}
+
+// Writes the cells of column n before the last, which is written.
+fn lower_cells(
+    p: &Packed,
+    rules: usize,
+    w: &[u8],
+    n: usize,
+    ends: &Ends,
+    reach: &Reach,
+    lasts: &[u32; 128],
+    kinds: &[u32; 128],
+    chart: &mut [u32],
+)
+    requires { ⌜ (rules ≤ 128) × Used (now p) rules × (n ≤ 64) × KindsAll (now p) rules (now lasts) (now kinds)
+        × (cells ≤ length (now chart)) ⌝ }
+    ensures { λ _.
+        ⌜ LowerWritten (now (p .entry)) (now (w .entry)) rules n (now (ends .entry)) (now (reach .entry)) (now (lasts .entry))
+        (now (chart .entry)) (now (chart .exit)) ⌝ }
+{
+    let mut starts = [0u64; STARTS_SIZE];
+    let mut live = [0u64; 128];
+    let mut i = n;
+    while i > 0 {
+        i -= 1;
+        close_cell(
+            p,
+            rules,
+            w,
+            i,
+            n,
+            ends,
+            reach,
+            lasts,
+            kinds,
+            chart,
+            &mut starts,
+            &mut live,
+        );
+    }
+}
+
+// Writes column n, the ends of the columns before it being told.
+pub fn column(p: &Packed, w: &[u8], n: usize, ends: &Ends, reach: &Reach, chart: &mut [u32])
+    requires { ⌜ (n ≤ 64) × (cells ≤ length (now chart)) × EndsTo (now chart) n 0 (now ends) (now reach) ⌝ }
+    ensures { λ _. ⌜ now (chart .exit) ≡ columnOf (now (p .entry)) (now (w .entry)) n (now (chart .entry)) ⌝ }
+{
+    let rules = packed::rule_count(p);
+    let mut lasts = [0u32; 128];
+    let mut kinds = [0u32; 128];
+    let own = empty_closure(p, rules, n, &mut lasts);
+    all_kinds(p, rules, &lasts, &mut kinds);
+    chart[sizes::SIDE * n + n] = own;
+    lower_cells(p, rules, w, n, ends, reach, &lasts, &kinds, chart);
+}

@@ -1,0 +1,6 @@
+-- Laws that the proofs of the functions cite.
+pub mod Depend
+pub mod Looking
+pub mod States
+pub mod Gather
+pub mod Nothing

@@ -1,0 +1,22 @@
+-- `looks::look` meets its contract.
+-- Assumes nothing.
+use borrow.Author.Needs.{needs}
+use Rattle.looks.proofs.Looking.{looked}
+use Rattle.looks.proofs.look.Statement.{statement}
+use Rattle.looks.proofs.look.Tie as tie
+
+returns : tie.Need-returns
+returns c = search looked
+
+pub look-spec : {M : Type 1} → statement M
+look-spec =
+    tie.close
+    (tie.spec
+    (λ c κs. search needs)
+    (λ c. search needs)
+    (λ c. search needs)
+    (λ c κs. search needs)
+    (λ c. search needs)
+    (λ c. search needs)
+    (λ c κs. search needs)
+    returns)

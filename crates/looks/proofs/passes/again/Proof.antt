@@ -1,0 +1,46 @@
+-- `looks::passes::again` meets its contract. The loop's invariant: the same of the rules passed.
+-- The measure is what is left of the rules. Assumes nothing.
+use borrow.Author.Needs.{needs}
+use native.Mathlib.Omega.{arith}
+use Prim.Native.Nat.{_≤_, _-_}
+use Rattle.looks.specs.Looks.{Passed}
+use Rattle.looks.proofs.States.{again-start, again-step, again-done}
+use Rattle.looks.proofs.passes.again.Statement.{statement}
+use Rattle.looks.proofs.passes.again.Tie as tie
+
+abbrev Inv-loop : tie.InvT-loop
+Inv-loop p rules i n start insides lasts kinds own flags₀ made₀ v₀ r₀ flags made v r = (r ≤ rules) × Passed p rules i n start insides lasts kinds r own v flags made
+
+abbrev μ-loop : tie.MeasureT-loop
+μ-loop p rules i n start insides lasts kinds own flags₀ made₀ v₀ r₀ flags made v r = rules - r
+
+loop-holds : tie.Need-loop-holds Inv-loop μ-loop
+loop-holds c = (omega arith, search again-start)
+
+look-again-requires : tie.Need-look-again-requires Inv-loop μ-loop
+look-again-requires c κs = (omega arith, omega arith, search needs, search needs)
+
+loop-again : tie.Need-loop-again Inv-loop μ-loop
+loop-again c = (omega arith, search again-step)
+
+returns : tie.Need-returns Inv-loop μ-loop
+returns c = search again-done
+
+pub again-spec : {M : Type 1} → statement M
+again-spec =
+    tie.close
+    (tie.spec
+    Inv-loop
+    μ-loop
+    loop-holds
+    (λ c. omega arith)
+    (λ c. omega arith)
+    (λ c. omega arith)
+    (λ c. omega arith)
+    (λ c. omega arith)
+    (λ c. omega arith)
+    look-again-requires
+    (λ c. omega arith)
+    (λ c. omega arith)
+    loop-again
+    returns)

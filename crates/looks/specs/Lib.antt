@@ -1,0 +1,2 @@
+-- Looking at the rules at one cell.
+pub mod Looks

@@ -1,0 +1,128 @@
+// All rules at one cell, until nothing is added.
+use super::look_again;
+use super::look_first;
+use packed::Packed;
+ghost use mathlib.Core.Path.{_≡_};
+ghost use Prim.Native.Nat.{_<_, _≤_};
+ghost use lib.ListN.{length};
+ghost use Rattle.looks.specs.Looks.{State, Passed, Closed};
+
+// The first look at the rules below a number, from the empty set on.
+fn first(
+    p: &Packed,
+    rules: usize,
+    i: usize,
+    n: usize,
+    start: u32,
+    insides: &[u32; 128],
+    lasts: &[u32; 128],
+    kinds: &[u32; 128],
+    flags: &mut [u32; 128],
+    made: &mut [u32; 128],
+) -> u32
+    requires { ⌜ (rules ≤ 128) × (i < n) × (length (now flags) ≡ 128) × (length (now made) ≡ 128) ⌝ }
+    ensures { λ v.
+        ⌜ State (now (p .entry)) rules i n start (now (insides .entry)) (now (lasts .entry)) (now (kinds .entry))
+        rules v (now (flags .exit)) (now (made .exit)) ⌝ }
+{
+    let mut own: u32 = 0;
+    let mut r = 0;
+    while r < rules {
+        own = look_first(
+            p,
+            r,
+            i,
+            n,
+            start,
+            insides[r],
+            lasts[r],
+            kinds[r],
+            own,
+            flags,
+            made,
+        );
+        r += 1;
+    }
+    own
+}
+
+// A further look at those of them whose flags can have changed.
+fn again(
+    p: &Packed,
+    rules: usize,
+    i: usize,
+    n: usize,
+    start: u32,
+    insides: &[u32; 128],
+    lasts: &[u32; 128],
+    kinds: &[u32; 128],
+    own: u32,
+    flags: &mut [u32; 128],
+    made: &mut [u32; 128],
+) -> u32
+    requires { ⌜ (rules ≤ 128) × (i < n)
+        × State (now p) rules i n start (now insides) (now lasts) (now kinds) rules own (now flags) (now made) ⌝ }
+    ensures { λ v.
+        ⌜ Passed (now (p .entry)) rules i n start (now (insides .entry)) (now (lasts .entry)) (now (kinds .entry))
+        rules own v (now (flags .exit)) (now (made .exit)) ⌝ }
+{
+    let mut v = own;
+    let mut r = 0;
+    while r < rules {
+        v = look_again(
+            p,
+            r,
+            i,
+            n,
+            start,
+            insides[r],
+            lasts[r],
+            kinds[r],
+            v,
+            flags,
+            made,
+        );
+        r += 1;
+    }
+    v
+}
+
+// Until nothing is added: the set of the cell, and the flags of the rules.
+pub fn closure(
+    p: &Packed,
+    rules: usize,
+    i: usize,
+    n: usize,
+    start: u32,
+    insides: &[u32; 128],
+    lasts: &[u32; 128],
+    kinds: &[u32; 128],
+    flags: &mut [u32; 128],
+    made: &mut [u32; 128],
+) -> u32
+    requires { ⌜ (rules ≤ 128) × (i < n) × (length (now flags) ≡ 128) × (length (now made) ≡ 128) ⌝ }
+    ensures { λ v.
+        ⌜ Closed (now (p .entry)) rules i n start (now (insides .entry)) (now (lasts .entry)) (now (kinds .entry))
+        v (now (flags .exit)) ⌝ }
+{
+    let mut own = first(p, rules, i, n, start, insides, lasts, kinds, flags, made);
+    loop {
+        let next = again(
+            p,
+            rules,
+            i,
+            n,
+            start,
+            insides,
+            lasts,
+            kinds,
+            own,
+            flags,
+            made,
+        );
+        if next == own {
+            return next;
+        }
+        own = next;
+    }
+}

@@ -1,0 +1,124 @@
+-- The common members of two sets, a member of a set that is not empty, and a set without one of its members.
+-- Those that speak of the width are proved for every width n. Assumes nothing.
+use Prim.Native.Nat.{ℕ, zero, suc, _-_, _/_, _%_, _^_, _≤_, _<_}
+use mathlib.Core.Bool.{Bool, true, false, _&&_, not}
+use mathlib.Core.Logic.{_≢_}
+use mathlib.Core.Path.{_≡_, refl, sym, ap, ap₂, _∙_}
+use native.Mathlib.Nat.{pow-suc}
+use native.Mathlib.Omega.{arith}
+use lib.Bits.{bitAnd, and-step, and-lt}
+use lib.Count.{under, trailingZeros}
+use lib.Dec.{eqb}
+use borrow.Author.Tests.{eq-eqb, ne-eqb}
+use Rattle.sets.specs.Set.{has}
+use Rattle.sets.specs.Pairs.{Meeting, Lowest, Without}
+use Rattle.sets.proofs.Halving.{has-zero, has-suc, has-zero-true, has-zero-false, insert-fresh}
+use Rattle.sets.proofs.Laws.{has-empty}
+
+-- ---- common members
+
+has-and-zero : (v w : ℕ) → has 0 (bitAnd v w) ≡ (has 0 v && has 0 w)
+has-and-zero v w = go (has 0 v) (has 0 w) refl refl
+  where
+    go : (a b : Bool) → has 0 v ≡ a → has 0 w ≡ b → has 0 (bitAnd v w) ≡ (a && b)
+    go true true e f =
+        let d : bitAnd v w % 2 ≡ 1 = omega (arith, and-step v w, has-zero-true v e, has-zero-true w f) in
+        has-zero (bitAnd v w) ∙ eq-eqb (bitAnd v w % 2) 1 d
+    go true false e f =
+        let d : bitAnd v w % 2 ≡ 0 = omega (arith, and-step v w, has-zero-false w f) in
+        has-zero (bitAnd v w) ∙ ap (λ (x : ℕ). eqb x 1) d
+    go false b e f =
+        let d : bitAnd v w % 2 ≡ 0 = omega (arith, and-step v w, has-zero-false v e) in
+        has-zero (bitAnd v w) ∙ ap (λ (x : ℕ). eqb x 1) d
+
+pub has-and : (k v w : ℕ) → has k (bitAnd v w) ≡ (has k v && has k w)
+has-and zero v w = has-and-zero v w
+has-and (suc k) v w =
+    let half : bitAnd v w / 2 ≡ bitAnd (v / 2) (w / 2) = omega (arith, and-step v w) in
+    has-suc k (bitAnd v w) ∙ ap (has k) half ∙ has-and k (v / 2) (w / 2) ∙ ap₂ _&&_ (sym (has-suc k v)) (sym (has-suc k w))
+
+-- a set that is not empty has a member
+pub member : (n w : ℕ) → w < 2 ^ n → w ≢ 0 → (k : ℕ) × (k < n) × (has k w ≡ true)
+member zero w l d = absurd (omega arith)
+member (suc n) w l d = go (member n (w / 2) (omega (arith, pow-suc 2 n))) (has 0 w) refl
+  where
+    go : (w / 2 ≢ 0 → (k : ℕ) × (k < n) × (has k (w / 2) ≡ true)) → (b : Bool) → has 0 w ≡ b → (k : ℕ) × (k < suc n) × (has k w ≡ true)
+    go half true e = (0, omega arith, e)
+    go half false e =
+        let f : w / 2 ≢ 0 = λ z. d (omega (arith, has-zero-false w e)) in
+        let (k, h, m) = half f in
+        (suc k, omega arith, has-suc k w ∙ m)
+
+true-false : {A : Type 0} → true ≡ false → A
+true-false e = let z : _≡_ {A = ℕ} 0 1 = cc in absurd (omega arith)
+
+both : (a b : Bool) → (a && b) ≡ true → (a ≡ true) × (b ≡ true)
+both true b e = (refl, e)
+both false b e = true-false (sym e)
+
+both-in : (k v w : ℕ) → has k v ≡ true → has k w ≡ true → has k (bitAnd v w) ≡ true
+both-in k v w g h = has-and k v w ∙ rw (g, h)
+
+-- two sets of n bits meet exactly if their common part is not 0
+pub meeting : (n v w : ℕ) (f : Bool) → v < 2 ^ n → w < 2 ^ n → f ≡ not (eqb (bitAnd v w) 0) → Meeting n v w f
+meeting n v w f p q e = record { found = found; all = all }
+  where
+    found : f ≡ true → (k : ℕ) × (k < n) × (has k v ≡ true) × (has k w ≡ true)
+    found g =
+        let d : bitAnd v w ≢ 0 = λ z. true-false (sym g ∙ e ∙ ap not (eq-eqb (bitAnd v w) 0 z)) in
+        let (k, h, m) = member n (bitAnd v w) (and-lt n v w p q) d in
+        let u = both (has k v) (has k w) (sym (has-and k v w) ∙ m) in
+        (k, h, u .0, u .1)
+
+    all : (k : ℕ) → has k v ≡ true → has k w ≡ true → f ≡ true
+    all k g h = e ∙ ap not (ne-eqb (bitAnd v w) 0 (λ z. true-false (sym (both-in k v w g h) ∙ ap (has k) z ∙ has-empty k)))
+
+-- ---- the least member, and a set without a member
+
+under-odd : (d t : ℕ) → d ≡ 1 → under d t ≡ 0
+under-odd d t e = ap (λ (x : ℕ). under x t) e
+
+under-even : (d t : ℕ) → d ≡ 0 → under d t ≡ suc t
+under-even d t e = ap (λ (x : ℕ). under x t) e
+
+-- the least member is told by the zeros below it
+pub lowest-is : (n w k : ℕ) → w < 2 ^ n → w ≢ 0 → k ≡ trailingZeros n w → Lowest n w k
+unfolding trailingZeros
+lowest-is zero w k l d e = absurd (omega arith)
+lowest-is (suc n) w k l d e = go (λ f. lowest-is n (w / 2) (trailingZeros n (w / 2)) (omega (arith, pow-suc 2 n)) f refl) (has 0 w) refl
+  where
+    go : (w / 2 ≢ 0 → Lowest n (w / 2) (trailingZeros n (w / 2))) → (b : Bool) → has 0 w ≡ b → Lowest (suc n) w k
+    go half true h =
+        let z : k ≡ 0 = e ∙ under-odd (w % 2) (trailingZeros n (w / 2)) (has-zero-true w h) in
+        record { below = omega arith; member = ap (λ (x : ℕ). has x w) z ∙ h; least = λ j m. absurd (omega arith) }
+    go half false h =
+        let f : w / 2 ≢ 0 = λ z. d (omega (arith, has-zero-false w h)) in
+        let s : k ≡ suc (trailingZeros n (w / 2)) = e ∙ under-even (w % 2) (trailingZeros n (w / 2)) (has-zero-false w h) in
+        let low = half f in
+        record {
+          below = omega (arith, low .below);
+          member = ap (λ (x : ℕ). has x w) s ∙ has-suc (trailingZeros n (w / 2)) w ∙ low .member;
+          least = λ j m. under-least (trailingZeros n (w / 2)) (low .least) j (omega arith);
+        }
+      where
+        under-least : (t : ℕ) → ((j : ℕ) → j < t → has j (w / 2) ≡ false) → (j : ℕ) → j < suc t → has j w ≡ false
+        under-least t g zero m = h
+        under-least t g (suc j) m = has-suc j w ∙ g j (omega arith)
+
+-- a member's power of two can be taken away, and then it is none
+pub taken-away : (k w : ℕ) → has k w ≡ true → (2 ^ k ≤ w) × (has k (w - 2 ^ k) ≡ false)
+taken-away zero w e =
+    let d : (w - 1) % 2 ≡ 0 = omega (arith, has-zero-true w e) in
+    (omega (arith, has-zero-true w e), has-zero (w - 1) ∙ ap (λ (x : ℕ). eqb x 1) d)
+taken-away (suc k) w e =
+    let u = taken-away k (w / 2) (sym (has-suc k w) ∙ e) in
+    let l : 2 ^ k ≤ w / 2 = u .0 in
+    let half : (w - 2 ^ suc k) / 2 ≡ w / 2 - 2 ^ k = omega (arith, pow-suc 2 k) in
+    (omega (arith, pow-suc 2 k), has-suc k (w - 2 ^ suc k) ∙ ap (has k) half ∙ u .1)
+
+pub without-is : (k w v : ℕ) → has k w ≡ true → v ≡ w - 2 ^ k → Without k w v
+without-is k w v e f =
+    let u = taken-away k w e in
+    let l : 2 ^ k ≤ w = u .0 in
+    let g : has k v ≡ false = ap (has k) f ∙ u .1 in
+    record { gone = g; whole = insert-fresh k v g ∙ omega arith }

@@ -1,0 +1,10 @@
+-- `sets::common` meets its contract: bit by bit. Assumes nothing.
+use Rattle.sets.proofs.Pairs.{has-and}
+use Rattle.sets.proofs.common.Statement.{statement}
+use Rattle.sets.proofs.common.Tie as tie
+
+returns : tie.Need-returns
+returns c = λ k. has-and k (c .args .v) (c .args .w)
+
+pub common-spec : {M : Type 1} → statement M
+common-spec = tie.close (tie.spec returns)

@@ -1,0 +1,8 @@
+-- Laws that the proofs of the functions cite.
+pub mod Places
+pub mod Rules
+pub mod Rows
+pub mod Putting
+pub mod Telling
+pub mod Adding
+pub mod Starting

@@ -1,0 +1,43 @@
+-- `spans::ends::put_column` meets its contract. The loop's invariant: the cells of the starts passed are told too.
+-- The measure is what is left of the starts. Assumes nothing.
+use borrow.Author.Needs.{needs}
+use native.Mathlib.Omega.{arith}
+use Prim.Native.Nat.{_≤_, _-_}
+use Rattle.spans.proofs.Telling.{Steps, steps-start, steps-cell, steps-put}
+use Rattle.spans.proofs.ends.put_column.Statement.{statement}
+use Rattle.spans.proofs.ends.put_column.Tie as tie
+
+abbrev Inv-loop : tie.InvT-loop
+Inv-loop b chart ends₀ reach₀ i₀ ends reach i = (i ≤ b) × Steps chart b ends₀ reach₀ b i ends reach
+
+abbrev μ-loop : tie.MeasureT-loop
+μ-loop b chart ends₀ reach₀ i₀ ends reach i = b - i
+
+loop-holds : tie.Need-loop-holds Inv-loop μ-loop
+loop-holds c = (omega arith, search steps-start)
+
+put-requires : tie.Need-put-requires Inv-loop μ-loop
+put-requires c κs = (omega arith, omega arith, search needs, search needs)
+
+loop-again : tie.Need-loop-again Inv-loop μ-loop
+loop-again c = (omega arith, search steps-cell)
+
+returns : tie.Need-returns Inv-loop μ-loop
+returns c = search steps-put
+
+pub put-column-spec : {M : Type 1} → statement M
+put-column-spec =
+    tie.close
+    (tie.spec
+    Inv-loop
+    μ-loop
+    loop-holds
+    (λ c. search needs)
+    (λ c. search needs)
+    (λ c. search needs)
+    (λ c. search needs)
+    put-requires
+    (λ c. omega arith)
+    (λ c. omega arith)
+    loop-again
+    returns)

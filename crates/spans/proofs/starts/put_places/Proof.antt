@@ -1,0 +1,55 @@
+-- `spans::starts::put_places` meets its contract. The loop's invariant: the places passed are added.
+-- The measure is what is left of the count. Assumes nothing.
+use borrow.Author.Needs.{needs}
+use native.Mathlib.Omega.{arith}
+use mathlib.Core.Logic.{_⊎_, inl, inr}
+use mathlib.Core.Path.{_≡_, refl}
+use Prim.Native.Nat.{_≤_, _<_, _-_}
+use Rattle.packed.specs.Packed.{countIn}
+use Rattle.spans.proofs.Adding.{PlacesTo, places-start, places-step, places-done}
+use Rattle.spans.proofs.starts.put_places.Statement.{statement}
+use Rattle.spans.proofs.starts.put_places.Tie as tie
+
+abbrev Inv-loop : tie.InvT-loop
+Inv-loop p r i flags starts₀ live₀ count q₀ starts live q =
+    (0 < q) × (count ≡ countIn p r) × (count ≤ 8) × ((q ≤ count) ⊎ (q ≡ 1)) × PlacesTo p r i flags starts₀ live₀ q starts live
+
+abbrev μ-loop : tie.MeasureT-loop
+μ-loop p r i flags starts₀ live₀ count q₀ starts live q = count - q
+
+loop-holds : tie.Need-loop-holds Inv-loop μ-loop
+loop-holds c = (omega arith, c .count .ensures .0, c .count .ensures .1, inr refl, search places-start)
+
+loop-again : tie.Need-loop-again Inv-loop μ-loop
+loop-again c = (omega arith, search needs, omega arith, inl (omega arith), places-step _ _ _ _ _ _ _ _ _ _ _ _ (omega arith) (omega arith) (omega arith) (c .before .before .before .before .contains .ensures) (c .before .before .with-if .ensures) (c .with-if2 .ensures) (c .before .before .before .before .before .before .loop .inv .4))
+
+returns : tie.Need-returns Inv-loop μ-loop
+returns c = search places-done
+
+pub put-places-spec : {M : Type 1} → statement M
+put-places-spec =
+    tie.close
+    (tie.spec
+    Inv-loop
+    μ-loop
+    (λ c κs. search needs)
+    loop-holds
+    (λ c κs. search needs)
+    (λ c. search needs)
+    (λ c. search needs)
+    (λ c. search needs)
+    (λ c. search needs)
+    (λ c κs. search needs)
+    (λ c. search needs)
+    (λ c. search needs)
+    (λ c. search needs)
+    (λ c. search needs)
+    (λ c. search needs)
+    (λ c. search needs)
+    (λ c κs. search needs)
+    (λ c. search needs)
+    (λ c. search needs)
+    (λ c. omega arith)
+    (λ c. omega arith)
+    loop-again
+    returns)
