@@ -68,7 +68,8 @@ module _ (p : List ℕ) (n : ℕ) where
           inT : Within v T
           inT = passed .sound fit sets T closed s
 
-      settled : v' ≡ own → (fit : Fit) (sets : Sets) (s : ℕ) → s < r + 1 → Dec (s ≡ r) → Settled fit sets p s n n v' (getD (set lasts r m) s 0)
+      settled : v' ≡ own → (fit : Fit) (sets : Sets) (s : ℕ) → s < r + 1 → Dec (s ≡ r)
+          → Settled fit sets p s n n v' (getD (set lasts r m) s 0)
       settled e fit sets s l (yes d) =
           let f : v' ≡ v = omega (arith, le, passed .grows) in
           subst (λ (y : ℕ). Settled fit sets p y n n v' (getD (set lasts r m) y 0)) (sym d)

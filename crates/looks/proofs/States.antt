@@ -150,7 +150,8 @@ module _ (p : List ℕ) (rules i n start : ℕ) (insides lasts kinds : List ℕ)
           (subst (λ (y : ℕ). Agrees (getD kinds s 0) (getD made s 0) y) (sym f) (passed .fresh h s (omega arith)))
 
   pub again-done : (r own v : ℕ) (flags made : List ℕ) → r ≤ rules → rules ≤ r
-      → Passed p rules i n start insides lasts kinds r own v flags made → Passed p rules i n start insides lasts kinds rules own v flags made
+      → Passed p rules i n start insides lasts kinds r own v flags made
+      → Passed p rules i n start insides lasts kinds rules own v flags made
   again-done r own v flags made h l passed =
       let e : r ≡ rules = omega arith in
       subst (λ (x : ℕ). Passed p rules i n start insides lasts kinds x own v flags made) e passed

@@ -1,5 +1,5 @@
--- Looking at the rules at one cell (i, n), i < n, again only where a rule's flags can have changed: what the words given mean, on what of the
--- cell's set a rule's flags depend, and what is promised of the set and of the flags. The promises hold for all sets that the words are
+-- Looking at the rules at one cell (i, n), i < n, again only where a rule's flags can have changed: what the words given mean, on what of
+-- the cell's set a rule's flags depend, and what is promised of the set and of the flags. The promises hold for all sets that the words are
 -- true of.
 -- Assumes nothing.
 use Prim.Native.Nat.{ℕ, _+_, _^_, _≤_, _<_}

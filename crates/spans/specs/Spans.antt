@@ -1,5 +1,5 @@
--- Spans as bits: for a start and a nonterminal the set of its ends, and for a rule and a place the set of the starts from which on the rule's
--- places cut up to the column's end, each a set of 0..63. What such words mean, and what is promised of the cuts told by them.
+-- Spans as bits: for a start and a nonterminal the set of its ends, and for a rule and a place the set of the starts from which on the
+-- rule's places cut up to the column's end, each a set of 0..63. What such words mean, and what is promised of the cuts told by them.
 -- Assumes nothing.
 use Prim.Native.Nat.{ℕ, _+_, _*_, _≤_, _<_}
 use mathlib.Core.Bool.{Bool, true, false}

@@ -9,7 +9,8 @@ use Rattle.looks.proofs.passes.again.Statement.{statement}
 use Rattle.looks.proofs.passes.again.Tie as tie
 
 abbrev Inv-loop : tie.InvT-loop
-Inv-loop p rules i n start insides lasts kinds own flags₀ made₀ v₀ r₀ flags made v r = (r ≤ rules) × Passed p rules i n start insides lasts kinds r own v flags made
+Inv-loop p rules i n start insides lasts kinds own flags₀ made₀ v₀ r₀ flags made v r =
+    (r ≤ rules) × Passed p rules i n start insides lasts kinds r own v flags made
 
 abbrev μ-loop : tie.MeasureT-loop
 μ-loop p rules i n start insides lasts kinds own flags₀ made₀ v₀ r₀ flags made v r = rules - r

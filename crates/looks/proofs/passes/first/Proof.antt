@@ -9,7 +9,8 @@ use Rattle.looks.proofs.passes.first.Statement.{statement}
 use Rattle.looks.proofs.passes.first.Tie as tie
 
 abbrev Inv-loop : tie.InvT-loop
-Inv-loop p rules i n start insides lasts kinds flags₀ made₀ own₀ r₀ flags made own r = (r ≤ rules) × State p rules i n start insides lasts kinds r own flags made
+Inv-loop p rules i n start insides lasts kinds flags₀ made₀ own₀ r₀ flags made own r =
+    (r ≤ rules) × State p rules i n start insides lasts kinds r own flags made
 
 abbrev μ-loop : tie.MeasureT-loop
 μ-loop p rules i n start insides lasts kinds flags₀ made₀ own₀ r₀ flags made own r = rules - r

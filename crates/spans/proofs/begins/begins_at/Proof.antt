@@ -7,7 +7,8 @@ use Rattle.spans.proofs.begins.begins_at.Statement.{statement}
 use Rattle.spans.proofs.begins.begins_at.Tie as tie
 
 nonterminal-begins-requires : tie.Need-nonterminal-begins-requires
-nonterminal-begins-requires c κs = (omega arith, omega arith, omega arith, omega arith, sym (c .before .is-nonterminal .ensures) ∙ c .if1 .taken)
+nonterminal-begins-requires c κs =
+    (omega arith, omega arith, omega arith, omega arith, sym (c .before .is-nonterminal .ensures) ∙ c .if1 .taken)
 
 returns : tie.Need-returns
 returns c = c .nonterminal-begins .ensures _ _ _

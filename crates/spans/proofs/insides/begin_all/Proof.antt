@@ -21,8 +21,10 @@ begins-near-requires : tie.Need-begins-near-requires Inv-loop μ-loop
 begins-near-requires c κs = (omega arith, omega arith, omega arith)
 
 loop-again : tie.Need-loop-again Inv-loop μ-loop
-loop-again c =
-    (omega arith, all-step _ _ _ _ _ _ _ _ _ _ _ _ _ (omega arith) (c .begins-near .ensures) (c .before .before .before .before .loop .inv .1))
+loop-again c = (
+  omega arith,
+  all-step _ _ _ _ _ _ _ _ _ _ _ _ _ (omega arith) (c .begins-near .ensures) (c .before .before .before .before .loop .inv .1),
+)
 
 returns : tie.Need-returns Inv-loop μ-loop
 returns c = search all-done

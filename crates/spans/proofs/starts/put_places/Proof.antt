@@ -21,7 +21,14 @@ loop-holds : tie.Need-loop-holds Inv-loop μ-loop
 loop-holds c = (omega arith, c .count .ensures .0, c .count .ensures .1, inr refl, search places-start)
 
 loop-again : tie.Need-loop-again Inv-loop μ-loop
-loop-again c = (omega arith, search needs, omega arith, inl (omega arith), places-step _ _ _ _ _ _ _ _ _ _ _ _ (omega arith) (omega arith) (omega arith) (c .before .before .before .before .contains .ensures) (c .before .before .with-if .ensures) (c .with-if2 .ensures) (c .before .before .before .before .before .before .loop .inv .4))
+loop-again c = (
+  omega arith,
+  search needs,
+  omega arith,
+  inl (omega arith),
+  places-step _ _ _ _ _ _ _ _ _ _ _ _ (omega arith) (omega arith) (omega arith) (c .before .before .before .before .contains .ensures)
+      (c .before .before .with-if .ensures) (c .with-if2 .ensures) (c .before .before .before .before .before .before .loop .inv .4),
+)
 
 returns : tie.Need-returns Inv-loop μ-loop
 returns c = search places-done
