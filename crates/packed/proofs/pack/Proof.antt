@@ -17,24 +17,12 @@ abbrev μ-loop : tie.MeasureT-loop
 loop-holds : tie.Need-loop-holds Inv-loop μ-loop
 loop-holds c = (omega arith, valid-count _ (c .pre), rows-start _)
 
-mul-rule : tie.Need-mul-rule Inv-loop μ-loop
-mul-rule c = omega arith
-
-element-copy-out-rule : tie.Need-element-copy-out-rule Inv-loop μ-loop
-element-copy-out-rule c = omega arith
-
 pack-rule-requires : tie.Need-pack-rule-requires Inv-loop μ-loop
 pack-rule-requires c κs = (
   omega arith,
   valid-each _ (c .before .before .before .before .pre) _ (omega arith),
   c .before .before .before .loop .inv .2 .long,
 )
-
-add-r : tie.Need-add-r Inv-loop μ-loop
-add-r c = omega arith
-
-loop-less : tie.Need-loop-less Inv-loop μ-loop
-loop-less c = omega arith
 
 loop-again : tie.Need-loop-again Inv-loop μ-loop
 loop-again c = (
@@ -52,13 +40,5 @@ pub pack-spec : {M : Type 1} → statement M
 pack-spec =
     tie.close
     (tie.spec
-    Inv-loop
-    μ-loop
-    loop-holds
-    mul-rule
-    element-copy-out-rule
-    pack-rule-requires
-    add-r
-    loop-less
-    loop-again
+    Inv-loop μ-loop loop-holds (λ c. omega arith) (λ c. omega arith) pack-rule-requires (λ c. omega arith) (λ c. omega arith) loop-again
     returns)

@@ -10,52 +10,35 @@ beyond : tie.Need-returns-3
 beyond c =
     let d = c .before in
     let e = d .before .before .before in
-    look-beyond (e .before .before .before .count .ensures .0) (search needs) (e .before .is-nonterminal .ensures) (e .if2 .taken)
+    look-beyond (e .before .before .before .count .ensures .0) (omega arith) (e .before .is-nonterminal .ensures) (e .if2 .taken)
     (d .wide .ensures) (omega arith)
 
 last : tie.Need-returns-4
 last c =
     let d = c .before .before .before .before in
     let e = d .before .before .before in
-    look-last (e .before .before .before .count .ensures .0) (search needs) (e .before .is-nonterminal .ensures) (e .if2 .taken)
+    look-last (e .before .before .before .count .ensures .0) (omega arith) (e .before .is-nonterminal .ensures) (e .if2 .taken)
     (d .wide .ensures) (c .before .before .value .ensures .0) (omega arith) (c .before .only-terminals .ensures) (search needs)
 
 node : tie.Need-returns-5
 node c =
     let d = c .before .before .before .before .before .before in
     let e = d .before .before .before in
-    look-node (e .before .before .before .count .ensures .0) (search needs) (e .before .is-nonterminal .ensures) (e .if2 .taken)
+    look-node (e .before .before .before .count .ensures .0) (omega arith) (e .before .is-nonterminal .ensures) (e .if2 .taken)
     (d .wide .ensures) (c .before .before .before .before .value .ensures .0) (omega arith)
     (c .before .before .before .only-terminals .ensures) (search needs) (c .before .size .ensures) (omega arith)
 
 large : tie.Need-returns-6
 large c =
     let e = c .before .before .before .before .before .before .before .before .before in
-    look-large (e .before .before .before .count .ensures .0) (search needs) (e .before .is-nonterminal .ensures) (e .if2 .taken)
+    look-large (e .before .before .before .count .ensures .0) (omega arith) (e .before .is-nonterminal .ensures) (e .if2 .taken)
     (c .before .size .ensures) (omega arith)
 
 pub look-spec : {M : Type 1} → statement M
 look-spec =
     tie.close
     (tie.spec
-    (λ c κs. search needs)
-    (λ c. search (needs, look-end))
-    (λ c κs. search needs)
-    (λ c. search (needs, look-no-room))
-    (λ c. search needs)
-    (λ c. search needs)
-    (λ c. search needs)
-    (λ c κs. search needs)
-    (λ c. search needs)
-    beyond
-    (λ c κs. search needs)
-    (λ c. search needs)
-    (λ c κs. search needs)
-    (λ c. search needs)
-    last
-    (λ c κs. search needs)
-    (λ c. search needs)
-    node
-    large
-    (λ c. search (needs, look-byte))
+    (λ c κs. omega arith) (λ c. search (needs, look-end)) (λ c κs. omega arith) (λ c. search (needs, look-no-room)) (λ c. omega arith)
+    (λ c. omega arith) (λ c. omega arith) (λ c κs. omega arith) (λ c. omega arith) beyond (λ c κs. omega arith) (λ c. omega arith)
+    (λ c κs. omega arith) (λ c. omega arith) last (λ c κs. omega arith) (λ c. omega arith) node large (λ c. search (needs, look-byte))
     (λ c. search (needs, look-short)))

@@ -39,12 +39,5 @@ pub only-terminals-spec : {M : Type 1} → statement M
 only-terminals-spec =
     tie.close
     (tie.spec
-    Inv-loop
-    μ-loop
-    (λ c. (omega arith, leaves-none _ _ _))
-    (λ c κs. search needs)
-    found
-    (λ c. search needs)
-    (λ c. omega arith)
-    loop-again
+    Inv-loop μ-loop (λ c. (omega arith, leaves-none _ _ _)) (λ c κs. omega arith) found (λ c. omega arith) (λ c. omega arith) loop-again
     none)

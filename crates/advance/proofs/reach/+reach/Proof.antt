@@ -2,7 +2,6 @@
 -- Assumes nothing.
 use Prim.Native.Nat.{ℕ, _-_, _<_}
 use native.Mathlib.Omega.{arith}
-use borrow.Author.Needs.{needs}
 use borrow.Fn.Kinds.{In}
 use borrow.Fn.PlainCycle.{Measures, is, falls, and}
 use Rattle.advance.proofs.Reading.{byte-room, node-room}
@@ -39,8 +38,8 @@ node-requires t c κs =
 
 pub +reach-spec : {M : Type 1} → statement M
 +reach-spec = close μ-reach λ t. reach-lts.spec (reach-calls t) (reach-at t) reach.Post
-    (λ c κs. search needs) (λ c. search needs) (λ c. search needs) (λ c. search needs) (λ c. search needs) (λ c. search needs)
-    (byte-requires t) (λ c. search needs) (λ c. search needs) (λ c. search needs)
+    (λ c κs. omega arith) (λ c. omega arith) (λ c. omega arith) (λ c. omega arith) (λ c. omega arith) (λ c. omega arith)
+    (byte-requires t) (λ c. omega arith) (λ c. omega arith) (λ c. omega arith)
     (λ c. omega (arith, node-room (c .before .before .before .look .ensures) (c .before .step2 .given .1)))
     (λ c. omega (arith, node-room (c .before .before .before .look .ensures) (c .before .step2 .given .1)))
     (node-requires t)

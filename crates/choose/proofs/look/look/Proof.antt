@@ -13,31 +13,14 @@ rest-within c = omega (arith, c .before .before .before .choose-end .ensures .fi
 node : tie.Need-returns-2
 node c =
     let d = c .before .before .before .before in
-    look-node (d .before .before .before .before .count .ensures .0) (search needs) (d .before .before .is-nonterminal .ensures)
-    (d .before .if2 .taken) (d .value .ensures .0) (c .before .before .before .choose-end .ensures) (search needs) (c .wide .ensures)
-
-none : tie.Need-returns-3
-none c = search (needs, look-none)
+    look-node (d .before .before .before .before .count .ensures .0) (omega arith) (d .before .before .is-nonterminal .ensures)
+    (d .before .if2 .taken) (d .value .ensures .0) (c .before .before .before .choose-end .ensures) (omega arith) (c .wide .ensures)
 
 pub look-spec : {M : Type 1} → statement M
 look-spec =
     tie.close
     (tie.spec
-    (λ c κs. search needs)
-    (λ c. search (needs, look-end))
-    (λ c κs. search needs)
-    (λ c κs. search needs)
-    (λ c. search needs)
-    (λ c. search needs)
-    (λ c κs. search needs)
-    (λ c. search needs)
-    (λ c. search needs)
-    (λ c. search needs)
-    (λ c. search needs)
-    (λ c. search needs)
-    (λ c κs. search needs)
-    rest-within
-    node
-    none
-    (λ c. search (needs, look-byte))
+    (λ c κs. omega arith) (λ c. search (needs, look-end)) (λ c κs. omega arith) (λ c κs. omega arith) (λ c. omega arith)
+    (λ c. omega arith) (λ c κs. omega arith) (λ c. omega arith) (λ c. omega arith) (λ c. omega arith) (λ c. omega arith)
+    (λ c. omega arith) (λ c κs. omega arith) rest-within node (λ c. search (needs, look-none)) (λ c. search (needs, look-byte))
     (λ c. search (needs, look-short)))

@@ -3,7 +3,6 @@
 -- Assumes nothing.
 use Prim.Native.Nat.{ℕ, _+_, _*_, _-_, _<_}
 use native.Mathlib.Omega.{arith}
-use borrow.Author.Needs.{needs}
 use borrow.Fn.Kinds.{In}
 use borrow.Fn.PlainCycle.{Measures, is, falls, and}
 use Rattle.sets.proofs.with.Reads as with-reads
@@ -58,13 +57,13 @@ abbrev row-calls : ℕ → row-lts.Claims
 row-calls t = (look-reads.Asked, look-reads.Learnt, row-below t, row.Post, node-below t, node.Post)
 
 node-sub-c : (t : ℕ) → node-lts.Need-sub-c (node-calls t) (node-at t) node.Post
-node-sub-c t c = search needs
+node-sub-c t c = omega arith
 
 node-same-span-requires : (t : ℕ) → node-lts.Need-same-span-requires (node-calls t) (node-at t) node.Post
-node-same-span-requires t c κs = search needs
+node-same-span-requires t c κs = omega arith
 
 node-rule-at-requires : (t : ℕ) → node-lts.Need-rule-at-requires (node-calls t) (node-at t) node.Post
-node-rule-at-requires t c κs = search needs
+node-rule-at-requires t c κs = omega arith
 
 node-returns : (t : ℕ) → node-lts.Need-returns (node-calls t) (node-at t) node.Post
 node-returns t c = search node-none
@@ -73,7 +72,7 @@ node-with-requires : (t : ℕ) → node-lts.Need-with-requires (node-calls t) (n
 node-with-requires t c κs = c .before .rule-at .ensures .found (omega arith) .used
 
 node-add-row : (t : ℕ) → node-lts.Need-add-row (node-calls t) (node-at t) node.Post
-node-add-row t c = search needs
+node-add-row t c = omega arith
 
 node-row-requires : (t : ℕ) → node-lts.Need-row-requires (node-calls t) (node-at t) node.Post
 node-row-requires t c κs =
@@ -86,16 +85,16 @@ node-returns-2 : (t : ℕ) → node-lts.Need-returns-2 (node-calls t) (node-at t
 node-returns-2 t c = search node-some
 
 row-look-requires : (t : ℕ) → row-lts.Need-look-requires (row-calls t) (row-at t) row.Post
-row-look-requires t c κs = search needs
+row-look-requires t c κs = omega arith
 
 row-enum-told : (t : ℕ) → row-lts.Need-enum-told (row-calls t) (row-at t) row.Post
-row-enum-told t c = search needs
+row-enum-told t c = omega arith
 
 row-enum-told-2 : (t : ℕ) → row-lts.Need-enum-told-2 (row-calls t) (row-at t) row.Post
-row-enum-told-2 t c = search needs
+row-enum-told-2 t c = omega arith
 
 row-enum-told-3 : (t : ℕ) → row-lts.Need-enum-told-3 (row-calls t) (row-at t) row.Post
-row-enum-told-3 t c = search needs
+row-enum-told-3 t c = omega arith
 
 row-add-row : (t : ℕ) → row-lts.Need-add-row (row-calls t) (row-at t) row.Post
 row-add-row t c = let b = byte-room (c .before .before .look .ensures) (c .enum-told3 .given .1) in omega arith
@@ -107,7 +106,7 @@ row-row-requires : (t : ℕ) → row-lts.Need-row-requires (row-calls t) (row-at
 row-row-requires t c κs = let b = byte-room (c .before .before .look .ensures) (c .enum-told3 .given .1) in omega arith
 
 row-enum-known-step : (t : ℕ) → row-lts.Need-enum-known-step (row-calls t) (row-at t) row.Post
-row-enum-known-step t c = search needs
+row-enum-known-step t c = omega arith
 
 row-add-node : (t : ℕ) → row-lts.Need-add-node (row-calls t) (row-at t) row.Post
 row-add-node t c = let b = node-room (c .before .before .before .look .ensures) (c .before .step .given .1) in omega arith

@@ -1,5 +1,6 @@
 -- `lines::fixed::put_no_reading` meets its contract.
 -- Assumes nothing.
+use native.Mathlib.Omega.{arith}
 use borrow.Author.Needs.{needs}
 use Rattle.text.specs.Line.{noReadingLine}
 use Rattle.lines.proofs.fixed.put_no_reading.Statement.{statement}
@@ -10,5 +11,4 @@ unfolding noReadingLine
 returns c = search needs
 
 pub put-no-reading-spec : {M : Type 1} → statement M
-put-no-reading-spec =
-    tie.close (tie.spec (λ c. search needs) (λ c κs. search needs) (λ c. search needs) returns)
+put-no-reading-spec = tie.close (tie.spec (λ c. omega arith) (λ c κs. omega arith) (λ c. omega arith) returns)

@@ -1,7 +1,6 @@
 -- `lines::fixed::put_readings` meets its contract.
 -- Assumes nothing.
 use native.Mathlib.Omega.{arith}
-use borrow.Author.Needs.{needs}
 use Rattle.digits.proofs.Decimal.{digits-16}
 use Rattle.lines.proofs.Lines.{readings-done}
 use Rattle.lines.proofs.fixed.put_readings.Statement.{statement}
@@ -19,9 +18,4 @@ pub put-readings-spec : {M : Type 1} → statement M
 put-readings-spec =
     tie.close
     (tie.spec
-    (λ c. search needs)
-    (λ c κs. search needs)
-    put-decimal-requires
-    put-byte-requires
-    (λ c. search needs)
-    (λ c. search readings-done))
+    (λ c. omega arith) (λ c κs. omega arith) put-decimal-requires put-byte-requires (λ c. omega arith) (λ c. search readings-done))
