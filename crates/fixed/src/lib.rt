@@ -1,14 +1,14 @@
 // The lines of fixed words, written into a buffer from its start. Each function answers where the line ends.
-use super::NEWLINE;
 use digits::put_byte;
 use digits::put_bytes;
 use digits::put_decimal;
+use lines::NEWLINE;
 ghost use Prim.Native.Nat.{_<_, _≤_};
 ghost use lib.ListN.{length};
 ghost use Rattle.results.specs.Answer.{counted, more};
 ghost use Rattle.text.specs.Line.{refusedLine, noReadingLine, readingsLine};
 ghost use Rattle.digits.specs.Put.{Put};
 ghost use Rattle.lines.specs.Sizes.{lineSize, maxPlace};
 
 // A refusal and its number, one or two digits.
 pub fn put_refused(n: usize, out: &mut [u8]) -> usize

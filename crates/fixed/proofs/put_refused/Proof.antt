@@ -1,10 +1,10 @@
--- `lines::fixed::put_refused` meets its contract.
+-- `fixed::put_refused` meets its contract.
 -- Assumes nothing.
 use native.Mathlib.Omega.{arith}
 use Rattle.digits.proofs.Decimal.{digits-16}
 use Rattle.lines.proofs.Lines.{refused-done}
-use Rattle.lines.proofs.fixed.put_refused.Statement.{statement}
-use Rattle.lines.proofs.fixed.put_refused.Tie as tie
+use Rattle.fixed.proofs.put_refused.Statement.{statement}
+use Rattle.fixed.proofs.put_refused.Tie as tie
 
 put-decimal-requires : tie.Need-put-decimal-requires
 put-decimal-requires c κs = omega (arith, digits-16 (c .before .before .before .before .before .before .before .args .n) (omega arith))

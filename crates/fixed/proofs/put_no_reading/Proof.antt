@@ -1,10 +1,10 @@
--- `lines::fixed::put_no_reading` meets its contract.
+-- `fixed::put_no_reading` meets its contract.
 -- Assumes nothing.
 use native.Mathlib.Omega.{arith}
 use borrow.Author.Needs.{needs}
 use Rattle.text.specs.Line.{noReadingLine}
-use Rattle.lines.proofs.fixed.put_no_reading.Statement.{statement}
-use Rattle.lines.proofs.fixed.put_no_reading.Tie as tie
+use Rattle.fixed.proofs.put_no_reading.Statement.{statement}
+use Rattle.fixed.proofs.put_no_reading.Tie as tie
 
 returns : tie.Need-returns
 unfolding noReadingLine

@@ -1,10 +1,10 @@
--- `lines::fixed::put_more` meets its contract.
+-- `fixed::put_more` meets its contract.
 -- Assumes nothing.
 use native.Mathlib.Omega.{arith}
 use borrow.Author.Needs.{needs}
 use Rattle.text.specs.Line.{readingsLine}
-use Rattle.lines.proofs.fixed.put_more.Statement.{statement}
-use Rattle.lines.proofs.fixed.put_more.Tie as tie
+use Rattle.fixed.proofs.put_more.Statement.{statement}
+use Rattle.fixed.proofs.put_more.Tie as tie
 
 returns : tie.Need-returns
 unfolding readingsLine
