@@ -61,7 +61,7 @@ pub fn fill(g: Grammar, input: &[u8], chart: &mut [u32]) -> Packed
     ensures { λ p. ⌜ (now (chart .exit) ≡ filled (grammarOf g) (now (input .entry)) (now (chart .entry)))
         × ((r : ℕ) → ruleOfNumber (cfgIn (g .start) p) r ≡ ruleOfNumber (grammarOf g) r) ⌝ }
 {
-    let p = packed::pack(g);
+    let p = packing::pack(g);
     columns::fill(&p, input, chart);
     p
 }

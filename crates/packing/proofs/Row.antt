@@ -21,10 +21,10 @@ use Rattle.grammar.specs.Valid.{validRule}
 use Rattle.grammar.specs.View.{symbolOf, placeOf, ruleOf}
 use Rattle.grammar.specs.Zero.{zeroPlace}
 use Rattle.grammar.proofs.Bounds.{rule-parts}
 use Rattle.packed.specs.Packed.{leftIn, countIn, isNonterminalIn, tagIn, terminalIn, valueIn, symbolIn}
 use Rattle.packed.specs.Packed.{placesFrom, placesIn, ruleIn, packedSize, ruleBytes}
-use Rattle.packed.specs.Place.{RulePut}
+use Rattle.packing.specs.Place.{RulePut}
 use Rattle.packed.proofs.Laws.{count-used, count-le, rule-used}
 
 -- the two bytes of a symbol
 two-bytes : (s : Symbol) (t v : ℕ) → t ≡ tagOf s → v ≡ valueOf s

@@ -1,12 +1,12 @@
--- `packed::pack_rule` meets its contract. The loop's invariant: row r has the places passed, and the other rows are as found.
+-- `packing::pack_rule` meets its contract. The loop's invariant: row r has the places passed, and the other rows are as found.
 -- The measure is what is left of the count. Assumes nothing.
 use Prim.Native.Nat.{_≤_, _-_}
 use native.Mathlib.Omega.{arith}
 use lib.ListN.{length-map}
 use Rattle.grammar.proofs.Bounds.{rule-parts}
-use Rattle.packed.proofs.Row.{Row, row-start, row-step, row-done}
-use Rattle.packed.proofs.pack_rule.Statement.{statement}
-use Rattle.packed.proofs.pack_rule.Tie as tie
+use Rattle.packing.proofs.Row.{Row, row-start, row-step, row-done}
+use Rattle.packing.proofs.pack_rule.Statement.{statement}
+use Rattle.packing.proofs.pack_rule.Tie as tie
 
 abbrev Inv-loop : tie.InvT-loop
 Inv-loop r p₀ rule n q₀ p q = (q ≤ n) × (n ≤ 8) × Row rule r q p₀ p

@@ -1,12 +1,12 @@
--- `packed::pack` meets its contract. The loop's invariant: the bytes have the rules passed, and no others.
+-- `packing::pack` meets its contract. The loop's invariant: the bytes have the rules passed, and no others.
 -- The measure is what is left of the count. Assumes nothing.
 use Prim.Native.Nat.{_≤_, _-_}
 use native.Mathlib.Omega.{arith}
 use lib.ListN.{length-map}
 use Rattle.grammar.proofs.Bounds.{valid-count, valid-each}
-use Rattle.packed.proofs.Rows.{Rows, rows-start, rows-step, rows-done}
-use Rattle.packed.proofs.pack.Statement.{statement}
-use Rattle.packed.proofs.pack.Tie as tie
+use Rattle.packing.proofs.Rows.{Rows, rows-start, rows-step, rows-done}
+use Rattle.packing.proofs.pack.Statement.{statement}
+use Rattle.packing.proofs.pack.Tie as tie
 
 abbrev Inv-loop : tie.InvT-loop
 Inv-loop g p₀ n r₀ p r = (r ≤ n) × (n ≤ 128) × Rows g r p

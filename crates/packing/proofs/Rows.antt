@@ -16,9 +16,9 @@ use Rattle.grammar.specs.View.{ruleOf, grammarOf}
 use Rattle.grammar.specs.Zero.{noRule}
 use Rattle.grammar.proofs.Bounds.{valid-count}
 use Rattle.grammar.proofs.RuleAt.{rule-at, rule-past}
 use Rattle.packed.specs.Packed.{leftIn, ruleIn, cfgIn, packedSize, ruleBytes}
-use Rattle.packed.specs.Place.{RulePut}
+use Rattle.packing.specs.Place.{RulePut}
 use Rattle.packed.proofs.Laws.{rule-unused, rule-in, rule-in-past}
 
 -- p has the first r rules of the grammar, and no others
 pub record Rows (g : Grammar) (r : ℕ) (p : List ℕ) : Type 0 where
