@@ -5,9 +5,6 @@ use Rattle.derivation.proofs.Whole.{long-unlisted, odd-unlisted, whole-
 use Rattle.derivation.proofs.is_derivation.Statement.{statement}
 use Rattle.derivation.proofs.is_derivation.Tie as tie
 
--- `derivation::is_derivation` meets its contract: too long and odd rows are no derivations, and the walk decides the others.
--- Assumes nothing.
-
 returns : tie.Need-returns
 returns c = long-unlisted _ _ _ (omega arith)
 

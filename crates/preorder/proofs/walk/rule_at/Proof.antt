@@ -1,9 +1,9 @@
--- `derivation::walk::rule_at` meets its contract: each test that fails leaves no rule, and where all are passed the rule read is the one.
+-- `preorder::walk::rule_at` meets its contract: each test that fails leaves no rule, and where all are passed the rule read is the one.
 -- Assumes nothing.
 use native.Mathlib.Omega.{arith}
-use Rattle.derivation.proofs.Tests.{rule-late, rule-cover, rule-number, rule-high, rule-left, rule-barred, rule-found}
-use Rattle.derivation.proofs.walk.rule_at.Statement.{statement}
-use Rattle.derivation.proofs.walk.rule_at.Tie as tie
+use Rattle.preorder.proofs.Tests.{rule-late, rule-cover, rule-number, rule-high, rule-left, rule-barred, rule-found}
+use Rattle.preorder.proofs.walk.rule_at.Statement.{statement}
+use Rattle.preorder.proofs.walk.rule_at.Tie as tie
 
 returns-3 : tie.Need-returns-3
 returns-3 c = rule-cover _ _ _ _ _ _ _ (c .before .number .result) (c .before .number .ensures .0) (omega arith)

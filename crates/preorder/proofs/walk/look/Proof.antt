@@ -1,9 +1,9 @@
--- `derivation::walk::look` meets its contract, one case for each way out.
+-- `preorder::walk::look` meets its contract, one case for each way out.
 -- Assumes nothing.
 use native.Mathlib.Omega.{arith}
-use Rattle.derivation.proofs.Tests.{look-end, look-not-end, look-node, look-far, look-late, look-byte, look-misfit, look-short}
-use Rattle.derivation.proofs.walk.look.Statement.{statement}
-use Rattle.derivation.proofs.walk.look.Tie as tie
+use Rattle.preorder.proofs.Tests.{look-end, look-not-end, look-node, look-far, look-late, look-byte, look-misfit, look-short}
+use Rattle.preorder.proofs.walk.look.Statement.{statement}
+use Rattle.preorder.proofs.walk.look.Tie as tie
 
 pub look-spec : {M : Type 1} → statement M
 look-spec =

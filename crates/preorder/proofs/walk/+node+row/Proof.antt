@@ -6,19 +6,19 @@ use native.Mathlib.Omega.{arith}
 use borrow.Fn.Kinds.{In}
 use borrow.Fn.PlainCycle.{Measures, is, falls, and}
 use Rattle.sets.proofs.with.Reads as with-reads
-use Rattle.derivation.proofs.Steps.{node-none, node-some, row-none, row-end, row-byte, row-node-none, row-node-some, byte-room}
-use Rattle.derivation.proofs.Steps.{node-room, walk-room}
-use Rattle.derivation.proofs.walk.+node+row.{statement}
-use Rattle.derivation.proofs.walk.+node+row.Tie.{close}
-use Rattle.derivation.proofs.walk.node.Reads as node
-use Rattle.derivation.proofs.walk.node.Kinds as node-kinds
-use Rattle.derivation.proofs.walk.+node+row.Lts-node as node-lts
-use Rattle.derivation.proofs.walk.row.Reads as row
-use Rattle.derivation.proofs.walk.row.Kinds as row-kinds
-use Rattle.derivation.proofs.walk.+node+row.Lts-row as row-lts
-use Rattle.derivation.proofs.walk.look.Reads as look-reads
-use Rattle.derivation.proofs.walk.same_span.Reads as same-span-reads
-use Rattle.derivation.proofs.walk.rule_at.Reads as rule-at-reads
+use Rattle.preorder.proofs.Steps.{node-none, node-some, row-none, row-end, row-byte, row-node-none, row-node-some, byte-room}
+use Rattle.preorder.proofs.Steps.{node-room, walk-room}
+use Rattle.preorder.proofs.walk.+node+row.{statement}
+use Rattle.preorder.proofs.walk.+node+row.Tie.{close}
+use Rattle.preorder.proofs.walk.node.Reads as node
+use Rattle.preorder.proofs.walk.node.Kinds as node-kinds
+use Rattle.preorder.proofs.walk.+node+row.Lts-node as node-lts
+use Rattle.preorder.proofs.walk.row.Reads as row
+use Rattle.preorder.proofs.walk.row.Kinds as row-kinds
+use Rattle.preorder.proofs.walk.+node+row.Lts-row as row-lts
+use Rattle.preorder.proofs.walk.look.Reads as look-reads
+use Rattle.preorder.proofs.walk.same_span.Reads as same-span-reads
+use Rattle.preorder.proofs.walk.rule_at.Reads as rule-at-reads
 
 abbrev μ-node : Measures 3 node-kinds.ps ℕ
 μ-node κs a = (a .1 .1 .1 .0 - a .1 .1 .1 .1 .1 .1 .1 .0) * 10

@@ -14,7 +14,7 @@ use Rattle.chart.proofs.Slices.{slice-nil, slice-head}
 use Rattle.listing.proofs.Unique.{row-unique}
 use Rattle.enumeration.specs.Rows.{Free}
 use Rattle.enumeration.proofs.Free.{end-plain, end-free, leaf-plain, leaf-free, after-plain, after-free}
-use Rattle.derivation.specs.Walk.{Walked}
+use Rattle.preorder.specs.Walk.{Walked}
 
 module _ (G : Cfg) (w e : List ℕ) (n cover set : ℕ) where
   -- ---- one row at most

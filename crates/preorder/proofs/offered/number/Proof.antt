@@ -1,9 +1,9 @@
--- `derivation::offered::number` meets its contract: an element of a `&[u16]` is below 65536.
+-- `preorder::offered::number` meets its contract: an element of a `&[u16]` is below 65536.
 -- Assumes nothing.
 use mathlib.Core.Path.{refl}
 use native.Mathlib.Omega.{arith}
-use Rattle.derivation.proofs.offered.number.Statement.{statement}
-use Rattle.derivation.proofs.offered.number.Tie as tie
+use Rattle.preorder.proofs.offered.number.Statement.{statement}
+use Rattle.preorder.proofs.offered.number.Tie as tie
 
 returns : tie.Need-returns
 returns c = (refl, omega (arith, c .shared-slice-known .given (c .before .args .i)))

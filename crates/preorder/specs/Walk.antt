@@ -13,8 +13,8 @@ use Rattle.cfg.specs.Tree.{Forest, yield, nodes, code, Fits}
 use Rattle.cfg.specs.Derivation.{Superfluous}
 use Rattle.enumeration.specs.Rows.{Free}
 use Rattle.packed.specs.Packed.{leftIn, countIn, symbolIn}
-use Rattle.derivation.specs.declared.walk.Step.{Step}
-use Rattle.derivation.specs.declared.walk.Step.the-variants.{No, End, Byte, Node}
+use Rattle.preorder.specs.declared.walk.Step.{Step}
+use Rattle.preorder.specs.declared.walk.Step.the-variants.{No, End, Byte, Node}
 
 -- a forest for the places over the bytes `from` to `to`, without superfluous recursion and free of the set over `cover` bytes, whose code
 -- stands in e from node `at` on; `next` is the node after it, and n the number of nodes that e has

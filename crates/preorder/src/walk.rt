@@ -7,7 +7,7 @@ ghost use lib.ListN.{length};
 ghost use Rattle.cfg.specs.Grammar.{nonterminal};
 ghost use Rattle.packed.specs.Packed.{placesFrom, countIn, cfgIn};
 ghost use Rattle.enumeration.specs.Rows.{SameSpan};
-ghost use Rattle.derivation.specs.Walk.{Walked, Answers, Room, Opens, Looked};
+ghost use Rattle.preorder.specs.Walk.{Walked, Answers, Room, Opens, Looked};
 ghost use Rattle.sizes.specs.Sizes.{tooMany};
 
 // What comes next in a row: nothing that fits, its end, a byte, or a node of a nonterminal over so many bytes.

@@ -12,8 +12,8 @@ use Rattle.cfg.specs.Grammar.{Symbol, nonterminal, terminal, fits}
 use Rattle.chart.specs.Cell.{fitsAt}
 use Rattle.packed.specs.Packed.{leftIn, countIn, isNonterminalIn, valueIn, terminalIn, symbolIn, fitsPlace}
 use Rattle.packed.proofs.Fitting.{symbol-nonterminal, symbol-terminal}
-use Rattle.derivation.specs.declared.walk.Step.the-variants.{No, End, Byte, Node}
-use Rattle.derivation.specs.Walk.{Answers, Opens, Looked, at-end, not-end, at-byte, not-byte, at-node, not-node}
+use Rattle.preorder.specs.declared.walk.Step.the-variants.{No, End, Byte, Node}
+use Rattle.preorder.specs.Walk.{Answers, Opens, Looked, at-end, not-end, at-byte, not-byte, at-node, not-node}
 
 -- ---- the rule of a node
 

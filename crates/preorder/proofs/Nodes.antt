@@ -16,8 +16,8 @@ use Rattle.chart.proofs.Slices.{slice-append, slice-split}
 use Rattle.listing.proofs.Unique.{length-code}
 use Rattle.enumeration.specs.Rows.{Free, SameSpan}
 use Rattle.enumeration.proofs.Free.{join-plain, join-free, first-plain, first-free, beside-plain, beside-free}
-use Rattle.derivation.specs.Walk.{Walked}
-use Rattle.derivation.proofs.Spans.{node-plain, node-free, below-plain, node-fresh, below-free}
+use Rattle.preorder.specs.Walk.{Walked}
+use Rattle.preorder.proofs.Spans.{node-plain, node-free, below-plain, node-fresh, below-free}
 
 -- a list that goes on with two numbers has them at that place
 two-at : (e x : List ℕ) (i a b : ℕ) → a ∷ b ∷ x ≡ drop i e

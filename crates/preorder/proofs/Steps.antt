@@ -9,13 +9,13 @@ use Rattle.sets.specs.Set.{insert}
 use Rattle.cfg.specs.Grammar.{Cfg, Symbol, nonterminal, terminal}
 use Rattle.packed.specs.Packed.{leftIn, countIn, symbolIn, placesFrom, placesIn, cfgIn}
 use Rattle.packed.proofs.Laws.{count-le, places-step, places-end, places-start, of-in, in-of, in-of-places}
-use Rattle.derivation.specs.declared.walk.Step.{Step}
-use Rattle.derivation.specs.declared.walk.Step.the-variants.{No, End, Byte, Node}
+use Rattle.preorder.specs.declared.walk.Step.{Step}
+use Rattle.preorder.specs.declared.walk.Step.the-variants.{No, End, Byte, Node}
 use Rattle.enumeration.specs.Rows.{SameSpan}
-use Rattle.derivation.specs.Walk.{Walked, Answers, Room, Opens, Looked, at-end, not-end, at-byte, not-byte, at-node}
-use Rattle.derivation.specs.Walk.{not-node}
-use Rattle.derivation.proofs.Walks.{walk-unique, walk-end, end-walk, walk-leaf, leaf-walk}
-use Rattle.derivation.proofs.Nodes.{walk-node, Parted, node-walk, Opened, walk-open, open-walk}
+use Rattle.preorder.specs.Walk.{Walked, Answers, Room, Opens, Looked, at-end, not-end, at-byte, not-byte, at-node}
+use Rattle.preorder.specs.Walk.{not-node}
+use Rattle.preorder.proofs.Walks.{walk-unique, walk-end, end-walk, walk-leaf, leaf-walk}
+use Rattle.preorder.proofs.Nodes.{walk-node, Parted, node-walk, Opened, walk-open, open-walk}
 
 -- the answer that there is none
 none-answers : (P : ℕ → Type 0) → ((s : ℕ) → P s → ⊥) → Answers P tooMany tooMany
