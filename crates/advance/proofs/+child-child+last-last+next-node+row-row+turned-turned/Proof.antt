@@ -6,8 +6,8 @@ use borrow.Author.Needs.{needs}
 use Rattle.beyond.proofs.Frames.{frame-unmade}
 use Rattle.advance.proofs.Calls.{μ-child, child-at, child-below, μ-last, last-at, last-below, μ-node, node-at, node-below}
 use Rattle.advance.proofs.Calls.{μ-row, row-at, row-below, μ-turned, turned-at, turned-below}
-use Rattle.advance.proofs.Reading.{byte-room, node-room}
-use Rattle.advance.proofs.Reaching.{reach-room}
+use Rattle.placed.proofs.Reading.{byte-room, node-room}
+use Rattle.placed.proofs.Reaching.{reach-room}
 use Rattle.advance.proofs.RowSteps.{row-none, row-end, row-byte, row-last, row-rest, row-child}
 use Rattle.advance.proofs.ChildSteps.{child-dear, child-moved}
 use Rattle.advance.proofs.LastSteps.{last-none, last-still, last-moves}
@@ -25,9 +25,9 @@ use Rattle.advance.proofs.+child-child+last-last+next-node+row-row+turn
 use Rattle.beyond.proofs.frame.rest_of.Reads as rest-of
 use Rattle.beyond.proofs.later.later_rule.Reads as later-rule
 use Rattle.wider.proofs.moved.moved.Reads as moved
-use Rattle.advance.proofs.look.look.Reads as look
-use Rattle.advance.proofs.look.rule_at.Reads as rule-at
-use Rattle.advance.proofs.reach.reach.Reads as reach
+use Rattle.placed.proofs.look.look.Reads as look
+use Rattle.placed.proofs.look.rule_at.Reads as rule-at
+use Rattle.placed.proofs.reach.reach.Reads as reach
 use Rattle.nodes.proofs.child_set.Reads as child-set
 use Rattle.nodes.proofs.own_set.Reads as own-set
 use Rattle.advance.proofs.+child-child+last-last+next-node+row-row+turned-turned.{statement}

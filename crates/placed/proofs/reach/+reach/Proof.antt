@@ -1,17 +1,17 @@
--- `advance::reach::reach` meets its contract. The measure is the number of places left, 9 - q.
+-- `placed::reach::reach` meets its contract. The measure is the number of places left, 9 - q.
 -- Assumes nothing.
 use Prim.Native.Nat.{ℕ, _-_, _<_}
 use native.Mathlib.Omega.{arith}
 use borrow.Fn.Kinds.{In}
 use borrow.Fn.PlainCycle.{Measures, is, falls, and}
-use Rattle.advance.proofs.Reading.{byte-room, node-room}
-use Rattle.advance.proofs.Reaching.{reach-none, reach-end, reach-byte, reach-last, reach-node}
-use Rattle.advance.proofs.reach.reach.Reads as reach
-use Rattle.advance.proofs.reach.reach.Kinds as reach-kinds
-use Rattle.advance.proofs.reach.+reach.Lts-reach as reach-lts
-use Rattle.advance.proofs.look.look.Reads as look-reads
-use Rattle.advance.proofs.reach.+reach.{statement}
-use Rattle.advance.proofs.reach.+reach.Tie.{close}
+use Rattle.placed.proofs.Reading.{byte-room, node-room}
+use Rattle.placed.proofs.Reaching.{reach-none, reach-end, reach-byte, reach-last, reach-node}
+use Rattle.placed.proofs.reach.reach.Reads as reach
+use Rattle.placed.proofs.reach.reach.Kinds as reach-kinds
+use Rattle.placed.proofs.reach.+reach.Lts-reach as reach-lts
+use Rattle.placed.proofs.look.look.Reads as look-reads
+use Rattle.placed.proofs.reach.+reach.{statement}
+use Rattle.placed.proofs.reach.+reach.Tie.{close}
 
 abbrev μ-reach : Measures 2 reach-kinds.ps ℕ
 μ-reach κs a = 9 - a .1 .1 .0

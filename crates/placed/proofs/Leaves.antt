@@ -20,7 +20,7 @@ use Rattle.choices.specs.Opened.{OpenedRow}
 use Rattle.packed.specs.Packed.{countIn, isNonterminalIn, terminalIn, placesFrom}
 use Rattle.packed.proofs.Fitting.{symbol-terminal}
 use Rattle.suffixes.specs.Within.{tailIn}
-use Rattle.advance.specs.Looked.{LeavesIn}
+use Rattle.placed.specs.Looked.{LeavesIn}
 
 -- ---- the tests
 

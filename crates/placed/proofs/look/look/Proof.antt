@@ -1,10 +1,10 @@
--- `advance::look::look` meets its contract.
+-- `placed::look::look` meets its contract.
 -- Assumes nothing.
 use native.Mathlib.Omega.{arith}
 use borrow.Author.Needs.{needs}
-use Rattle.advance.proofs.Reading.{look-end, look-byte, look-short, look-no-room, look-beyond, look-last, look-node, look-large}
-use Rattle.advance.proofs.look.look.Statement.{statement}
-use Rattle.advance.proofs.look.look.Tie as tie
+use Rattle.placed.proofs.Reading.{look-end, look-byte, look-short, look-no-room, look-beyond, look-last, look-node, look-large}
+use Rattle.placed.proofs.look.look.Statement.{statement}
+use Rattle.placed.proofs.look.look.Tie as tie
 
 beyond : tie.Need-returns-3
 beyond c =

@@ -20,9 +20,9 @@ use Rattle.standing.proofs.Stands.{stands-first}
 use Rattle.tables.specs.Exact.{Packing}
 use Rattle.suffixes.specs.Within.{tailIn}
 use Rattle.beyond.proofs.Codes.{tree-nonempty}
-use Rattle.advance.specs.declared.look.Step.{Step}
-use Rattle.advance.specs.declared.look.Step.the-variants.{No, End, Byte, Final, Node}
-use Rattle.advance.specs.Looked.{LeavesIn, LeavesFound, Looked, at-end, at-byte, no-byte, at-last, at-node, no-room, no-end, no-node}
+use Rattle.placed.specs.declared.look.Step.{Step}
+use Rattle.placed.specs.declared.look.Step.the-variants.{No, End, Byte, Final, Node}
+use Rattle.placed.specs.Looked.{LeavesIn, LeavesFound, Looked, at-end, at-byte, no-byte, at-last, at-node, no-room, no-end, no-node}
 
 -- ---- the tests
 

@@ -1,13 +1,13 @@
--- `advance::look::only_terminals` meets its contract. The loop's invariant: only terminals stand at the places below q.
+-- `placed::look::only_terminals` meets its contract. The loop's invariant: only terminals stand at the places below q.
 -- The measure is m - q. Assumes nothing.
 use Prim.Native.Nat.{_-_, _≤_}
 use mathlib.Core.Bool.{true≢false, false≢true}
 use native.Mathlib.Omega.{arith}
 use borrow.Author.Needs.{needs}
-use Rattle.advance.specs.Looked.{LeavesIn}
-use Rattle.advance.proofs.Leaves.{leaves-none, leaves-more, leaves-not, leaves-all}
-use Rattle.advance.proofs.look.only_terminals.Statement.{statement}
-use Rattle.advance.proofs.look.only_terminals.Tie as tie
+use Rattle.placed.specs.Looked.{LeavesIn}
+use Rattle.placed.proofs.Leaves.{leaves-none, leaves-more, leaves-not, leaves-all}
+use Rattle.placed.proofs.look.only_terminals.Statement.{statement}
+use Rattle.placed.proofs.look.only_terminals.Tie as tie
 
 abbrev Inv-loop : tie.InvT-loop
 Inv-loop p r from m q₀ q = (from ≤ q) × LeavesIn p r from q

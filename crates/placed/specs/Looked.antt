@@ -8,8 +8,8 @@ use lib.ListN.{getD}
 use Rattle.sizes.specs.Sizes.{maxRules}
 use Rattle.packed.specs.Packed.{countIn, isNonterminalIn, valueIn}
 use Rattle.standing.specs.Standing.{Sized}
-use Rattle.advance.specs.declared.look.Step.{Step}
-use Rattle.advance.specs.declared.look.Step.the-variants.{No, End, Byte, Final, Node}
+use Rattle.placed.specs.declared.look.Step.{Step}
+use Rattle.placed.specs.declared.look.Step.the-variants.{No, End, Byte, Final, Node}
 
 -- only terminals stand at the places of rule r from `from` on and below m
 abbrev pub LeavesIn : List ℕ → ℕ → ℕ → ℕ → Type 0

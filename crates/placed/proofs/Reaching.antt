@@ -19,17 +19,17 @@ use Rattle.standing.proofs.Stands.{stands-second}
 use Rattle.tables.specs.Exact.{Packing}
 use Rattle.suffixes.specs.Within.{tailIn}
 use Rattle.descend.proofs.RowSteps.{tail-terminal, tail-nonterminal}
-use Rattle.advance.specs.declared.look.Step.{Step}
-use Rattle.advance.specs.declared.look.Step.the-variants.{No, End, Byte, Final, Node}
-use Rattle.advance.specs.declared.reach.Found.{Found}
-use Rattle.advance.specs.declared.reach.Found.the-variants.{Nowhere, There}
-use Rattle.advance.specs.Looked.{Looked, at-end, at-byte, at-last, at-node}
-use Rattle.advance.specs.Reached.{Ends, ends-none, ends-leaf, ends-node, ends-last, Reached, nowhere, there}
+use Rattle.placed.specs.declared.look.Step.{Step}
+use Rattle.placed.specs.declared.look.Step.the-variants.{No, End, Byte, Final, Node}
+use Rattle.placed.specs.declared.reach.Found.{Found}
+use Rattle.placed.specs.declared.reach.Found.the-variants.{Nowhere, There}
+use Rattle.placed.specs.Looked.{Looked, at-end, at-byte, at-last, at-node}
+use Rattle.placed.specs.Reached.{Ends, ends-none, ends-leaf, ends-node, ends-last, Reached, nowhere, there}
 use Rattle.beyond.specs.Beyond.{AfterAt}
 use Rattle.beyond.proofs.Codes.{stands-join}
-use Rattle.advance.proofs.Leaves.{leaves-behind, leaves-move, leaves-end}
-use Rattle.advance.proofs.Reading.{opened-here, both-stand, child-here, size-here, Passed}
-use Rattle.advance.proofs.RowSteps.{row-as, after-as, none-stands}
+use Rattle.placed.proofs.Leaves.{leaves-behind, leaves-move, leaves-end}
+use Rattle.placed.proofs.Reading.{opened-here, both-stand, child-here, size-here, Passed}
+use Rattle.placed.proofs.Places.{row-as, after-as, none-stands}
 
 -- where the last node stands
 pub reach-room : {p : List ℕ} {r q : ℕ} {buf : List ℕ} {at a j budget k c b to share : ℕ} {t : Found}

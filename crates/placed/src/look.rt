@@ -4,7 +4,7 @@ use packed::Packed;
 ghost use Prim.Native.Nat.{_+_, _<_, _≤_};
 ghost use lib.ListN.{length};
 ghost use Rattle.sizes.specs.Sizes.{maxRules, maxPlaces, side, maxNodes, outputSize};
-ghost use Rattle.advance.specs.Looked.{Looked, LeavesFound, RuleRead};
+ghost use Rattle.placed.specs.Looked.{Looked, LeavesFound, RuleRead};
 
 // What stands in a row: nothing that is right, its end, a byte, a node of a nonterminal up to an end with only terminals behind it, or one
 // at another place, with the nodes of its tree.

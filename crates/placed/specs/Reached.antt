@@ -15,9 +15,9 @@ use Rattle.standing.specs.Standing.{StandsAt}
 use Rattle.tables.specs.Exact.{Packing}
 use Rattle.suffixes.specs.Within.{tailIn}
 use Rattle.beyond.specs.Beyond.{AfterAt}
-use Rattle.advance.specs.declared.reach.Found.{Found}
-use Rattle.advance.specs.declared.reach.Found.the-variants.{Nowhere, There}
-use Rattle.advance.specs.Looked.{LeavesIn}
+use Rattle.placed.specs.declared.reach.Found.{Found}
+use Rattle.placed.specs.declared.reach.Found.the-variants.{Nowhere, There}
+use Rattle.placed.specs.Looked.{LeavesIn}
 
 -- the row f of the places of rule r from q on, from a to j, has no last node, or that node is last
 pub data Ends (p w : List ℕ) (cover set r j : ℕ) : ℕ → ℕ → ℕ → Forest → Type 0 where

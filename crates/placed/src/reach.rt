@@ -6,7 +6,7 @@ use packed::Packed;
 ghost use Prim.Native.Nat.{_+_, _<_, _≤_};
 ghost use lib.ListN.{length};
 ghost use Rattle.sizes.specs.Sizes.{maxRules, maxPlaces, side, maxNodes, outputSize};
-ghost use Rattle.advance.specs.Reached.{Reached};
+ghost use Rattle.placed.specs.Reached.{Reached};
 
 // No such node, or one of a nonterminal from a start to an end, at a node of the buffer, with a budget.
 pub enum Found {
