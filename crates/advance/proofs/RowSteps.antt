@@ -2,17 +2,15 @@
 -- Assumes nothing.
 use Prim.Native.Nat.{ℕ, _+_, _*_, _-_, _≤_, _<_}
 use mathlib.Core.List.{List, _++_}
-use mathlib.Core.Path.{_≡_, refl, sym, subst}
+use mathlib.Core.Path.{_≡_, sym, subst}
 use native.Mathlib.Omega.{arith}
 use lib.ListN.{length, length-append}
 use Rattle.sizes.specs.Sizes.{maxNodes}
-use Rattle.cfg.specs.Grammar.{Symbol}
 use Rattle.cfg.specs.Tree.{Forest, nodes, code}
 use Rattle.listing.proofs.Unique.{length-code}
 use Rattle.enumeration.specs.Rows.{Row}
 use Rattle.enumeration.specs.Order.{Last}
 use Rattle.choices.specs.Opened.{OpenedRow}
-use Rattle.choices.proofs.Stands.{leaf-opened}
 use Rattle.choices.proofs.NextRow.{end-ends, leaf-moves, leaf-ends, rest-stands, rest-moves}
 use Rattle.packed.proofs.Laws.{places-end}
 use Rattle.standing.specs.Standing.{StandsAt}
@@ -24,14 +22,14 @@ use Rattle.descend.proofs.Codes.{kept-none}
 use Rattle.descend.proofs.RowSteps.{tail-terminal, tail-nonterminal}
 use Rattle.placed.specs.declared.look.Step.{Step}
 use Rattle.placed.specs.declared.look.Step.the-variants.{No, End, Byte, Final, Node}
-use Rattle.placed.specs.Looked.{Looked, at-end, at-byte, no-byte, at-last, at-node, no-room, no-end, no-node}
+use Rattle.placed.specs.Looked.{Looked, at-end, at-byte, at-last, at-node}
 use Rattle.placed.specs.Reached.{Ends}
-use Rattle.beyond.specs.Beyond.{Frame, AfterAt, NextAt}
+use Rattle.beyond.specs.Beyond.{Frame, NextAt}
 use Rattle.advance.specs.Advance.{RowNext, ChildNext}
-use Rattle.beyond.proofs.Codes.{tree-nonempty, stands-join, stands-same, kept-same, kept-behind, kept-then, next-none, next-some, next-same}
+use Rattle.beyond.proofs.Codes.{stands-join, stands-same, kept-same, kept-behind, kept-then, next-none, next-some, next-same}
 use Rattle.placed.proofs.Places.{row-as, next-as, none-stands}
 use Rattle.advance.proofs.Ending.{ends-byte, ends-others, ends-row, ends-here}
-use Rattle.placed.proofs.Reading.{opened-here, both-stand, child-here, size-here, Passed}
+use Rattle.placed.proofs.Reading.{both-stand, child-here, size-here, Passed}
 
 module _ {p : List ℕ} {rules : ℕ} {fits chart tables : List ℕ} {r i j mask q a budget at : ℕ} {buf₀ : List ℕ} (l : a ≤ j)
     (room : at + budget ≤ maxNodes) where
