@@ -27,8 +27,8 @@ use Rattle.tables.specs.Exact.{Packing, CellTrue}
 use Rattle.tables.proofs.Bares.{bare-behind}
 use Rattle.solve.specs.Solve.{Solved}
 use Rattle.solve.proofs.Trees.{solved-full}
-use Rattle.tabulate.specs.Writes.{LeastPut}
-use Rattle.tabulate.specs.Starts.{Untouched, OtherStarts, StartRight, StartsPut, SuffixesPut}
+use Rattle.writes.specs.Writes.{LeastPut}
+use Rattle.starts.specs.Starts.{Untouched, OtherStarts, StartRight, StartsPut, SuffixesPut}
 use Rattle.tabulate.specs.Sofar.{Standing, Given, Sofar, Opened}
 use Rattle.tabulate.specs.Spans.{SpanOpened, SpanPut, EmptyPut}
 use Rattle.tabulate.proofs.Kept.{sofar-kept, sofar-more, ready-by, inside-by}

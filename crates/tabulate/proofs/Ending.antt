@@ -10,11 +10,11 @@ use Rattle.costs.specs.Span.{Tells}
 use Rattle.costs.proofs.Plain.{least-unmasked}
 use Rattle.packed.proofs.Laws.{count-le}
 use Rattle.tables.specs.Layout.{tablesSize, fullIn}
-use Rattle.tables.specs.Rule.{AlonesFilled}
+use Rattle.rulecosts.specs.Rule.{AlonesFilled}
 use Rattle.tables.specs.Exact.{PastLast, ChartTrue, Exact}
 use Rattle.solve.specs.Solve.{Solved}
 use Rattle.solve.proofs.Trees.{solved-full}
-use Rattle.tabulate.specs.Writes.{allRows}
+use Rattle.writes.specs.Writes.{allRows}
 use Rattle.tabulate.specs.Sofar.{Standing, Given, EmptyTrue, Sofar}
 use Rattle.tabulate.specs.Spans.{SpanPut, EmptyPut, EndFrom, EndPut, EndsBefore, EndsPut, Tabulated}
 use Rattle.tabulate.proofs.Kept.{ready-by}

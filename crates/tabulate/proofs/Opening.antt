@@ -18,11 +18,11 @@ use Rattle.packed.proofs.Laws.{count-le, places-start}
 use Rattle.suffixes.specs.Within.{tailIn, LaterStarts}
 use Rattle.tables.specs.Layout.{alonesAt, costIn, fullIn, bareIn}
 use Rattle.tables.specs.Exact.{FitTold}
-use Rattle.tabulate.specs.Writes.{placeAt, Nothing, BaresPut}
-use Rattle.tabulate.specs.Starts.{StartsPut}
+use Rattle.writes.specs.Writes.{placeAt, Nothing, BaresPut}
+use Rattle.starts.specs.Starts.{StartsPut}
 use Rattle.tabulate.specs.Sofar.{Standing, Sofar, Opened}
 use Rattle.tabulate.specs.Spans.{SpanOpened}
-use Rattle.tabulate.proofs.Written.{cost-same}
+use Rattle.writes.proofs.Written.{cost-same}
 use Rattle.tabulate.proofs.Kept.{sofar-kept}
 
 module _ (p : List ℕ) (rules : ℕ) (fits nothing : List ℕ) (i j : ℕ) (tables₀ rows₀ tables rows : List ℕ) (o : rules ≤ 128) (h : i < j)

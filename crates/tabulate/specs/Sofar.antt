@@ -14,9 +14,8 @@ use Rattle.costs.specs.Span.{Tells, Tree, Least}
 use Rattle.packed.specs.Packed.{countIn, placesIn}
 use Rattle.suffixes.specs.Within.{tailIn}
 use Rattle.tables.specs.Layout.{costIn, fullIn, bareIn}
-use Rattle.tables.specs.Rule.{Alones}
-use Rattle.tables.specs.Exact.{Packing, PastLast, FitTold}
-use Rattle.tabulate.specs.Writes.{placeAt}
+use Rattle.tables.specs.Exact.{Alones, Packing, PastLast, FitTold}
+use Rattle.writes.specs.Writes.{placeAt}
 
 -- the bytes that may stand at a position, told by a test
 abbrev pub Standing : (ℕ → ℕ → Bool) → ℕ → ℕ → Type 0

@@ -11,9 +11,8 @@ use Rattle.chart.specs.Cell.{cell}
 use Rattle.costs.specs.Cut.{Fit}
 use Rattle.costs.specs.Span.{Tells}
 use Rattle.tables.specs.Layout.{tablesSize, fullIn}
-use Rattle.tables.specs.Rule.{Alones}
-use Rattle.tables.specs.Exact.{PastLast, FitTold, CellTrue, ChartTrue, Exact}
-use Rattle.tabulate.specs.Writes.{allRows}
+use Rattle.tables.specs.Exact.{Alones, PastLast, FitTold, CellTrue, ChartTrue, Exact}
+use Rattle.writes.specs.Writes.{allRows}
 use Rattle.tabulate.specs.Sofar.{Standing, Given, EmptyTrue, Sofar, Opened}
 
 -- the costs over the span from i to j that need no numbers of the whole of it are made

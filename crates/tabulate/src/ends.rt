@@ -1,21 +1,21 @@
 // All spans: for each end, from the empty span there to the start of the input.
 use super::spans::put_empty;
 use super::spans::put_span;
-use super::writes::ALL_ROWS;
-use super::writes::AllRows;
-use super::writes::nothing;
 use fit::FitTable;
 use packed::Packed;
+use rulecosts::alone::fill_alone;
 use solve::solve;
-use tables::alone::fill_alone;
 use tables::layout::Full;
 use tables::layout::Tables;
+use writes::ALL_ROWS;
+use writes::AllRows;
+use writes::nothing;
 ghost use mathlib.Core.Path.{_≡_};
 ghost use Prim.Native.Nat.{_<_, _≤_};
 ghost use lib.ListN.{length};
 ghost use Rattle.sizes.specs.Sizes.{cells};
 ghost use Rattle.tables.specs.Layout.{tablesSize};
-ghost use Rattle.tabulate.specs.Writes.{allRows, Nothing};
+ghost use Rattle.writes.specs.Writes.{allRows, Nothing};
 ghost use Rattle.tabulate.specs.Spans.{EndPut, EndsPut, Tabulated};
 
 // The spans that end at j, those that end before being done.

@@ -1,19 +1,19 @@
 // One span: its costs that need no numbers of the whole of it, its numbers, and with them the rows from its start on.
-use super::starts::put_starts;
-use super::starts::put_suffixes;
-use super::writes::AllRows;
-use super::writes::put_bares;
-use super::writes::put_least;
 use fit::FitTable;
 use packed::Packed;
 use solve::solve;
+use starts::put_starts;
+use starts::put_suffixes;
 use tables::layout::Full;
 use tables::layout::Tables;
+use writes::AllRows;
+use writes::put_bares;
+use writes::put_least;
 ghost use mathlib.Core.Path.{_≡_};
 ghost use Prim.Native.Nat.{_<_, _≤_};
 ghost use lib.ListN.{length};
 ghost use Rattle.tables.specs.Layout.{tablesSize};
-ghost use Rattle.tabulate.specs.Writes.{allRows, Nothing};
+ghost use Rattle.writes.specs.Writes.{allRows, Nothing};
 ghost use Rattle.tabulate.specs.Spans.{SpanOpened, SpanPut, EmptyPut};
 
 // The rows from i on and the costs of the rules, without a child over the whole of i to j.

@@ -1,0 +1,2 @@
+-- Laws of these rows.
+pub mod Columns
