@@ -1,41 +1,50 @@
 -- The rows of all rules, written rule by rule from one start on.
 -- Assumes nothing.
 use Prim.Native.Nat.{ℕ, _+_, _*_, _≤_, _<_}
-use mathlib.Core.Bool.{Bool, true, false, true≢false}
 use mathlib.Core.List.{List}
-use mathlib.Core.Path.{_≡_, refl, sym, ap, subst, _∙_}
+use mathlib.Core.Bool.{false}
+use mathlib.Core.Path.{_≡_, refl, sym, subst, _∙_}
 use native.Mathlib.Decide.{ℕ-discrete}
 use native.Mathlib.Omega.{arith}
 use lib.ListN.{length, getD}
-use Rattle.sets.specs.Set.{has}
-use Rattle.sets.proofs.Laws.{has-empty}
 use Rattle.costs.specs.Cut.{Fit}
-use Rattle.packed.specs.Packed.{countIn, isNonterminalIn, valueIn}
+use Rattle.packed.specs.Packed.{countIn}
 use Rattle.packed.proofs.Laws.{count-le}
 use Rattle.suffixes.specs.Within.{tailIn, Inside, LaterStarts}
 use Rattle.suffixes.specs.Rows.{StartPut}
 use Rattle.tables.specs.Exact.{FitTold}
 use Rattle.writes.specs.Writes.{allRows, placeAt}
-use Rattle.starts.specs.Starts.{Untouched, OtherStarts, StartRight, StartsPut, SuffixesPut}
+use Rattle.live.specs.Live.{Silent, liveIn, Grown, LiveTold, Reached, OneRule, RuleOpened}
+use Rattle.starts.specs.Starts.{OtherStarts, StartRight, StartsPut, StartsOpened}
+
+-- ---- what writing one rule from i on leaves as found
+
+module _ (p : List ℕ) (i m : ℕ) (rows rows' : List ℕ) (l : i < 65) (O : OneRule p m i rows rows') where
+  pub other-starts : OtherStarts i rows rows'
+  other-starts r q c x y z d = let e : ¬ (c ≡ i) = d in O (placeAt r q c) (λ s u v. e (omega arith))
+
+  pub other-rules : (r q : ℕ) → ¬ (r ≡ m) → q ≤ 8 → getD rows' (placeAt r q i) 0 ≡ getD rows (placeAt r q i) 0
+  other-rules r q d y = let b = count-le p m in O (placeAt r q i) (λ s u v. d (omega arith))
+
+  pub right-kept : (fit : Fit) (tables full : List ℕ) (j r : ℕ) → ¬ (r ≡ m) → StartRight fit p r tables full i j rows
+      → StartRight fit p r tables full i j rows'
+  right-kept fit tables full j r d R q y =
+      let b = count-le p r in
+      subst (λ (v : ℕ). Inside fit tables full i j (tailIn p r q) i v) (sym (other-rules r q d (omega arith))) (R q y)
+
+-- a start stays silent where its numbers stay
+pub silent-kept : (p : List ℕ) (r c : ℕ) (rows rows' : List ℕ)
+    → ((q : ℕ) → q ≤ 8 → getD rows' (placeAt r q c) 0 ≡ getD rows (placeAt r q c) 0) → Silent p r c rows → Silent p r c rows'
+silent-kept p r c rows rows' f S q z y = let b = count-le p r in let e = f q (omega arith) in let x = S q z y in omega arith
 
 module _ (p fits tables full : List ℕ) (i j : ℕ) where
   -- the costs from later starts stay right
-  later-kept : (fit : Fit) (r : ℕ) (rows₀ rows : List ℕ) → r < 128 → j < 65 → OtherStarts i rows₀ rows
+  pub later-kept : (fit : Fit) (r : ℕ) (rows₀ rows : List ℕ) → r < 128 → j < 65 → OtherStarts i rows₀ rows
       → LaterStarts fit p r tables full i i j rows₀ (585 * r) → LaterStarts fit p r tables full i i j rows (585 * r)
   later-kept fit r rows₀ rows h l O L q c x y z =
       let b = count-le p r in
       let d : ¬ (c ≡ i) = λ e. omega arith in
       subst (λ (v : ℕ). Inside fit tables full i j (tailIn p r q) c v) (sym (O r q c h (omega arith) (omega arith) d)) (L q c x y z)
-
-  -- what writing one rule leaves as found
-  module _ (m : ℕ) (rows rows' : List ℕ) (l : i < 65) (P : StartPut p m fits tables full i i j (585 * m) rows rows') where
-    other-starts : OtherStarts i rows rows'
-    other-starts r q c x y z d =
-        let e : ¬ (c ≡ i) = d in
-        P .other (placeAt r q c) (λ s u v. e (omega arith))
-
-    other-rules : (r q : ℕ) → ¬ (r ≡ m) → q ≤ 8 → getD rows' (placeAt r q i) 0 ≡ getD rows (placeAt r q i) 0
-    other-rules r q d y = let b = count-le p m in P .other (placeAt r q i) (λ s u v. d (omega arith))
 
   -- ---- all rules
 
@@ -51,16 +60,12 @@ module _ (p fits tables full : List ℕ) (i j : ℕ) where
         (subst (λ (v : ℕ). LaterStarts fit p v tables full i i j rows₀ (585 * v)) e L)) q (rw e at y))
     right fit F r x (no e) L q y =
         let d : ¬ (r ≡ m) = e in
-        let c = count-le p r in
-        let g : getD rows (placeAt r q i) 0 ≡ getD rows' (placeAt r q i) 0 =
-        sym (other-rules m rows rows' (omega arith) P r q d (omega arith))
-        in
-        subst (λ (v : ℕ). Inside fit tables full i j (tailIn p r q) i v) g (S .exact fit F r (omega arith) L q y)
+        right-kept p i m rows rows' (omega arith) (P .other) fit tables full j r e (S .exact fit F r (omega arith) L) q y
 
     pub starts-step : StartsPut p (m + 1) fits tables full i j rows₀ rows'
     starts-step = record {
       long = P .long ∙ S .long;
-      other = λ r q c x y z d. other-starts m rows rows' (omega arith) P r q c x y z d ∙ S .other r q c x y z d;
+      other = λ r q c x y z d. other-starts p i m rows rows' (omega arith) (P .other) r q c x y z d ∙ S .other r q c x y z d;
       exact = λ fit F r x L. right fit F r x (ℕ-discrete r m) L;
     }
 
@@ -68,101 +73,58 @@ module _ (p fits tables full : List ℕ) (i j : ℕ) where
       → StartsPut p rules fits tables full i j rows₀ rows
   starts-end {m} {rules} x y S = let e : m ≡ rules = omega arith in rw e at S
 
-  -- ---- the rules with a nonterminal of the set
+  -- ---- those that are not passed over
 
-  module _ (cell : ℕ) where
-    pub suffixes-start : (rows : List ℕ) → length rows ≡ allRows → SuffixesPut p 0 fits tables full cell i j rows rows
-    suffixes-start rows e = record {
+  module _ (reach : ℕ) where
+    pub opened-start : (rows live : List ℕ) → length rows ≡ allRows → length live ≡ 128
+        → StartsOpened p 0 fits tables full reach i j rows live rows live
+    opened-start rows live e f = record {
       long = e;
+      size = f;
       other = λ r q c x y z d. refl;
-      later = λ r q x y z. refl;
-      exact = λ fit F r h L U. absurd (omega arith);
+      exact = λ fit F R r h L X. absurd (omega arith);
+      grown = λ r c g. g;
+      told = λ r h g. absurd (omega arith);
     }
 
-    -- the empty set has none
-    pub suffixes-none : (m : ℕ) (rows : List ℕ) → length rows ≡ allRows → cell ≡ 0 → SuffixesPut p m fits tables full cell i j rows rows
-    suffixes-none m rows e z = record {
-      long = e;
-      other = λ r q c x y z d. refl;
-      later = λ r q x y z. refl;
-      exact = λ fit F r h L U. U (record { none = λ q x t. rw z (has-empty (valueIn p r q)) });
-    }
+    module _ (m rules : ℕ) {rows₀ live₀ rows live rows' live' : List ℕ} (b : i < j) (l : j < 65) (h : m < rules) (o : rules ≤ 128)
+        (S : StartsOpened p m fits tables full reach i j rows₀ live₀ rows live)
+        (P : RuleOpened p m fits tables full reach i j rows live rows' live') where
+      -- what is told of the later starts is told still
+      live-kept : LiveTold p m i j rows₀ live₀ → LiveTold p m i j rows live
+      live-kept L c x y f =
+          let d : ¬ (c ≡ i) = λ e. omega arith in
+          silent-kept p m c rows₀ rows (λ q z. S .other m q c (omega arith) z (omega arith) d) (L c x y (S .grown m c f))
 
-    module _ (m rules : ℕ) (rows₀ rows : List ℕ) (b : i ≤ j) (l : j < 65) (h : m < rules) (o : rules ≤ 128)
-        (S : SuffixesPut p m fits tables full cell i j rows₀ rows) where
-      -- one that has none
-      module _ {t : Bool} (N : t ≡ false → Untouched p m cell) (n : t ≡ false) where
-        stay : (fit : Fit) → FitTold fit p fits j → (r : ℕ) → r < m + 1 → Dec (r ≡ m)
-            → LaterStarts fit p r tables full i i j rows₀ (585 * r)
-            → (Untouched p r cell → StartRight fit p r tables full i j rows₀) → StartRight fit p r tables full i j rows
-        stay fit F r x (yes e) L U q y =
-            let c = count-le p r in
-            let g : getD rows₀ (placeAt r q i) 0 ≡ getD rows (placeAt r q i) 0 =
-            sym (S .later r q (omega arith) (omega arith) (omega arith))
-            in
-            subst (λ (v : ℕ). Inside fit tables full i j (tailIn p r q) i v) g (U (rw e (N n)) q y)
-        stay fit F r x (no e) L U q y = let d : ¬ (r ≡ m) = e in S .exact fit F r (omega arith) L U q y
+      right-opened : (fit : Fit) → FitTold fit p fits j → Reached tables reach i j → (r : ℕ) → r < m + 1 → Dec (r ≡ m)
+          → LiveTold p r i j rows₀ live₀ → LaterStarts fit p r tables full i i j rows₀ (585 * r)
+          → StartRight fit p r tables full i j rows'
+      right-opened fit F R r x (yes e) L X q y =
+          rw e (P .exact fit F R (live-kept (subst (λ (v : ℕ). LiveTold p v i j rows₀ live₀) e L))
+          (later-kept fit m rows₀ rows (omega arith) l (S .other)
+          (subst (λ (v : ℕ). LaterStarts fit p v tables full i i j rows₀ (585 * v)) e X)) q (rw e at y))
+      right-opened fit F R r x (no e) L X q y =
+          let d : ¬ (r ≡ m) = e in
+          right-kept p i m rows rows' (omega arith) (P .other) fit tables full j r e (S .exact fit F R r (omega arith) L X) q y
 
-        pub suffixes-skip : {new : List ℕ} → new ≡ rows → SuffixesPut p (m + 1) fits tables full cell i j rows₀ new
-        suffixes-skip e = rw e (record {
-          long = S .long;
-          other = S .other;
-          later = λ r q x y z. S .later r q (omega arith) y z;
-          exact = λ fit F r x L U. stay fit F r x (ℕ-discrete r m) L U;
-        })
+      told-opened : (r : ℕ) → r < m + 1 → Dec (r ≡ m) → liveIn live' r i ≡ false → Silent p r i rows'
+      told-opened r x (yes e) f = rw e (P .marked .here (rw e at f))
+      told-opened r x (no e) f =
+          let d : ¬ (r ≡ m) = e in
+          silent-kept p r i rows rows' (λ q z. other-rules p i m rows rows' (omega arith) (P .other) r q e z)
+          (S .told r (omega arith) (P .marked .grown r i f))
 
-      -- one that has some
-      module _ (rows' : List ℕ) (P : StartPut p m fits tables full i i j (585 * m) rows rows') where
-        redo : (fit : Fit) → FitTold fit p fits j → (r : ℕ) → r < m + 1 → Dec (r ≡ m)
-            → LaterStarts fit p r tables full i i j rows₀ (585 * r)
-            → (Untouched p r cell → StartRight fit p r tables full i j rows₀) → StartRight fit p r tables full i j rows'
-        redo fit F r x (yes e) L U q y =
-            rw e (P .exact fit F (later-kept fit m rows₀ rows (omega arith) l (S .other)
-            (subst (λ (v : ℕ). LaterStarts fit p v tables full i i j rows₀ (585 * v)) e L)) q (rw e at y))
-        redo fit F r x (no e) L U q y =
-            let d : ¬ (r ≡ m) = e in
-            let c = count-le p r in
-            let g : getD rows (placeAt r q i) 0 ≡ getD rows' (placeAt r q i) 0 =
-            sym (other-rules m rows rows' (omega arith) P r q d (omega arith))
-            in
-            subst (λ (v : ℕ). Inside fit tables full i j (tailIn p r q) i v) g (S .exact fit F r (omega arith) L U q y)
+      pub opened-step : StartsOpened p (m + 1) fits tables full reach i j rows₀ live₀ rows' live'
+      opened-step = record {
+        long = P .long ∙ S .long;
+        size = P .marked .size;
+        other = λ r q c x y z d. other-starts p i m rows rows' (omega arith) (P .other) r q c x y z d ∙ S .other r q c x y z d;
+        exact = λ fit F R r x L X. right-opened fit F R r x (ℕ-discrete r m) L X;
+        grown = λ r c f. S .grown r c (P .marked .grown r c f);
+        told = λ r x f. told-opened r x (ℕ-discrete r m) f;
+      }
 
-        pub suffixes-take : {new : List ℕ} → new ≡ rows' → SuffixesPut p (m + 1) fits tables full cell i j rows₀ new
-        suffixes-take e = rw e (record {
-          long = P .long ∙ S .long;
-          other = λ r q c x y z d. other-starts m rows rows' (omega arith) P r q c x y z d ∙ S .other r q c x y z d;
-          later = λ r q x y z.
-              other-rules m rows rows' (omega arith) P r q (λ e. omega arith) z ∙ S .later r q (omega arith) y z;
-          exact = λ fit F r x L U. redo fit F r x (ℕ-discrete r m) L U;
-        })
-
-    pub suffixes-end : {m rules : ℕ} {rows₀ rows : List ℕ} → m ≤ rules → rules ≤ m
-        → SuffixesPut p m fits tables full cell i j rows₀ rows → SuffixesPut p rules fits tables full cell i j rows₀ rows
-    suffixes-end {m} {rules} x y S = let e : m ≡ rules = omega arith in rw e at S
-
--- ---- whether a rule has such a nonterminal
-
--- none stands in a place before m
-pub record Before (p : List ℕ) (r cell m : ℕ) : Type 0 where
-  pub none : (q : ℕ) → q < m → isNonterminalIn p r q ≡ true → has (valueIn p r q) cell ≡ false
-
-module _ (p : List ℕ) (r cell : ℕ) where
-  pub before-start : Before p r cell 0
-  before-start = record { none = λ q h t. absurd (omega arith) }
-
-  module _ {q : ℕ} (S : Before p r cell q) where
-    one-more : (isNonterminalIn p r q ≡ true → has (valueIn p r q) cell ≡ false) → Before p r cell (q + 1)
-    one-more f = record { none = λ s h t. go s h (ℕ-discrete s q) t }
-      where
-        go : (s : ℕ) → s < q + 1 → Dec (s ≡ q) → isNonterminalIn p r s ≡ true → has (valueIn p r s) cell ≡ false
-        go s h (yes e) t = rw e (f (rw e at t))
-        go s h (no e) t = let d : ¬ (s ≡ q) = e in S .none s (omega arith) t
-
-    pub before-terminal : {b : Bool} → b ≡ isNonterminalIn p r q → b ≡ false → Before p r cell (q + 1)
-    before-terminal e f = one-more (λ t. absurd (true≢false (sym t ∙ sym e ∙ f)))
-
-    pub before-other : {b : Bool} {k : ℕ} → k ≡ valueIn p r q → b ≡ has k cell → b ≡ false → Before p r cell (q + 1)
-    before-other {b} {k} e f g = one-more (λ t. sym (ap (λ (x : ℕ). has x cell) e) ∙ sym f ∙ g)
-
-  pub before-all : {q n : ℕ} → n ≡ countIn p r → n ≤ q → Before p r cell q → Untouched p r cell
-  before-all e h S = record { none = λ s x t. S .none s (omega arith) t }
+    pub opened-end : {m rules : ℕ} {rows₀ live₀ rows live : List ℕ} → m ≤ rules → rules ≤ m
+        → StartsOpened p m fits tables full reach i j rows₀ live₀ rows live
+        → StartsOpened p rules fits tables full reach i j rows₀ live₀ rows live
+    opened-end {m} {rules} x y S = let e : m ≡ rules = omega arith in rw e at S

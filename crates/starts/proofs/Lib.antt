@@ -1,2 +1,3 @@
 -- Laws of these rows.
 pub mod Columns
+pub mod Again

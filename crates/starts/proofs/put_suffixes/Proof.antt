@@ -2,17 +2,19 @@
 -- is left of them. Assumes nothing.
 use Prim.Native.Nat.{_-_, _≤_}
 use mathlib.Core.Logic.{⊎-elim}
+use native.Mathlib.Omega.{arith}
 use borrow.Author.Needs.{needs}
 use Rattle.starts.specs.Starts.{SuffixesPut}
-use Rattle.starts.proofs.Columns.{suffixes-none, suffixes-start, suffixes-take, suffixes-skip, suffixes-end}
+use Rattle.starts.proofs.Again.{suffixes-none, suffixes-start, suffixes-take, suffixes-skip, suffixes-end}
 use Rattle.starts.proofs.put_suffixes.Statement.{statement}
 use Rattle.starts.proofs.put_suffixes.Tie as tie
 
 abbrev Inv-loop : tie.InvT-loop
-Inv-loop p rules fits tables full cell i j rows₀ r₀ rows r = (r ≤ rules) × SuffixesPut p r fits tables full cell i j rows₀ rows
+Inv-loop p rules fits tables full cell i j rows₀ live₀ r₀ rows live r =
+    (r ≤ rules) × SuffixesPut p r fits tables full cell i j rows₀ live₀ rows live
 
 abbrev μ-loop : tie.MeasureT-loop
-μ-loop p rules fits tables full cell i j rows₀ r₀ rows r = rules - r
+μ-loop p rules fits tables full cell i j rows₀ live₀ r₀ rows live r = rules - r
 
 loop-again : tie.Need-loop-again Inv-loop μ-loop
 loop-again c =
@@ -27,9 +29,8 @@ put-suffixes-spec =
     (λ c. search (needs, suffixes-none))
     (λ c. search (needs, suffixes-start))
     (λ c κs. search needs)
-    (λ c. search needs)
     (λ c κs. search needs)
-    (λ c. search needs)
-    (λ c. search needs)
+    (λ c. omega arith)
+    (λ c. omega arith)
     loop-again
     (λ c. search (needs, suffixes-end)))

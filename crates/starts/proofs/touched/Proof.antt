@@ -4,7 +4,7 @@ use Prim.Native.Nat.{_-_, _≤_}
 use mathlib.Core.Bool.{true≢false}
 use mathlib.Core.Logic.{⊎-elim}
 use borrow.Author.Needs.{needs}
-use Rattle.starts.proofs.Columns.{Before, before-start, before-terminal, before-other, before-all}
+use Rattle.starts.proofs.Again.{Before, before-start, before-terminal, before-other, before-all}
 use Rattle.starts.proofs.touched.Statement.{statement}
 use Rattle.starts.proofs.touched.Tie as tie
 use Rattle.starts.proofs.touched.Reads as reads
