@@ -1,11 +1,11 @@
 // The least numbers of nodes over one whole span: passes of the rules, from too many everywhere on, until a pass changes nothing.
 use packed::Packed;
-use tables::alone::rule_empty;
+use rulecosts::alone::rule_empty;
+use rulecosts::rule::rule_cost;
 use tables::bare::bare;
 use tables::layout::Full;
 use tables::layout::Tables;
 use tables::least::TOO_MANY;
-use tables::rule::rule_cost;
 ghost use Prim.Native.Nat.{_<_, _≤_};
 ghost use Rattle.solve.specs.Solve.{RuleOver, Wanted, Numbers, Improved, Passed, Solved};
 

@@ -1,6 +1,6 @@
 // The least costs of the places of a rule from one start on, for all its places: row q of 65 numbers has those of the places q.. .
-use super::suffix::at_end;
-use super::within::suffix_at;
+use cuts::suffix::at_end;
+use cuts::within::suffix_at;
 use packed::Packed;
 use tables::layout::Full;
 use tables::layout::Tables;

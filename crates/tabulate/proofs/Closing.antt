@@ -4,6 +4,7 @@ use Prim.Native.Nat.{ℕ, zero, suc, _+_, _*_, _-_, _≤_, _<_}
 use mathlib.Core.Bool.{Bool, true, false}
 use mathlib.Core.List.{List, List·Memᴰ, List·Memᴰ·head, List·Memᴰ·tail}
 use mathlib.Core.Path.{_≡_, refl, sym, subst}
+use native.Mathlib.Decide.{ℕ-discrete}
 use native.Mathlib.Omega.{arith}
 use Rattle.sizes.specs.Sizes.{tooMany}
 use Rattle.sets.specs.Set.{has}
@@ -27,9 +28,11 @@ use Rattle.tables.specs.Exact.{Packing, CellTrue}
 use Rattle.tables.proofs.Bares.{bare-behind}
 use Rattle.solve.specs.Solve.{Solved}
 use Rattle.solve.proofs.Trees.{solved-full}
-use Rattle.tabulate.specs.Writes.{LeastPut}
-use Rattle.tabulate.specs.Starts.{Untouched, OtherStarts, StartRight, StartsPut, SuffixesPut}
-use Rattle.tabulate.specs.Sofar.{Standing, Given, Sofar, Opened}
+use Rattle.writes.specs.Writes.{LeastPut}
+use Rattle.live.specs.Live.{Silent, liveIn}
+use Rattle.starts.proofs.Columns.{silent-kept}
+use Rattle.starts.specs.Starts.{Untouched, OtherStarts, StartRight, StartsPut, SuffixesPut}
+use Rattle.tabulate.specs.Sofar.{Standing, Given, Sofar, Opened, LiveFrom}
 use Rattle.tabulate.specs.Spans.{SpanOpened, SpanPut, EmptyPut}
 use Rattle.tabulate.proofs.Kept.{sofar-kept, sofar-more, ready-by, inside-by}
 
@@ -73,8 +76,8 @@ module _ {i j : ℕ} {full tables₀ tables : List ℕ} (l : j < 65) (L : LeastP
 -- ---- a span that is not empty
 
 module _ {fit : Fit} {bytes : ℕ → ℕ → Type 0} {p : List ℕ} {rules : ℕ} {fits : List ℕ} {set i j : ℕ}
-    {full tables₀ rows₀ tables rows : List ℕ} (o : rules ≤ 128) (h : i < j) (l : j < 65) (X : Solved p rules set 0 tables₀ i j full)
-    (L : LeastPut full i j tables₀ tables) (P : SuffixesPut p rules fits tables full set i j rows₀ rows)
+    {full tables₀ rows₀ live₀ tables rows live : List ℕ} (o : rules ≤ 128) (h : i < j) (l : j < 65) (X : Solved p rules set 0 tables₀ i j full)
+    (L : LeastPut full i j tables₀ tables) (P : SuffixesPut p rules fits tables full set i j rows₀ live₀ rows live)
     (G : Given fit bytes p rules fits j) (C : CellTrue p bytes i j set) (O : Opened fit bytes p rules i j tables₀ rows₀) where
   numbers : (k : ℕ) → Least (Tree (Packing p) bytes k i j) (fullIn full k)
   numbers k =
@@ -114,15 +117,31 @@ module _ {fit : Fit} {bytes : ℕ → ℕ → Type 0} {p : List ℕ} {rules : �
       (λ r q x y. leastcut-same i j (λ k a b u v w. within-even (fullIn full) (costIn tables) i j k a b u v w (L .here k))
       (P .exact fit (G .told) r x (later r x) (untouched r x) q y))
 
+-- what is told of the live starts is told still
+module _ {p : List ℕ} {rules : ℕ} {fits tables full : List ℕ} {set i j : ℕ} {rows₀ live₀ rows live : List ℕ} (o : rules ≤ 128) (l : j < 65)
+    (P : SuffixesPut p rules fits tables full set i j rows₀ live₀ rows live) where
+  told-again : LiveFrom p rules i j rows₀ live₀ → LiveFrom p rules i j rows live
+  told-again L = record { told = λ r c x y z f. go r c x y z f (ℕ-discrete c i) }
+    where
+      go : (r c : ℕ) → r < rules → i ≤ c → c < j → liveIn live r c ≡ false → Dec (c ≡ i) → Silent p r c rows
+      go r c x y z f (yes e) = rw e (P .told r x (L .told r i x (omega arith) (omega arith)) (rw e at f))
+      go r c x y z f (no e) =
+          let d : ¬ (c ≡ i) = e in
+          silent-kept p r c rows₀ rows (λ q w. P .other r q c (omega arith) w (omega arith) e)
+          (L .told r c x y z (P .grown r c f))
+
 -- as the code does it
-pub span-put : (p : List ℕ) (rules : ℕ) (fits : List ℕ) (set i j : ℕ) {full tables₀ rows₀ tables₁ rows₁ tables rows : List ℕ} → rules ≤ 128
-    → i < j → j < 65 → SpanOpened p rules fits i j tables₀ rows₀ tables₁ rows₁ → Solved p rules set 0 tables₁ i j full
-    → LeastPut full i j tables₁ tables → SuffixesPut p rules fits tables full set i j rows₁ rows
-    → SpanPut p rules fits set i j tables₀ rows₀ tables rows
-span-put p rules fits set i j o h l S X L P = record {
+pub span-put : (p : List ℕ) (rules : ℕ) (fits : List ℕ) (set reach i j : ℕ)
+    {full tables₀ rows₀ live₀ tables₁ rows₁ live₁ tables rows live : List ℕ} → rules ≤ 128 → i < j → j < 65
+    → SpanOpened p rules fits reach i j tables₀ rows₀ live₀ tables₁ rows₁ live₁ → Solved p rules set 0 tables₁ i j full
+    → LeastPut full i j tables₁ tables → SuffixesPut p rules fits tables full set i j rows₁ live₁ rows live
+    → SpanPut p rules fits set reach i j tables₀ rows₀ live₀ tables rows live
+span-put p rules fits set reach i j {rows₁ = rows₁} {live₁} {rows = rows} {live} o h l S X L P = record {
   long = L .long;
   wide = P .long;
-  exact = λ fit can G C R. span-done o h l X L P G C (S .exact fit can (G .told) R);
+  size = P .size;
+  told = λ A. told-again o l P (S .told A);
+  exact = λ fit can G C R A D. span-done o h l X L P G C (S .exact fit can (G .told) R A D);
 }
 
 -- ---- the empty span

@@ -18,7 +18,7 @@ use Rattle.packed.proofs.Laws.{count-le}
 use Rattle.suffixes.specs.Within.{tailIn}
 use Rattle.tables.specs.Layout.{costIn, aloneIn, bareIn}
 use Rattle.tables.specs.Exact.{Packing, PastLast, Ready}
-use Rattle.tabulate.specs.Writes.{placeAt}
+use Rattle.writes.specs.Writes.{placeAt}
 use Rattle.tabulate.specs.Sofar.{Done, Sofar}
 
 module _ {fit : Fit} {bytes : ℕ → ℕ → Type 0} {p : List ℕ} {rules i j : ℕ} where

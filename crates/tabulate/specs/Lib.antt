@@ -1,5 +1,3 @@
 -- How the tables are made: what each function writes, and what is right when the spans up to one are done.
-pub mod Writes
-pub mod Starts
 pub mod Sofar
 pub mod Spans

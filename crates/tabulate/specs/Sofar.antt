@@ -2,7 +2,7 @@
 -- i on.
 -- Assumes nothing.
 use Prim.Native.Nat.{ℕ, _+_, _*_, _≤_, _<_}
-use mathlib.Core.Bool.{Bool, true}
+use mathlib.Core.Bool.{Bool, true, false}
 use mathlib.Core.List.{List}
 use mathlib.Core.Path.{_≡_}
 use lib.ListN.{getD}
@@ -14,9 +14,9 @@ use Rattle.costs.specs.Span.{Tells, Tree, Least}
 use Rattle.packed.specs.Packed.{countIn, placesIn}
 use Rattle.suffixes.specs.Within.{tailIn}
 use Rattle.tables.specs.Layout.{costIn, fullIn, bareIn}
-use Rattle.tables.specs.Rule.{Alones}
-use Rattle.tables.specs.Exact.{Packing, PastLast, FitTold}
-use Rattle.tabulate.specs.Writes.{placeAt}
+use Rattle.tables.specs.Exact.{Alones, Packing, PastLast, FitTold}
+use Rattle.writes.specs.Writes.{placeAt}
+use Rattle.live.specs.Live.{Silent, liveIn}
 
 -- the bytes that may stand at a position, told by a test
 abbrev pub Standing : (ℕ → ℕ → Bool) → ℕ → ℕ → Type 0
@@ -53,3 +53,7 @@ pub record Opened (fit : Fit) (bytes : ℕ → ℕ → Type 0) (p : List ℕ) (r
   pub bare : (r : ℕ) → r < rules → Lowest (BareCost fit (costIn tables) (placesIn p r) i j) (bareIn tables i j r)
   pub column : (r q : ℕ) → r < rules → q ≤ countIn p r
       → LeastCut fit (within i j (λ _. tooMany) (costIn tables)) (tailIn p r q) i j (getD rows (placeAt r q i) 0)
+
+-- from a start between a and j that is not live the places of a rule behind its first cost too many
+pub record LiveFrom (p : List ℕ) (rules a j : ℕ) (rows live : List ℕ) : Type 0 where
+  pub told : (r c : ℕ) → r < rules → a ≤ c → c < j → liveIn live r c ≡ false → Silent p r c rows
