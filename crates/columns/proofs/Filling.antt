@@ -1,21 +1,23 @@
 -- Clearing the chart, opening it, and taking the bytes of an input one after the other.
 -- Assumes nothing.
-use Prim.Native.Nat.{ℕ, suc, _+_, _-_, _≤_, _<_}
+use Prim.Native.Nat.{ℕ, suc, _+_, _-_, _^_, _≤_, _<_}
 use mathlib.Core.List.{List, [], _∷_, _++_}
 use mathlib.Core.Path.{_≡_, refl, sym, ap, _∙_, subst}
 use native.Mathlib.Numerals.{add-one}
 use native.Mathlib.Omega.{arith}
-use lib.ListN.{length, getD, take, drop, set, replicate, length-replicate, replicate-append-replicate}
+use lib.ListN.{length, getD, take, drop, set, replicate, length-append, length-drop, length-replicate, replicate-append-replicate}
 use lib.Seq.{append-snoc, set-at, drop-cons, take-suc, take-all, length-take-le}
 use Rattle.sizes.specs.Sizes.{cells}
 use Rattle.chart.specs.Cell.{fitsAt}
 use Rattle.chart.specs.Column.{written, opened, extended, extendedBy, filled}
 use Rattle.chart.proofs.Filled.{extendedBy-append}
-use Rattle.packed.specs.Packed.{cfgIn}
+use Rattle.packed.specs.Packed.{cfgIn, Used}
 use Rattle.chart.proofs.Written.{written-length}
 use Rattle.spans.specs.Spans.{endsSize}
 use Rattle.spans.specs.Ends.{EndsTo, ColumnsPut}
-use Rattle.columns.specs.Columns.{columnOf}
+use Rattle.empty.specs.Empty.{EmptyClosed, EmptyTold}
+use Rattle.columns.specs.Columns.{columnOf, OpenedWith}
+use Rattle.columns.proofs.Writing.{column-zero}
 use Rattle.columns.proofs.Telling.{ends-zero, told-on}
 
 -- a store at the end of what was stored so far
@@ -41,12 +43,25 @@ clear-done l chart i h m e =
     let d : i ≡ cells = omega arith in
     subst (λ (x : ℕ). chart ≡ replicate x 0 ++ drop x l) d e
 
+cleared : (n : ℕ) (l : List ℕ) → n ≤ length l → length (replicate n 0 ++ drop n l) ≡ length l
+cleared n l h = simp (length-append, length-replicate, length-drop) (omega arith)
+
+pub cleared-length : (l : List ℕ) → cells ≤ length l → length (replicate cells 0 ++ drop cells l) ≡ length l
+cleared-length l h = cleared cells l h
+
 -- ---- opening and filling
 
-pub opened-is : (p chart chart₁ chart₂ : List ℕ) → chart₁ ≡ replicate cells 0 ++ drop cells chart → chart₂ ≡ columnOf p [] 0 chart₁
-    → chart₂ ≡ opened (cfgIn 0 p) chart
+pub opened-with : (own : ℕ) (chart chart₁ : List ℕ) → chart₁ ≡ replicate cells 0 ++ drop cells chart → OpenedWith own chart (set chart₁ 0 own)
+opened-with own chart chart₁ e = ap (λ (x : List ℕ). set x 0 own) e
+
+pub opened-is : (p : List ℕ) (rules own : ℕ) (lasts chart chart' : List ℕ) → cells ≤ length chart → Used p rules → own < 2 ^ 32
+    → EmptyClosed p rules own lasts → OpenedWith own chart chart' → chart' ≡ opened (cfgIn 0 p) chart
 unfolding opened
-opened-is p chart chart₁ chart₂ e f = f ∙ ap (written (cfgIn 0 p) (fitsAt []) 0) e
+opened-is p rules own lasts chart chart' room used word closed e =
+    e ∙ column-zero p [] rules own lasts (replicate cells 0 ++ drop cells chart) (omega (arith, long)) used word closed
+  where
+    long : length (replicate cells 0 ++ drop cells chart) ≡ length chart
+    long = cleared-length chart room
 
 pub fill-start : (p start : List ℕ) → start ≡ extendedBy (cfgIn 0 p) [] [] start
 unfolding extendedBy
@@ -65,11 +80,14 @@ module _ (p w start : List ℕ) where
       ∙ sym (extendedBy-append (cfgIn 0 p) [] (take m w) (getD w m 0 ∷ []) start)
       ∙ ap (λ (x : List ℕ). extendedBy (cfgIn 0 p) [] x start) (sym t)
 
-  pub fill-done : (m : ℕ) (chart found : List ℕ) → length w ≤ m → start ≡ opened (cfgIn 0 p) found
-      → chart ≡ extendedBy (cfgIn 0 p) [] (take m w) start → chart ≡ filled (cfgIn 0 p) w found
+  pub taken-all : (m : ℕ) (chart : List ℕ) → length w ≤ m → chart ≡ extendedBy (cfgIn 0 p) [] (take m w) start
+      → chart ≡ extendedBy (cfgIn 0 p) [] w start
+  taken-all m chart h e = e ∙ ap (λ (x : List ℕ). extendedBy (cfgIn 0 p) [] x start) (take-all m w h)
+
+  pub fill-done : (chart found : List ℕ) → start ≡ opened (cfgIn 0 p) found → chart ≡ extendedBy (cfgIn 0 p) [] w start
+      → chart ≡ filled (cfgIn 0 p) w found
   unfolding filled
-  fill-done m chart found h e f = f ∙ ap (λ (x : List ℕ). extendedBy (cfgIn 0 p) [] x start) (take-all m w h)
-      ∙ ap (extendedBy (cfgIn 0 p) [] w) e
+  fill-done chart found e f = f ∙ ap (extendedBy (cfgIn 0 p) [] w) e
 
 -- ---- the ends, while an input is taken
 
@@ -120,3 +138,11 @@ module _ (p w start : List ℕ) where
         ends-long = put .long;
         reach-long = put .reach-long;
       }
+
+-- ---- opening and taking
+
+pub filled-is : (p w : List ℕ) (rules own : ℕ) (lasts kinds found start chart : List ℕ) → cells ≤ length found → Used p rules
+    → own < 2 ^ 32 → EmptyTold p rules own lasts kinds → OpenedWith own found start → chart ≡ extendedBy (cfgIn 0 p) [] w start
+    → chart ≡ filled (cfgIn 0 p) w found
+filled-is p w rules own lasts kinds found start chart room used word told first e =
+    fill-done p w start chart found (opened-is p rules own lasts found start room used word (told .closed) first) e

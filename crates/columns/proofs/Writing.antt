@@ -19,9 +19,11 @@ use Rattle.chart.proofs.Written.{index-inj, written-length, written-other, writ
 use Rattle.packed.specs.Packed.{Used, cfgIn}
 use Rattle.cells.specs.Flags.{Sets}
 use Rattle.cells.specs.Passes.{Settled}
-use Rattle.spans.specs.Spans.{endsOf, startsSize, EndsTold, Known, Near, AllBegin}
+use Rattle.spans.specs.Spans.{endsOf, startsSize}
 use Rattle.spans.specs.Ends.{EndsTo, StartsFrom, FlagsPut}
-use Rattle.looks.specs.Looks.{Givens, KindsAll, Closed, EmptyClosed}
+use Rattle.begins.specs.Begins.{EndsTold, Known, Near, AllBegin}
+use Rattle.empty.specs.Empty.{KindsAll, EmptyClosed, EmptyTold}
+use Rattle.looks.specs.Looks.{Givens, Closed}
 use Rattle.columns.specs.Columns.{columnOf, Around, WrittenFrom, CellWritten, LowerWritten}
 use Rattle.columns.proofs.Cell.{column-closed-at, cell-is, flags-are}
 
@@ -60,12 +62,12 @@ module _ (p w found : List ℕ) (rules n : ℕ) (small : n ≤ 64) where
           others a l (yes d) q = e (q ∙ ap (λ (y : ℕ). index y n) d)
           others a l (no d) q = let u : a ≢ i = d in h a (omega arith) q
 
-  module _ (i j v reached : ℕ) (ends reach lasts kinds insides flags chart starts live starts' live' : List ℕ) (room : cells ≤ length found)
+  module _ (i j v reached : ℕ) (ends reach lasts kinds insides flags made chart starts live starts' live' : List ℕ) (room : cells ≤ length found)
       (few : rules ≤ 128) (used : Used p rules) (order : i < n) (next : j ≡ i + 1) (word : v < 2 ^ 32) (e : reached ≡ getD reach i 0)
       (around : Around p w found rules n ends reach lasts) (from : WrittenFrom p w found rules n j chart starts live)
       (depends : KindsAll p rules lasts kinds)
       (inner : AllBegin (fitsAt w) p rules i n ends starts reached live lasts insides)
-      (closed : Closed p rules i n (cell chart i i) insides lasts kinds v flags)
+      (closed : Closed p rules (cell chart i i) insides lasts kinds v flags made)
       (put : FlagsPut p rules i flags starts live starts' live') where
     behind : StartsFrom (fitsAt w) full p rules (i + 1) n starts live
     behind = subst (λ (x : ℕ). StartsFrom (fitsAt w) full p rules x n starts live) next (from .from)
@@ -88,11 +90,11 @@ module _ (p w found : List ℕ) (rules n : ℕ) (small : n ≤ 64) where
     }
 
     settled : (r : ℕ) → r < rules → Settled (fitsAt w) full p r i n v (getD flags r 0)
-    settled = closed .settled (fitsAt w) full givens
+    settled = closed .settled (fitsAt w) full i n order givens
 
     own : v ≡ full i n
     own = cell-is p w found n small room i (omega arith) rules v (λ (r : ℕ). getD flags r 0) used settled word
-        (closed .sound (fitsAt w) full givens (full i n) (column-closed-at p w found n small room i (omega arith)))
+        (closed .sound (fitsAt w) full i n order givens (full i n) (column-closed-at p w found n small room i (omega arith)))
 
     step : WrittenFrom p w found rules n i (set chart (index i n) v) starts' live'
     step =
@@ -105,18 +107,18 @@ module _ (p w found : List ℕ) (rules n : ℕ) (small : n ≤ 64) where
               (flags-are p w found n small room i (omega arith) rules v (λ (r : ℕ). getD flags r 0) used settled own) behind;
         }
 
-pub cell-written : (p w : List ℕ) (rules n i v reached : ℕ) (ends reach lasts kinds insides flags chart starts live starts' live' : List ℕ)
+pub cell-written : (p w : List ℕ) (rules n i v reached : ℕ) (ends reach lasts kinds insides flags made chart starts live starts' live' : List ℕ)
     → n ≤ 64 → rules ≤ 128 → Used p rules → i < n → v < 2 ^ 32 → reached ≡ getD reach i 0 → KindsAll p rules lasts kinds
     → AllBegin (fitsAt w) p rules i n ends starts reached live lasts insides
-    → Closed p rules i n (cell chart i i) insides lasts kinds v flags
+    → Closed p rules (cell chart i i) insides lasts kinds v flags made
     → FlagsPut p rules i flags starts live starts' live'
     → CellWritten p w rules n i ends reach lasts chart starts live (set chart (index i n) v) starts' live'
-cell-written p w rules n i v reached ends reach lasts kinds insides flags chart starts live starts' live' small few used order
+cell-written p w rules n i v reached ends reach lasts kinds insides flags made chart starts live starts' live' small few used order
     word e depends inner closed put = record {
       long = length-set chart (index i n) v;
       room = put .long;
       live-room = put .live-long;
-      step = λ found room around j next from. step p w found rules n small i j v reached ends reach lasts kinds insides flags chart
+      step = λ found room around j next from. step p w found rules n small i j v reached ends reach lasts kinds insides flags made chart
           starts live starts' live' room few used order next word e around from depends inner closed put;
     }
 
@@ -131,13 +133,13 @@ pub zero-has : (k x j : ℕ) → has j (getD (replicate k 0) x 0) ≡ true → �
 zero-has k x j h = true-false h (ap (has j) (zero-word k x) ∙ has-empty j)
 
 module _ (p w found : List ℕ) (rules n own : ℕ) (lasts : List ℕ) (small : n ≤ 64) (room : cells ≤ length found) (used : Used p rules)
-    (word : own < 2 ^ 32) (closed : EmptyClosed p rules n own lasts) where
+    (word : own < 2 ^ 32) (closed : EmptyClosed p rules own lasts) where
   last-settled : (r : ℕ) → r < rules → Settled (fitsAt w) (cell (columnOf p w n found)) p r n n own (getD lasts r 0)
-  last-settled = closed .settled (fitsAt w) (cell (columnOf p w n found))
+  last-settled = closed .settled (fitsAt w) (cell (columnOf p w n found)) n
 
   last-own : own ≡ cell (columnOf p w n found) n n
   last-own = cell-is p w found n small room n (omega arith) rules own (λ (r : ℕ). getD lasts r 0) used last-settled word
-      (closed .sound (fitsAt w) (cell (columnOf p w n found)) (cell (columnOf p w n found) n n)
+      (closed .sound (fitsAt w) (cell (columnOf p w n found)) n (cell (columnOf p w n found) n n)
       (column-closed-at p w found n small room n (omega arith)))
 
   pub around : (ends reach : List ℕ) → EndsTo found n 0 ends reach → Around p w found rules n ends reach lasts
@@ -204,19 +206,23 @@ lower-done p w rules n i ends reach lasts chart₀ chart starts live h to = reco
   step = λ found big around from. column-done p w found rules n i chart starts live h (to .from found big around from);
 }
 
-pub column-written : (p w : List ℕ) (rules n own : ℕ) (ends reach lasts chart chart' : List ℕ) → n ≤ 64 → cells ≤ length chart
-    → Used p rules → own < 2 ^ 32 → EmptyClosed p rules n own lasts → EndsTo chart n 0 ends reach
-    → LowerWritten p w rules n ends reach lasts (set chart (index n n) own) chart' → chart' ≡ columnOf p w n chart
-column-written p w rules n own ends reach lasts chart chart' small room used word closed to lower =
-    lower .step chart room (around p w chart rules n own lasts small room used word closed ends reach to)
-    (column-start-zero p w chart rules n own lasts small room used word closed)
+module _ (p w : List ℕ) (rules n own : ℕ) (lasts kinds ends reach chart chart' : List ℕ) (small : n ≤ 64) (room : cells ≤ length chart)
+    (used : Used p rules) (word : own < 2 ^ 32) (told : EmptyTold p rules own lasts kinds) (to : EndsTo chart n 0 ends reach)
+    (lower : LowerWritten p w rules n ends reach lasts (set chart (index n n) own) chart') where
+  pub column-written : chart' ≡ columnOf p w n chart
+  column-written =
+      lower .step chart room (around p w chart rules n own lasts small room used word (told .closed) ends reach to)
+      (column-start-zero p w chart rules n own lasts small room used word (told .closed))
 
-pub column-length : (p w : List ℕ) (rules n own : ℕ) (ends reach lasts chart chart' : List ℕ) → n ≤ 64 → cells ≤ length chart
-    → Used p rules → own < 2 ^ 32 → EmptyClosed p rules n own lasts → EndsTo chart n 0 ends reach
-    → LowerWritten p w rules n ends reach lasts (set chart (index n n) own) chart' → length chart' ≡ length chart
-column-length p w rules n own ends reach lasts chart chart' small room used word closed to lower =
-    ap length (column-written p w rules n own ends reach lasts chart chart' small room used word closed to lower)
-    ∙ written-length (cfgIn 0 p) (fitsAt w) n chart
+  pub column-length : length chart' ≡ length chart
+  column-length = ap length column-written ∙ written-length (cfgIn 0 p) (fitsAt w) n chart
+
+-- column 0 is one cell
+pub column-zero : (p w : List ℕ) (rules own : ℕ) (lasts chart : List ℕ) → cells ≤ length chart → Used p rules → own < 2 ^ 32
+    → EmptyClosed p rules own lasts → set chart 0 own ≡ columnOf p w 0 chart
+column-zero p w rules own lasts chart room used word closed =
+    column-done p w chart rules 0 0 (set chart 0 own) (replicate startsSize 0) (replicate 128 0) (omega arith)
+    (column-start-zero p w chart rules 0 own lasts (omega arith) room used word closed)
 
 -- a cell of the first row stands at its end
 pub cell-first-row : (chart : List ℕ) (n : ℕ) → getD chart n 0 ≡ cell chart 0 n

@@ -1,10 +1,10 @@
 -- A column of the chart, written cell by cell from the last start down, by spans as bits.
 -- Assumes nothing.
 use Prim.Native.Nat.{ℕ, _+_, _≤_, _<_}
-use mathlib.Core.List.{List}
+use mathlib.Core.List.{List, _++_}
 use mathlib.Core.Logic.{_≢_}
 use mathlib.Core.Path.{_≡_}
-use lib.ListN.{length, getD, replicate}
+use lib.ListN.{length, getD, set, drop, replicate}
 use Rattle.sizes.specs.Sizes.{cells, maxRules}
 use Rattle.chart.specs.Cell.{cell, index, fitsAt}
 use Rattle.chart.specs.Column.{written}
@@ -16,6 +16,10 @@ use Rattle.spans.specs.Ends.{EndsTo, StartsFrom}
 -- the chart with its column n written
 abbrev pub columnOf : List ℕ → List ℕ → ℕ → List ℕ → List ℕ
 columnOf p w n chart = written (cfgIn 0 p) (fitsAt w) n chart
+
+-- the chart cleared, with own in its first cell
+abbrev pub OpenedWith : ℕ → List ℕ → List ℕ → Type 0
+OpenedWith own chart chart' = chart' ≡ set (replicate cells 0 ++ drop cells chart) 0 own
 
 -- what is the same for all cells of column n: the ends of the earlier columns, and the flags of the rules at n
 pub record Around (p w found : List ℕ) (rules n : ℕ) (ends reach lasts : List ℕ) : Type 0 where

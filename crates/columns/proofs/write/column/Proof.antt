@@ -1,6 +1,7 @@
 -- `columns::write::column` meets its contract.
 -- Assumes nothing.
 use borrow.Author.Needs.{needs}
+use native.Mathlib.Omega.{arith}
 use Rattle.columns.proofs.Writing.{column-written, column-length}
 use Rattle.columns.proofs.write.column.Statement.{statement}
 use Rattle.columns.proofs.write.column.Tie as tie
@@ -15,12 +16,9 @@ pub column-spec : {M : Type 1} → statement M
 column-spec =
     tie.close
     (tie.spec
-    (λ c κs. search needs)
-    (λ c κs. search needs)
-    (λ c κs. search needs)
-    (λ c. search needs)
-    (λ c. search needs)
-    (λ c. search needs)
+    (λ c. omega arith)
+    (λ c. omega arith)
+    (λ c. omega arith)
     (λ c. search needs)
     (λ c κs. search needs)
     same-length
