@@ -15,7 +15,7 @@ use Rattle.descend.proofs.first.+node+row.Lts-node as node-lts
 use Rattle.descend.proofs.first.row.Reads as row
 use Rattle.descend.proofs.first.row.Kinds as row-kinds
 use Rattle.descend.proofs.first.+node+row.Lts-row as row-lts
-use Rattle.choose.proofs.look.look.Reads as look-reads
+use Rattle.steps.proofs.look.Reads as look-reads
 use Rattle.nodes.proofs.child_set.Reads as child-set-reads
 use Rattle.descend.proofs.open.open_node.Reads as open-node-reads
 use Rattle.nodes.proofs.own_set.Reads as own-set-reads

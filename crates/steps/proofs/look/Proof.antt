@@ -1,10 +1,10 @@
--- `choose::look::look` meets its contract, one case for each way out.
+-- `steps::look` meets its contract, one case for each way out.
 -- Assumes nothing.
 use native.Mathlib.Omega.{arith}
 use borrow.Author.Needs.{needs}
-use Rattle.choose.proofs.Chosen.{look-end, look-byte, look-short, look-node, look-none}
-use Rattle.choose.proofs.look.look.Statement.{statement}
-use Rattle.choose.proofs.look.look.Tie as tie
+use Rattle.steps.proofs.Looking.{look-end, look-byte, look-short, look-node, look-none}
+use Rattle.steps.proofs.look.Statement.{statement}
+use Rattle.steps.proofs.look.Tie as tie
 
 -- the places behind cost no more than the budget
 rest-within : tie.Need-sub-t27

@@ -1,5 +1,5 @@
 // What comes next at a place of a rule.
-use super::ends::choose_end;
+use choose::ends::choose_end;
 use numbers::wide;
 use packed::Packed;
 use suffixes::rows::Rows;
@@ -7,7 +7,7 @@ use tables::layout::Full;
 use tables::layout::Tables;
 ghost use Prim.Native.Nat.{_<_, _≤_};
 ghost use Rattle.sizes.specs.Sizes.{maxRules, maxPlaces, side};
-ghost use Rattle.choose.specs.Chosen.{Looked};
+ghost use Rattle.steps.specs.Looked.{Looked};
 
 // What comes next in a row: nothing, its end, a byte, or a node of a nonterminal up to an end, with its share of the budget.
 pub enum Step {
