@@ -34,7 +34,7 @@ pub fn node(
         (now (buf .entry)) (now (buf .exit)) n ⌝ }
 {
     let r = rule_at(buf, at, budget);
-    if r >= sizes::MAX_RULES {
+    if r >= sizes::NO_RULE {
         return 0;
     }
     let own = own_set(mask, k);

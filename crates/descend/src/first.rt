@@ -52,7 +52,7 @@ pub fn node(
         &mut full,
         &mut rows,
     );
-    if r >= sizes::MAX_RULES {
+    if r >= sizes::NO_RULE {
         return 0;
     }
     nodes::put_node(j - i, r, out, at);

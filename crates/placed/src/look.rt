@@ -70,13 +70,13 @@ pub fn look(
     if a < j { Step::Byte } else { Step::No }
 }
 
-// The rule of node `at`; 128 if there is none there, or the budget has no node.
+// The rule of node `at`; no rule if there is none there, or the budget has no node.
 pub fn rule_at(buf: &[u16], at: usize, budget: usize) -> usize
     requires { ⌜ (at + budget ≤ maxNodes) × (outputSize ≤ length (now buf)) ⌝ }
     ensures { λ r. ⌜ RuleRead (now (buf .entry)) at budget r ⌝ }
 {
     if budget == 0 {
-        return sizes::MAX_RULES;
+        return sizes::NO_RULE;
     }
     wide(buf[2 * at + 1])
 }

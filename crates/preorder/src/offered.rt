@@ -11,7 +11,7 @@ pub fn number(e: &[u16], i: usize) -> usize
     e[i] as usize
 }
 
-// The rule of node i, or 128 if that is less.
+// The rule of node i, or that of no rule if it is larger.
 pub fn rule_number(e: &[u16], i: usize) -> usize
     requires { ⌜ (2 * i + 1 < length (now e)) × (i < 512) ⌝ }
     ensures { λ r. ⌜ r ≡ min (getD (now (e .entry)) (2 * i + 1) 0) 128 ⌝ }
@@ -20,6 +20,6 @@ pub fn rule_number(e: &[u16], i: usize) -> usize
     if r < sizes::MAX_RULES {
         r
     } else {
-        sizes::MAX_RULES
+        sizes::NO_RULE
     }
 }

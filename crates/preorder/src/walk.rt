@@ -25,26 +25,26 @@ fn same_span(cover: usize, above: u32, c: usize) -> u32
     if c == cover { above } else { 0 }
 }
 
-// The rule of node `at`, if the node covers c bytes and is of the nonterminal k, which is not in the set; else 128.
+// The rule of node `at`, if the node covers c bytes and is of the nonterminal k, which is not in the set; else that of no rule.
 fn rule_at(p: &Packed, e: &[u16], n: usize, set: u32, k: usize, c: usize, at: usize) -> usize
     requires { ⌜ (2 * n ≤ length (now e)) × (n ≤ 512) ⌝ }
     ensures { λ r. ⌜ Answers (Opens (now (p .entry)) (now (e .entry)) n set k c at) 128 r ⌝ }
 {
     if k > 31 {
-        return sizes::MAX_RULES;
+        return sizes::NO_RULE;
     }
     if at >= n {
-        return sizes::MAX_RULES;
+        return sizes::NO_RULE;
     }
     if number(e, 2 * at) != c {
-        return sizes::MAX_RULES;
+        return sizes::NO_RULE;
     }
     let r = number(e, 2 * at + 1);
     if r > 127 {
-        return sizes::MAX_RULES;
+        return sizes::NO_RULE;
     }
     if packed::left(p, r) != k {
-        return sizes::MAX_RULES;
+        return sizes::NO_RULE;
     }
     if sets::has(set, k) {
         sizes::MAX_RULES
