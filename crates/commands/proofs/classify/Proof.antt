@@ -6,4 +6,8 @@ use Rattle.commands.proofs.classify.Reads as reads
 use Rattle.commands.proofs.classify.Lts as lts
 
 pub classify-spec : {M : Type 1} → statement M
-classify-spec = tie.close (tie.spec (λ c. search class-10) (λ c. search class-20) (λ c. search class-30) (λ c. search class-40) (λ c. search class-50) (λ c. search class-other))
+classify-spec =
+    tie.close
+    (tie.spec
+    (λ c. search class-10) (λ c. search class-20) (λ c. search class-30) (λ c. search class-40) (λ c. search class-50)
+    (λ c. search class-other))

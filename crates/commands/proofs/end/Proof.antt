@@ -4,6 +4,4 @@ use Rattle.commands.proofs.end.Statement.{statement}
 use Rattle.commands.proofs.end.Tie as tie
 
 pub end-spec : {M : Type 1} → statement M
-end-spec =
-    tie.close
-    (tie.spec (λ c. search end-more) (λ c. search end-read))
+end-spec = tie.close (tie.spec (λ c. search end-more) (λ c. search end-read))

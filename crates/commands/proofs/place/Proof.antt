@@ -5,6 +5,4 @@ use Rattle.commands.proofs.place.Statement.{statement}
 use Rattle.commands.proofs.place.Tie as tie
 
 pub place-spec : {M : Type 1} → statement M
-place-spec =
-    tie.close
-    (tie.spec (λ c. search (place-many, lit≤)) (λ c. search place-read))
+place-spec = tie.close (tie.spec (λ c. search (place-many, lit≤)) (λ c. search place-read))

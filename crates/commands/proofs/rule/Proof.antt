@@ -5,6 +5,4 @@ use Rattle.commands.proofs.rule.Statement.{statement}
 use Rattle.commands.proofs.rule.Tie as tie
 
 pub rule-spec : {M : Type 1} → statement M
-rule-spec =
-    tie.close
-    (tie.spec (λ c. search (rule-many, lit≤)) (λ c. search rule-read))
+rule-spec = tie.close (tie.spec (λ c. search (rule-many, lit≤)) (λ c. search rule-read))

@@ -2,12 +2,8 @@
 use native.Mathlib.Omega.{arith}
 use mathlib.Core.Path.{sym}
 use lib.ListN.{List·getD-eq-default}
-use borrow.Author.Needs.{needs}
 use Rattle.scanner.proofs.byte_at.Statement.{statement}
 use Rattle.scanner.proofs.byte_at.Tie as tie
 
 pub byte-at-spec : {M : Type 1} → statement M
-byte-at-spec =
-    tie.close
-    (tie.spec
-    (λ c. omega arith) (λ c. search needs) (λ c. search (List·getD-eq-default, sym)))
+byte-at-spec = tie.close (tie.spec (λ c. omega arith) (λ c. omega arith) (λ c. search (List·getD-eq-default, sym)))

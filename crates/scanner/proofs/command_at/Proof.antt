@@ -9,6 +9,6 @@ pub command-at-spec : {M : Type 1} → statement M
 command-at-spec =
     tie.close
     (tie.spec
-    (λ c. search reads-ended) (λ c. omega arith) (λ c κs. search needs) (λ c. search needs) (λ c. search needs)
-    (λ c. search (reads-unknown, class-told)) (λ c κs. search needs) (λ c. search reads-late)
-    (λ c κs. search (needs, class-told)) (λ c. search reads-rest))
+    (λ c. search reads-ended) (λ c. omega arith) (λ c κs. omega arith) (λ c. omega arith) (λ c. omega arith)
+    (λ c. search (reads-unknown, class-told)) (λ c κs. omega arith) (λ c. search reads-late) (λ c κs. search (needs, class-told))
+    (λ c. search reads-rest))
