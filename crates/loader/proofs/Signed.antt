@@ -12,7 +12,7 @@ use Rattle.grammar.specs.declared.Place.{Place}
 use Rattle.grammar.specs.declared.Rule.{Rule}
 use Rattle.grammar.specs.Zero.{zeroPlace}
 use Rattle.results.specs.Load.{signed}
-use Rattle.loader.specs.Rule.{openedRule}
+use Rattle.loader.specs.Setters.{openedRule}
 
 pub signed-bytes : (low high : ℕ) → signedIn (low + 256 * high) ≡ signed low high
 unfolding signed signedIn

@@ -1,3 +1,3 @@
--- What loading promises, and the rules that it makes.
+-- What loading promises, and the records that it makes.
 pub mod Answer
-pub mod Rule
+pub mod Setters

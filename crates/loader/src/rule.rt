@@ -4,7 +4,7 @@ use grammar::Rule;
 use grammar::Symbol;
 ghost use Prim.Native.Nat.{_-_, _<_};
 ghost use mathlib.Core.Path.{_≡_};
-ghost use Rattle.loader.specs.Rule.{openedRule, placedRule};
+ghost use Rattle.loader.specs.Setters.{openedRule, placedRule};
 
 // A rule with no places yet; its length is the signed number of a low and a high byte.
 pub fn opened(left: u8, low: u8, high: u8) -> Rule

@@ -3,16 +3,16 @@
 use Prim.Native.Nat.{ℕ, _+_, _*_, _≤_, _<_}
 use native.Mathlib.Omega.{arith}
 use mathlib.Core.List.{List, [], _∷_, _++_, flatMap, append-assoc, append-nil}
-use mathlib.Core.Path.{_≡_, sym, ap, _∙_}
-use lib.ListN.{length, getD, take, set, length-set}
+use mathlib.Core.Path.{_≡_, refl, sym, ap, _∙_}
+use lib.ListN.{length, getD, take, set}
 use lib.Seq.{take-all}
 use mir.Syntax.{w16}
 use mir.Val.{SFits, toZ, ofZ}
 use mir.Facts.{toZ-ofZ}
+use Rattle.grammar.specs.declared.Place.{Place}
 use Rattle.grammar.specs.declared.Rule.{Rule}
 use Rattle.grammar.specs.declared.Grammar.{Grammar}
 use Rattle.grammar.specs.Tagged.{tagOf, valueOf}
-use Rattle.grammar.specs.Zero.{zeroPlace}
 use Rattle.numbers.specs.Numbers.{countOf, unsignedOf}
 use Rattle.rows.specs.Flat.{flatPlace, flatRule, flatOf, flatSize, ruleNumbers}
 use Rattle.rows.proofs.Records.{put-two, put-three, flat-step}
@@ -46,22 +46,17 @@ module _ {A : Type 0} (flat : A → List ℕ) (w b : ℕ) (l : List A) where
   written-all q m f₀ f e h r =
       ap (λ (j : ℕ). take j f) h ∙ r .front ∙ ap (λ (x : List A). take b f₀ ++ flatMap flat x) (take-all q l (omega arith))
 
+-- ---- a place
+
+pub place-done : (p : Place) (at : ℕ) (f : List ℕ) (t v : ℕ) → at + 2 ≤ flatSize → length f ≡ flatSize
+    → t ≡ tagOf (p .symbol) → v ≡ valueOf (p .symbol) → take (at + 2) (set (set f at t) (at + 1) v) ≡ take at f ++ flatPlace p
+unfolding flatPlace
+place-done p at f t v h n et ev =
+    put-two f at (at + 1) (at + 2) t v refl refl (omega arith) ∙ λ i. take at f ++ (et i ∷ ev i ∷ [])
+
 -- ---- a rule
 
 module _ (ρ : Rule) (at : ℕ) (low : at + ruleNumbers ≤ flatSize) where
-  -- one more place
-  pub place-step : (f₀ f : List ℕ) (q t v : ℕ) → length (ρ .places) ≡ 8 → q < 8
-      → t ≡ tagOf (getD (ρ .places) q zeroPlace .symbol) → v ≡ valueOf (getD (ρ .places) q zeroPlace .symbol)
-      → Written flatPlace 2 (at + 3) (ρ .places) f₀ q f
-      → Written flatPlace 2 (at + 3) (ρ .places) f₀ (q + 1) (set (set f (at + 3 + 2 * q) t) (at + 4 + 2 * q) v)
-  unfolding flatPlace
-  place-step f₀ f q t v n h et ev r =
-      written-step flatPlace 2 (at + 3) (ρ .places) zeroPlace q f₀ f (set (set f (at + 3 + 2 * q) t) (at + 4 + 2 * q) v) (omega arith)
-      (length-set (set f (at + 3 + 2 * q) t) (at + 4 + 2 * q) v ∙ length-set f (at + 3 + 2 * q) t ∙ r .long)
-      (put-two f (at + 3 + 2 * q) (at + 4 + 2 * q) (at + 3 + 2 * q + 2) t v (omega arith) (omega arith) (omega (arith, r .long))
-      ∙ λ i. take (at + 3 + 2 * q) f ++ (et i ∷ ev i ∷ []))
-      r
-
   -- the whole rule
   pub rule-done : (f₀ f : List ℕ) (u k q : ℕ) → length f₀ ≡ flatSize → length (ρ .places) ≡ 8 → SFits w16 (ρ .length) → q ≤ 8 → 8 ≤ q
       → u ≡ unsignedOf (toZ w16 (ofZ w16 (ρ .length))) → k ≡ countOf (ρ .count)
