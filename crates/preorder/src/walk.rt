@@ -46,11 +46,7 @@ fn rule_at(p: &Packed, e: &[u16], n: usize, set: u32, k: usize, c: usize, at: us
     if packed::left(p, r) != k {
         return sizes::NO_RULE;
     }
-    if sets::has(set, k) {
-        sizes::MAX_RULES
-    } else {
-        r
-    }
+    if sets::has(set, k) { sizes::NO_RULE } else { r }
 }
 
 // What comes next at place q of rule r, over the bytes `from` to `to`.

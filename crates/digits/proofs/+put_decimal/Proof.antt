@@ -37,16 +37,6 @@ put-decimal-put-byte-requires-2 t c κs =
 
 pub +put-decimal-spec : {M : Type 1} → statement M
 +put-decimal-spec = close μ-put-decimal λ t. put-decimal-lts.spec (calls t)
-    (put-decimal-at t)
-    put-decimal.Post
-    (λ c. omega arith)
-    (λ c. omega arith)
-    (λ c κs. search room-one)
-    (put-decimal-put-decimal-requires t)
-    (λ c. omega arith)
-    (λ c. omega arith)
-    (put-decimal-put-byte-requires-2 t)
-    (λ c. omega arith)
-    (λ c. search written-one)
-    (λ c. omega arith)
-    (λ c. search written-more)
+    (put-decimal-at t) put-decimal.Post (λ c. omega arith) (λ c. omega arith) (λ c κs. search room-one)
+    (put-decimal-put-decimal-requires t) (λ c. omega arith) (λ c. omega arith) (put-decimal-put-byte-requires-2 t) (λ c. omega arith)
+    (λ c. search written-one) (λ c. omega arith) (λ c. search written-more)

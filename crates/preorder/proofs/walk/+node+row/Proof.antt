@@ -56,23 +56,8 @@ node-calls t = (
 abbrev row-calls : ℕ → row-lts.Claims
 row-calls t = (look-reads.Asked, look-reads.Learnt, row-below t, row.Post, node-below t, node.Post)
 
-node-sub-c : (t : ℕ) → node-lts.Need-sub-c (node-calls t) (node-at t) node.Post
-node-sub-c t c = omega arith
-
-node-same-span-requires : (t : ℕ) → node-lts.Need-same-span-requires (node-calls t) (node-at t) node.Post
-node-same-span-requires t c κs = omega arith
-
-node-rule-at-requires : (t : ℕ) → node-lts.Need-rule-at-requires (node-calls t) (node-at t) node.Post
-node-rule-at-requires t c κs = omega arith
-
-node-returns : (t : ℕ) → node-lts.Need-returns (node-calls t) (node-at t) node.Post
-node-returns t c = search node-none
-
 node-with-requires : (t : ℕ) → node-lts.Need-with-requires (node-calls t) (node-at t) node.Post
 node-with-requires t c κs = c .before .rule-at .ensures .found (omega arith) .used
-
-node-add-row : (t : ℕ) → node-lts.Need-add-row (node-calls t) (node-at t) node.Post
-node-add-row t c = omega arith
 
 node-row-requires : (t : ℕ) → node-lts.Need-row-requires (node-calls t) (node-at t) node.Post
 node-row-requires t c κs =
@@ -80,21 +65,6 @@ node-row-requires t c κs =
     let i = o .inside in
     let l = o .low in
     omega arith
-
-node-returns-2 : (t : ℕ) → node-lts.Need-returns-2 (node-calls t) (node-at t) node.Post
-node-returns-2 t c = search node-some
-
-row-look-requires : (t : ℕ) → row-lts.Need-look-requires (row-calls t) (row-at t) row.Post
-row-look-requires t c κs = omega arith
-
-row-enum-told : (t : ℕ) → row-lts.Need-enum-told (row-calls t) (row-at t) row.Post
-row-enum-told t c = omega arith
-
-row-enum-told-2 : (t : ℕ) → row-lts.Need-enum-told-2 (row-calls t) (row-at t) row.Post
-row-enum-told-2 t c = omega arith
-
-row-enum-told-3 : (t : ℕ) → row-lts.Need-enum-told-3 (row-calls t) (row-at t) row.Post
-row-enum-told-3 t c = omega arith
 
 row-add-row : (t : ℕ) → row-lts.Need-add-row (row-calls t) (row-at t) row.Post
 row-add-row t c = let b = byte-room (c .before .before .look .ensures) (c .enum-told3 .given .1) in omega arith
@@ -105,17 +75,11 @@ row-add-row-2 t c = let b = byte-room (c .before .before .look .ensures) (c .enu
 row-row-requires : (t : ℕ) → row-lts.Need-row-requires (row-calls t) (row-at t) row.Post
 row-row-requires t c κs = let b = byte-room (c .before .before .look .ensures) (c .enum-told3 .given .1) in omega arith
 
-row-enum-known-step : (t : ℕ) → row-lts.Need-enum-known-step (row-calls t) (row-at t) row.Post
-row-enum-known-step t c = omega arith
-
 row-add-node : (t : ℕ) → row-lts.Need-add-node (row-calls t) (row-at t) row.Post
 row-add-node t c = let b = node-room (c .before .before .before .look .ensures) (c .before .step .given .1) in omega arith
 
 row-node-requires : (t : ℕ) → row-lts.Need-node-requires (row-calls t) (row-at t) row.Post
 row-node-requires t c κs = let b = node-room (c .before .before .before .look .ensures) (c .before .step .given .1) in omega arith
-
-row-returns : (t : ℕ) → row-lts.Need-returns (row-calls t) (row-at t) row.Post
-row-returns t c = search row-node-none
 
 row-add-row-3 : (t : ℕ) → row-lts.Need-add-row-3 (row-calls t) (row-at t) row.Post
 row-add-row-3 t c =
@@ -133,49 +97,13 @@ row-row-requires-2 t c κs =
     let d = walk-room (c .before .node .ensures) (c .if1 .left) in
     omega arith
 
-row-returns-2 : (t : ℕ) → row-lts.Need-returns-2 (row-calls t) (row-at t) row.Post
-row-returns-2 t c = search row-none
-
-row-returns-3 : (t : ℕ) → row-lts.Need-returns-3 (row-calls t) (row-at t) row.Post
-row-returns-3 t c = search row-end
-
-row-returns-4 : (t : ℕ) → row-lts.Need-returns-4 (row-calls t) (row-at t) row.Post
-row-returns-4 t c = search row-byte
-
-row-returns-5 : (t : ℕ) → row-lts.Need-returns-5 (row-calls t) (row-at t) row.Post
-row-returns-5 t c = search row-node-some
-
 pub +node+row-spec : {M : Type 1} → statement M
 +node+row-spec = close μ-node μ-row (λ t. node-lts.spec (node-calls t)
-    (node-at t)
-    node.Post
-    (node-sub-c t)
-    (node-same-span-requires t)
-    (node-rule-at-requires t)
-    (node-returns t)
-    (node-with-requires t)
-    (node-add-row t)
-    (node-row-requires t)
-    (node-returns-2 t))
+    (node-at t) node.Post (λ c. omega arith) (λ c κs. omega arith) (λ c κs. omega arith) (λ c. search node-none) (node-with-requires t)
+    (λ c. omega arith) (node-row-requires t)
+    (λ c. search node-some))
     λ t. row-lts.spec
-    (row-calls t)
-    (row-at t)
-    row.Post
-    (row-look-requires t)
-    (row-enum-told t)
-    (row-enum-told-2 t)
-    (row-enum-told-3 t)
-    (row-add-row t)
-    (row-add-row-2 t)
-    (row-row-requires t)
-    (row-enum-known-step t)
-    (row-add-node t)
-    (row-node-requires t)
-    (row-returns t)
-    (row-add-row-3 t)
-    (row-add-row-4 t)
-    (row-row-requires-2 t)
-    (row-returns-2 t)
-    (row-returns-3 t)
-    (row-returns-4 t)
-    (row-returns-5 t)
+    (row-calls t) (row-at t) row.Post (λ c κs. omega arith) (λ c. omega arith) (λ c. omega arith) (λ c. omega arith) (row-add-row t)
+    (row-add-row-2 t) (row-row-requires t) (λ c. omega arith) (row-add-node t) (row-node-requires t) (λ c. search row-node-none)
+    (row-add-row-3 t) (row-add-row-4 t) (row-row-requires-2 t) (λ c. search row-none) (λ c. search row-end) (λ c. search row-byte)
+    (λ c. search row-node-some)
