@@ -1,5 +1,5 @@
-// A declared grammar, read from a flat row of numbers of 16 bits, which crosses to C and Rust (`flatten` writes it). Check 8 refuses the grammar of a row exactly
-// if it has to refuse the row, and the row of a grammar exactly if it has to refuse the grammar.
+// A declared grammar, read from a flat row of numbers of 16 bits, which crosses to C and Rust (`flatten` writes it). Check 8 refuses the
+// grammar of a row exactly if it has to refuse the row, and the row of a grammar exactly if it has to refuse the grammar.
 mod reading;
 
 use grammar::Grammar;

@@ -15,7 +15,7 @@ use Rattle.grammar.specs.Zero.{zeroGrammar}
 use Rattle.grammar.proofs.RuleAt.{rule-past}
 use Rattle.results.specs.Load.{acceptedLoad, refusedLoad}
 use Rattle.loader.specs.Answer.{Refuses, Accepts}
-use Rattle.loader.specs.Setters.{setDepth}
+use Rattle.setters.specs.Setters.{setDepth}
 use Rattle.nullable.specs.Nullable.{Exact}
 use Rattle.loader.specs.declared.Outcome.the-variants.{Accepted, Refused}
 use Rattle.nullable.proofs.Depth.{exact-depth}

@@ -18,14 +18,15 @@ use Rattle.grammar.specs.Number.{numberOf}
 use Rattle.grammar.specs.Valid.{validGrammar}
 use Rattle.grammar.specs.Zero.{zeroGrammar, noRule}
 use Rattle.grammar.proofs.Bounds.{valid-count}
-use Rattle.results.specs.Load.{next, step, run, loadOf, openRule, withStart, withRule, withPlace}
+use Rattle.results.specs.Load.{next, step, run, loadOf, openRule}
 use Rattle.results.proofs.Loading.Run.{run-stop, run-next, run-done, step-forward, run-fuel}
 use Rattle.results.proofs.Loading.Commands.{step-kept}
 use Rattle.results.proofs.Loading.Valid.{valid-invariant, size-invariant}
 use Rattle.loader.specs.Answer.{loadingOf, Refuses, Accepts}
 use Rattle.commands.specs.Command.{stepOf, Bounded, Begun, Reads}
 use Rattle.commands.specs.Turn.{TurnAt}
-use Rattle.loader.specs.Setters.{setStart, setCount, setRule, openedRule, placedRule}
+use Rattle.setters.specs.Setters.{setStart, setCount, setRule, openedRule, placedRule}
+use Rattle.setters.proofs.Setters.{start-set, rule-set, place-set}
 use Rattle.loader.specs.declared.Loaded.{Loaded}
 use Rattle.commands.specs.declared.Command.{Command}
 use Rattle.commands.specs.declared.Command.the-variants as C
@@ -93,8 +94,8 @@ module _ (bytes : List ℕ) (at : ℕ) (t : Turn) (g : Grammar) (P : Progress by
     means = R .means g (P .turn) refl (ap (λ (i : ℕ). getD (g .rules) i noRule .count) (sym f))
 
     progress-next : (m : Command) (at′ : ℕ) (t′ : Turn) (g′ h : Grammar) → c ≡ m → stepOf m at g ≡ next at′ g′ → at′ ≤ length bytes
-        → TurnAt at′ g′ t′ → h ≡ g′ → Progress bytes at′ t′ h
-    progress-next m at′ t′ g′ h e s l T i = subst (Progress bytes at′ t′) (sym i) (record {
+        → TurnAt at′ h t′ → h ≡ g′ → Progress bytes at′ t′ h
+    progress-next m at′ t′ g′ h e s l T i = subst (λ (x : Grammar). TurnAt at′ x t′ → Progress bytes at′ t′ x) (sym i) (λ T. record {
       within = l;
       reached = λ d. run-fuel d bytes (suc (length bytes - at′)) (length bytes - at) at′ g′ (omega arith) fewer
           ∙ sym (run-next d (length bytes - at) bytes at g at′ g′ goes) ∙ P .reached d;
@@ -102,7 +103,7 @@ module _ (bytes : List ℕ) (at : ℕ) (t : Turn) (g : Grammar) (P : Progress by
       valid = valid;
       few = valid-count g′ valid;
       size = step-kept size-invariant bytes at g at′ g′ (P .size) goes;
-    })
+    }) T
       where
         goes : step bytes at g ≡ next at′ g′
         goes = sym means ∙ ap (λ (n : Command). stepOf n at g) e ∙ s
@@ -117,28 +118,26 @@ module _ (bytes : List ℕ) (at : ℕ) (t : Turn) (g : Grammar) (P : Progress by
     bounded m e = bounds bytes at t (g .count) (getD (g .rules) q noRule .count) c R m e
 
     pub progress-start : (k : ℕ) → c ≡ C.Start k → Progress bytes (at + 2) (record { started = true; opened = t .opened }) (setStart g k)
-    unfolding withStart
     progress-start k e =
         progress-next (C.Start k) _ _ _ _ e refl (bounded (C.Start k) e)
-        (record { started = some (at + 2) (omega arith); opened = P .turn .opened }) refl
+        (record { started = some (at + 2) (omega arith); opened = P .turn .opened }) (start-set g k)
 
     pub progress-rule : (k low high : ℕ) (r : Rule) → c ≡ C.Rule k low high → r ≡ openedRule k low high
         → Progress bytes (at + 4) (record { started = t .started; opened = true }) (setCount (setRule g (g .count) r) (g .count + 1))
-    unfolding withRule
     progress-rule k low high r e o =
         let b = subst (Begun t) e (R .begun) in
         progress-next (C.Rule k low high) _ _ _ _ e refl (bounded (C.Rule k low high) e .0)
         (record { started = b ∙ some (at + 4) (omega arith); opened = some (g .count + 1) (omega arith) })
-        (ap (λ (m : Rule). setCount (setRule g (g .count) m) (g .count + 1)) o)
+        (ap (λ (m : Rule). setCount (setRule g (g .count) m) (g .count + 1)) o ∙ rule-set g k low high)
 
     pub progress-place : (s : Symbol) (r : Rule) → c ≡ C.Place s → r ≡ placedRule (getD (g .rules) q noRule) s
         → Progress bytes (at + 2) t (setRule g q r)
-    unfolding withPlace openRule
+    unfolding openRule
     progress-place s r e o =
         let b = subst (Begun t) e (R .begun) in
         progress-next (C.Place s) _ _ _ _ e refl (bounded (C.Place s) e .0)
         (record { started = b ∙ some (at + 2) (omega arith); opened = P .turn .opened })
-        (ap (setRule g q) o ∙ ap (λ (i : ℕ). setRule g i (placedRule (getD (g .rules) i noRule) s)) f)
+        (ap (setRule g q) o ∙ ap (λ (i : ℕ). setRule g i (placedRule (getD (g .rules) i noRule) s)) f ∙ place-set g s)
 
     pub loads-end : (l : Loaded) → c ≡ C.End → Accepts g l → loadingOf l ≡ loadOf bytes (l .grammar .depth)
     loads-end l e A =

@@ -12,8 +12,6 @@ ghost use Rattle.grammar.specs.View.{wholeOf};
 ghost use Rattle.results.specs.Load.{loadOf};
 ghost use Rattle.loader.specs.Answer.{loadingOf, Refuses, Accepts};
 
-mod rule;
-
 pub enum Outcome {
     Accepted,
     Refused(Refusal, usize),
@@ -62,7 +60,7 @@ pub fn load(bytes: &[u8]) -> Loaded
     let mut at = 0;
     loop {
         let n = g.count;
-        let q = rule::last_of(n);
+        let q = setters::last_of(n);
         let open = g.rules[q];
         let command = scanner::command_at(bytes, at, turn, n, open.count);
         match command {
@@ -72,13 +70,13 @@ pub fn load(bytes: &[u8]) -> Loaded
                 at += 2;
             }
             Command::Rule(k, low, high) => {
-                g.rules[n] = rule::opened(k, low, high);
+                g.rules[n] = setters::opened(k, low, high);
                 g.count = n + 1;
                 turn.opened = true;
                 at += 4;
             }
             Command::Place(s) => {
-                g.rules[q] = rule::placed(open, s);
+                g.rules[q] = setters::placed(open, s);
                 at += 2;
             }
             Command::End => {

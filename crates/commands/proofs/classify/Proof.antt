@@ -2,8 +2,6 @@
 use Rattle.commands.proofs.Parts.{class-10, class-20, class-30, class-40, class-50, class-other}
 use Rattle.commands.proofs.classify.Statement.{statement}
 use Rattle.commands.proofs.classify.Tie as tie
-use Rattle.commands.proofs.classify.Reads as reads
-use Rattle.commands.proofs.classify.Lts as lts
 
 pub classify-spec : {M : Type 1} → statement M
 classify-spec =

@@ -22,7 +22,10 @@ loop-again : tie.Need-loop-again Inv-loop μ-loop
 loop-again c = (
   omega arith,
   written-step _ _ _ _ zeroPlace _ _ _ _
-      (omega (arith, simp length-map at (c .before .before .before .before .before .before .before .before .good .0 .1 .1 .1 .1 .1 .0 .1 .0 .1)))
+      (omega (
+        arith,
+        simp length-map at (c .before .before .before .before .before .before .before .before .good .0 .1 .1 .1 .1 .1 .0 .1 .0 .1),
+      ))
       (c .write-place .ensures .1) (c .write-place .ensures .0) (c .before .before .before .before .loop .inv .1),
 )
 

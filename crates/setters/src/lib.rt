@@ -1,10 +1,11 @@
-// The rules of the grammar that is read: a rule as command 20 opens it, and with the place that commands 30 and 40 add.
+// The rules of the grammar that is read: a rule as command 20 opens it, and with the place that commands 30 and 40 add. They are written
+// into the grammar in place; what such a store changes is said by the setters of specs/.
 use grammar::Place;
 use grammar::Rule;
 use grammar::Symbol;
 ghost use Prim.Native.Nat.{_-_, _<_};
 ghost use mathlib.Core.Path.{_≡_};
-ghost use Rattle.loader.specs.Setters.{openedRule, placedRule};
+ghost use Rattle.setters.specs.Setters.{openedRule, placedRule};
 
 // A rule with no places yet; its length is the signed number of a low and a high byte.
 pub fn opened(left: u8, low: u8, high: u8) -> Rule
