@@ -24,10 +24,10 @@ use Rattle.writes.specs.Writes.{placeAt, Nothing, BaresPut}
 use Rattle.live.specs.Live.{Silent, liveIn, Reached}
 use Rattle.starts.specs.Starts.{StartsOpened}
 use Rattle.starts.proofs.Columns.{silent-kept}
-use Rattle.tabulate.specs.Sofar.{Standing, Sofar, Opened, LiveFrom}
-use Rattle.tabulate.specs.Spans.{SpanOpened}
+use Rattle.spancosts.specs.Sofar.{Standing, Sofar, Opened, LiveFrom}
+use Rattle.spancosts.specs.Spans.{SpanOpened}
 use Rattle.writes.proofs.Written.{cost-same}
-use Rattle.tabulate.proofs.Kept.{sofar-kept}
+use Rattle.spancosts.proofs.Kept.{sofar-kept}
 
 module _ (p : List ℕ) (rules : ℕ) (fits nothing : List ℕ) (reach i j : ℕ) (tables₀ rows₀ live₀ tables rows live : List ℕ) (o : rules ≤ 128) (h : i < j)
     (l : j < 65) (N : Nothing nothing) (A : StartsOpened p rules fits tables₀ nothing reach i j rows₀ live₀ rows live)

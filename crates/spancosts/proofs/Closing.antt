@@ -32,9 +32,9 @@ use Rattle.writes.specs.Writes.{LeastPut}
 use Rattle.live.specs.Live.{Silent, liveIn}
 use Rattle.starts.proofs.Columns.{silent-kept}
 use Rattle.starts.specs.Starts.{Untouched, OtherStarts, StartRight, StartsPut, SuffixesPut}
-use Rattle.tabulate.specs.Sofar.{Standing, Given, Sofar, Opened, LiveFrom}
-use Rattle.tabulate.specs.Spans.{SpanOpened, SpanPut, EmptyPut}
-use Rattle.tabulate.proofs.Kept.{sofar-kept, sofar-more, ready-by, inside-by}
+use Rattle.spancosts.specs.Sofar.{Standing, Given, Sofar, Opened, LiveFrom}
+use Rattle.spancosts.specs.Spans.{SpanOpened, SpanPut, EmptyPut}
+use Rattle.spancosts.proofs.Kept.{sofar-kept, sofar-more, ready-by, inside-by}
 
 -- ---- the nonterminals of a rule's places
 
