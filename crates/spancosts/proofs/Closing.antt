@@ -76,8 +76,9 @@ module _ {i j : ℕ} {full tables₀ tables : List ℕ} (l : j < 65) (L : LeastP
 -- ---- a span that is not empty
 
 module _ {fit : Fit} {bytes : ℕ → ℕ → Type 0} {p : List ℕ} {rules : ℕ} {fits : List ℕ} {set i j : ℕ}
-    {full tables₀ rows₀ live₀ tables rows live : List ℕ} (o : rules ≤ 128) (h : i < j) (l : j < 65) (X : Solved p rules set 0 tables₀ i j full)
-    (L : LeastPut full i j tables₀ tables) (P : SuffixesPut p rules fits tables full set i j rows₀ live₀ rows live)
+    {full tables₀ rows₀ live₀ tables rows live : List ℕ} (o : rules ≤ 128) (h : i < j) (l : j < 65)
+    (X : Solved p rules set 0 tables₀ i j full) (L : LeastPut full i j tables₀ tables)
+    (P : SuffixesPut p rules fits tables full set i j rows₀ live₀ rows live)
     (G : Given fit bytes p rules fits j) (C : CellTrue p bytes i j set) (O : Opened fit bytes p rules i j tables₀ rows₀) where
   numbers : (k : ℕ) → Least (Tree (Packing p) bytes k i j) (fullIn full k)
   numbers k =

@@ -15,7 +15,8 @@ use Rattle.live.specs.Live.{Reached}
 use Rattle.spancosts.specs.Sofar.{Standing, Given, EmptyTrue, Sofar, Opened, LiveFrom}
 
 -- the costs over the span from i to j that need no numbers of the whole of it are made
-pub record SpanOpened (p : List ℕ) (rules : ℕ) (fits : List ℕ) (reach i j : ℕ) (tables₀ rows₀ live₀ tables rows live : List ℕ) : Type 0 where
+pub record SpanOpened (p : List ℕ) (rules : ℕ) (fits : List ℕ) (reach i j : ℕ) (tables₀ rows₀ live₀ tables rows live : List ℕ)
+    : Type 0 where
   pub long : length tables ≡ tablesSize
   pub wide : length rows ≡ allRows
   pub size : length live ≡ maxRules

@@ -28,7 +28,8 @@ pub record EndPut (p : List ℕ) (rules : ℕ) (fits chart empty : List ℕ) (j 
   pub long : length tables ≡ tablesSize
   pub wide : length rows ≡ allRows
   pub exact : (fit : Fit) (can : ℕ → ℕ → Bool) → Given fit (Standing can) p rules fits j → EmptyTrue p (Standing can) empty
-      → ChartTrue p (Standing can) chart j → Sofar fit (Standing can) p rules (j + 1) j tables₀ rows₀ → Sofar fit (Standing can) p rules 0 j tables rows
+      → ChartTrue p (Standing can) chart j → Sofar fit (Standing can) p rules (j + 1) j tables₀ rows₀
+      → Sofar fit (Standing can) p rules 0 j tables rows
 
 -- the spans that end before j are done
 pub record EndsBefore (p : List ℕ) (rules : ℕ) (fits chart empty : List ℕ) (n j : ℕ) (tables₀ tables rows : List ℕ) : Type 0 where

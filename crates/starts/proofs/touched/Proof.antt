@@ -8,8 +8,6 @@ use borrow.Author.Needs.{needs}
 use Rattle.starts.proofs.Again.{Before, before-start, before-terminal, before-other, before-all}
 use Rattle.starts.proofs.touched.Statement.{statement}
 use Rattle.starts.proofs.touched.Tie as tie
-use Rattle.starts.proofs.touched.Reads as reads
-use Rattle.starts.proofs.touched.Lts as lts
 
 abbrev Inv-loop : tie.InvT-loop
 Inv-loop p r cell count q₀ q = (q ≤ count) × Before p r cell q

@@ -1,5 +1,5 @@
--- `rulecosts::alone::fill_alone` meets its contract. The loop's invariant: the numbers of the rules passed are right. The measure is what is
--- left of them. Assumes nothing.
+-- `rulecosts::alone::fill_alone` meets its contract. The loop's invariant: the numbers of the rules passed are right. The measure is what
+-- is left of them. Assumes nothing.
 use Prim.Native.Nat.{_-_, _≤_}
 use native.Mathlib.Omega.{arith}
 use borrow.Author.Needs.{needs}

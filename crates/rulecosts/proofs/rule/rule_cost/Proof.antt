@@ -1,5 +1,5 @@
--- `rulecosts::rule::rule_cost` meets its contract. The loop's invariant: the least through the places passed. The measure is what is left of
--- them. Assumes nothing.
+-- `rulecosts::rule::rule_cost` meets its contract. The loop's invariant: the least through the places passed. The measure is what is left
+-- of them. Assumes nothing.
 use Prim.Native.Nat.{_-_, _≤_}
 use native.Mathlib.Omega.{arith}
 use borrow.Author.Needs.{needs}
