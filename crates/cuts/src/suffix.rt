@@ -8,7 +8,7 @@ use tables::least::lower;
 ghost use mathlib.Core.Path.{_≡_};
 ghost use Prim.Native.Nat.{_+_, _<_, _≤_, min};
 ghost use lib.ListN.{length};
-ghost use Rattle.sizes.specs.Sizes.{tooMany};
+ghost use Rattle.sizes.specs.Sizes.{side, tooMany};
 ghost use Rattle.cuts.specs.Suffix.{AtNonterminal, AtTerminal, AtEnd};
 
 // The sum of two numbers of nodes, of each 513 if that is less. It stays a 16-bit number without a test of its own, so that the loop below
@@ -30,7 +30,7 @@ pub fn over_ends(
     rests: &[u16],
     at: usize,
 ) -> u16
-    requires { ⌜ (a ≤ b) × (b < 65) × (at + 65 ≤ length (now rests)) ⌝ }
+    requires { ⌜ (a ≤ b) × (b < side) × (at + side ≤ length (now rests)) ⌝ }
     ensures { λ v. ⌜ AtNonterminal (now (tables .entry)) k a b last (now (rests .entry)) at v ⌝ }
 {
     let mut best = TOO_MANY;
@@ -44,7 +44,7 @@ pub fn over_ends(
 
 // At a terminal, from a to b: the cost of the places behind it, if it fits the byte at a.
 pub fn at_terminal(fits: bool, a: usize, b: usize, rests: &[u16], at: usize) -> u16
-    requires { ⌜ (b < 65) × (at + 65 ≤ length (now rests)) ⌝ }
+    requires { ⌜ (b < side) × (at + side ≤ length (now rests)) ⌝ }
     ensures { λ v. ⌜ AtTerminal fits a b (now (rests .entry)) at v ⌝ }
 {
     if a < b {

@@ -10,6 +10,7 @@ use tables::layout::full_of;
 ghost use mathlib.Core.Path.{_≡_};
 ghost use Prim.Native.Nat.{_+_, _<_, _≤_};
 ghost use lib.ListN.{length};
+ghost use Rattle.sizes.specs.Sizes.{maxRules, maxPlaces, side};
 ghost use Rattle.costs.specs.Cut.{within as costWithin};
 ghost use Rattle.packed.specs.Packed.{countIn};
 ghost use Rattle.tables.specs.Layout.{costIn, fullIn};
@@ -17,7 +18,7 @@ ghost use Rattle.cuts.specs.Within.{NonterminalAt, SuffixAt};
 
 // The cost of the nonterminal k from a to j.
 fn last_cost(tables: &Tables, full: &Full, k: usize, i: usize, a: usize, j: usize) -> u16
-    requires { ⌜ (i ≤ a) × (a ≤ j) × (j < 65) ⌝ }
+    requires { ⌜ (i ≤ a) × (a ≤ j) × (j < side) ⌝ }
     ensures { λ v. ⌜ v ≡ costWithin i j (fullIn (now (full .entry))) (costIn (now (tables .entry))) k a j ⌝ }
 {
     if a == i {
@@ -38,7 +39,7 @@ fn nonterminal_at(
     rests: &[u16],
     at: usize,
 ) -> u16
-    requires { ⌜ (i ≤ a) × (a ≤ j) × (j < 65) × (at + 65 ≤ length (now rests)) ⌝ }
+    requires { ⌜ (i ≤ a) × (a ≤ j) × (j < side) × (at + side ≤ length (now rests)) ⌝ }
     ensures { λ v. ⌜ NonterminalAt (now (tables .entry)) (now (full .entry)) k i a j (now (rests .entry)) at v ⌝ }
 {
     let last = last_cost(tables, full, k, i, a, j);
@@ -59,8 +60,8 @@ pub fn suffix_at(
     rests: &[u16],
     at: usize,
 ) -> u16
-    requires { ⌜ (r < 128) × (q < 8) × (q < countIn (now p) r)
-        × (i ≤ a) × (a ≤ j) × (j < 65) × (at + 65 ≤ length (now rests)) ⌝ }
+    requires { ⌜ (r < maxRules) × (q < maxPlaces) × (q < countIn (now p) r)
+        × (i ≤ a) × (a ≤ j) × (j < side) × (at + side ≤ length (now rests)) ⌝ }
     ensures { λ v. ⌜ SuffixAt (now (p .entry)) r q fits (now (tables .entry)) (now (full .entry)) i a j (now (rests .entry)) at v ⌝ }
 {
     if packed::is_nonterminal(p, r, q) {

@@ -1,4 +1,4 @@
--- The live starts of a rule, by the tests that the code makes, and rows of 513.
+-- The live starts of a rule, by the tests that the code makes, and rows of too many.
 -- Assumes nothing.
 use Prim.Native.Nat.{ℕ, _+_, _*_, _-_, _≤_, _<_}
 use mathlib.Core.Bool.{Bool, true, false, not, true≢false}
@@ -13,7 +13,6 @@ use Rattle.sets.specs.Set.{has, insert}
 use Rattle.sets.specs.Pairs.{Meeting}
 use Rattle.sets.proofs.Laws.{has-insert, has-insert-same}
 use Rattle.packed.specs.Packed.{countIn}
-use Rattle.packed.proofs.Laws.{count-le}
 use Rattle.writes.specs.Writes.{allRows, placeAt}
 use Rattle.live.specs.Live.{Silent, liveIn, Marked, Passing, NoneBefore, NonePut}
 

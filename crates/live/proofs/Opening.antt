@@ -1,16 +1,15 @@
 -- One rule from one start on, as the code does it: put, or passed over.
 -- Assumes nothing.
-use Prim.Native.Nat.{ℕ, _+_, _*_, _≤_, _<_}
+use Prim.Native.Nat.{ℕ, _*_, _<_}
 use mathlib.Core.Bool.{Bool, true}
 use mathlib.Core.List.{List}
 use mathlib.Core.Path.{_≡_}
 use native.Mathlib.Omega.{arith}
 use lib.ListN.{length, getD}
 use Rattle.sizes.specs.Sizes.{tooMany}
-use Rattle.packed.specs.Packed.{countIn}
 use Rattle.suffixes.specs.Rows.{StartPut}
 use Rattle.writes.specs.Writes.{placeAt, Nothing}
-use Rattle.live.specs.Live.{Silent, Marked, Passing, NonePut, RulePut, RuleOpened}
+use Rattle.live.specs.Live.{Marked, Passing, NonePut, RulePut, RuleOpened}
 use Rattle.live.proofs.Passed.{passed-over}
 
 module _ (p : List ℕ) (r : ℕ) (fits tables full : List ℕ) (i j : ℕ) (rows₀ live₀ : List ℕ) {rows : List ℕ} where

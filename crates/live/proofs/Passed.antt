@@ -3,22 +3,21 @@
 -- Assumes nothing.
 use Prim.Native.Nat.{ℕ, zero, suc, _+_, _*_, _-_, _≤_, _<_}
 use mathlib.Core.Bool.{Bool, true, false}
-use mathlib.Core.List.{List, [], _∷_}
-use mathlib.Core.Path.{_≡_, refl, sym, ap, subst, _∙_}
+use mathlib.Core.List.{List, _∷_}
+use mathlib.Core.Path.{_≡_, refl, sym, subst, _∙_}
 use native.Mathlib.Decide.{decLt}
 use native.Mathlib.Omega.{arith}
 use lib.ListN.{getD}
 use Rattle.sizes.specs.Sizes.{tooMany}
-use Rattle.sets.specs.Set.{has}
-use Rattle.cfg.specs.Grammar.{Symbol, nonterminal, terminal, Terminal}
+use Rattle.cfg.specs.Grammar.{Symbol, nonterminal}
 use Rattle.costs.specs.Cut.{Fit, Cost, Cut, cut-end, cut-leaf, cut-node, within}
 use Rattle.costs.proofs.Lowest.{lowest-none}
 use Rattle.costs.proofs.Within.{within-whole, within-part}
-use Rattle.packed.specs.Packed.{countIn, symbolIn, placesFrom}
+use Rattle.packed.specs.Packed.{countIn, placesFrom}
 use Rattle.tables.specs.Layout.{costIn, fullIn}
 use Rattle.suffixes.specs.Within.{tailIn, Inside, LaterStarts}
-use Rattle.writes.specs.Writes.{placeAt, Nothing}
-use Rattle.live.specs.Live.{Silent, liveIn, LiveTold, Reached, Passing}
+use Rattle.writes.specs.Writes.{Nothing}
+use Rattle.live.specs.Live.{liveIn, LiveTold, Reached, Passing}
 
 -- one place and those behind it: from i on and from each later start before j either the place or those behind it cost too many
 module _ {fit : Fit} {cost : Cost} {i j : ℕ} {places : List Symbol}

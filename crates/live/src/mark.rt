@@ -1,4 +1,4 @@
-// The live starts of each rule up to one end: those from which places behind the rule's first have a cost below 513.
+// The live starts of each rule up to one end: those from which places behind the rule's first cost less than too many.
 use packed::Packed;
 use tables::layout::ROWS_SIZE;
 use tables::least::TOO_MANY;
@@ -13,7 +13,7 @@ ghost use Rattle.live.specs.Live.{Silent, Marked};
 // A set of positions for each rule.
 pub type Live = [u64; sizes::MAX_RULES];
 
-// Whether places of rule r behind its first have a cost below 513 from i on.
+// Whether a place of rule r behind its first costs less than too many from i on.
 fn stands(p: &Packed, r: usize, i: usize, rows: &AllRows) -> bool
     requires { ⌜ (r < maxRules) × (i < side) ⌝ }
     ensures { λ b. ⌜ (b ≡ false → Silent (now (p .entry)) r i (now (rows .entry))) ⌝ }

@@ -1,5 +1,5 @@
-// The costs of one rule from i to j, without a child over the whole span: made as everywhere, or 513 for all its places where no piece
-// from i ends at a live start.
+// The costs of one rule from i to j, without a child over the whole span: made as everywhere, or too many for all its places where no
+// piece from i ends at a live start.
 use super::mark::Live;
 use super::mark::mark;
 use fit::FitTable;
@@ -11,9 +11,9 @@ use tables::layout::Tables;
 use tables::least::TOO_MANY;
 use writes::AllRows;
 ghost use mathlib.Core.Path.{_≡_};
-ghost use Prim.Native.Nat.{_<_, _≤_};
+ghost use Prim.Native.Nat.{_<_};
 ghost use lib.ListN.{length};
-ghost use Rattle.sizes.specs.Sizes.{maxInput, maxRules, side};
+ghost use Rattle.sizes.specs.Sizes.{maxRules, side};
 ghost use Rattle.writes.specs.Writes.{allRows, Nothing};
 ghost use Rattle.live.specs.Live.{NonePut, Passing, RulePut, RuleOpened};
 
@@ -31,7 +31,7 @@ fn passed_over(i: usize, j: usize, reach: u64, live: u64) -> bool
     false
 }
 
-// Writes 513 for all places of rule r from i on.
+// Writes too many for all places of rule r from i on.
 fn put_none(p: &Packed, r: usize, i: usize, rows: &mut AllRows)
     requires { ⌜ (r < maxRules) × (i < side) × (length (now rows) ≡ allRows) ⌝ }
     ensures { λ _. ⌜ NonePut (now (p .entry)) r i (now (rows .entry)) (now (rows .exit)) ⌝ }
@@ -65,8 +65,8 @@ pub fn put_rule(
     mark(p, r, i, rows, live);
 }
 
-// The same where nothing covers the whole span, a rule that is passed over having 513 everywhere. `reach` has the ends of nonterminals
-// from i on.
+// The same where nothing covers the whole span, a rule that is passed over having too many everywhere. `reach` has the ends of
+// nonterminals from i on.
 pub fn open_rule(
     p: &Packed,
     r: usize,

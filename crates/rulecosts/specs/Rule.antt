@@ -5,6 +5,7 @@ use mathlib.Core.List.{List}
 use mathlib.Core.Logic.{_≢_}
 use mathlib.Core.Path.{_≡_}
 use lib.ListN.{length}
+use Rattle.sizes.specs.Sizes.{maxPlaces}
 use Rattle.costs.specs.Cut.{Fit, Cost}
 use Rattle.costs.specs.Lowest.{Lowest}
 use Rattle.costs.specs.Rule.{NodeCost, BareCost, alone, Costs}
@@ -34,13 +35,13 @@ pub record PlacesBefore (p : List ℕ) (r : ℕ) (full tables : List ℕ) (bare 
 pub record AloneBefore (p : List ℕ) (r : ℕ) (empty : List ℕ) (q : ℕ) (tables₀ tables : List ℕ) : Type 0 where
   pub long : length tables ≡ tablesSize
   pub here : (n : ℕ) → n < q → aloneIn tables r n ≡ alone (fullIn empty) (placesIn p r) n
-  pub other : (s n : ℕ) → s ≢ r → n < 8 → aloneIn tables s n ≡ aloneIn tables₀ s n
+  pub other : (s n : ℕ) → s ≢ r → n < maxPlaces → aloneIn tables s n ≡ aloneIn tables₀ s n
 
 -- the same with all of them written
 abbrev pub AlonePut : List ℕ → ℕ → List ℕ → List ℕ → List ℕ → Type 0
-AlonePut p r empty tables₀ tables = AloneBefore p r empty 8 tables₀ tables
+AlonePut p r empty tables₀ tables = AloneBefore p r empty maxPlaces tables₀ tables
 
 -- the numbers of the rules before r are right
 pub record AlonesFilled (p empty : List ℕ) (r : ℕ) (tables : List ℕ) : Type 0 where
   pub long : length tables ≡ tablesSize
-  pub here : (s n : ℕ) → s < r → n < 8 → aloneIn tables s n ≡ alone (fullIn empty) (placesIn p s) n
+  pub here : (s n : ℕ) → s < r → n < maxPlaces → aloneIn tables s n ≡ alone (fullIn empty) (placesIn p s) n

@@ -9,7 +9,7 @@ use tables::least::TOO_MANY;
 ghost use mathlib.Core.Path.{_≡_};
 ghost use Prim.Native.Nat.{suc, _+_, _*_, _<_, min};
 ghost use lib.ListN.{length};
-ghost use Rattle.sizes.specs.Sizes.{tooMany};
+ghost use Rattle.sizes.specs.Sizes.{maxRules, maxPlaces, tooMany};
 ghost use Rattle.costs.specs.Rule.{single, together, alone as aloneOf};
 ghost use Rattle.packed.specs.Packed.{symbolIn, placesIn};
 ghost use Rattle.tables.specs.Layout.{fullIn, tablesSize};
@@ -28,7 +28,7 @@ pub fn one_more(n: usize) -> u16
 
 // The cost of place q of rule r over no byte.
 fn single_at(p: &Packed, r: usize, q: usize, full: &Full) -> usize
-    requires { ⌜ (r < 128) × (q < 8) ⌝ }
+    requires { ⌜ (r < maxRules) × (q < maxPlaces) ⌝ }
     ensures { λ n. ⌜ (n ≡ single (fullIn (now (full .entry))) (symbolIn (now (p .entry)) r q)) × (n < 65536) ⌝ }
 {
     if packed::is_nonterminal(p, r, q) {
@@ -39,7 +39,7 @@ fn single_at(p: &Packed, r: usize, q: usize, full: &Full) -> usize
 
 // The cost of all places of rule r over no byte, not capped.
 pub fn total(p: &Packed, r: usize, full: &Full) -> usize
-    requires { ⌜ r < 128 ⌝ }
+    requires { ⌜ r < maxRules ⌝ }
     ensures { λ n. ⌜ n ≡ together (fullIn (now (full .entry))) (placesIn (now (p .entry)) r) ⌝ }
 {
     let count = packed::count(p, r);
@@ -54,7 +54,7 @@ pub fn total(p: &Packed, r: usize, full: &Full) -> usize
 
 // The cost of rule r over no byte, the node included.
 pub fn rule_empty(p: &Packed, r: usize, full: &Full) -> u16
-    requires { ⌜ r < 128 ⌝ }
+    requires { ⌜ r < maxRules ⌝ }
     ensures { λ v. ⌜ v ≡ min (suc (together (fullIn (now (full .entry))) (placesIn (now (p .entry)) r))) tooMany ⌝ }
 {
     one_more(total(p, r, full))
@@ -62,7 +62,7 @@ pub fn rule_empty(p: &Packed, r: usize, full: &Full) -> u16
 
 // What a node of rule r costs beside its child at place q, where that child covers all; `sum` is the cost of all places.
 pub fn alone_at(p: &Packed, r: usize, q: usize, empty: &Full, sum: usize) -> u16
-    requires { ⌜ (r < 128) × (q < 8) × (sum ≡ together (fullIn (now empty)) (placesIn (now p) r)) ⌝ }
+    requires { ⌜ (r < maxRules) × (q < maxPlaces) × (sum ≡ together (fullIn (now empty)) (placesIn (now p) r)) ⌝ }
     ensures { λ v. ⌜ v ≡ aloneOf (fullIn (now (empty .entry))) (placesIn (now (p .entry)) r) q ⌝ }
 {
     if q < packed::count(p, r) {
@@ -76,7 +76,7 @@ pub fn alone_at(p: &Packed, r: usize, q: usize, empty: &Full, sum: usize) -> u16
 
 // Writes the numbers of rule r.
 fn put_alone(p: &Packed, r: usize, empty: &Full, tables: &mut Tables)
-    requires { ⌜ (r < 128) × (length (now tables) ≡ tablesSize) ⌝ }
+    requires { ⌜ (r < maxRules) × (length (now tables) ≡ tablesSize) ⌝ }
     ensures { λ _. ⌜ AlonePut (now (p .entry)) r (now (empty .entry)) (now (tables .entry)) (now (tables .exit)) ⌝ }
 {
     let sum = total(p, r, empty);
@@ -90,7 +90,7 @@ fn put_alone(p: &Packed, r: usize, empty: &Full, tables: &mut Tables)
 // Writes the numbers of every rule.
 pub fn fill_alone(p: &Packed, empty: &Full, tables: &mut Tables)
     requires { ⌜ length (now tables) ≡ tablesSize ⌝ }
-    ensures { λ _. ⌜ AlonesFilled (now (p .entry)) (now (empty .entry)) 128 (now (tables .exit)) ⌝ }
+    ensures { λ _. ⌜ AlonesFilled (now (p .entry)) (now (empty .entry)) maxRules (now (tables .exit)) ⌝ }
 {
     let mut r = 0;
     while r < sizes::MAX_RULES {

@@ -112,7 +112,8 @@ module _ (p fits tables full : List ℕ) (cell i j : ℕ) where
       })
 
   pub suffixes-end : {m rules : ℕ} {rows₀ live₀ rows live : List ℕ} → m ≤ rules → rules ≤ m
-      → SuffixesPut p m fits tables full cell i j rows₀ live₀ rows live → SuffixesPut p rules fits tables full cell i j rows₀ live₀ rows live
+      → SuffixesPut p m fits tables full cell i j rows₀ live₀ rows live
+      → SuffixesPut p rules fits tables full cell i j rows₀ live₀ rows live
   suffixes-end {m} {rules} x y S = let e : m ≡ rules = omega arith in rw e at S
 
 -- ---- whether a rule has such a nonterminal

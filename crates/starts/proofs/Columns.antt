@@ -8,13 +8,12 @@ use native.Mathlib.Decide.{ℕ-discrete}
 use native.Mathlib.Omega.{arith}
 use lib.ListN.{length, getD}
 use Rattle.costs.specs.Cut.{Fit}
-use Rattle.packed.specs.Packed.{countIn}
 use Rattle.packed.proofs.Laws.{count-le}
 use Rattle.suffixes.specs.Within.{tailIn, Inside, LaterStarts}
 use Rattle.suffixes.specs.Rows.{StartPut}
 use Rattle.tables.specs.Exact.{FitTold}
 use Rattle.writes.specs.Writes.{allRows, placeAt}
-use Rattle.live.specs.Live.{Silent, liveIn, Grown, LiveTold, Reached, OneRule, RuleOpened}
+use Rattle.live.specs.Live.{Silent, liveIn, LiveTold, Reached, OneRule, RuleOpened}
 use Rattle.starts.specs.Starts.{OtherStarts, StartRight, StartsPut, StartsOpened}
 
 -- ---- what writing one rule from i on leaves as found

@@ -1,4 +1,4 @@
-// The rows of all rules from one start on: all of them, those that are not passed over, and those that the numbers of the whole span change.
+// The rows of all rules from one start on: of each, of those that are not passed over, of those that the numbers of the whole span change.
 use fit::FitTable;
 use live::mark::Live;
 use live::open::open_rule;

@@ -23,9 +23,10 @@ use Rattle.solve.proofs.Trees.{solved-full}
 use Rattle.writes.specs.Writes.{allRows}
 use Rattle.reach.specs.Reach.{Reaches}
 use Rattle.live.specs.Live.{Reached}
-use Rattle.tabulate.specs.Sofar.{Standing, Given, EmptyTrue, Sofar, LiveFrom}
-use Rattle.tabulate.specs.Spans.{SpanPut, EmptyPut, EndFrom, EndPut, EndsBefore, EndsPut, Tabulated}
-use Rattle.tabulate.proofs.Kept.{ready-by}
+use Rattle.spancosts.specs.Sofar.{Standing, Given, EmptyTrue, Sofar, LiveFrom}
+use Rattle.spancosts.specs.Spans.{SpanPut, EmptyPut}
+use Rattle.tabulate.specs.Spans.{EndFrom, EndPut, EndsBefore, EndsPut, Tabulated}
+use Rattle.spancosts.proofs.Kept.{ready-by}
 
 module _ (p : List ℕ) (rules : ℕ) (fits chart : List ℕ) where
   -- ---- one end

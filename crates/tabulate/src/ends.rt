@@ -1,12 +1,12 @@
 // All spans: for each end, from the empty span there to the start of the input.
-use super::spans::put_empty;
-use super::spans::put_span;
 use fit::FitTable;
 use packed::Packed;
 use reach::Reach;
 use reach::reaches;
 use rulecosts::alone::fill_alone;
 use solve::solve;
+use spancosts::put_empty;
+use spancosts::put_span;
 use tables::layout::Full;
 use tables::layout::Tables;
 use writes::ALL_ROWS;

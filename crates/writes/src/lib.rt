@@ -10,6 +10,7 @@ use tables::least::TOO_MANY;
 ghost use mathlib.Core.Path.{_≡_};
 ghost use Prim.Native.Nat.{_<_, _≤_};
 ghost use lib.ListN.{length};
+ghost use Rattle.sizes.specs.Sizes.{maxRules, side};
 ghost use Rattle.tables.specs.Layout.{tablesSize};
 ghost use Rattle.writes.specs.Writes.{Nothing, LeastPut, BaresPut};
 
@@ -27,7 +28,7 @@ pub fn nothing() -> Full
 
 // Writes the numbers of the span from i to j into the least table.
 pub fn put_least(full: &Full, i: usize, j: usize, tables: &mut Tables)
-    requires { ⌜ (i < 65) × (j < 65) × (length (now tables) ≡ tablesSize) ⌝ }
+    requires { ⌜ (i < side) × (j < side) × (length (now tables) ≡ tablesSize) ⌝ }
     ensures { λ _. ⌜ LeastPut (now (full .entry)) i j (now (tables .entry)) (now (tables .exit)) ⌝ }
 {
     let mut k = 0;
@@ -40,7 +41,7 @@ pub fn put_least(full: &Full, i: usize, j: usize, tables: &mut Tables)
 // Writes what each rule costs over the span from i to j without a child over the whole of it, one more than its places as the rows have
 // them.
 pub fn put_bares(rules: usize, i: usize, j: usize, rows: &AllRows, tables: &mut Tables)
-    requires { ⌜ (rules ≤ 128) × (i < j) × (j < 65) × (length (now tables) ≡ tablesSize) ⌝ }
+    requires { ⌜ (rules ≤ maxRules) × (i < j) × (j < side) × (length (now tables) ≡ tablesSize) ⌝ }
     ensures { λ _. ⌜ BaresPut rules i j (now (rows .entry)) (now (tables .entry)) (now (tables .exit)) ⌝ }
 {
     let mut r = 0;

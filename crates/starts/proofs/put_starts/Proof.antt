@@ -1,6 +1,7 @@
 -- `starts::put_starts` meets its contract. The loop's invariant: the costs of the rules passed are written. The measure is what
 -- is left of them. Assumes nothing.
 use Prim.Native.Nat.{_-_, _≤_}
+use native.Mathlib.Omega.{arith}
 use borrow.Author.Needs.{needs}
 use Rattle.starts.specs.Starts.{StartsPut}
 use Rattle.starts.proofs.Columns.{starts-start, starts-step, starts-end}
@@ -20,9 +21,9 @@ put-starts-spec =
     Inv-loop
     μ-loop
     (λ c. search (needs, starts-start))
-    (λ c. search needs)
+    (λ c. omega arith)
     (λ c κs. search needs)
-    (λ c. search needs)
-    (λ c. search needs)
+    (λ c. omega arith)
+    (λ c. omega arith)
     (λ c. search (needs, starts-step))
     (λ c. search (needs, starts-end)))

@@ -3,12 +3,11 @@
 use Prim.Native.Nat.{_-_, _≤_}
 use mathlib.Core.Bool.{true≢false}
 use mathlib.Core.Logic.{⊎-elim}
+use native.Mathlib.Omega.{arith}
 use borrow.Author.Needs.{needs}
 use Rattle.starts.proofs.Again.{Before, before-start, before-terminal, before-other, before-all}
 use Rattle.starts.proofs.touched.Statement.{statement}
 use Rattle.starts.proofs.touched.Tie as tie
-use Rattle.starts.proofs.touched.Reads as reads
-use Rattle.starts.proofs.touched.Lts as lts
 
 abbrev Inv-loop : tie.InvT-loop
 Inv-loop p r cell count q₀ q = (q ≤ count) × Before p r cell q
@@ -34,7 +33,7 @@ touched-spec =
     (λ c κs. search needs)
     (λ c κs. search needs)
     (λ c e. absurd (true≢false e))
-    (λ c. search needs)
-    (λ c. search needs)
+    (λ c. omega arith)
+    (λ c. omega arith)
     loop-again
     returns-2)

@@ -1,6 +1,7 @@
 -- `writes::put_bares` meets its contract. The loop's invariant: the costs of the rules passed are written. The measure is what
 -- is left of them. Assumes nothing.
 use Prim.Native.Nat.{_-_, _≤_}
+use native.Mathlib.Omega.{arith}
 use borrow.Author.Needs.{needs}
 use Rattle.writes.specs.Writes.{BaresPut}
 use Rattle.writes.proofs.Written.{bares-start, bares-step, bares-end}
@@ -23,16 +24,16 @@ put-bares-spec =
     Inv-loop
     μ-loop
     (λ c. search (needs, bares-start))
-    (λ c. search needs)
-    (λ c. search needs)
-    (λ c. search needs)
-    (λ c. search needs)
+    (λ c. omega arith)
+    (λ c. omega arith)
+    (λ c. omega arith)
+    (λ c. omega arith)
     (λ c κs. search needs)
     (λ c κs. search needs)
     (λ c κs. search needs)
-    (λ c. search needs)
-    (λ c. search needs)
-    (λ c. search needs)
-    (λ c. search needs)
+    (λ c. omega arith)
+    (λ c. omega arith)
+    (λ c. omega arith)
+    (λ c. omega arith)
     loop-again
     (λ c. search (needs, bares-end)))

@@ -1,6 +1,7 @@
 -- `writes::put_least` meets its contract. The loop's invariant: the numbers of the nonterminals passed are written. The measure
 -- is what is left of them. Assumes nothing.
 use Prim.Native.Nat.{_-_, _≤_}
+use native.Mathlib.Omega.{arith}
 use borrow.Author.Needs.{needs}
 use Rattle.writes.specs.Writes.{LeastBefore}
 use Rattle.writes.proofs.Written.{least-start, least-step, least-end}
@@ -26,15 +27,15 @@ put-least-spec =
     Inv-loop
     μ-loop
     (λ c. search (needs, least-start))
-    (λ c. search needs)
-    (λ c. search needs)
-    (λ c. search needs)
-    (λ c. search needs)
-    (λ c. search needs)
-    (λ c. search needs)
-    (λ c. search needs)
-    (λ c. search needs)
-    (λ c. search needs)
-    (λ c. search needs)
+    (λ c. omega arith)
+    (λ c. omega arith)
+    (λ c. omega arith)
+    (λ c. omega arith)
+    (λ c. omega arith)
+    (λ c. omega arith)
+    (λ c. omega arith)
+    (λ c. omega arith)
+    (λ c. omega arith)
+    (λ c. omega arith)
     loop-again
     returns)

@@ -4,7 +4,6 @@ use Prim.Native.Nat.{_≤_}
 use mathlib.Core.Bool.{true≢false}
 use native.Mathlib.Omega.{arith}
 use borrow.Author.Needs.{needs}
-use Rattle.packed.specs.Packed.{countIn}
 use Rattle.packed.proofs.Laws.{count-le}
 use Rattle.live.proofs.Marking.{Above, above-start, above-back, above-all}
 use Rattle.live.proofs.mark.stands.Statement.{statement}

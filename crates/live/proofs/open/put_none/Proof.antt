@@ -1,4 +1,4 @@
--- `live::open::put_none` meets its contract. The loop's invariant: the places passed have 513. The measure is what is left of them.
+-- `live::open::put_none` meets its contract. The loop's invariant: the places passed have too many. The measure is what is left of them.
 -- Assumes nothing.
 use Prim.Native.Nat.{_+_, _-_, _≤_}
 use mathlib.Core.Path.{_≡_}

@@ -1,6 +1,7 @@
--- `rulecosts::alone::fill_alone` meets its contract. The loop's invariant: the numbers of the rules passed are right. The measure is what is
--- left of them. Assumes nothing.
+-- `rulecosts::alone::fill_alone` meets its contract. The loop's invariant: the numbers of the rules passed are right. The measure is what
+-- is left of them. Assumes nothing.
 use Prim.Native.Nat.{_-_, _≤_}
+use native.Mathlib.Omega.{arith}
 use borrow.Author.Needs.{needs}
 use Rattle.rulecosts.specs.Rule.{AlonesFilled}
 use Rattle.rulecosts.proofs.Filling.{filled-start, filled-step, filled-end}
@@ -21,7 +22,7 @@ fill-alone-spec =
     μ-loop
     (λ c. search (needs, filled-start))
     (λ c κs. search needs)
-    (λ c. search needs)
-    (λ c. search needs)
+    (λ c. omega arith)
+    (λ c. omega arith)
     (λ c. search (needs, filled-step))
     (λ c. search (needs, filled-end)))

@@ -1,6 +1,7 @@
 -- `rulecosts::alone::put_alone` meets its contract. The loop's invariant: the numbers of the places passed are written. The measure is
 -- what is left of them. Assumes nothing.
 use Prim.Native.Nat.{_-_, _≤_}
+use native.Mathlib.Omega.{arith}
 use borrow.Author.Needs.{needs}
 use Rattle.rulecosts.specs.Rule.{AloneBefore}
 use Rattle.rulecosts.proofs.Filling.{alone-start, alone-step, alone-end}
@@ -28,12 +29,12 @@ put-alone-spec =
     (λ c κs. search needs)
     (λ c. search (needs, alone-start))
     (λ c κs. search needs)
-    (λ c. search needs)
-    (λ c. search needs)
-    (λ c. search needs)
-    (λ c. search needs)
-    (λ c. search needs)
-    (λ c. search needs)
-    (λ c. search needs)
+    (λ c. omega arith)
+    (λ c. omega arith)
+    (λ c. omega arith)
+    (λ c. omega arith)
+    (λ c. omega arith)
+    (λ c. omega arith)
+    (λ c. omega arith)
     loop-again
     returns)

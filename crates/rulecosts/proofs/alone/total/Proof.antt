@@ -1,6 +1,7 @@
 -- `rulecosts::alone::total` meets its contract. The loop's invariant: the sum of the places passed. The measure is what is left of them.
 -- Assumes nothing.
 use Prim.Native.Nat.{_*_, _-_, _≤_}
+use native.Mathlib.Omega.{arith}
 use borrow.Author.Needs.{needs}
 use Rattle.tables.specs.Layout.{fullIn}
 use Rattle.rulecosts.proofs.Sums.{Summed, summed-start, summed-step, summed-end}
@@ -22,8 +23,8 @@ total-spec =
     (λ c κs. search needs)
     (λ c. search (needs, summed-start))
     (λ c κs. search needs)
-    (λ c. search needs)
-    (λ c. search needs)
-    (λ c. search needs)
+    (λ c. omega arith)
+    (λ c. omega arith)
+    (λ c. omega arith)
     (λ c. search (needs, summed-step))
     (λ c. search (needs, summed-end)))

@@ -1,6 +1,7 @@
--- `rulecosts::rule::rule_cost` meets its contract. The loop's invariant: the least through the places passed. The measure is what is left of
--- them. Assumes nothing.
+-- `rulecosts::rule::rule_cost` meets its contract. The loop's invariant: the least through the places passed. The measure is what is left
+-- of them. Assumes nothing.
 use Prim.Native.Nat.{_-_, _≤_}
+use native.Mathlib.Omega.{arith}
 use borrow.Author.Needs.{needs}
 use Rattle.rulecosts.specs.Rule.{PlacesBefore}
 use Rattle.rulecosts.proofs.Through.{through-start, through-step, through-end}
@@ -27,14 +28,14 @@ rule-cost-spec =
     μ-loop
     (λ c κs. search needs)
     (λ c. search (needs, through-start))
-    (λ c. search needs)
-    (λ c. search needs)
-    (λ c. search needs)
-    (λ c. search needs)
-    (λ c. search needs)
+    (λ c. omega arith)
+    (λ c. omega arith)
+    (λ c. omega arith)
+    (λ c. omega arith)
+    (λ c. omega arith)
     (λ c κs. search needs)
     (λ c κs. search needs)
-    (λ c. search needs)
-    (λ c. search needs)
+    (λ c. omega arith)
+    (λ c. omega arith)
     loop-again
     returns)

@@ -36,9 +36,9 @@ put-end-spec =
     (λ c. omega arith)
     (λ c. omega arith)
     (λ c. omega arith)
-    (λ c. search needs)
     (λ c. omega arith)
-    (λ c. search needs)
+    (λ c. omega arith)
+    (λ c. omega arith)
     (λ c κs. search needs)
     (λ c. omega arith)
     loop-again

@@ -19,7 +19,7 @@ use Rattle.suffixes.specs.Within.{tailIn}
 use Rattle.tables.specs.Layout.{costIn, aloneIn, bareIn}
 use Rattle.tables.specs.Exact.{Packing, PastLast, Ready}
 use Rattle.writes.specs.Writes.{placeAt}
-use Rattle.tabulate.specs.Sofar.{Done, Sofar}
+use Rattle.spancosts.specs.Sofar.{Done, Sofar}
 
 module _ {fit : Fit} {bytes : ℕ → ℕ → Type 0} {p : List ℕ} {rules i j : ℕ} where
   -- the costs of the spans done, the numbers beside a child, the costs without a child over the whole and the rows are as they were

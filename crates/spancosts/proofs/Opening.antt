@@ -24,13 +24,14 @@ use Rattle.writes.specs.Writes.{placeAt, Nothing, BaresPut}
 use Rattle.live.specs.Live.{Silent, liveIn, Reached}
 use Rattle.starts.specs.Starts.{StartsOpened}
 use Rattle.starts.proofs.Columns.{silent-kept}
-use Rattle.tabulate.specs.Sofar.{Standing, Sofar, Opened, LiveFrom}
-use Rattle.tabulate.specs.Spans.{SpanOpened}
+use Rattle.spancosts.specs.Sofar.{Standing, Sofar, Opened, LiveFrom}
+use Rattle.spancosts.specs.Spans.{SpanOpened}
 use Rattle.writes.proofs.Written.{cost-same}
-use Rattle.tabulate.proofs.Kept.{sofar-kept}
+use Rattle.spancosts.proofs.Kept.{sofar-kept}
 
-module _ (p : List ℕ) (rules : ℕ) (fits nothing : List ℕ) (reach i j : ℕ) (tables₀ rows₀ live₀ tables rows live : List ℕ) (o : rules ≤ 128) (h : i < j)
-    (l : j < 65) (N : Nothing nothing) (A : StartsOpened p rules fits tables₀ nothing reach i j rows₀ live₀ rows live)
+module _ (p : List ℕ) (rules : ℕ) (fits nothing : List ℕ) (reach i j : ℕ) (tables₀ rows₀ live₀ tables rows live : List ℕ)
+    (o : rules ≤ 128) (h : i < j) (l : j < 65) (N : Nothing nothing)
+    (A : StartsOpened p rules fits tables₀ nothing reach i j rows₀ live₀ rows live)
     (B : BaresPut rules i j rows tables₀ tables) where
   costs : (k a b : ℕ) → a < 65 → b < 65 → costIn tables k a b ≡ costIn tables₀ k a b
   costs k a b x y = cost-same tables₀ tables k a b (λ z. B .front (4225 * k + 65 * a + b) (omega arith))

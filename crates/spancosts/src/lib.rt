@@ -17,7 +17,7 @@ ghost use lib.ListN.{length};
 ghost use Rattle.sizes.specs.Sizes.{maxRules, side};
 ghost use Rattle.tables.specs.Layout.{tablesSize};
 ghost use Rattle.writes.specs.Writes.{allRows, Nothing};
-ghost use Rattle.tabulate.specs.Spans.{SpanOpened, SpanPut, EmptyPut};
+ghost use Rattle.spancosts.specs.Spans.{SpanOpened, SpanPut, EmptyPut};
 
 // The rows from i on and the costs of the rules, without a child over the whole of i to j; `reach` has the ends of nonterminals from i on.
 fn open_span(

@@ -1,9 +1,9 @@
--- `tabulate::spans::put_span` meets its contract.
+-- `spancosts::put_span` meets its contract.
 -- Assumes nothing.
 use borrow.Author.Needs.{needs}
-use Rattle.tabulate.proofs.Closing.{span-put}
-use Rattle.tabulate.proofs.spans.put_span.Statement.{statement}
-use Rattle.tabulate.proofs.spans.put_span.Tie as tie
+use Rattle.spancosts.proofs.Closing.{span-put}
+use Rattle.spancosts.proofs.put_span.Statement.{statement}
+use Rattle.spancosts.proofs.put_span.Tie as tie
 
 returns : tie.Need-returns
 returns c = search (needs, span-put)
