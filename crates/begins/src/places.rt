@@ -7,7 +7,6 @@ ghost use mathlib.Core.Bool.{true, false};
 ghost use mathlib.Core.List.{List};
 ghost use mathlib.Core.Path.{_≡_};
 ghost use Prim.Native.Nat.{ℕ, _<_, _≤_};
-ghost use Rattle.chart.specs.Cell.{fitsAt};
 ghost use Rattle.packed.specs.Packed.{isNonterminalIn, countIn};
 ghost use Rattle.cells.specs.Flags.{Fit};
 ghost use Rattle.begins.specs.Begins.{Follows, BeginsAt, Begins};
@@ -36,7 +35,7 @@ fn nonterminal_begins(
     starts: &Starts,
 ) -> bool
     requires { ⌜ (r < 128) × (q < 8) × (i < 64) × (q < countIn (now p) r) × (isNonterminalIn (now p) r q ≡ true) ⌝ }
-    ensures { λ f. ⌜ ((fit : Fit) (n last : ℕ) → BeginsAt fit (now (p .entry)) r q i n (now (ends .entry)) (now (starts .entry)) last f) ⌝ }
+    ensures { λ f. ⌜ ((n fits last : ℕ) → BeginsAt (now (p .entry)) r q i n fits (now (ends .entry)) (now (starts .entry)) last f) ⌝ }
 {
     let k = packed::value(p, r, q);
     if k < sizes::NONTERMINALS {
@@ -50,21 +49,21 @@ fn nonterminal_begins(
     false
 }
 
-// Whether place q of rule r holds a terminal that fits the byte at i, after which the places behind it cut the rest.
+// Whether place q of rule r holds a terminal that fits position i, after which the places behind it cut the rest.
 fn terminal_begins(
     p: &Packed,
     r: usize,
     q: usize,
-    w: &[u8],
+    fits: u32,
     i: usize,
     n: usize,
     starts: &Starts,
     last: u32,
 ) -> bool
     requires { ⌜ (r < 128) × (q < 8) × (i < n) × (n ≤ 64) × (q < countIn (now p) r) × (isNonterminalIn (now p) r q ≡ false) ⌝ }
-    ensures { λ f. ⌜ ((ends : List ℕ) → BeginsAt (fitsAt (now (w .entry))) (now (p .entry)) r q i n ends (now (starts .entry)) last f) ⌝ }
+    ensures { λ f. ⌜ ((ends : List ℕ) → BeginsAt (now (p .entry)) r q i n fits ends (now (starts .entry)) last f) ⌝ }
 {
-    if packed::fits_at(p, r, q, w, i) {
+    if packed::contains(fits, q) {
         return follows(p, r, q + 1, i + 1, n, starts, last);
     }
     false
@@ -75,7 +74,7 @@ fn begins_at(
     p: &Packed,
     r: usize,
     q: usize,
-    w: &[u8],
+    fits: u32,
     i: usize,
     n: usize,
     ends: &Ends,
@@ -83,19 +82,19 @@ fn begins_at(
     last: u32,
 ) -> bool
     requires { ⌜ (r < 128) × (q < 8) × (i < n) × (n ≤ 64) × (q < countIn (now p) r) ⌝ }
-    ensures { λ f. ⌜ BeginsAt (fitsAt (now (w .entry))) (now (p .entry)) r q i n (now (ends .entry)) (now (starts .entry)) last f ⌝ }
+    ensures { λ f. ⌜ BeginsAt (now (p .entry)) r q i n fits (now (ends .entry)) (now (starts .entry)) last f ⌝ }
 {
     if packed::is_nonterminal(p, r, q) {
         return nonterminal_begins(p, r, q, i, ends, starts);
     }
-    terminal_begins(p, r, q, w, i, n, starts, last)
+    terminal_begins(p, r, q, fits, i, n, starts, last)
 }
 
 // The places of rule r at which such a cut of the span from i to n begins.
 pub fn begins(
     p: &Packed,
     r: usize,
-    w: &[u8],
+    fits: u32,
     i: usize,
     n: usize,
     ends: &Ends,
@@ -103,13 +102,13 @@ pub fn begins(
     last: u32,
 ) -> u32
     requires { ⌜ (r < 128) × (i < n) × (n ≤ 64) ⌝ }
-    ensures { λ v. ⌜ Begins (fitsAt (now (w .entry))) (now (p .entry)) r i n (now (ends .entry)) (now (starts .entry)) last v ⌝ }
+    ensures { λ v. ⌜ Begins (now (p .entry)) r i n fits (now (ends .entry)) (now (starts .entry)) last v ⌝ }
 {
     let count = packed::count(p, r);
     let mut v: u32 = 0;
     let mut q = 0;
     while q < count {
-        v = with_if(v, q, begins_at(p, r, q, w, i, n, ends, starts, last));
+        v = with_if(v, q, begins_at(p, r, q, fits, i, n, ends, starts, last));
         q += 1;
     }
     v

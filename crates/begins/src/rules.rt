@@ -1,5 +1,7 @@
 // Where inner cuts begin, for every rule; rules that can have none are passed over.
 use super::places::begins;
+use fit::FitTable;
+use fit::wide_word;
 use packed::Packed;
 use spans::words::Ends;
 use spans::words::Live;
@@ -7,7 +9,6 @@ use spans::words::Starts;
 ghost use mathlib.Core.Path.{_≡_};
 ghost use Prim.Native.Nat.{_<_, _≤_};
 ghost use lib.ListN.{length};
-ghost use Rattle.chart.specs.Cell.{fitsAt};
 ghost use Rattle.begins.specs.Begins.{CanBegin, BeginsNear, AllBegin};
 
 // Whether a rule can have an inner cut of the span from i to n at all.
@@ -25,7 +26,7 @@ fn can_begin(i: usize, n: usize, reach: u64, live: u64) -> bool
 fn begins_near(
     p: &Packed,
     r: usize,
-    w: &[u8],
+    fits: u32,
     i: usize,
     n: usize,
     ends: &Ends,
@@ -36,11 +37,11 @@ fn begins_near(
 ) -> u32
     requires { ⌜ (r < 128) × (i < n) × (n ≤ 64) ⌝ }
     ensures { λ v.
-        ⌜ BeginsNear (fitsAt (now (w .entry))) (now (p .entry)) r i n
+        ⌜ BeginsNear (now (p .entry)) r i n fits
         (now (ends .entry)) (now (starts .entry)) reach live last v ⌝ }
 {
     if can_begin(i, n, reach, live) {
-        begins(p, r, w, i, n, ends, starts, last)
+        begins(p, r, fits, i, n, ends, starts, last)
     } else {
         0
     }
@@ -50,7 +51,7 @@ fn begins_near(
 pub fn begin_all(
     p: &Packed,
     rules: usize,
-    w: &[u8],
+    fits: &FitTable,
     i: usize,
     n: usize,
     ends: &Ends,
@@ -62,12 +63,13 @@ pub fn begin_all(
 )
     requires { ⌜ (rules ≤ 128) × (i < n) × (n ≤ 64) × (length (now insides) ≡ 128) ⌝ }
     ensures { λ _.
-        ⌜ AllBegin (fitsAt (now (w .entry))) (now (p .entry)) rules i n (now (ends .entry)) (now (starts .entry)) reach
+        ⌜ AllBegin (now (p .entry)) rules i n (now (fits .entry)) (now (ends .entry)) (now (starts .entry)) reach
         (now (live .entry)) (now (lasts .entry)) (now (insides .exit)) ⌝ }
 {
     let mut r = 0;
     while r < rules {
-        insides[r] = begins_near(p, r, w, i, n, ends, starts, reach, live[r], lasts[r]);
+        let word = wide_word(fits[sizes::MAX_RULES * i + r]);
+        insides[r] = begins_near(p, r, word, i, n, ends, starts, reach, live[r], lasts[r]);
         r += 1;
     }
 }

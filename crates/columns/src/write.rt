@@ -1,5 +1,6 @@
 // One column of the chart, written cell by cell from the last start down, by spans as bits.
 use begins::rules::begin_all;
+use fit::FitTable;
 use looks::passes::closure;
 use packed::Packed;
 use spans::starts::put_flags;
@@ -14,15 +15,14 @@ ghost use lib.ListN.{length};
 ghost use Rattle.sizes.specs.Sizes.{cells};
 ghost use Rattle.packed.specs.Packed.{Used};
 ghost use Rattle.spans.specs.Spans.{startsSize};
-ghost use Rattle.spans.specs.Ends.{EndsTo};
 ghost use Rattle.empty.specs.Empty.{KindsAll, EmptyTold};
-ghost use Rattle.columns.specs.Columns.{columnOf, CellWritten, LowerWritten};
+ghost use Rattle.columns.specs.Columns.{CellWritten, LowerWritten, ColumnWritten};
 
 // Writes the cell (i, n), those of the later starts being written. What insides, flags and made hold before does not matter.
 fn close_cell(
     p: &Packed,
     rules: usize,
-    w: &[u8],
+    fits: &FitTable,
     i: usize,
     n: usize,
     ends: &Ends,
@@ -40,14 +40,14 @@ fn close_cell(
         × (cells ≤ length (now chart)) × (length (now starts) ≡ startsSize) × (length (now live) ≡ 128)
         × (length (now insides) ≡ 128) × (length (now flags) ≡ 128) × (length (now made) ≡ 128) ⌝ }
     ensures { λ _.
-        ⌜ CellWritten (now (p .entry)) (now (w .entry)) rules n i (now (ends .entry)) (now (reach .entry)) (now (lasts .entry))
+        ⌜ CellWritten (now (p .entry)) (now (fits .entry)) rules n i (now (ends .entry)) (now (reach .entry)) (now (lasts .entry))
         (now (chart .entry)) (now (starts .entry)) (now (live .entry)) (now (chart .exit)) (now (starts .exit)) (now (live .exit))
         × (length (now (insides .exit)) ≡ 128) × (length (now (flags .exit)) ≡ 128) × (length (now (made .exit)) ≡ 128) ⌝ }
 {
     begin_all(
         p,
         rules,
-        w,
+        fits,
         i,
         n,
         ends,
@@ -75,7 +75,7 @@ fn close_cell(
 fn lower_cells(
     p: &Packed,
     rules: usize,
-    w: &[u8],
+    fits: &FitTable,
     n: usize,
     ends: &Ends,
     reach: &Reach,
@@ -86,7 +86,7 @@ fn lower_cells(
     requires { ⌜ (rules ≤ 128) × Used (now p) rules × (n ≤ 64) × KindsAll (now p) rules (now lasts) (now kinds)
         × (cells ≤ length (now chart)) ⌝ }
     ensures { λ _.
-        ⌜ LowerWritten (now (p .entry)) (now (w .entry)) rules n (now (ends .entry)) (now (reach .entry)) (now (lasts .entry))
+        ⌜ LowerWritten (now (p .entry)) (now (fits .entry)) rules n (now (ends .entry)) (now (reach .entry)) (now (lasts .entry))
         (now (chart .entry)) (now (chart .exit)) ⌝ }
 {
     let mut starts = [0u64; STARTS_SIZE];
@@ -100,7 +100,7 @@ fn lower_cells(
         close_cell(
             p,
             rules,
-            w,
+            fits,
             i,
             n,
             ends,
@@ -117,11 +117,11 @@ fn lower_cells(
     }
 }
 
-// Writes column n, what is the same for every column and the ends of the columns before it being told.
+// Writes column n, what is the same for every column being told, and what fits its positions, and the ends of the columns before it.
 pub fn column(
     p: &Packed,
     rules: usize,
-    w: &[u8],
+    fits: &FitTable,
     n: usize,
     own: u32,
     lasts: &[u32; 128],
@@ -131,9 +131,10 @@ pub fn column(
     chart: &mut [u32],
 )
     requires { ⌜ (rules ≤ 128) × Used (now p) rules × (n ≤ 64) × EmptyTold (now p) rules own (now lasts) (now kinds)
-        × (cells ≤ length (now chart)) × EndsTo (now chart) n 0 (now ends) (now reach) ⌝ }
-    ensures { λ _. ⌜ now (chart .exit) ≡ columnOf (now (p .entry)) (now (w .entry)) n (now (chart .entry)) ⌝ }
+        × (cells ≤ length (now chart)) ⌝ }
+    ensures { λ _. ⌜ ColumnWritten (now (p .entry)) (now (fits .entry)) n (now (ends .entry)) (now (reach .entry)) (now (chart .entry))
+        (now (chart .exit)) ⌝ }
 {
     chart[sizes::SIDE * n + n] = own;
-    lower_cells(p, rules, w, n, ends, reach, lasts, kinds, chart);
+    lower_cells(p, rules, fits, n, ends, reach, lasts, kinds, chart);
 }

@@ -62,6 +62,7 @@ pub fn fill(g: Grammar, input: &[u8], chart: &mut [u32]) -> Packed
         × ((r : ℕ) → ruleOfNumber (cfgIn (g .start) p) r ≡ ruleOfNumber (grammarOf g) r) ⌝ }
 {
     let p = packing::pack(g);
-    columns::fill(&p, input, chart);
+    let fits = fit::table(&p, input);
+    columns::fill(&p, &fits, input.len(), chart);
     p
 }

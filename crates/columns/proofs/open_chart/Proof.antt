@@ -1,6 +1,6 @@
 -- `columns::open_chart` meets its contract.
 -- Assumes nothing.
-use borrow.Author.Needs.{needs}
+use native.Mathlib.Omega.{arith}
 use Rattle.columns.proofs.Filling.{opened-is}
 use Rattle.columns.proofs.open_chart.Statement.{statement}
 use Rattle.columns.proofs.open_chart.Tie as tie
@@ -10,4 +10,4 @@ returns c = search opened-is
 
 pub open-chart-spec : {M : Type 1} → statement M
 open-chart-spec =
-    tie.close (tie.spec (λ c κs. search needs) (λ c κs. search needs) (λ c κs. search needs) (λ c. search needs) returns)
+    tie.close (tie.spec (λ c κs. omega arith) (λ c κs. omega arith) (λ c κs. omega arith) (λ c. omega arith) returns)

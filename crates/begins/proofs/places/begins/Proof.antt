@@ -5,17 +5,16 @@ use native.Mathlib.Omega.{arith}
 use mathlib.Core.Path.{_≡_}
 use Prim.Native.Nat.{_≤_, _-_}
 use Rattle.packed.specs.Packed.{countIn}
-use Rattle.chart.specs.Cell.{fitsAt}
 use Rattle.begins.proofs.Rule.{BeginsTo, begins-start, begins-step, begins-done}
 use Rattle.begins.proofs.places.begins.Statement.{statement}
 use Rattle.begins.proofs.places.begins.Tie as tie
 
 abbrev Inv-loop : tie.InvT-loop
-Inv-loop p r w i n ends starts last count v₀ q₀ v q =
-    (q ≤ count) × (count ≡ countIn p r) × (count ≤ 8) × BeginsTo (fitsAt w) p r i n ends starts last q v
+Inv-loop p r fits i n ends starts last count v₀ q₀ v q =
+    (q ≤ count) × (count ≡ countIn p r) × (count ≤ 8) × BeginsTo p r i n fits ends starts last q v
 
 abbrev μ-loop : tie.MeasureT-loop
-μ-loop p r w i n ends starts last count v₀ q₀ v q = count - q
+μ-loop p r fits i n ends starts last count v₀ q₀ v q = count - q
 
 loop-holds : tie.Need-loop-holds Inv-loop μ-loop
 loop-holds c = (omega arith, c .count .ensures .0, c .count .ensures .1, begins-start _ _ _ _ _ _ _ _)
@@ -37,10 +36,10 @@ begins-spec =
     (tie.spec
     Inv-loop
     μ-loop
-    (λ c κs. search needs)
+    (λ c κs. omega arith)
     loop-holds
-    (λ c κs. search needs)
-    (λ c κs. search needs)
+    (λ c κs. omega arith)
+    (λ c κs. omega arith)
     (λ c. omega arith)
     (λ c. omega arith)
     loop-again

@@ -1,6 +1,5 @@
 -- `begins::places::begins_at` meets its contract.
 -- Assumes nothing.
-use borrow.Author.Needs.{needs}
 use native.Mathlib.Omega.{arith}
 use mathlib.Core.Path.{sym, _∙_}
 use Rattle.begins.proofs.places.begins_at.Statement.{statement}
@@ -24,7 +23,7 @@ pub begins-at-spec : {M : Type 1} → statement M
 begins-at-spec =
     tie.close
     (tie.spec
-    (λ c κs. search needs)
+    (λ c κs. omega arith)
     nonterminal-begins-requires
     returns
     terminal-begins-requires

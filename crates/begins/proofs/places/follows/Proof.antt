@@ -1,6 +1,6 @@
 -- `begins::places::follows` meets its contract.
 -- Assumes nothing.
-use borrow.Author.Needs.{needs}
+use native.Mathlib.Omega.{arith}
 use Rattle.begins.proofs.Place.{follows-before, follows-none, follows-end}
 use Rattle.begins.proofs.places.follows.Statement.{statement}
 use Rattle.begins.proofs.places.follows.Tie as tie
@@ -18,13 +18,13 @@ pub follows-spec : {M : Type 1} → statement M
 follows-spec =
     tie.close
     (tie.spec
-    (λ c κs. search needs)
-    (λ c. search needs)
-    (λ c. search needs)
-    (λ c. search needs)
-    (λ c. search needs)
-    (λ c κs. search needs)
+    (λ c κs. omega arith)
+    (λ c. omega arith)
+    (λ c. omega arith)
+    (λ c. omega arith)
+    (λ c. omega arith)
+    (λ c κs. omega arith)
     returns
     returns-2
-    (λ c κs. search needs)
+    (λ c κs. omega arith)
     returns-3)

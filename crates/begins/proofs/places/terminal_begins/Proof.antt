@@ -1,6 +1,6 @@
 -- `begins::places::terminal_begins` meets its contract.
 -- Assumes nothing.
-use borrow.Author.Needs.{needs}
+use native.Mathlib.Omega.{arith}
 use Rattle.begins.proofs.Place.{leaf-follows, leaf-misses}
 use Rattle.begins.proofs.places.terminal_begins.Statement.{statement}
 use Rattle.begins.proofs.places.terminal_begins.Tie as tie
@@ -15,9 +15,9 @@ pub terminal-begins-spec : {M : Type 1} → statement M
 terminal-begins-spec =
     tie.close
     (tie.spec
-    (λ c κs. search needs)
-    (λ c. search needs)
-    (λ c. search needs)
-    (λ c κs. search needs)
+    (λ c κs. omega arith)
+    (λ c. omega arith)
+    (λ c. omega arith)
+    (λ c κs. omega arith)
     returns
     returns-2)

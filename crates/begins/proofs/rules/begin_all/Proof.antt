@@ -2,17 +2,16 @@
 -- The measure is what is left of the rules. Assumes nothing.
 use native.Mathlib.Omega.{arith}
 use Prim.Native.Nat.{_≤_, _-_}
-use Rattle.chart.specs.Cell.{fitsAt}
 use Rattle.begins.proofs.Rule.{AllTo, all-start, all-step, all-done}
 use Rattle.begins.proofs.rules.begin_all.Statement.{statement}
 use Rattle.begins.proofs.rules.begin_all.Tie as tie
 
 abbrev Inv-loop : tie.InvT-loop
-Inv-loop p rules w i n ends starts reach live lasts insides₀ r₀ insides r =
-    (r ≤ rules) × AllTo (fitsAt w) p rules i n ends starts reach live lasts r insides
+Inv-loop p rules fits i n ends starts reach live lasts insides₀ r₀ insides r =
+    (r ≤ rules) × AllTo p rules i n fits ends starts reach live lasts r insides
 
 abbrev μ-loop : tie.MeasureT-loop
-μ-loop p rules w i n ends starts reach live lasts insides₀ r₀ insides r = rules - r
+μ-loop p rules fits i n ends starts reach live lasts insides₀ r₀ insides r = rules - r
 
 loop-holds : tie.Need-loop-holds Inv-loop μ-loop
 loop-holds c = (omega arith, search all-start)
@@ -23,7 +22,8 @@ begins-near-requires c κs = (omega arith, omega arith, omega arith)
 loop-again : tie.Need-loop-again Inv-loop μ-loop
 loop-again c = (
   omega arith,
-  all-step _ _ _ _ _ _ _ _ _ _ _ _ _ (omega arith) (c .begins-near .ensures) (c .before .before .before .before .loop .inv .1),
+  all-step _ _ _ _ _ _ _ _ _ _ _ _ _ _ (omega arith) (c .before .before .before .wide-word .ensures) (c .begins-near .ensures)
+      (c .before .before .before .before .before .before .loop .inv .1),
 )
 
 returns : tie.Need-returns Inv-loop μ-loop
@@ -36,6 +36,10 @@ begin-all-spec =
     Inv-loop
     μ-loop
     loop-holds
+    (λ c. omega arith)
+    (λ c. omega arith)
+    (λ c. omega arith)
+    (λ c κs. omega arith)
     (λ c. omega arith)
     (λ c. omega arith)
     (λ c. omega arith)

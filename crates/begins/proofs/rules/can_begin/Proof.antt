@@ -1,6 +1,6 @@
 -- `begins::rules::can_begin` meets its contract.
 -- Assumes nothing.
-use borrow.Author.Needs.{needs}
+use native.Mathlib.Omega.{arith}
 use Rattle.begins.proofs.Rule.{can-meet, can-always}
 use Rattle.begins.proofs.rules.can_begin.Statement.{statement}
 use Rattle.begins.proofs.rules.can_begin.Tie as tie
@@ -15,9 +15,9 @@ pub can-begin-spec : {M : Type 1} → statement M
 can-begin-spec =
     tie.close
     (tie.spec
-    (λ c. search needs)
-    (λ c. search needs)
-    (λ c κs. search needs)
-    (λ c κs. search needs)
+    (λ c. omega arith)
+    (λ c. omega arith)
+    (λ c κs. omega arith)
+    (λ c κs. omega arith)
     returns
     returns-2)

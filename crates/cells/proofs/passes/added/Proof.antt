@@ -1,6 +1,5 @@
 -- `cells::passes::added` meets its contract.
 -- Assumes nothing.
-use borrow.Author.Needs.{needs}
 use native.Mathlib.Omega.{arith}
 use Rattle.cells.proofs.Rule.{added-in, added-high, added-none}
 use Rattle.cells.proofs.passes.added.Statement.{statement}
@@ -16,4 +15,4 @@ returns-3 : tie.Need-returns-3
 returns-3 c = search added-none
 
 pub added-spec : {M : Type 1} → statement M
-added-spec = tie.close (tie.spec (λ c κs. search needs) (λ c κs. omega arith) (λ c κs. omega arith) returns returns-2 returns-3)
+added-spec = tie.close (tie.spec (λ c κs. omega arith) (λ c κs. omega arith) (λ c κs. omega arith) returns returns-2 returns-3)

@@ -1,6 +1,5 @@
 -- `cells::passes::place_cuts` meets its contract.
 -- Assumes nothing.
-use borrow.Author.Needs.{needs}
 use native.Mathlib.Omega.{arith}
 use Rattle.cells.proofs.Rule.{placed-inner, placed-empty, placed-whole, placed-terminal}
 use Rattle.cells.proofs.passes.place_cuts.Statement.{statement}
@@ -22,14 +21,14 @@ pub place-cuts-spec : {M : Type 1} → statement M
 place-cuts-spec =
     tie.close
     (tie.spec
-    (λ c κs. search needs)
+    (λ c κs. omega arith)
     returns
     (λ c κs. omega arith)
     (λ c κs. omega arith)
     (λ c. omega arith)
-    (λ c κs. search needs)
+    (λ c κs. omega arith)
     returns-2
     (λ c. omega arith)
-    (λ c κs. search needs)
+    (λ c κs. omega arith)
     returns-3
     returns-4)

@@ -6,9 +6,6 @@ use Rattle.columns.proofs.Writing.{column-written, column-length}
 use Rattle.columns.proofs.write.column.Statement.{statement}
 use Rattle.columns.proofs.write.column.Tie as tie
 
-same-length : tie.Need-same-length
-same-length c = search column-length
-
 returns : tie.Need-returns
 returns c = search column-written
 
@@ -19,7 +16,7 @@ column-spec =
     (λ c. omega arith)
     (λ c. omega arith)
     (λ c. omega arith)
-    (λ c. search needs)
+    (λ c. omega arith)
     (λ c κs. search needs)
-    same-length
+    (λ c. search column-length)
     returns)

@@ -10,12 +10,12 @@ use Rattle.columns.proofs.write.lower_cells.Statement.{statement}
 use Rattle.columns.proofs.write.lower_cells.Tie as tie
 
 abbrev Inv-loop : tie.InvT-loop
-Inv-loop p rules w n ends reach lasts kinds chart₀ starts₀ live₀ insides₀ flags₀ made₀ i₀ chart starts live insides flags made i =
+Inv-loop p rules fits n ends reach lasts kinds chart₀ starts₀ live₀ insides₀ flags₀ made₀ i₀ chart starts live insides flags made i =
     (i ≤ n) × (length insides ≡ 128) × (length flags ≡ 128) × (length made ≡ 128)
-    × LowerTo p w rules n ends reach lasts chart₀ starts₀ live₀ i chart starts live
+    × LowerTo p fits rules n ends reach lasts chart₀ starts₀ live₀ i chart starts live
 
 abbrev μ-loop : tie.MeasureT-loop
-μ-loop p rules w n ends reach lasts kinds chart₀ starts₀ live₀ insides₀ flags₀ made₀ i₀ chart starts live insides flags made i = i
+μ-loop p rules fits n ends reach lasts kinds chart₀ starts₀ live₀ insides₀ flags₀ made₀ i₀ chart starts live insides flags made i = i
 
 loop-holds : tie.Need-loop-holds Inv-loop μ-loop
 loop-holds c = (omega arith, search needs, search needs, search needs, search lower-start)
@@ -52,5 +52,5 @@ lower-cells-spec =
     close-cell-requires
     (λ c. omega arith)
     loop-again
-    (λ c. search needs)
+    (λ c. omega arith)
     returns)

@@ -1,6 +1,6 @@
 -- `empty::kinds::kind_at` meets its contract.
 -- Assumes nothing.
-use borrow.Author.Needs.{needs}
+use native.Mathlib.Omega.{arith}
 use Rattle.empty.proofs.Gather.{kind-behind, kind-terminal, kind-high, kind-in}
 use Rattle.empty.proofs.kinds.kind_at.Statement.{statement}
 use Rattle.empty.proofs.kinds.kind_at.Tie as tie
@@ -21,11 +21,11 @@ pub kind-at-spec : {M : Type 1} → statement M
 kind-at-spec =
     tie.close
     (tie.spec
-    (λ c. search needs)
-    (λ c κs. search needs)
-    (λ c κs. search needs)
-    (λ c κs. search needs)
-    (λ c κs. search needs)
+    (λ c. omega arith)
+    (λ c κs. omega arith)
+    (λ c κs. omega arith)
+    (λ c κs. omega arith)
+    (λ c κs. omega arith)
     returns
     returns-2
     returns-3

@@ -33,7 +33,7 @@ kinds-of-spec =
     (tie.spec
     Inv-loop
     μ-loop
-    (λ c κs. search needs)
+    (λ c κs. omega arith)
     loop-holds
     kind-at-requires
     (λ c. omega arith)

@@ -1,6 +1,5 @@
 -- `empty::span::closure` meets its contract. The loop's invariant: the set has nothing that a closed set lacks.
 -- The measure is what is left of the numbers of 32 bits. Assumes nothing.
-use borrow.Author.Needs.{needs}
 use native.Mathlib.Omega.{arith}
 use Prim.Native.Nat.{_<_, _-_, _^_}
 use Rattle.empty.proofs.Nothing.{EmptyReached, reached-start, reached-step, empty-closed}
@@ -23,4 +22,4 @@ loop-again : tie.Need-loop-again Inv-loop μ-loop
 loop-again c = (omega arith, search reached-step)
 
 pub closure-spec : {M : Type 1} → statement M
-closure-spec = tie.close (tie.spec Inv-loop μ-loop loop-holds (λ c κs. search needs) returns (λ c. omega arith) loop-again)
+closure-spec = tie.close (tie.spec Inv-loop μ-loop loop-holds (λ c κs. omega arith) returns (λ c. omega arith) loop-again)

@@ -30,7 +30,7 @@ closure-spec =
     (tie.spec
     Inv-loop
     μ-loop
-    (λ c κs. search needs)
+    (λ c κs. omega arith)
     loop-holds
     (λ c κs. search needs)
     returns
