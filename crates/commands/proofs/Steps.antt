@@ -14,9 +14,8 @@ use Rattle.grammar.specs.declared.Symbol.{Symbol}
 use Rattle.grammar.specs.declared.Symbol.the-variants.{Nonterminal, Terminal}
 use Rattle.results.specs.Answer.{decide}
 use Rattle.results.specs.Load.{fault, stop, next, step, commandChecks, unknown, outOfTurn, operands, after, openRule, withPlace}
-use Rattle.results.proofs.Loading.Run.{step-past}
 use Rattle.commands.specs.Class.{classOf}
-use Rattle.commands.specs.Command.{ruleOf, placeOf, endOf, stepPast, Bounded, Begun, Whole, Passed, Reads}
+use Rattle.commands.specs.Command.{ruleOf, placeOf, endOf, stepPast, stepAfter, Bounded, Begun, Whole, Passed, Reads}
 use Rattle.commands.specs.Turn.{late, TurnAt}
 use Rattle.commands.specs.declared.Class.{Class}
 use Rattle.commands.specs.declared.Class.the-variants.{Known, Unknown}
@@ -149,6 +148,11 @@ pub turn-law : (c at : ℕ) (g : Grammar) (t : Turn) → TurnAt at g t → late 
 unfolding outOfTurn
 turn-law c at g t T = rw (T .started, T .opened, not-pos at, not-pos (g .count))
 
+-- so a step by what has been read is a step of loading
+pub turn-step : (bytes : List ℕ) (at : ℕ) (g : Grammar) (t : Turn) → TurnAt at g t → stepAfter t bytes at g ≡ step bytes at g
+unfolding step decide commandChecks
+turn-step bytes at g t T = rw (turn-law (getD bytes at 0) at g t T)
+
 -- after the turn, each command but 10 has a start before it
 begun : (c : ℕ) (t : Turn) → late c t ≡ false → eqb c 0x10 ≡ false → t .started ≡ true
 begun c t f e = go (t .started) (rw e at f)
@@ -166,13 +170,14 @@ begun-all c t f len at rules places (Fault r o) B = tt
 
 module _ (bytes : List ℕ) (at : ℕ) (t : Turn) (rules places : ℕ) where
   pub reads-ended : length bytes ≤ at → Reads bytes at t rules places (Fault R.UnexpectedEnd (length bytes))
-  reads-ended h = record { means = λ g T p q. sym (step-past bytes at g h); bounded = tt; begun = tt }
+  unfolding decide
+  reads-ended h = record { means = λ g p q. rw (le-ltb at (length bytes) h); bounded = tt; begun = tt }
 
   module _ (l : at < length bytes) where
     pub reads-unknown : Unknown ≡ classOf (getD bytes at 0) → Reads bytes at t rules places (Fault R.UnknownCommand at)
-    unfolding step decide commandChecks
+    unfolding decide
     reads-unknown e =
-        record { means = λ g T p q. rw (lt-ltb at (length bytes) l, none (unknown (getD bytes at 0)) e); bounded = tt; begun = tt }
+        record { means = λ g p q. rw (lt-ltb at (length bytes) l, none (unknown (getD bytes at 0)) e); bounded = tt; begun = tt }
       where
         none : (b : Bool) → Unknown ≡ cond b Unknown (Known (operands (getD bytes at 0)) (eqb (getD bytes at 0) 0x10
             || eqb (getD bytes at 0) 0x20 || eqb (getD bytes at 0) 0x30)) → b ≡ true
@@ -184,18 +189,18 @@ module _ (bytes : List ℕ) (at : ℕ) (t : Turn) (rules places : ℕ) where
       known-here = knows n nonterminal (getD bytes at 0) (class-told (getD bytes at 0) r (Known n nonterminal) C E) .known
 
       pub reads-late : (b : Bool) → b ≡ late (getD bytes at 0) t → b ≡ true → Reads bytes at t rules places (Fault R.OutOfTurn at)
-      unfolding step decide commandChecks
+      unfolding decide
       reads-late b e f = record {
-        means = λ g T p q. rw (lt-ltb at (length bytes) l, known-here, ← turn-law (getD bytes at 0) at g t T, ← e, f);
+        means = λ g p q. rw (lt-ltb at (length bytes) l, known-here, ← e, f);
         bounded = tt;
         begun = tt;
       }
 
       pub reads-rest : (b : Bool) → b ≡ late (getD bytes at 0) t → b ≡ false → (m : Command)
           → Passed 2 bytes at (getD bytes at 0) (getD bytes (at + 1) 0) rules places m → Reads bytes at t rules places m
-      unfolding step decide commandChecks
+      unfolding decide
       reads-rest b e f m P = record {
-        means = λ g T p q. rw (lt-ltb at (length bytes) l, known-here, ← turn-law (getD bytes at 0) at g t T, ← e, f)
+        means = λ g p q. rw (lt-ltb at (length bytes) l, known-here, ← e, f)
             (P .means g p q);
         bounded = P .bounded;
         begun = begun-all (getD bytes at 0) t (sym e ∙ f) (length bytes) at rules places m (P .bounded);

@@ -1,8 +1,8 @@
 -- What a command that was read means: the step of loading that it makes, and the bounds that it keeps.
 -- Assumes nothing.
 use Prim.Native.Nat.{ℕ, _+_, _≤_, _<_}
-use mathlib.Core.Bool.{true, false, cond}
-use mathlib.Core.List.{List}
+use mathlib.Core.Bool.{true, false, cond, not}
+use mathlib.Core.List.{List, [], _∷_}
 use mathlib.Core.Path.{_≡_}
 use lib.Dec.{eqb, ltb}
 use lib.ListN.{length, getD, drop}
@@ -11,9 +11,9 @@ use Rattle.grammar.specs.declared.Grammar.{Grammar}
 use Rattle.grammar.specs.declared.Refusal.the-variants as R
 use Rattle.grammar.specs.Number.{numberOf}
 use Rattle.results.specs.Answer.{decide}
-use Rattle.results.specs.Load.{Step, stop, next, done, step, signed, openRule, withStart, withRule, withPlace}
+use Rattle.results.specs.Load.{Step, stop, next, done, fault, signed, openRule, withStart, withRule, withPlace}
 use Rattle.results.specs.Load.{operands, after, unknown, commandChecks}
-use Rattle.commands.specs.Turn.{TurnAt}
+use Rattle.commands.specs.Turn.{late}
 use Rattle.commands.specs.declared.Command.{Command}
 use Rattle.commands.specs.declared.Command.the-variants.{Start, Rule, Place, End, Fault}
 use Rattle.commands.specs.declared.Turn.{Turn}
@@ -68,8 +68,15 @@ pub record Passed (n : ℕ) (bytes : List ℕ) (at c a rules places : ℕ) (r : 
   pub means : (g : Grammar) → g .count ≡ rules → openRule g .count ≡ places → stepOf r at g ≡ stepPast n bytes at c a g
   pub bounded : Bounded (length bytes) at c rules places r
 
--- r is the command at an offset, where t has been read
+-- the step at an offset where t has been read, from any grammar on
+abbrev pub stepAfter : Turn → List ℕ → ℕ → Grammar → Step
+stepAfter t bytes at g =
+    let c = getD bytes at 0 in
+    decide (fault (not (ltb at (length bytes))) 1 (length bytes) ∷ fault (unknown c) 2 at ∷ fault (late c t) 3 at ∷ []) stop
+    (λ _. stepPast 2 bytes at c (getD bytes (at + 1) 0) g)
+
+-- r is the command at an offset where t has been read, for each grammar of so many rules, the last of which has so many places
 pub record Reads (bytes : List ℕ) (at : ℕ) (t : Turn) (rules places : ℕ) (r : Command) : Type 0 where
-  pub means : (g : Grammar) → TurnAt at g t → g .count ≡ rules → openRule g .count ≡ places → stepOf r at g ≡ step bytes at g
+  pub means : (g : Grammar) → g .count ≡ rules → openRule g .count ≡ places → stepOf r at g ≡ stepAfter t bytes at g
   pub bounded : Bounded (length bytes) at (getD bytes at 0) rules places r
   pub begun : Begun t r

@@ -25,6 +25,7 @@ use Rattle.results.proofs.Loading.Valid.{valid-invariant, size-invariant}
 use Rattle.loader.specs.Answer.{loadingOf, Refuses, Accepts}
 use Rattle.commands.specs.Command.{stepOf, Bounded, Begun, Reads}
 use Rattle.commands.specs.Turn.{TurnAt}
+use Rattle.commands.proofs.Steps.{turn-step}
 use Rattle.setters.specs.Setters.{setStart, setCount, setRule, openedRule, placedRule}
 use Rattle.setters.proofs.Setters.{start-set, rule-set, place-set}
 use Rattle.loader.specs.declared.Loaded.{Loaded}
@@ -91,7 +92,7 @@ module _ (bytes : List ℕ) (at : ℕ) (t : Turn) (g : Grammar) (P : Progress by
   module _ (q : ℕ) (c : Command) (f : q ≡ g .count - 1) (R : Reads bytes at t (g .count) (getD (g .rules) q noRule .count) c) where
     means : stepOf c at g ≡ step bytes at g
     unfolding openRule
-    means = R .means g (P .turn) refl (ap (λ (i : ℕ). getD (g .rules) i noRule .count) (sym f))
+    means = R .means g refl (ap (λ (i : ℕ). getD (g .rules) i noRule .count) (sym f)) ∙ turn-step bytes at g t (P .turn)
 
     progress-next : (m : Command) (at′ : ℕ) (t′ : Turn) (g′ h : Grammar) → c ≡ m → stepOf m at g ≡ next at′ g′ → at′ ≤ length bytes
         → TurnAt at′ h t′ → h ≡ g′ → Progress bytes at′ t′ h

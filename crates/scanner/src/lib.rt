@@ -63,7 +63,7 @@ pub fn operands_at(
     limits_at(bytes, at, c, a, rules, places)
 }
 
-// The command at an offset, where turn has been read, with so many rules, the last of which has so many places.
+// The command at an offset, where turn has been read as a grammar of so many rules, the last of which has so many places.
 pub fn command_at(bytes: &[u8], at: usize, turn: Turn, rules: usize, places: usize) -> Command
     ensures { λ r. ⌜ Reads (now (bytes .entry)) at turn rules places r ⌝ }
 {
