@@ -45,16 +45,18 @@ pub fn spans(list: &[Case]) {
     }
 }
 
-/// Of each, in seconds a call: the least over the rounds of a batch of about half a millisecond, or of one call. At
-/// least nine rounds, and at most as many as take about a second.
+/// Of each, in seconds a call: the least over the rounds of a batch of about half a millisecond, or of one call. The
+/// rounds of the first side take about a second, and those of the other two in turn, at least nine each.
 fn least(mut sides: [&mut dyn FnMut(); 3]) -> [f64; 3] {
     let once = sides.each_mut().map(|f| batch(*f, 1).min(batch(*f, 1)));
     let calls = once.map(|t| ((0.0005 / t.max(1e-9)) as usize).clamp(1, 1_000_000));
-    let rounds = (1.0 / once.iter().map(|t| t.max(0.0005)).sum::<f64>()) as usize;
+    let rounds = |t: &[f64]| (1.0 / t.iter().map(|t| t.max(0.0005)).sum::<f64>()).max(9.0) as usize;
     let mut least = [f64::MAX; 3];
-    for _ in 0..rounds.max(9) {
-        for ((f, calls), least) in sides.iter_mut().zip(calls).zip(&mut least) {
-            *least = least.min(batch(*f, calls));
+    for (from, to) in [(0, 1), (1, 3)] {
+        for _ in 0..rounds(&once[from..to]) {
+            for i in from..to {
+                least[i] = least[i].min(batch(&mut *sides[i], calls[i]));
+            }
         }
     }
     least

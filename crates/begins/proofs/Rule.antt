@@ -131,7 +131,8 @@ module _ (p : List ℕ) (rules i n : ℕ) (t ends starts : List ℕ) (reach : �
       go : (r : ℕ) → r < m + 1 → Dec (r ≡ m)
           → BeginsNear p r i n (entryIn t i r) ends starts reach (getD live r 0) (getD lasts r 0) (getD (set insides m v) r 0)
       go r l (yes d) =
-          subst (λ (y : ℕ). BeginsNear p y i n (entryIn t i y) ends starts reach (getD live y 0) (getD lasts y 0) (getD (set insides m v) y 0)) (sym d)
+          subst (λ (y : ℕ). BeginsNear p y i n (entryIn t i y) ends starts reach (getD live y 0) (getD lasts y 0)
+          (getD (set insides m v) y 0)) (sym d)
           (subst (λ (y : ℕ). BeginsNear p m i n (entryIn t i m) ends starts reach (getD live m 0) (getD lasts m 0) y)
           (sym (getD-set-same insides m v 0 (omega (arith, to .long)))) one)
       go r l (no d) =

@@ -54,7 +54,8 @@ cleared-length l h = cleared cells l h
 
 -- ---- opening and filling
 
-pub opened-with : (own : ℕ) (chart chart₁ : List ℕ) → chart₁ ≡ replicate cells 0 ++ drop cells chart → OpenedWith own chart (set chart₁ 0 own)
+pub opened-with : (own : ℕ) (chart chart₁ : List ℕ) → chart₁ ≡ replicate cells 0 ++ drop cells chart
+    → OpenedWith own chart (set chart₁ 0 own)
 opened-with own chart chart₁ e = ap (λ (x : List ℕ). set x 0 own) e
 
 pub opened-is : (p : List ℕ) (rules own : ℕ) (lasts chart chart' : List ℕ) → cells ≤ length chart → Used p rules → own < 2 ^ 32
@@ -157,7 +158,8 @@ module _ (p t : List ℕ) (n : ℕ) (start : List ℕ) where
           let (x, y) = to .taken w d tells in
           let z : EndsTo chart m' 0 ends' reach' = told-next chart m m' ends reach ends' reach' e put y in
           let f = column .exact (fitsAt (take m' w)) (tells-take p t w m' n (omega arith) d tells) z in
-          (fill-step p w start m m' chart chart' e (omega arith) x f, told-on p (fitsAt (take m' w)) chart chart' m' ends' reach' (omega arith) f z)
+          let g = told-on p (fitsAt (take m' w)) chart chart' m' ends' reach' (omega arith) f z in
+          (fill-step p w start m m' chart chart' e (omega arith) x f, g)
 
   pub fill-taken : (m : ℕ) (chart ends reach : List ℕ) → n ≤ m → FillTo m chart ends reach → Taken p t n start chart
   fill-taken m chart ends reach h to = record {

@@ -63,8 +63,9 @@ module _ (p : List ℕ) (fit : Fit) (found : List ℕ) (rules n : ℕ) (small : 
           others a l (yes d) q = e (q ∙ ap (λ (y : ℕ). index y n) d)
           others a l (no d) q = let u : a ≢ i = d in h a (omega arith) q
 
-  module _ (i j v reached : ℕ) (t ends reach lasts kinds insides flags made chart starts live starts' live' : List ℕ) (room : cells ≤ length found)
-      (few : rules ≤ 128) (used : Used p rules) (order : i < n) (next : j ≡ i + 1) (word : v < 2 ^ 32) (e : reached ≡ getD reach i 0)
+  module _ (i j v reached : ℕ) (t ends reach lasts kinds insides flags made chart starts live starts' live' : List ℕ)
+      (room : cells ≤ length found) (few : rules ≤ 128) (used : Used p rules) (order : i < n) (next : j ≡ i + 1) (word : v < 2 ^ 32)
+      (e : reached ≡ getD reach i 0)
       (around : Around p fit t found rules n ends reach lasts) (from : WrittenFrom p fit found rules n j chart starts live)
       (depends : KindsAll p rules lasts kinds)
       (inner : AllBegin p rules i n t ends starts reached live lasts insides)
@@ -139,8 +140,8 @@ zero-word (suc m) (suc y) = zero-word m y
 pub zero-has : (k x j : ℕ) → has j (getD (replicate k 0) x 0) ≡ true → ⊥
 zero-has k x j h = true-false h (ap (has j) (zero-word k x) ∙ has-empty j)
 
-module _ (p : List ℕ) (fit : Fit) (found : List ℕ) (rules n own : ℕ) (lasts : List ℕ) (small : n ≤ 64) (room : cells ≤ length found) (used : Used p rules)
-    (word : own < 2 ^ 32) (closed : EmptyClosed p rules own lasts) where
+module _ (p : List ℕ) (fit : Fit) (found : List ℕ) (rules n own : ℕ) (lasts : List ℕ) (small : n ≤ 64)
+    (room : cells ≤ length found) (used : Used p rules) (word : own < 2 ^ 32) (closed : EmptyClosed p rules own lasts) where
   last-settled : (r : ℕ) → r < rules → Settled fit (cell (columnBy p fit n found)) p r n n own (getD lasts r 0)
   last-settled = closed .settled fit (cell (columnBy p fit n found)) n
 

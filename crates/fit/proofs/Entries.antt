@@ -73,7 +73,8 @@ module _ (p w : List ℕ) where
             other = λ a s j. other a s j (ℕ-discrete (maxRules * a + s) (maxRules * i + r));
           }
         where
-          here : (a s j : ℕ) → a < 64 → s < maxRules → At i r q a s j → fitIn t a s j ≡ false → fitIn new a s j ≡ fitsPlace w (symbolIn p s j) a
+          here : (a s j : ℕ) → a < 64 → s < maxRules → At i r q a s j → fitIn t a s j ≡ false
+              → fitIn new a s j ≡ fitsPlace w (symbolIn p s j) a
           here a s j l m (x, y, z) _ = rw (x, y, z) (ap (has q) (new-here ∙ g) ∙ has-insert-same q (entryIn t i r) ∙ sym f ∙ e)
 
           other : (a s j : ℕ) → Dec (maxRules * a + s ≡ maxRules * i + r) → a < 64 → s < maxRules → (At i r q a s j → ⊥)
