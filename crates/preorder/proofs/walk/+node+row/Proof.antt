@@ -70,11 +70,14 @@ row-row-requires : (t : ℕ) → row-lts.Need-row-requires (row-calls t) (row-at
 row-row-requires t c κs = let b = byte-room (c .before .before .before .look .ensures) (c .before .enum-told3 .given .1) in omega arith
 
 row-node-requires : (t : ℕ) → row-lts.Need-node-requires (row-calls t) (row-at t) row.Post
-row-node-requires t c κs = let b = node-room (c .before .before .before .before .look .ensures) (c .before .before .step .given .1) in omega arith
+row-node-requires t c κs =
+    let b = node-room (c .before .before .before .before .look .ensures) (c .before .before .step .given .1) in
+    omega arith
 
 row-row-requires-2 : (t : ℕ) → row-lts.Need-row-requires-2 (row-calls t) (row-at t) row.Post
 row-row-requires-2 t c κs =
-    let b = node-room (c .before .before .before .before .before .before .before .look .ensures) (c .before .before .before .before .before .step .given .1) in
+    let a = c .before .before .before .before .before in
+    let b = node-room (a .before .before .look .ensures) (a .step .given .1) in
     let d = walk-room (c .before .before .node .ensures) (c .before .if1 .left) in
     omega arith
 
@@ -84,7 +87,14 @@ pub +node+row-spec : {M : Type 1} → statement M
     (λ c. omega arith) (node-row-requires t)
     (λ c. search node-some))
     λ t. row-lts.spec
-    (row-calls t) (row-at t) row.Post (λ c κs. omega arith) (λ c. omega arith) (λ c. omega arith) (λ c. omega arith) (λ c. omega (arith, byte-room (c .before .before .before .look .ensures) (c .before .enum-told3 .given .1)))
-    (λ c. omega (arith, byte-room (c .before .before .before .look .ensures) (c .before .enum-told3 .given .1))) (row-row-requires t) (λ c. omega arith) (λ c. omega (arith, node-room (c .before .before .before .before .look .ensures) (c .before .before .step .given .1))) (row-node-requires t) (λ c. search row-node-none)
-    (λ c. omega (arith, node-room (c .before .before .before .before .before .before .before .look .ensures) (c .before .before .before .before .before .step .given .1))) (λ c. omega (arith, node-room (c .before .before .before .before .before .before .before .look .ensures) (c .before .before .before .before .before .step .given .1))) (row-row-requires-2 t) (λ c. search row-none) (λ c. search row-end) (λ c. search row-byte)
-    (λ c. search row-node-some)
+    (row-calls t) (row-at t) row.Post (λ c κs. omega arith) (λ c. omega arith) (λ c. omega arith) (λ c. omega arith)
+    (λ c. omega (arith, byte-room (c .before .before .before .look .ensures) (c .before .enum-told3 .given .1)))
+    (λ c. omega (arith, byte-room (c .before .before .before .look .ensures) (c .before .enum-told3 .given .1)))
+    (row-row-requires t) (λ c. omega arith)
+    (λ c. omega (arith, node-room (c .before .before .before .before .look .ensures) (c .before .before .step .given .1)))
+    (row-node-requires t) (λ c. search row-node-none)
+    (λ c. let a = c .before .before .before .before .before in
+    omega (arith, node-room (a .before .before .look .ensures) (a .step .given .1)))
+    (λ c. let a = c .before .before .before .before .before in
+    omega (arith, node-room (a .before .before .look .ensures) (a .step .given .1)))
+    (row-row-requires-2 t) (λ c. search row-none) (λ c. search row-end) (λ c. search row-byte) (λ c. search row-node-some)
