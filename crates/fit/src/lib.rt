@@ -5,7 +5,7 @@ ghost use Prim.Native.Nat.{_<_, _≤_};
 ghost use lib.ListN.{length};
 ghost use Rattle.sets.specs.Set.{insert};
 ghost use Rattle.packed.specs.Packed.{countIn};
-ghost use Rattle.fit.specs.Fit.{fitSize, fitIn, Told, Positions, Put, At, AtPlace, AtRule};
+ghost use Rattle.fit.specs.Fit.{fitSize, Told, Positions, Put, At, AtPlace, AtRule};
 
 // One byte for each position and rule.
 pub const FIT_SIZE: usize = sizes::MAX_INPUT * sizes::MAX_RULES;
@@ -24,16 +24,6 @@ pub fn wide_word(x: u8) -> u32
 {
     x as u32
 }
-
-// Whether place q of rule r fits position i, by the table.
-pub fn fits(t: &[u8], i: usize, r: usize, q: usize) -> bool
-    requires { ⌜ (i < 64) × (r < 128) × (q < 8) × (fitSize ≤ length (now t)) ⌝ }
-    ensures { λ b. ⌜ b ≡ fitIn (now (t .entry)) i r q ⌝ }
-{
-    sets::has(wide_word(t[sizes::MAX_RULES * i + r]), q)
-}
-
-// ---- making it
 
 // How many positions of an input are told: all, 64 at most.
 fn positions(n: usize) -> usize
