@@ -1,7 +1,5 @@
 // Whether an offered row of numbers is a derivation of an input: the walk over the whole of both.
 use packed::Packed;
-use preorder::walk::Above;
-use preorder::walk::Here;
 use preorder::walk::node;
 ghost use mathlib.Core.Path.{_≡_};
 ghost use Rattle.cfg.specs.Listing.{L};
@@ -21,11 +19,5 @@ pub fn is_derivation(p: &Packed, start: usize, w: &[u8], e: &[u16]) -> bool
     }
     let n = m / 2;
     let cover = w.len();
-    let above = Above { cover, set: 0 };
-    let whole = Here {
-        at: 0,
-        from: 0,
-        to: cover,
-    };
-    node(p, w, e, n, above, start, whole) == n
+    node(p, w, e, n, cover, 0, start, 0, 0, cover) == n
 }

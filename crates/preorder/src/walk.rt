@@ -18,19 +18,6 @@ pub enum Step {
     Node(usize, usize),
 }
 
-// The nonterminals of the nodes above that cover the same `cover` bytes.
-pub struct Above {
-    pub cover: usize,
-    pub set: u32,
-}
-
-// Where the walk stands: at node `at` of the offered row, over the bytes `from` to `to`.
-pub struct Here {
-    pub at: usize,
-    pub from: usize,
-    pub to: usize,
-}
-
 // Of the set `above` over `cover` bytes, what matters for a node over c bytes: all of it, or nothing.
 fn same_span(cover: usize, above: u32, c: usize) -> u32
     ensures { λ set. ⌜ SameSpan cover above c set ⌝ }
@@ -63,13 +50,20 @@ fn rule_at(p: &Packed, e: &[u16], n: usize, set: u32, k: usize, c: usize, at: us
 }
 
 // What comes next at place q of rule r, over the bytes `from` to `to`.
-fn look(p: &Packed, w: &[u8], e: &[u16], n: usize, r: usize, q: usize, here: Here) -> Step
-    requires { ⌜ (r < 128) × (2 * n ≤ length (now e)) × (n ≤ 512) × (here .from ≤ here .to) × (here .to ≤ length (now w)) ⌝ }
-    ensures { λ s. ⌜ Looked (now (p .entry)) (now (w .entry)) (now (e .entry)) n r q (here .at) (here .from) (here .to) s ⌝ }
+fn look(
+    p: &Packed,
+    w: &[u8],
+    e: &[u16],
+    n: usize,
+    r: usize,
+    q: usize,
+    at: usize,
+    from: usize,
+    to: usize,
+) -> Step
+    requires { ⌜ (r < 128) × (2 * n ≤ length (now e)) × (n ≤ 512) × (from ≤ to) × (to ≤ length (now w)) ⌝ }
+    ensures { λ s. ⌜ Looked (now (p .entry)) (now (w .entry)) (now (e .entry)) n r q at from to s ⌝ }
 {
-    let at = here.at;
-    let from = here.from;
-    let to = here.to;
     if packed::count(p, r) <= q {
         if from == to {
             return Step::End;
@@ -94,27 +88,29 @@ fn look(p: &Packed, w: &[u8], e: &[u16], n: usize, r: usize, q: usize, here: Her
 }
 
 // The node after a node of the nonterminal k over the bytes `from` to `to` that stands at node `at`; TOO_MANY if there is none there.
-pub fn node(p: &Packed, w: &[u8], e: &[u16], n: usize, above: Above, k: usize, here: Here) -> usize
-    requires { ⌜ Room (now w) (now e) n (above .cover) (here .at) (here .from) (here .to) ⌝ }
-    ensures { λ next. ⌜ Answers (Walked (cfgIn 0 (now (p .entry))) (now (w .entry)) (now (e .entry)) n (above .cover) (above .set)
-        (nonterminal k ∷ []) (here .at) (here .from) (here .to)) tooMany next ⌝ }
+pub fn node(
+    p: &Packed,
+    w: &[u8],
+    e: &[u16],
+    n: usize,
+    cover: usize,
+    above: u32,
+    k: usize,
+    at: usize,
+    from: usize,
+    to: usize,
+) -> usize
+    requires { ⌜ Room (now w) (now e) n cover at from to ⌝ }
+    ensures { λ next. ⌜ Answers (Walked (cfgIn 0 (now (p .entry))) (now (w .entry)) (now (e .entry)) n cover above
+        (nonterminal k ∷ []) at from to) tooMany next ⌝ }
 {
-    let c = here.to - here.from;
-    let set = same_span(above.cover, above.set, c);
-    let r = rule_at(p, e, n, set, k, c, here.at);
+    let c = to - from;
+    let set = same_span(cover, above, c);
+    let r = rule_at(p, e, n, set, k, c, at);
     if r > 127 {
         return sizes::TOO_MANY;
     }
-    let below = Above {
-        cover: c,
-        set: sets::with(set, k),
-    };
-    let next = Here {
-        at: here.at + 1,
-        from: here.from,
-        to: here.to,
-    };
-    row(p, w, e, n, below, r, 0, next)
+    row(p, w, e, n, c, sets::with(set, k), r, 0, at + 1, from, to)
 }
 
 // The node after a row for the places of rule r from place q on; TOO_MANY if there is none.
@@ -123,43 +119,29 @@ pub fn row(
     w: &[u8],
     e: &[u16],
     n: usize,
-    above: Above,
+    cover: usize,
+    above: u32,
     r: usize,
     q: usize,
-    here: Here,
+    at: usize,
+    from: usize,
+    to: usize,
 ) -> usize
-    requires { ⌜ (r < 128) × Room (now w) (now e) n (above .cover) (here .at) (here .from) (here .to) ⌝ }
-    ensures { λ next. ⌜ Answers (Walked (cfgIn 0 (now (p .entry))) (now (w .entry)) (now (e .entry)) n (above .cover) (above .set)
-        (placesFrom (now (p .entry)) r q (countIn (now (p .entry)) r - q)) (here .at) (here .from) (here .to)) tooMany next ⌝ }
+    requires { ⌜ (r < 128) × Room (now w) (now e) n cover at from to ⌝ }
+    ensures { λ next. ⌜ Answers (Walked (cfgIn 0 (now (p .entry))) (now (w .entry)) (now (e .entry)) n cover above
+        (placesFrom (now (p .entry)) r q (countIn (now (p .entry)) r - q)) at from to) tooMany next ⌝ }
 {
-    let step = look(p, w, e, n, r, q, here);
+    let step = look(p, w, e, n, r, q, at, from, to);
     match step {
         Step::No => sizes::TOO_MANY,
-        Step::End => here.at,
-        Step::Byte => {
-            let rest = Here {
-                at: here.at,
-                from: here.from + 1,
-                to: here.to,
-            };
-            row(p, w, e, n, above, r, q + 1, rest)
-        }
+        Step::End => at,
+        Step::Byte => row(p, w, e, n, cover, above, r, q + 1, at, from + 1, to),
         Step::Node(k, c) => {
-            let child = Here {
-                at: here.at,
-                from: here.from,
-                to: here.from + c,
-            };
-            let next = node(p, w, e, n, above, k, child);
+            let next = node(p, w, e, n, cover, above, k, at, from, from + c);
             if next > sizes::MAX_NODES {
                 return sizes::TOO_MANY;
             }
-            let rest = Here {
-                at: next,
-                from: here.from + c,
-                to: here.to,
-            };
-            row(p, w, e, n, above, r, q + 1, rest)
+            row(p, w, e, n, cover, above, r, q + 1, next, from + c, to)
         }
     }
 }

@@ -21,10 +21,10 @@ use Rattle.preorder.proofs.walk.same_span.Reads as same-span-reads
 use Rattle.preorder.proofs.walk.rule_at.Reads as rule-at-reads
 
 abbrev μ-node : Measures 3 node-kinds.ps ℕ
-μ-node κs a = (a .1 .1 .1 .0 - a .1 .1 .1 .1 .1 .1 .0 .at) * 10
+μ-node κs a = (a .1 .1 .1 .0 - a .1 .1 .1 .1 .1 .1 .1 .0) * 10
 
 abbrev μ-row : Measures 3 row-kinds.ps ℕ
-μ-row κs a = (a .1 .1 .1 .0 - a .1 .1 .1 .1 .1 .1 .1 .0 .at) * 10 + (8 - a .1 .1 .1 .1 .1 .1 .0) + 1
+μ-row κs a = (a .1 .1 .1 .0 - a .1 .1 .1 .1 .1 .1 .1 .1 .0) * 10 + (8 - a .1 .1 .1 .1 .1 .1 .1 .0) + 1
 
 -- what `node` is given at the measure t, and what a call of it asks below t
 abbrev node-at : ℕ → In 3 node-kinds.ps
@@ -61,24 +61,40 @@ node-with-requires t c κs = c .before .rule-at .ensures .found (omega arith) .u
 
 node-row-requires : (t : ℕ) → node-lts.Need-row-requires (node-calls t) (node-at t) node.Post
 node-row-requires t c κs =
-    let o = c .before .before .before .rule-at .ensures .found (omega arith) in
+    let o = c .before .before .rule-at .ensures .found (omega arith) in
     let i = o .inside in
     let l = o .low in
     omega arith
 
+row-add-row : (t : ℕ) → row-lts.Need-add-row (row-calls t) (row-at t) row.Post
+row-add-row t c = let b = byte-room (c .before .before .look .ensures) (c .enum-told3 .given .1) in omega arith
+
+row-add-row-2 : (t : ℕ) → row-lts.Need-add-row-2 (row-calls t) (row-at t) row.Post
+row-add-row-2 t c = let b = byte-room (c .before .before .look .ensures) (c .enum-told3 .given .1) in omega arith
+
 row-row-requires : (t : ℕ) → row-lts.Need-row-requires (row-calls t) (row-at t) row.Post
-row-row-requires t c κs = let b = byte-room (c .before .before .before .look .ensures) (c .before .enum-told3 .given .1) in omega arith
+row-row-requires t c κs = let b = byte-room (c .before .before .look .ensures) (c .enum-told3 .given .1) in omega arith
+
+row-add-node : (t : ℕ) → row-lts.Need-add-node (row-calls t) (row-at t) row.Post
+row-add-node t c = let b = node-room (c .before .before .before .look .ensures) (c .before .step .given .1) in omega arith
 
 row-node-requires : (t : ℕ) → row-lts.Need-node-requires (row-calls t) (row-at t) row.Post
-row-node-requires t c κs =
-    let b = node-room (c .before .before .before .before .look .ensures) (c .before .before .step .given .1) in
+row-node-requires t c κs = let b = node-room (c .before .before .before .look .ensures) (c .before .step .given .1) in omega arith
+
+row-add-row-3 : (t : ℕ) → row-lts.Need-add-row-3 (row-calls t) (row-at t) row.Post
+row-add-row-3 t c =
+    let b = node-room (c .before .before .before .before .before .look .ensures) (c .before .before .before .step .given .1) in
+    omega arith
+
+row-add-row-4 : (t : ℕ) → row-lts.Need-add-row-4 (row-calls t) (row-at t) row.Post
+row-add-row-4 t c =
+    let b = node-room (c .before .before .before .before .before .look .ensures) (c .before .before .before .step .given .1) in
     omega arith
 
 row-row-requires-2 : (t : ℕ) → row-lts.Need-row-requires-2 (row-calls t) (row-at t) row.Post
 row-row-requires-2 t c κs =
-    let a = c .before .before .before .before .before in
-    let b = node-room (a .before .before .look .ensures) (a .step .given .1) in
-    let d = walk-room (c .before .before .node .ensures) (c .before .if1 .left) in
+    let b = node-room (c .before .before .before .before .before .look .ensures) (c .before .before .before .step .given .1) in
+    let d = walk-room (c .before .node .ensures) (c .if1 .left) in
     omega arith
 
 pub +node+row-spec : {M : Type 1} → statement M
@@ -87,14 +103,7 @@ pub +node+row-spec : {M : Type 1} → statement M
     (λ c. omega arith) (node-row-requires t)
     (λ c. search node-some))
     λ t. row-lts.spec
-    (row-calls t) (row-at t) row.Post (λ c κs. omega arith) (λ c. omega arith) (λ c. omega arith) (λ c. omega arith)
-    (λ c. omega (arith, byte-room (c .before .before .before .look .ensures) (c .before .enum-told3 .given .1)))
-    (λ c. omega (arith, byte-room (c .before .before .before .look .ensures) (c .before .enum-told3 .given .1)))
-    (row-row-requires t) (λ c. omega arith)
-    (λ c. omega (arith, node-room (c .before .before .before .before .look .ensures) (c .before .before .step .given .1)))
-    (row-node-requires t) (λ c. search row-node-none)
-    (λ c. let a = c .before .before .before .before .before in
-    omega (arith, node-room (a .before .before .look .ensures) (a .step .given .1)))
-    (λ c. let a = c .before .before .before .before .before in
-    omega (arith, node-room (a .before .before .look .ensures) (a .step .given .1)))
-    (row-row-requires-2 t) (λ c. search row-none) (λ c. search row-end) (λ c. search row-byte) (λ c. search row-node-some)
+    (row-calls t) (row-at t) row.Post (λ c κs. omega arith) (λ c. omega arith) (λ c. omega arith) (λ c. omega arith) (row-add-row t)
+    (row-add-row-2 t) (row-row-requires t) (λ c. omega arith) (row-add-node t) (row-node-requires t) (λ c. search row-node-none)
+    (row-add-row-3 t) (row-add-row-4 t) (row-row-requires-2 t) (λ c. search row-none) (λ c. search row-end) (λ c. search row-byte)
+    (λ c. search row-node-some)
