@@ -11,7 +11,8 @@
  *     0          no; none
  *     1          yes; loaded; measured; handed out; counted
  *     2          more (from filbozseg_count alone)
- *     256 + n    refusal n of document 01, 1 <= n <= 15: FILBOZSEG_REFUSED gives n, and enum filbozseg_refusal has its name
+ *     256 + n    refusal n, 1 <= n <= 15: FILBOZSEG_REFUSED gives n, enum filbozseg_refusal has its name, and docs/REFERENCE.md says when
+ *                it is given and what it leaves
  * and no other. None allocates, keeps anything between calls, or needs anything of a C library but memcpy and memset. Calls from several
  * threads at once are fine as long as what is lent for writing is lent to one of them alone.
  *
@@ -68,7 +69,7 @@ extern "C" {
 #define FILBOZSEG_NEXT_STACK (1900 * 1024)
 #define FILBOZSEG_COUNT_STACK (1900 * 1024)
 
-/* The refusals, with their numbers in document 01. More may come: a switch over them has a default. */
+/* The refusals, with their numbers. More may come: a switch over them has a default. */
 enum filbozseg_refusal {
     FILBOZSEG_REFUSAL_UNEXPECTED_END = 1,         /* the book ends inside a command, or where a command is due */
     FILBOZSEG_REFUSAL_UNKNOWN_COMMAND = 2,        /* a byte of the book is no command */

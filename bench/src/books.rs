@@ -132,7 +132,8 @@ pub fn unit_cycles(more: &[&[P]]) -> Vec<u8> {
     book.rule(0, &[A]).bytes()
 }
 
-/// The complete unit graph of DESIGN.md section 8: 11 kinds, 111 rules, 0 → A last.
+/// The complete unit graph: 11 kinds, a rule from each to each other one, and 0 → A last, 111 rules. A search that tries rules without
+/// exact costs takes seconds on it.
 pub fn unit_graph() -> Vec<u8> {
     let mut book = Book::new(0);
     for i in 0..11 {

@@ -3,8 +3,9 @@
 use crate::books;
 use crate::calls::{chart, Flat, Plain, Proved, Reader};
 use crate::plain::enumerator::OUTPUT;
-use crate::plain::tables::{NONE, SIDE, TABLES};
-use crate::plain::{PLACES, RULES};
+use crate::plain::packed::Packed;
+use crate::plain::tables::{fit_table, Given, Tables, NONE, SIDE, TABLES};
+use crate::plain::{flat, recognizer, PLACES, RULES};
 use crate::random::Random;
 use crate::timing::{differences, pair, processor_time, shown};
 use crate::{check_both, heading, line, loaded, sink};
@@ -70,9 +71,42 @@ pub fn firsts(sweep: usize) {
     time_first("bush of empty parts", &books::bush().0, &a[..1]);
     let (cleared, _) = pair(clear, || ());
     println!("  clearing the tables and the suffixes, in plain Rust: {}", shown(cleared.least));
+    tables();
     if sweep > 0 {
         sweep_first(sweep);
     }
+}
+
+/// The tables alone, in plain Rust: every rule looked at from every start ("before"), and rules passed over.
+fn tables() {
+    println!("\nTABLES alone, in plain Rust; wall clock, the least");
+    println!("  {:50} {:>10} {:>10} {:>6}", "case", "before", "now", "times");
+    let a = [b'A'; 64];
+    time_tables("0 -> 0 0 | A", &books::pairs(), &a);
+    time_tables("expressions, 40 rules", &books::expressions(), &books::expression());
+    time_tables("dense full book", &books::dense(), &a);
+    time_tables("unit cycles, 0 -> 0 0", &books::unit_cycles(&[&[books::P::N(0), books::P::N(0)]]), &a);
+    time_tables("hidden left recursion", &books::hidden(), &a);
+    time_tables("a wide rule for each kind", &books::wide(true), &a);
+    time_tables("the same, only larger trees", &books::wide(false), &a);
+    time_tables("deepest, four marks a turn", &books::deepest_of_64(), &a);
+}
+
+fn time_tables(name: &str, book: &[u8], input: &[u8]) {
+    let p = Packed::new(&flat::read(&loaded(book)));
+    let (mut sheet, fit) = (chart(), fit_table(&p, input));
+    recognizer::fill(&p, input, &mut sheet);
+    let given = Given { rules: p.used(), fit: &fit, chart: &sheet };
+    let (mut x, mut y) = (blank(), blank());
+    let (before, now) =
+        pair(|| black_box(given).make_before(input.len(), &mut x), || black_box(given).make(input.len(), &mut y));
+    assert!(x == y, "the tables differ");
+    let times = before.least / now.least;
+    println!("  {name:50} {:>10} {:>10} {times:>6.2}", shown(before.least), shown(now.least));
+}
+
+fn blank() -> Box<Tables> {
+    vec![NONE; TABLES].into_boxed_slice().try_into().unwrap()
 }
 
 /// What a call clears.

@@ -40,7 +40,7 @@ pub struct Grammar {
     pub rules: [Rule; RULES],
 }
 
-/// The refusals, with the numbers of document 01.
+/// The refusals, with the numbers of document 01 (docs/REFERENCE.md).
 #[derive(Clone, Copy, Debug, PartialEq)]
 pub enum Refusal {
     UnexpectedEnd = 1,

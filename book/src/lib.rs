@@ -1,4 +1,5 @@
-//! Books as text: a book of document 01 as a text that people write and read, and back.
+//! Books as text: a book of document 01 as a text that people write and read, and back. Document 01 is the customer's scope;
+//! `docs/REFERENCE.md` says in our own words what it fixes.
 //!
 //! ```
 //! let text = "

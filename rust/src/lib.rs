@@ -27,7 +27,8 @@
 //!
 //! # Words
 //!
-//! The words are those of the field; document 01 has those of a trade. A grammar is a loaded book, a nonterminal a kind, a terminal a mark,
+//! The words are those of the field; document 01, the customer's scope, has those of a trade, and `docs/REFERENCE.md` says in our own
+//! words what it fixes. A grammar is a loaded book, a nonterminal a kind, a terminal a mark,
 //! an input a plate, a recognizer a plate in hand, a chart a sheet, a derivation a reading, and a node a part.
 //!
 //! # Stack and threads

@@ -1,5 +1,6 @@
 //! Outside evidence: the code under test beside a simple lister that was
-//! written from document 01 alone and shares nothing with it.
+//! written from document 01 alone and shares nothing with it. Document 01 is the
+//! customer's scope; docs/REFERENCE.md says in our own words what it fixes.
 //!
 //! `cargo test --release --offline` runs everything; with `-- --nocapture` it also
 //! prints what came up in the random books and which book caught which fault.

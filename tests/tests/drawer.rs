@@ -93,7 +93,7 @@ fn small_plates() {
     plate(&book(0, &["0: 0 0", "0: A", "0:"]), "A", &["1.1"]);
     plate(&book(1, &["1: 0 A", "0: 0", "0:"]), "A", &["1.0 0.2"]);
     plate(&[0x10, 0x00, 0x50], "A", &[]);
-    // U7's pair: the same bag of rules, in another order.
+    // The pair of request U7 (document 02): the same bag of rules, in another order.
     let pair = book(0, &["0: 1 1", "1: A", "1: 2", "2: A"]);
     let (one, other) = (row("2.0 1.1 1.2 1.3"), row("2.0 1.2 1.3 1.1"));
     assert_eq!(same_build(&loaded(&pair), b"AA", &one, &other), Answer::Yes);

@@ -1,6 +1,10 @@
 //! The tables of the enumerator: least numbers of nodes, at most 513, which stands for none. They are made once for a
 //! call, from the packed grammar, the fit table and the chart filled for the same input.
 
+mod before;
+#[cfg(test)]
+mod tests;
+
 use super::packed::{contains, Packed, Place, Rule};
 use super::{CHART, INPUT, PLACES, RULES};
 
@@ -128,33 +132,59 @@ impl Given<'_> {
         full
     }
 
-    /// Makes the tables of an input of n marks, all NONE before: for each end the starts from the last to the first.
+    /// Makes the tables of an input of n marks, all NONE before: for each end the starts from the last to the first. A rule
+    /// is passed over where no piece ends at one of its live starts, those from which places behind its first have a cost.
     pub fn make(&self, n: usize, t: &mut Tables) {
         let mut rows: [Rows; RULES] = [[[NONE; SIDE]; PLACES + 1]; RULES];
         let rows = &mut rows[..self.rules.len()];
         let kinds: Vec<u32> = self.rules.iter().map(kinds_below).collect();
+        let reach = self.reach(n);
         for j in 0..=n {
-            let empty = self.solve(t, j, j, 0);
-            put_least(t, &empty, j, j);
-            if j == 0 {
-                self.put_alone(t, &empty);
-            }
-            for (r, rows) in rows.iter_mut().enumerate() {
-                self.put_column(r, t, &empty, j, j, j, rows);
-            }
+            let mut live = [0u64; RULES];
+            self.put_empty(j, t, rows);
             for i in (0..j).rev() {
-                for (r, rows) in rows.iter_mut().enumerate() {
-                    self.put_column(r, t, &[NONE; KINDS], i, i, j, rows);
+                for ((r, rows), live) in rows.iter_mut().enumerate().zip(&mut live) {
+                    if i + 1 < j && *live >> (i + 1) & 1 == 0 && *live & reach[i] == 0 {
+                        let count = self.rules[r].places().len();
+                        rows[..=count].iter_mut().for_each(|row| row[i] = NONE);
+                    } else {
+                        *live |= self.put_start(r, t, &[NONE; KINDS], i, j, rows);
+                    }
                     t[bare(r, i, j)] = (rows[0][i] + 1).min(NONE);
                 }
                 let full = self.solve(t, i, j, 0);
                 put_least(t, &full, i, j);
-                for (r, rows) in rows.iter_mut().enumerate() {
+                for ((r, rows), live) in rows.iter_mut().enumerate().zip(&mut live) {
                     if kinds[r] & self.cell(i, j) != 0 {
-                        self.put_column(r, t, &full, i, i, j, rows);
+                        *live |= self.put_start(r, t, &full, i, j, rows);
                     }
                 }
             }
+        }
+    }
+
+    /// The column of start i, and the set of i if it is a live start.
+    fn put_start(&self, r: usize, t: &Tables, full: &Full, i: usize, j: usize, rows: &mut Rows) -> u64 {
+        self.put_column(r, t, full, i, i, j, rows);
+        let count = self.rules[r].places().len();
+        u64::from(rows[1..].iter().take(count).any(|row| row[i] < NONE)) << i
+    }
+
+    /// For each start the ends before n of cells that are not empty.
+    fn reach(&self, n: usize) -> [u64; INPUT] {
+        let ends = |i: usize| (i + 1..n).filter(|&c| self.cell(i, c) != 0).fold(0, |set, c| set | 1 << c);
+        std::array::from_fn(ends)
+    }
+
+    /// The empty span at j, and the columns of start j.
+    fn put_empty(&self, j: usize, t: &mut Tables, rows: &mut [Rows]) {
+        let empty = self.solve(t, j, j, 0);
+        put_least(t, &empty, j, j);
+        if j == 0 {
+            self.put_alone(t, &empty);
+        }
+        for (r, rows) in rows.iter_mut().enumerate() {
+            self.put_column(r, t, &empty, j, j, j, rows);
         }
     }
 

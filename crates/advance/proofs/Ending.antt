@@ -18,8 +18,8 @@ use Rattle.standing.specs.Standing.{StandsAt}
 use Rattle.tables.specs.Exact.{Packing}
 use Rattle.suffixes.specs.Within.{tailIn}
 use Rattle.beyond.proofs.Codes.{tree-nonempty}
-use Rattle.advance.specs.Looked.{LeavesIn}
-use Rattle.advance.specs.Reached.{Ends, ends-none, ends-leaf, ends-node, ends-last}
+use Rattle.placed.specs.Looked.{LeavesIn}
+use Rattle.placed.specs.Reached.{Ends, ends-none, ends-leaf, ends-node, ends-last}
 
 module _ {p w : List ℕ} {cover set r j q a budget : ℕ} {f : Forest} (E : Ends p w cover set r j q a budget f) (c : q < countIn p r) where
   pub ends-byte : isNonterminalIn p r q ≡ false

@@ -15,13 +15,13 @@ use Rattle.tables.specs.Exact.{Packing}
 use Rattle.suffixes.specs.Within.{tailIn}
 use Rattle.descend.specs.Descend.{Given}
 use Rattle.descend.proofs.Codes.{kept-none}
-use Rattle.advance.specs.declared.reach.Found.{Found}
-use Rattle.advance.specs.declared.reach.Found.the-variants.{Nowhere, There}
-use Rattle.advance.specs.Reached.{Ends, LastNode, Reached, nowhere, there}
+use Rattle.placed.specs.declared.reach.Found.{Found}
+use Rattle.placed.specs.declared.reach.Found.the-variants.{Nowhere, There}
+use Rattle.placed.specs.Reached.{Ends, LastNode, Reached, nowhere, there}
 use Rattle.beyond.specs.Beyond.{NextAt}
 use Rattle.beyond.proofs.Codes.{kept-then, next-same}
 use Rattle.advance.specs.Advance.{NodeNext, LastNext}
-use Rattle.advance.proofs.Reaching.{reach-room}
+use Rattle.placed.proofs.Reaching.{reach-room}
 
 -- a node of k alone, up to b: what comes after it with what matters of the set comes after it with the set
 last-next : {p : List ℕ} {rules : ℕ} {fits chart tables : List ℕ} {i j mask k a b own budget at : ℕ} {n : ℕ}

@@ -1,9 +1,6 @@
 -- Laws of the advance, by the tests that the code makes.
-pub mod Leaves
-pub mod Reading
 pub mod Ending
 pub mod RowSteps
-pub mod Reaching
 pub mod LastSteps
 pub mod ChildSteps
 pub mod NodeSteps

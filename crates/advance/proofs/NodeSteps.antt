@@ -23,8 +23,8 @@ use Rattle.tables.specs.Exact.{Packing}
 use Rattle.suffixes.specs.Within.{tailIn}
 use Rattle.descend.specs.Descend.{Given, Kept}
 use Rattle.descend.proofs.Codes.{kept-none}
-use Rattle.advance.specs.Looked.{RuleRead}
-use Rattle.advance.specs.Reached.{Ends}
+use Rattle.placed.specs.Looked.{RuleRead}
+use Rattle.placed.specs.Reached.{Ends}
 use Rattle.advance.specs.Advance.{NodeNext, LastNext, Turned, RowNext}
 use Rattle.beyond.specs.Beyond.{AfterAt, NextAt, LaterRule}
 use Rattle.beyond.proofs.LaterRules.{places-of, of-used}

@@ -2,17 +2,15 @@
 -- Assumes nothing.
 use Prim.Native.Nat.{ℕ, _+_, _*_, _-_, _≤_, _<_}
 use mathlib.Core.List.{List, _++_}
-use mathlib.Core.Path.{_≡_, refl, sym, subst}
+use mathlib.Core.Path.{_≡_, sym, subst}
 use native.Mathlib.Omega.{arith}
 use lib.ListN.{length, length-append}
 use Rattle.sizes.specs.Sizes.{maxNodes}
-use Rattle.cfg.specs.Grammar.{Symbol}
 use Rattle.cfg.specs.Tree.{Forest, nodes, code}
 use Rattle.listing.proofs.Unique.{length-code}
 use Rattle.enumeration.specs.Rows.{Row}
 use Rattle.enumeration.specs.Order.{Last}
 use Rattle.choices.specs.Opened.{OpenedRow}
-use Rattle.choices.proofs.Stands.{leaf-opened}
 use Rattle.choices.proofs.NextRow.{end-ends, leaf-moves, leaf-ends, rest-stands, rest-moves}
 use Rattle.packed.proofs.Laws.{places-end}
 use Rattle.standing.specs.Standing.{StandsAt}
@@ -22,49 +20,16 @@ use Rattle.suffixes.specs.Within.{tailIn}
 use Rattle.descend.specs.Descend.{Given}
 use Rattle.descend.proofs.Codes.{kept-none}
 use Rattle.descend.proofs.RowSteps.{tail-terminal, tail-nonterminal}
-use Rattle.advance.specs.declared.look.Step.{Step}
-use Rattle.advance.specs.declared.look.Step.the-variants.{No, End, Byte, Final, Node}
-use Rattle.advance.specs.Looked.{Looked, at-end, at-byte, no-byte, at-last, at-node, no-room, no-end, no-node}
-use Rattle.advance.specs.Reached.{Ends}
-use Rattle.beyond.specs.Beyond.{Frame, AfterAt, NextAt}
+use Rattle.placed.specs.declared.look.Step.{Step}
+use Rattle.placed.specs.declared.look.Step.the-variants.{No, End, Byte, Final, Node}
+use Rattle.placed.specs.Looked.{Looked, at-end, at-byte, at-last, at-node}
+use Rattle.placed.specs.Reached.{Ends}
+use Rattle.beyond.specs.Beyond.{Frame, NextAt}
 use Rattle.advance.specs.Advance.{RowNext, ChildNext}
-use Rattle.beyond.proofs.Codes.{tree-nonempty, stands-join, stands-same, kept-same, kept-behind, kept-then, next-none, next-some, next-same}
+use Rattle.beyond.proofs.Codes.{stands-join, stands-same, kept-same, kept-behind, kept-then, next-none, next-some, next-same}
+use Rattle.placed.proofs.Places.{row-as, next-as, none-stands}
 use Rattle.advance.proofs.Ending.{ends-byte, ends-others, ends-row, ends-here}
-use Rattle.advance.proofs.Reading.{opened-here, both-stand, child-here, size-here, Passed}
-
--- the rows of the places from q on, as those of another list
-module _ (p : List ℕ) (r q : ℕ) {w : List ℕ} {cover set a j budget : ℕ} {places : List Symbol} (d : tailIn p r q ≡ places) where
-  pub row-as : {f : Forest} → Row (Packing p) w cover set (tailIn p r q) a j budget f → Row (Packing p) w cover set places a j budget f
-  row-as {f} R = subst (λ (s : List Symbol). Row (Packing p) w cover set s a j budget f) d R
-
-  next-as : {c buf : List ℕ} {at n : ℕ} → NextAt (Row (Packing p) w cover set places a j budget) c buf at n
-      → NextAt (Row (Packing p) w cover set (tailIn p r q) a j budget) c buf at n
-  next-as {c} {buf} {at} {n} N =
-      subst (λ (s : List Symbol). NextAt (Row (Packing p) w cover set s a j budget) c buf at n) (sym d) N
-
-  pub after-as : {c buf : List ℕ} {at n : ℕ} → AfterAt (Row (Packing p) w cover set places a j budget) c buf at n
-      → AfterAt (Row (Packing p) w cover set (tailIn p r q) a j budget) c buf at n
-  after-as {c} {buf} {at} {n} N =
-      subst (λ (s : List Symbol). AfterAt (Row (Packing p) w cover set s a j budget) c buf at n) (sym d) N
-
--- where nothing stands that is right, no row stands
-module _ {p : List ℕ} {r q a j budget at : ℕ} {buf : List ℕ} (l : a ≤ j) (room : at + budget ≤ maxNodes) where
-  pub none-stands : {w : List ℕ} {cover set : ℕ} {f : Forest} → Looked p r q buf at a j budget No → j ≤ length w
-      → Row (Packing p) w cover set (tailIn p r q) a j budget f → StandsAt buf at (code f) → ⊥
-  none-stands (no-byte c n m) known R S =
-      let (g, o) = leaf-opened known l (a + 1) (row-as p r q (tail-terminal p r q c n) R) (omega arith) in
-      let x = o .more in
-      omega arith
-  none-stands (no-room c n e) known R S =
-      let (x, y, o) = opened-here buf at S known l (row-as p r q (tail-nonterminal p r q c n refl) R) refl in
-      omega (arith, tree-nonempty (o .child .fit), o .child .small)
-  none-stands (no-end c n e d) known R S =
-      let (x, y, o) = opened-here buf at S known l (row-as p r q (tail-nonterminal p r q c n refl) R) e in
-      omega (arith, o .inside)
-  none-stands (no-node c n Z d) known R S =
-      let (x, y, o) = opened-here buf at S known l (row-as p r q (tail-nonterminal p r q c n refl) R) refl in
-      let s = size-here Z S o room in
-      omega (arith, o .child .small)
+use Rattle.placed.proofs.Reading.{both-stand, child-here, size-here, Passed}
 
 module _ {p : List ℕ} {rules : ℕ} {fits chart tables : List ℕ} {r i j mask q a budget at : ℕ} {buf₀ : List ℕ} (l : a ≤ j)
     (room : at + budget ≤ maxNodes) where

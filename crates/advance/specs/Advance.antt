@@ -17,7 +17,7 @@ use Rattle.tables.specs.Exact.{Packing}
 use Rattle.suffixes.specs.Within.{tailIn}
 use Rattle.descend.specs.Descend.{Given, Kept}
 use Rattle.beyond.specs.Beyond.{Frame}
-use Rattle.advance.specs.Reached.{Ends}
+use Rattle.placed.specs.Reached.{Ends}
 pub use Rattle.beyond.specs.Beyond.{AfterAt, NextAt}
 
 -- the tree of k over the span from i to j after the one that stands at node `at`

@@ -1,10 +1,10 @@
 // The row after the one that stands, where its last node moves: nothing behind that node moves, and no costs are asked for.
 use super::next::node;
-use super::reach::Found;
-use super::reach::reach;
 use fit::FitTable;
 use nodes::child_set;
 use packed::Packed;
+use placed::reach::Found;
+use placed::reach::reach;
 use tables::layout::Tables;
 ghost use Prim.Native.Nat.{_+_, _<_, _≤_};
 ghost use lib.ListN.{length};

@@ -1,8 +1,6 @@
 // The derivation after the one that stands in a buffer (document 01: next reading), with the tables made.
 mod child;
 mod last;
-mod look;
 pub mod next;
-mod reach;
 mod row;
 mod turned;

@@ -1,11 +1,11 @@
 // The tree after the one that stands, in place: the last node of the row below it moves first, which needs no frame, then what is before
 // that node, then its rule. Nothing is written until the successor is certain.
 use super::last::last;
-use super::look::rule_at;
 use super::turned::turned;
 use fit::FitTable;
 use nodes::own_set;
 use packed::Packed;
+use placed::look::rule_at;
 use tables::layout::Tables;
 ghost use Prim.Native.Nat.{_+_, _<_, _≤_};
 ghost use lib.ListN.{length};
@@ -34,7 +34,7 @@ pub fn node(
         (now (buf .entry)) (now (buf .exit)) n ⌝ }
 {
     let r = rule_at(buf, at, budget);
-    if r >= sizes::MAX_RULES {
+    if r >= sizes::NO_RULE {
         return 0;
     }
     let own = own_set(mask, k);

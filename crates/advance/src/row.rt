@@ -1,10 +1,10 @@
 // The row after the one that stands, in place, where its last node is last: its later places move first, then its first node, then that
 // node's end.
 use super::child::child;
-use super::look::Step;
-use super::look::look;
 use fit::FitTable;
 use packed::Packed;
+use placed::look::Step;
+use placed::look::look;
 use suffixes::rows::Rows;
 use tables::layout::Full;
 use tables::layout::Tables;

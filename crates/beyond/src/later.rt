@@ -69,7 +69,7 @@ pub fn later_rule(
         full,
         rows,
     );
-    if s >= sizes::MAX_RULES {
+    if s >= sizes::NO_RULE {
         return 0;
     }
     put_node(j - i, s, buf, at);

@@ -91,46 +91,47 @@ module _ (fit : Fit) (sets : Sets) (p : List ℕ) (r i n empty own inner last : 
 
 -- ---- from the last place down
 
-module _ (p : List ℕ) (r i n empty own inner last : ℕ) where
+module _ (p : List ℕ) (r : ℕ) (ended : Bool) (empty own inner last : ℕ) where
   -- v is right from q on, and has nothing below
   pub record MaskFrom (q v : ℕ) : Type 0 where
-    pub done : (fit : Fit) (sets : Sets) → Words fit sets p r i n empty own inner last
+    pub done : (fit : Fit) (sets : Sets) (i n : ℕ) → i ≤ n → ended ≡ eqb i n → Words fit sets p r i n empty own inner last
         → (j : ℕ) → q ≤ j → j ≤ countIn p r → has j v ≡ cuts fit sets (tail p r j) i n
     pub rest : (j : ℕ) → j < q → has j v ≡ false
 
-  pub mask-from-start : (q v : ℕ) → q ≡ countIn p r → v ≡ cond (eqb i n) (insert q 0) 0 → MaskFrom q v
+  pub mask-from-start : (q v : ℕ) → q ≡ countIn p r → v ≡ cond ended (insert q 0) 0 → MaskFrom q v
   unfolding cuts
   mask-from-start q v c e = record {
-    done = λ fit sets words j l m.
+    done = λ fit sets i n order end words j l m.
         let d : j ≡ q = omega arith in
-        ap (λ (x : ℕ). has x v) d ∙ ap (has q) e ∙ has-if-same q 0 (eqb i n) (has-empty q)
+        ap (λ (x : ℕ). has x v) d ∙ ap (has q) e ∙ has-if-same q 0 ended (has-empty q) ∙ end
         ∙ sym (ap (λ (l : List Symbol). cuts fit sets l i n) (places-end p r j (omega arith)));
-    rest = λ j l. ap (has j) e ∙ has-if-other q 0 (eqb i n) j (omega arith) ∙ has-empty j;
+    rest = λ j l. ap (has j) e ∙ has-if-other q 0 ended j (omega arith) ∙ has-empty j;
   }
 
-  pub mask-from-step : (q' q v x : ℕ) (b : Bool) → i ≤ n → q' ≡ suc q → q < countIn p r
+  pub mask-from-step : (q' q v x : ℕ) (b : Bool) → q' ≡ suc q → q < countIn p r
       → b ≡ placeCuts (symbolIn p r q) q empty own inner last v
       → x ≡ cond b (insert q v) v → MaskFrom q' v → MaskFrom q x
-  mask-from-step q' q v x b order s h e f mask = record { done = done; rest = rest }
+  mask-from-step q' q v x b s h e f mask = record { done = done; rest = rest }
     where
       other : (j : ℕ) → j ≢ q → has j x ≡ has j v
       other j d = ap (has j) f ∙ has-if-other q v b j d
 
-      done : (fit : Fit) (sets : Sets) → Words fit sets p r i n empty own inner last
+      done : (fit : Fit) (sets : Sets) (i n : ℕ) → i ≤ n → ended ≡ eqb i n → Words fit sets p r i n empty own inner last
           → (j : ℕ) → q ≤ j → j ≤ countIn p r → has j x ≡ cuts fit sets (tail p r j) i n
-      done fit sets words j l m = go (ℕ-discrete j q)
+      done fit sets i n order end words j l m = go (ℕ-discrete j q)
         where
           behind : has (q + 1) v ≡ cuts fit sets (tail p r (suc q)) i n
-          behind = ap (λ (y : ℕ). has y v) (add-one q) ∙ mask .done fit sets words (suc q) (omega arith) h
+          behind = ap (λ (y : ℕ). has y v) (add-one q) ∙ mask .done fit sets i n order end words (suc q) (omega arith) h
 
           go : Dec (j ≡ q) → has j x ≡ cuts fit sets (tail p r j) i n
           go (yes d) = subst (λ (y : ℕ). has y x ≡ cuts fit sets (tail p r y) i n) (sym d)
               (ap (has q) f ∙ has-if-same q v b (mask .rest q (omega arith)) ∙ e
               ∙ place-cuts fit sets p r i n empty own inner last words order q v h behind)
-          go (no d) = let u : j ≢ q = d in other j d ∙ mask .done fit sets words j (omega arith) m
+          go (no d) = let u : j ≢ q = d in other j d ∙ mask .done fit sets i n order end words j (omega arith) m
 
       rest : (j : ℕ) → j < q → has j x ≡ false
       rest j l = other j (omega arith) ∙ mask .rest j (omega arith)
 
-  pub mask-from-done : (q v : ℕ) → q ≤ 0 → MaskFrom q v → RuleMask p r i n empty own inner last v
-  mask-from-done q v h mask = record { exact = λ fit sets words j l. mask .done fit sets words j (omega arith) l }
+  pub mask-from-done : (q v : ℕ) → q ≤ 0 → MaskFrom q v → RuleMask p r ended empty own inner last v
+  mask-from-done q v h mask =
+      record { exact = λ fit sets i n order end words j l. mask .done fit sets i n order end words j (omega arith) l }

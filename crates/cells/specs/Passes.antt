@@ -5,7 +5,7 @@ use Prim.Native.Nat.{ℕ, _+_, _≤_, _<_}
 use mathlib.Core.Bool.{Bool, true, cond, _&&_, _||_}
 use mathlib.Core.List.{List}
 use mathlib.Core.Path.{_≡_}
-use lib.Dec.{ltb}
+use lib.Dec.{eqb, ltb}
 use Rattle.sets.specs.Set.{has, insert}
 use Rattle.cfg.specs.Grammar.{Symbol, nonterminal, terminal}
 use Rattle.chart.specs.Cell.{cuts}
@@ -33,9 +33,10 @@ pub record Words (fit : Fit) (sets : Sets) (p : List ℕ) (r i n empty own inner
   pub after : i < n → Cutting fit sets p r n n last
   pub none : n ≤ i → last ≡ 0
 
--- v is the flags of rule r at the start i
-pub record RuleMask (p : List ℕ) (r i n empty own inner last v : ℕ) : Type 0 where
-  pub exact : (fit : Fit) (sets : Sets) → Words fit sets p r i n empty own inner last → Cutting fit sets p r i n v
+-- v is the flags of rule r at each start that these words are true of; ended says whether its span is the empty one
+pub record RuleMask (p : List ℕ) (r : ℕ) (ended : Bool) (empty own inner last v : ℕ) : Type 0 where
+  pub exact : (fit : Fit) (sets : Sets) (i n : ℕ) → i ≤ n → ended ≡ eqb i n → Words fit sets p r i n empty own inner last
+      → Cutting fit sets p r i n v
 
 -- the set with the left side of rule r in it, if its flags say that all its places cut the span
 unfoldable pub addedIn : List ℕ → ℕ → ℕ → ℕ → ℕ

@@ -3,7 +3,7 @@ use super::begins::both;
 use super::begins::with_if;
 use packed::Packed;
 ghost use mathlib.Core.Path.{_≡_};
-ghost use Prim.Native.Nat.{_<_, _≤_};
+ghost use Prim.Native.Nat.{_<_};
 ghost use Rattle.packed.specs.Packed.{symbolIn};
 ghost use Rattle.cells.specs.Passes.{placeCuts, RuleMask, addedIn};
 
@@ -34,22 +34,21 @@ fn place_cuts(
     false
 }
 
-// The places q of rule r such that the places q.. cut the span from i to n.
+// The places q of rule r such that the places q.. cut a span, which is the empty one or not.
 pub fn rule_mask(
     p: &Packed,
     r: usize,
-    i: usize,
-    n: usize,
+    ended: bool,
     empty: u32,
     own: u32,
     inner: u32,
     last: u32,
 ) -> u32
-    requires { ⌜ (r < 128) × (i ≤ n) ⌝ }
-    ensures { λ v. ⌜ RuleMask (now (p .entry)) r i n empty own inner last v ⌝ }
+    requires { ⌜ r < 128 ⌝ }
+    ensures { λ v. ⌜ RuleMask (now (p .entry)) r ended empty own inner last v ⌝ }
 {
     let mut q = packed::count(p, r);
-    let mut v = with_if(0, q, i == n);
+    let mut v = with_if(0, q, ended);
     while q > 0 {
         q -= 1;
         v = with_if(v, q, place_cuts(p, r, q, empty, own, inner, last, v));

@@ -1,4 +1,4 @@
--- Parse trees (document 000, section 2), over any grammar and any input.
+-- Parse trees of a context-free grammar, over any grammar and any input.
 -- Assumes nothing.
 use Prim.Native.Nat.{ℕ, suc, _+_, max}
 use mathlib.Core.Bool.{true}

@@ -13,7 +13,7 @@ use lib.Seq.{getD-set-same, getD-set-other}
 use borrow.Author.Tests.{eq-eqb, ne-eqb}
 use Rattle.results.specs.Measure.{rulesUsed, occurrences}
 use Rattle.checker.specs.Build.{usedAt, Tallied}
-use Rattle.derivation.proofs.Nodes.{at-two}
+use Rattle.preorder.proofs.Nodes.{at-two}
 
 -- ---- the rule of a node, by the tests of `used`
 

@@ -1,19 +1,19 @@
 // Whether two derivations are the same build: the rules of the nodes that cover something agree as a bag.
-use derivation::offered::number;
-use derivation::offered::rule_number;
+use preorder::offered::number;
+use preorder::offered::rule_number;
 ghost use mathlib.Core.Path.{_≡_};
 ghost use Prim.Native.Nat.{_*_, _+_, _<_, _≤_};
 ghost use lib.ListN.{length};
 ghost use Rattle.results.specs.Measure.{rulesUsed, sameBag};
 ghost use Rattle.checker.specs.Build.{usedAt, Tallied, Low};
 
-// The rule of node i, if the node covers something and the rule is below 128; else 128.
+// The rule of node i, if the node covers something and there is such a number; else that of no rule.
 fn used(e: &[u16], i: usize) -> usize
     requires { ⌜ (2 * i + 1 < length (now e)) × (i < 512) ⌝ }
     ensures { λ r. ⌜ (r ≡ usedAt (now (e .entry)) i) × (r ≤ 128) ⌝ }
 {
     if number(e, 2 * i) == 0 {
-        return sizes::MAX_RULES;
+        return sizes::NO_RULE;
     }
     rule_number(e, i)
 }

@@ -17,8 +17,6 @@ use Rattle.packed.specs.Packed.{leftIn, countIn, isNonterminalIn, valueIn}
 use Rattle.tables.specs.Layout.{costIn, fullIn}
 use Rattle.solve.specs.Solve.{RuleOver}
 use Rattle.choose.specs.Chosen.{RuleBeyond, RuleTested, RulesPassed, RuleChosen, EndsPassed, EndChosen, sumAt}
-use Rattle.choose.specs.Chosen.{Looked, at-end, at-byte, no-byte, at-node, no-node}
-use Rattle.choose.specs.declared.look.Step.the-variants.{No, End, Byte, Node}
 
 -- ---- a rule
 
@@ -99,25 +97,3 @@ module _ {tables full : List ℕ} {k i a from j : ℕ} {rows : List ℕ} {at bud
   pub end-none : {b : ℕ} → from ≤ b → j < b → EndsPassed tables full k i a from j rows at budget b
       → EndChosen tables full k i a from j rows at budget b
   end-none h l P = record { start = h; fits = λ m. absurd (omega arith); early = P }
-
--- ---- what comes next
-
-module _ {p : List ℕ} {r q : ℕ} {tables full rows : List ℕ} {i a j budget m : ℕ} (e : m ≡ countIn p r) where
-  pub look-end : m ≤ q → Looked p r q tables full rows i a j budget End
-  look-end h = at-end (omega arith)
-
-  module _ {t : Bool} (h : q < m) (f : t ≡ isNonterminalIn p r q) where
-    pub look-byte : t ≡ false → a < j → Looked p r q tables full rows i a j budget Byte
-    look-byte n l = at-byte (omega arith) (sym f ∙ n) l
-
-    pub look-short : t ≡ false → j ≤ a → Looked p r q tables full rows i a j budget No
-    look-short n l = no-byte (omega arith) (sym f ∙ n) l
-
-    module _ {k b : ℕ} (y : t ≡ true) (g : k ≡ valueIn p r q) (C : EndChosen tables full k i a a j rows (side * (q + 1)) budget b) where
-      -- n is the cost of the places behind
-      pub look-node : {n : ℕ} → b ≤ j → n ≡ getD rows (side * (q + 1) + b) 0
-          → Looked p r q tables full rows i a j budget (Node k b (budget - n))
-      look-node l d = at-node (omega arith) (sym f ∙ y) g C l (ap (λ (x : ℕ). budget - x) d)
-
-      pub look-none : j < b → Looked p r q tables full rows i a j budget No
-      look-none l = no-node (omega arith) (sym f ∙ y) g C l

@@ -10,8 +10,6 @@ use Rattle.costs.specs.Cut.{within}
 use Rattle.packed.specs.Packed.{leftIn, countIn, isNonterminalIn, valueIn}
 use Rattle.tables.specs.Layout.{costIn, fullIn}
 use Rattle.solve.specs.Solve.{RuleOver}
-use Rattle.choose.specs.declared.look.Step.{Step}
-use Rattle.choose.specs.declared.look.Step.the-variants.{No, End, Byte, Node}
 
 -- rule r is of the nonterminal k and costs at most the budget over the span from i to j
 pub record RuleWithin (p : List ℕ) (k : ℕ) (full tables : List ℕ) (i j budget r : ℕ) : Type 0 where
@@ -52,15 +50,3 @@ pub record EndChosen (tables full : List ℕ) (k i a from j : ℕ) (rows : List 
   pub start : from ≤ b
   pub fits : b ≤ j → sumAt tables full k i a j rows at b ≤ budget
   pub early : EndsPassed tables full k i a from j rows at budget b
-
--- what comes next at place q of rule r from a on: the end of the row, a byte, or a node over the first end within the budget, with what
--- the places behind it leave of the budget; nothing where there is no byte or no such end
-pub data Looked (p : List ℕ) (r q : ℕ) (tables full rows : List ℕ) (i a j budget : ℕ) : Step → Type 0 where
-  at-end : countIn p r ≤ q → Looked p r q tables full rows i a j budget End
-  at-byte : q < countIn p r → isNonterminalIn p r q ≡ false → a < j → Looked p r q tables full rows i a j budget Byte
-  no-byte : q < countIn p r → isNonterminalIn p r q ≡ false → j ≤ a → Looked p r q tables full rows i a j budget No
-  at-node : {k b share : ℕ} → q < countIn p r → isNonterminalIn p r q ≡ true → k ≡ valueIn p r q
-      → EndChosen tables full k i a a j rows (side * (q + 1)) budget b → b ≤ j → share ≡ budget - getD rows (side * (q + 1) + b) 0
-      → Looked p r q tables full rows i a j budget (Node k b share)
-  no-node : {k b : ℕ} → q < countIn p r → isNonterminalIn p r q ≡ true → k ≡ valueIn p r q
-      → EndChosen tables full k i a a j rows (side * (q + 1)) budget b → j < b → Looked p r q tables full rows i a j budget No

@@ -1,4 +1,3 @@
-// The choices of a derivation, first or next, each decided by costs: which rule, which end, and what of the budget a child may have.
+// The choices of a derivation, first or next, each decided by costs: which rule, and which end.
 pub mod ends;
-pub mod look;
 pub mod rule;

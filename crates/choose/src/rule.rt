@@ -28,7 +28,7 @@ fn within_budget(
     wide(rule_over(p, r, full, tables, i, j)) <= budget
 }
 
-// The smallest rule of k from `from` on and below `rules` that costs at most the budget over the span; 128 if there is none.
+// The smallest rule of k from `from` on and below `rules` that costs at most the budget over the span; no rule if there is none.
 pub fn choose_rule(
     p: &Packed,
     rules: usize,
@@ -50,5 +50,5 @@ pub fn choose_rule(
         }
         r += 1;
     }
-    sizes::MAX_RULES
+    sizes::NO_RULE
 }

@@ -13,32 +13,32 @@ use Rattle.sizes.specs.Sizes.{cells}
 use Rattle.sets.specs.Set.{has}
 use Rattle.sets.proofs.Laws.{set-ext}
 use Rattle.cfg.specs.Grammar.{Symbol, Of}
-use Rattle.chart.specs.Cell.{cell, cuts, fitsAt}
+use Rattle.chart.specs.Cell.{cell, cuts}
 use Rattle.chart.proofs.Cut.{Cut, InSets, cut-mono, cuts→cut, cut→cuts, cuts-cong, bool-ext}
 use Rattle.chart.proofs.Cells.{inColumn, column-lt}
 use Rattle.chart.proofs.Inside.{Piece, ClosedBy, column-closed-by, column-inside}
 use Rattle.chart.proofs.Written.{written-cell, written-cell-other}
 use Rattle.packed.specs.Packed.{leftIn, Used, placesIn, cfgIn}
 use Rattle.packed.proofs.Laws.{of-in, in-of, in-of-places, cfg-in-bounded, places-start}
-use Rattle.cells.specs.Flags.{Sets, tail, Cutting, owned}
+use Rattle.cells.specs.Flags.{Fit, Sets, tail, Cutting, owned}
 use Rattle.cells.specs.Passes.{Within, ClosedAt, Settled}
-use Rattle.columns.specs.Columns.{columnOf}
+use Rattle.columns.specs.Columns.{columnBy}
 use Rattle.cells.proofs.Owned.{owned-cases}
 
-module _ (p w found : List ℕ) (n : ℕ) (small : n ≤ 64) (room : cells ≤ length found) where
+module _ (p : List ℕ) (fit : Fit) (found : List ℕ) (n : ℕ) (small : n ≤ 64) (room : cells ≤ length found) where
   -- the sets of the chart with column n written
   abbrev full : Sets
-  full = cell (columnOf p w n found)
+  full = cell (columnBy p fit n found)
 
   -- cell (a, n) of the column
   abbrev col : ℕ → ℕ
-  col = inColumn (cfgIn 0 p) (fitsAt w) found n
+  col = inColumn (cfgIn 0 p) fit found n
 
   full-earlier : (a b : ℕ) → b < n → full a b ≡ cell found a b
-  full-earlier a b l = written-cell-other (cfgIn 0 p) (fitsAt w) n found small a b (omega arith) (λ e. absurd (omega arith))
+  full-earlier a b l = written-cell-other (cfgIn 0 p) fit n found small a b (omega arith) (λ e. absurd (omega arith))
 
   full-column : (a b : ℕ) → a ≤ n → b ≡ n → full a b ≡ col a
-  full-column a b h e = ap (full a) e ∙ written-cell (cfgIn 0 p) (fitsAt w) n found small room a h
+  full-column a b h e = ap (full a) e ∙ written-cell (cfgIn 0 p) fit n found small room a h
 
   -- what is in a cell, by its column
   piece-in : (k a b : ℕ) → a ≤ b → b ≤ n → has k (full a b) ≡ true → Piece found n (λ (j x : ℕ). has j (col x) ≡ true) k a b
@@ -52,19 +52,19 @@ module _ (p w found : List ℕ) (n : ℕ) (small : n ≤ 64) (room : cells ≤ l
   owned-full i a b = owned-cases full i n (full i n) (λ (x : ℕ). x ≡ full a b) a b (λ d e. sym (ap₂ full d e)) (λ d. refl) (λ d. refl)
 
   module _ (i : ℕ) (order : i ≤ n) where
-    pub column-closed-at : ClosedAt (fitsAt w) full p i n (full i n)
+    pub column-closed-at : ClosedAt fit full p i n (full i n)
     column-closed-at r h l e =
         let o = in-of 0 p r (leftIn p r) h refl l in
-        let c : Cut (fitsAt w) (Piece found n (λ (j x : ℕ). has j (col x) ≡ true)) n (o .the .places) i =
-        subst (λ (s : List Symbol). Cut (fitsAt w) (Piece found n (λ (j x : ℕ). has j (col x) ≡ true)) n s i)
+        let c : Cut fit (Piece found n (λ (j x : ℕ). has j (col x) ≡ true)) n (o .the .places) i =
+        subst (λ (s : List Symbol). Cut fit (Piece found n (λ (j x : ℕ). has j (col x) ≡ true)) n s i)
         (sym (in-of-places 0 p r (leftIn p r) h refl l))
         (cut-mono i n (λ a t _ q. q) (λ k a b _ m u q. piece-in k a b m u (ap (has k) (sym (owned-full i a b)) ∙ q)) (omega arith)
-        (cuts→cut (fitsAt w) (owned full i n (full i n)) n (placesIn p r) i order e)) in
+        (cuts→cut fit (owned full i n (full i n)) n (placesIn p r) i order e)) in
         ap (has (leftIn p r)) (full-column i n order refl)
-        ∙ column-closed-by (cfgIn 0 p) (fitsAt w) found n (cfg-in-bounded 0 p) i r (leftIn p r) order o c
+        ∙ column-closed-by (cfgIn 0 p) fit found n (cfg-in-bounded 0 p) i r (leftIn p r) order o c
 
     module _ (rules v : ℕ) (word : ℕ → ℕ) (used : Used p rules)
-        (settled : (r : ℕ) → r < rules → Settled (fitsAt w) full p r i n v (word r)) where
+        (settled : (r : ℕ) → r < rules → Settled fit full p r i n v (word r)) where
       -- v in the cell (i, n), the column in those of the later starts, and anything in those of the earlier ones
       abbrev From : ℕ → ℕ → Type 0
       From k a = (a ≡ i → has k v ≡ true) × (i < a → has k (col a) ≡ true)
@@ -85,35 +85,35 @@ module _ (p w found : List ℕ) (n : ℕ) (small : n ≤ 64) (room : cells ≤ l
               let g : n ≤ b = omega arith in
               ap (has k) (full-column a b (omega arith) (omega arith)) ∙ q .1 g .1 (omega arith)
 
-      here : (r k : ℕ) (o : Of (cfgIn 0 p) r k) → Cut (fitsAt w) (Piece found n From) n (o .the .places) i → has k v ≡ true
+      here : (r k : ℕ) (o : Of (cfgIn 0 p) r k) → Cut fit (Piece found n From) n (o .the .places) i → has k v ≡ true
       here r k o c =
           let (h, e, l, s) = of-in 0 p r k o in
-          let d : Cut (fitsAt w) (InSets (owned full i n v)) n (placesIn p r) i =
-          subst (λ (x : List Symbol). Cut (fitsAt w) (InSets (owned full i n v)) n x i) s
+          let d : Cut fit (InSets (owned full i n v)) n (placesIn p r) i =
+          subst (λ (x : List Symbol). Cut fit (InSets (owned full i n v)) n x i) s
           (cut-mono i n (λ a t _ q. q) from-owned (omega arith) c) in
           subst (λ (x : ℕ). has x v ≡ true) e (settled r (used r h l) .closed l
           (settled r (used r h l) .exact 0 (omega arith)
-          ∙ ap (λ (x : List Symbol). cuts (fitsAt w) (owned full i n v) x i n) (places-start p r)
-          ∙ cut→cuts (fitsAt w) (owned full i n v) n order d))
+          ∙ ap (λ (x : List Symbol). cuts fit (owned full i n v) x i n) (places-start p r)
+          ∙ cut→cuts fit (owned full i n v) n order d))
 
-      from-closed : ClosedBy (cfgIn 0 p) (fitsAt w) found n From
+      from-closed : ClosedBy (cfgIn 0 p) fit found n From
       from-closed a r k h o c = (
-        λ d. here r k o (subst (Cut (fitsAt w) (Piece found n From) n (o .the .places)) d c),
-        λ l. column-closed-by (cfgIn 0 p) (fitsAt w) found n (cfg-in-bounded 0 p) a r k h o
+        λ d. here r k o (subst (Cut fit (Piece found n From) n (o .the .places)) d c),
+        λ l. column-closed-by (cfgIn 0 p) fit found n (cfg-in-bounded 0 p) a r k h o
             (cut-mono a n (λ x t _ q. q) (λ j x b m _ _ q. (q .0, λ u. q .1 u .1 (omega arith))) (omega arith) c),
       )
 
       column-within : Within (full i n) v
-      column-within k e = column-inside (cfgIn 0 p) (fitsAt w) found n From from-closed i k order
+      column-within k e = column-inside (cfgIn 0 p) fit found n From from-closed i k order
           (ap (has k) (sym (full-column i n order refl)) ∙ e) .0 refl
 
       pub cell-is : v < 2 ^ 32 → Within v (full i n) → v ≡ full i n
       cell-is b s = set-ext v (full i n) b
           (subst (λ (x : ℕ). x < 2 ^ 32) (sym (full-column i n order refl))
-          (column-lt (cfgIn 0 p) (cfg-in-bounded 0 p) (fitsAt w) found n (suc n) i))
+          (column-lt (cfgIn 0 p) (cfg-in-bounded 0 p) fit found n (suc n) i))
           (λ k _. bool-ext (has k v) (has k (full i n)) (s k) (column-within k))
 
       -- the flags are right for the column
-      pub flags-are : v ≡ full i n → (r : ℕ) → r < rules → Cutting (fitsAt w) full p r i n (word r)
+      pub flags-are : v ≡ full i n → (r : ℕ) → r < rules → Cutting fit full p r i n (word r)
       flags-are e r h q l = settled r h .exact q l
           ∙ cuts-cong i n order (λ a t _. refl) (λ a b _ _ _. ap (λ (x : ℕ). owned full i n x a b) e ∙ owned-full i a b) (tail p r q)

@@ -7,12 +7,13 @@ use mathlib.Core.Path.{_≡_, sym, ap, _∙_}
 use native.Mathlib.Omega.{arith}
 use lib.ListN.{replicate}
 use Rattle.sets.specs.Set.{has}
-use Rattle.chart.specs.Cell.{cell, fitsAt}
+use Rattle.chart.specs.Cell.{cell}
 use Rattle.chart.proofs.Written.{written-cell-other}
 use Rattle.packed.specs.Packed.{cfgIn}
+use Rattle.cells.specs.Flags.{Fit}
 use Rattle.spans.specs.Spans.{endsSize}
 use Rattle.spans.specs.Ends.{ToldTo, EndsTo}
-use Rattle.columns.specs.Columns.{columnOf}
+use Rattle.columns.specs.Columns.{columnBy}
 use Rattle.columns.proofs.Writing.{zero-has}
 
 ends-none : (chart : List ℕ) (k l : ℕ) → EndsTo chart 0 0 (replicate k 0) (replicate l 0)
@@ -32,9 +33,9 @@ pub ends-zero : (chart : List ℕ) → EndsTo chart 0 0 (replicate endsSize 0) (
 ends-zero chart = ends-none chart endsSize 64
 
 -- a column written changes nothing in the columns before it
-pub told-on : (p w chart chart' : List ℕ) (n : ℕ) (ends reach : List ℕ) → n ≤ 64 → chart' ≡ columnOf p w n chart
+pub told-on : (p : List ℕ) (fit : Fit) (chart chart' : List ℕ) (n : ℕ) (ends reach : List ℕ) → n ≤ 64 → chart' ≡ columnBy p fit n chart
     → EndsTo chart n 0 ends reach → EndsTo chart' n 0 ends reach
-told-on p w chart chart' n ends reach small e to =
+told-on p fit chart chart' n ends reach small e to =
     record {
       sound = λ a k c h l x. let u = to .sound a k c h l x in (u .0, ap (has k) (same a c (u .0)) ∙ u .1);
       all = λ a k c h told x. to .all a k c h told (ap (has k) (sym (same a c told)) ∙ x);
@@ -44,5 +45,5 @@ told-on p w chart chart' n ends reach small e to =
   where
     same : (a c : ℕ) → ToldTo n 0 a c → cell chart' a c ≡ cell chart a c
     same a c (l, inl h) = ap (λ (x : List ℕ). cell x a c) e
-        ∙ written-cell-other (cfgIn 0 p) (fitsAt w) n chart small a c (omega arith) (λ d. absurd (omega arith))
+        ∙ written-cell-other (cfgIn 0 p) fit n chart small a c (omega arith) (λ d. absurd (omega arith))
     same a c (l, inr h) = absurd (omega (arith, h .1))

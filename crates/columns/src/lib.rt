@@ -1,31 +1,53 @@
 // The chart's columns: writing one, opening, filling for a whole input, and the bit "complete".
 mod write;
 
+use empty::span::closure;
+use empty::tell;
+use fit::FitTable;
+use fit::table;
 use packed::Packed;
 use spans::ends::put_column;
 use spans::ends::put_columns;
 use spans::words::ENDS_SIZE;
 use write::column;
-ghost use mathlib.Core.List.{_++_};
+ghost use mathlib.Core.List.{List, _++_};
 ghost use mathlib.Core.Path.{_≡_};
-ghost use Prim.Native.Nat.{_≤_};
+ghost use Prim.Native.Nat.{ℕ, _≤_};
 ghost use lib.ListN.{length, drop, replicate};
 ghost use Rattle.sizes.specs.Sizes.{cells};
 ghost use Rattle.sets.specs.Set.{has as inSet};
-ghost use Rattle.chart.specs.Cell.{cell};
+ghost use Rattle.chart.specs.Cell.{cell, fitsAt};
 ghost use Rattle.chart.specs.Column.{opened, filled};
-ghost use Rattle.packed.specs.Packed.{cfgIn};
-ghost use Rattle.columns.specs.Columns.{columnOf};
+ghost use Rattle.packed.specs.Packed.{cfgIn, Used};
+ghost use Rattle.fit.specs.Fit.{Tells};
+ghost use Rattle.empty.specs.Empty.{EmptyTold};
+ghost use Rattle.columns.specs.Columns.{columnOf, OpenedWith, Taken};
 
 // Writes column n of the chart as found.
 pub fn write_column(p: &Packed, w: &[u8], n: usize, chart: &mut [u32])
     requires { ⌜ (n ≤ 64) × (cells ≤ length (now chart)) ⌝ }
     ensures { λ _. ⌜ now (chart .exit) ≡ columnOf (now (p .entry)) (now (w .entry)) n (now (chart .entry)) ⌝ }
 {
+    let rules = packed::rule_count(p);
+    let mut lasts = [0u32; 128];
+    let mut kinds = [0u32; 128];
+    let own = tell(p, rules, &mut lasts, &mut kinds);
+    let fits = table(p, w);
     let mut ends = [0u64; ENDS_SIZE];
     let mut reach = [0u64; 64];
     put_columns(n, chart, &mut ends, &mut reach);
-    column(p, w, n, &ends, &reach, chart);
+    column(
+        p,
+        rules,
+        &fits,
+        n,
+        own,
+        &lasts,
+        &kinds,
+        &ends,
+        &reach,
+        chart,
+    );
 }
 
 fn clear(chart: &mut [u32])
@@ -39,30 +61,62 @@ fn clear(chart: &mut [u32])
     }
 }
 
+// Opening, the set of the empty span being told.
+fn open_with(own: u32, chart: &mut [u32])
+    requires { ⌜ cells ≤ length (now chart) ⌝ }
+    ensures { λ _. ⌜ OpenedWith own (now (chart .entry)) (now (chart .exit)) ⌝ }
+{
+    clear(chart);
+    chart[0] = own;
+}
+
 // Opening.
 pub fn open_chart(p: &Packed, chart: &mut [u32])
     requires { ⌜ cells ≤ length (now chart) ⌝ }
     ensures { λ _. ⌜ now (chart .exit) ≡ opened (cfgIn 0 (now (p .entry))) (now (chart .entry)) ⌝ }
 {
-    let none = [0u8; 1];
-    clear(chart);
-    write_column(p, &none[..0], 0, chart);
+    let mut lasts = [0u32; 128];
+    let own = closure(p, packed::rule_count(p), &mut lasts);
+    open_with(own, chart);
 }
 
-// Opening, and then taking the whole input.
-pub fn fill(p: &Packed, w: &[u8], chart: &mut [u32])
-    requires { ⌜ (length (now w) ≤ 64) × (cells ≤ length (now chart)) ⌝ }
-    ensures { λ _. ⌜ now (chart .exit) ≡ filled (cfgIn 0 (now (p .entry))) (now (w .entry)) (now (chart .entry)) ⌝ }
+// Taking n positions, what fits them and what is the same for every column being told.
+fn take_all(
+    p: &Packed,
+    rules: usize,
+    fits: &FitTable,
+    n: usize,
+    own: u32,
+    lasts: &[u32; 128],
+    kinds: &[u32; 128],
+    chart: &mut [u32],
+)
+    requires { ⌜ (rules ≤ 128) × Used (now p) rules × (n ≤ 64) × EmptyTold (now p) rules own (now lasts) (now kinds)
+        × (cells ≤ length (now chart)) ⌝ }
+    ensures { λ _. ⌜ Taken (now (p .entry)) (now (fits .entry)) n (now (chart .entry)) (now (chart .exit)) ⌝ }
 {
-    open_chart(p, chart);
     let mut ends = [0u64; ENDS_SIZE];
     let mut reach = [0u64; 64];
     let mut m = 0;
-    while m < w.len() {
+    while m < n {
         put_column(m, chart, &mut ends, &mut reach);
         m += 1;
-        column(p, &w[..m], m, &ends, &reach, chart);
+        column(p, rules, fits, m, own, lasts, kinds, &ends, &reach, chart);
     }
+}
+
+// Opening, and then taking an input of n bytes, of which the fit table tells.
+pub fn fill(p: &Packed, fits: &FitTable, n: usize, chart: &mut [u32])
+    requires { ⌜ (n ≤ 64) × (cells ≤ length (now chart)) ⌝ }
+    ensures { λ _. ⌜ ((w : List ℕ) → length w ≡ n → Tells (fitsAt w) (now (p .entry)) (now (fits .entry)) n
+        → now (chart .exit) ≡ filled (cfgIn 0 (now (p .entry))) w (now (chart .entry))) ⌝ }
+{
+    let rules = packed::rule_count(p);
+    let mut lasts = [0u32; 128];
+    let mut kinds = [0u32; 128];
+    let own = tell(p, rules, &mut lasts, &mut kinds);
+    open_with(own, chart);
+    take_all(p, rules, fits, n, own, &lasts, &kinds, chart);
 }
 
 // Whether the start symbol is in the cell of the whole input.

@@ -1,9 +1,8 @@
 // One column of the chart, written cell by cell from the last start down, by spans as bits.
-use looks::empty::empty_closure;
-use looks::kinds::all_kinds;
+use begins::rules::begin_all;
+use fit::FitTable;
 use looks::passes::closure;
 use packed::Packed;
-use spans::insides::begin_all;
 use spans::starts::put_flags;
 use spans::words::Ends;
 use spans::words::Live;
@@ -16,15 +15,14 @@ ghost use lib.ListN.{length};
 ghost use Rattle.sizes.specs.Sizes.{cells};
 ghost use Rattle.packed.specs.Packed.{Used};
 ghost use Rattle.spans.specs.Spans.{startsSize};
-ghost use Rattle.spans.specs.Ends.{EndsTo};
-ghost use Rattle.looks.specs.Looks.{KindsAll};
-ghost use Rattle.columns.specs.Columns.{columnOf, CellWritten, LowerWritten};
+ghost use Rattle.empty.specs.Empty.{KindsAll, EmptyTold};
+ghost use Rattle.columns.specs.Columns.{CellWritten, LowerWritten, ColumnWritten};
 
-// Writes the cell (i, n), those of the later starts being written.
+// Writes the cell (i, n), those of the later starts being written. What insides, flags and made hold before does not matter.
 fn close_cell(
     p: &Packed,
     rules: usize,
-    w: &[u8],
+    fits: &FitTable,
     i: usize,
     n: usize,
     ends: &Ends,
@@ -34,20 +32,22 @@ fn close_cell(
     chart: &mut [u32],
     starts: &mut Starts,
     live: &mut Live,
+    insides: &mut [u32; 128],
+    flags: &mut [u32; 128],
+    made: &mut [u32; 128],
 )
     requires { ⌜ (rules ≤ 128) × Used (now p) rules × (i < n) × (n ≤ 64) × KindsAll (now p) rules (now lasts) (now kinds)
-        × (cells ≤ length (now chart)) × (length (now starts) ≡ startsSize) × (length (now live) ≡ 128) ⌝ }
+        × (cells ≤ length (now chart)) × (length (now starts) ≡ startsSize) × (length (now live) ≡ 128)
+        × (length (now insides) ≡ 128) × (length (now flags) ≡ 128) × (length (now made) ≡ 128) ⌝ }
     ensures { λ _.
-        ⌜ CellWritten (now (p .entry)) (now (w .entry)) rules n i (now (ends .entry)) (now (reach .entry)) (now (lasts .entry))
-        (now (chart .entry)) (now (starts .entry)) (now (live .entry)) (now (chart .exit)) (now (starts .exit)) (now (live .exit)) ⌝ }
+        ⌜ CellWritten (now (p .entry)) (now (fits .entry)) rules n i (now (ends .entry)) (now (reach .entry)) (now (lasts .entry))
+        (now (chart .entry)) (now (starts .entry)) (now (live .entry)) (now (chart .exit)) (now (starts .exit)) (now (live .exit))
+        × (length (now (insides .exit)) ≡ 128) × (length (now (flags .exit)) ≡ 128) × (length (now (made .exit)) ≡ 128) ⌝ }
 {
-    let mut insides = [0u32; 128];
-    let mut flags = [0u32; 128];
-    let mut made = [0u32; 128];
     begin_all(
         p,
         rules,
-        w,
+        fits,
         i,
         n,
         ends,
@@ -55,21 +55,19 @@ fn close_cell(
         reach[i],
         live,
         lasts,
-        &mut insides,
+        insides,
     );
     let own = closure(
         p,
         rules,
-        i,
-        n,
         chart[sizes::SIDE * i + i],
-        &insides,
+        insides,
         lasts,
         kinds,
-        &mut flags,
-        &mut made,
+        flags,
+        made,
     );
-    put_flags(p, rules, i, &flags, starts, live);
+    put_flags(p, rules, i, flags, starts, live);
     chart[sizes::SIDE * i + n] = own;
 }
 
@@ -77,7 +75,7 @@ fn close_cell(
 fn lower_cells(
     p: &Packed,
     rules: usize,
-    w: &[u8],
+    fits: &FitTable,
     n: usize,
     ends: &Ends,
     reach: &Reach,
@@ -88,18 +86,21 @@ fn lower_cells(
     requires { ⌜ (rules ≤ 128) × Used (now p) rules × (n ≤ 64) × KindsAll (now p) rules (now lasts) (now kinds)
         × (cells ≤ length (now chart)) ⌝ }
     ensures { λ _.
-        ⌜ LowerWritten (now (p .entry)) (now (w .entry)) rules n (now (ends .entry)) (now (reach .entry)) (now (lasts .entry))
+        ⌜ LowerWritten (now (p .entry)) (now (fits .entry)) rules n (now (ends .entry)) (now (reach .entry)) (now (lasts .entry))
         (now (chart .entry)) (now (chart .exit)) ⌝ }
 {
     let mut starts = [0u64; STARTS_SIZE];
     let mut live = [0u64; 128];
+    let mut insides = [0u32; 128];
+    let mut flags = [0u32; 128];
+    let mut made = [0u32; 128];
     let mut i = n;
     while i > 0 {
         i -= 1;
         close_cell(
             p,
             rules,
-            w,
+            fits,
             i,
             n,
             ends,
@@ -109,20 +110,31 @@ fn lower_cells(
             chart,
             &mut starts,
             &mut live,
+            &mut insides,
+            &mut flags,
+            &mut made,
         );
     }
 }
 
-// Writes column n, the ends of the columns before it being told.
-pub fn column(p: &Packed, w: &[u8], n: usize, ends: &Ends, reach: &Reach, chart: &mut [u32])
-    requires { ⌜ (n ≤ 64) × (cells ≤ length (now chart)) × EndsTo (now chart) n 0 (now ends) (now reach) ⌝ }
-    ensures { λ _. ⌜ now (chart .exit) ≡ columnOf (now (p .entry)) (now (w .entry)) n (now (chart .entry)) ⌝ }
+// Writes column n, what is the same for every column being told, and what fits its positions, and the ends of the columns before it.
+pub fn column(
+    p: &Packed,
+    rules: usize,
+    fits: &FitTable,
+    n: usize,
+    own: u32,
+    lasts: &[u32; 128],
+    kinds: &[u32; 128],
+    ends: &Ends,
+    reach: &Reach,
+    chart: &mut [u32],
+)
+    requires { ⌜ (rules ≤ 128) × Used (now p) rules × (n ≤ 64) × EmptyTold (now p) rules own (now lasts) (now kinds)
+        × (cells ≤ length (now chart)) ⌝ }
+    ensures { λ _. ⌜ ColumnWritten (now (p .entry)) (now (fits .entry)) n (now (ends .entry)) (now (reach .entry)) (now (chart .entry))
+        (now (chart .exit)) ⌝ }
 {
-    let rules = packed::rule_count(p);
-    let mut lasts = [0u32; 128];
-    let mut kinds = [0u32; 128];
-    let own = empty_closure(p, rules, n, &mut lasts);
-    all_kinds(p, rules, &lasts, &mut kinds);
     chart[sizes::SIDE * n + n] = own;
-    lower_cells(p, rules, w, n, ends, reach, &lasts, &kinds, chart);
+    lower_cells(p, rules, fits, n, ends, reach, lasts, kinds, chart);
 }

@@ -1,2 +1,3 @@
--- The laws of one step of loading.
+-- The laws of a step of loading.
+pub mod Parts
 pub mod Steps

@@ -1,55 +1,31 @@
--- One step of loading, by the command byte and the tests that the code makes of it, in their order.
+-- One step of loading, by the command byte and the tests that the code makes, in their order: from the limits backwards.
 -- Assumes nothing.
-use Prim.Native.Nat.{ℕ, _+_, _≤_, _<_}
+use Prim.Native.Nat.{ℕ, zero, suc, _+_, _-_, _≤_, _<_}
 use native.Mathlib.Omega.{arith}
-use mathlib.Core.Bool.{true, false, cond}
-use mathlib.Core.List.{List}
-use mathlib.Core.Path.{_≡_, refl, sym, ap, _∙_}
-use lib.Dec.{eqb, ltb, lit≤}
+use mathlib.Core.Bool.{Bool, true, false, cond, not, _&&_, _||_}
+use mathlib.Core.List.{List, [], _∷_}
+use mathlib.Core.Path.{_≡_, refl, sym, _∙_}
+use lib.Dec.{eqb, ltb}
 use lib.ListN.{length, getD}
-use borrow.Author.Tests.{lt-ltb, le-ltb, le-leb, eq-eqb, ne-eqb, eqb-true, eqb-false}
+use borrow.Author.Tests.{lt-ltb, le-ltb, ltb-false, ne-eqb}
 use Rattle.grammar.specs.declared.Grammar.{Grammar}
-use Rattle.grammar.specs.declared.Refusal.{Refusal}
 use Rattle.grammar.specs.declared.Refusal.the-variants as R
+use Rattle.grammar.specs.declared.Symbol.{Symbol}
 use Rattle.grammar.specs.declared.Symbol.the-variants.{Nonterminal, Terminal}
 use Rattle.results.specs.Answer.{decide}
-use Rattle.results.specs.Load.{Step, stop, next, done, step, commandChecks, unknown, outOfTurn, operands, after, openRule}
-use Rattle.results.proofs.Loading.Run.{step-past}
-use Rattle.commands.specs.Command.{stepOf, Bounded, Reads}
+use Rattle.results.specs.Load.{fault, stop, next, step, commandChecks, unknown, outOfTurn, operands, after, openRule, withPlace}
+use Rattle.commands.specs.Class.{classOf}
+use Rattle.commands.specs.Command.{ruleOf, placeOf, endOf, stepPast, stepAfter, Bounded, Begun, Whole, Passed, Reads}
+use Rattle.commands.specs.Turn.{late, TurnAt}
+use Rattle.commands.specs.declared.Class.{Class}
+use Rattle.commands.specs.declared.Class.the-variants.{Known, Unknown}
 use Rattle.commands.specs.declared.Command.{Command}
 use Rattle.commands.specs.declared.Command.the-variants.{Start, Rule, Place, End, Fault}
+use Rattle.commands.specs.declared.Turn.{Turn}
 
--- the step where c stands at the offset
-abbrev stepBy : List ℕ → ℕ → Grammar → ℕ → Step
-stepBy bytes at g c =
-    let a = getD bytes (at + 1) 0 in
-    decide (commandChecks bytes at c a g) stop (λ _.
-    cond (eqb c 0x50) (done g) (next (at + 1 + operands c) (after c a (getD bytes (at + 2) 0) (getD bytes (at + 3) 0) g)))
+-- ---- the limits: four checks are passed
 
-module _ (bytes : List ℕ) (at : ℕ) where
-  -- the test of the bytes that are left, for a command with no, one or three operands
-  whole₀ : at < length bytes → ltb (length bytes) (at + 1 + 0) ≡ false
-  whole₀ u = le-ltb (length bytes) (at + 1 + 0) (omega arith)
-
-  short : length bytes < at + 2 → ltb (length bytes) (at + 1 + 1) ≡ true
-  short u = lt-ltb (length bytes) (at + 1 + 1) (omega arith)
-
-  whole : at + 2 ≤ length bytes → ltb (length bytes) (at + 1 + 1) ≡ false
-  whole u = le-ltb (length bytes) (at + 1 + 1) (omega arith)
-
-  short₃ : length bytes < at + 4 → ltb (length bytes) (at + 1 + 3) ≡ true
-  short₃ u = lt-ltb (length bytes) (at + 1 + 3) (omega arith)
-
-  whole₃ : at + 4 ≤ length bytes → ltb (length bytes) (at + 1 + 3) ≡ false
-  whole₃ u = le-ltb (length bytes) (at + 1 + 3) (omega arith)
-
-  -- the test of a nonterminal. A law that refuses takes any m of the code's own test that is not below the limit
-  large : (a m : ℕ) → m ≤ a → 32 ≤ m → ltb 31 a ≡ true
-  large a m v w = lt-ltb 31 a (omega arith)
-
-  small : (a : ℕ) → a < 32 → ltb 31 a ≡ false
-  small a v = le-ltb 31 a (omega arith)
-
+module _ (bytes : List ℕ) (at c a : ℕ) (W : Whole (length bytes) at c) (rules places : ℕ) where
   -- where the next command is
   two : at + 1 + 1 ≡ at + 2
   two = omega arith
@@ -57,189 +33,175 @@ module _ (bytes : List ℕ) (at : ℕ) where
   four : at + 1 + 3 ≡ at + 4
   four = omega arith
 
-  step-here : (g : Grammar) (c : ℕ) → at < length bytes → getD bytes at 0 ≡ c → step bytes at g ≡ stepBy bytes at g c
-  unfolding step decide
-  step-here g c h e = rw (lt-ltb at (length bytes) h) (ap (stepBy bytes at g) e)
+  room : (x : ℕ) → c ≡ x → at + 1 + operands x ≤ length bytes
+  room x e = rw e at (W .room)
 
-  -- ---- the end of the bytes
-  pub ended : (rules places : ℕ) → length bytes ≤ at → Reads bytes at rules places (Fault R.UnexpectedEnd (length bytes))
-  ended rules places h = record { means = λ g p q. sym (step-past bytes at g h); bounded = tt }
+  pub start-passed : c ≡ 0x10 → Passed 4 bytes at c a rules places (Start a)
+  unfolding decide commandChecks operands after
+  start-passed e = let r = room 0x10 e in rw e (record { means = λ g p q. rw two; bounded = omega arith })
 
-  module _ (h : at < length bytes) (rules places : ℕ) where
-    -- the command is refused
-    refuse : (r : Refusal) (o c : ℕ) → getD bytes at 0 ≡ c
-        → ((g : Grammar) → g .count ≡ rules → openRule g .count ≡ places → stepBy bytes at g c ≡ stepOf (Fault r o) at g)
-        → Reads bytes at rules places (Fault r o)
-    refuse r o c e f = record { means = λ g p q. sym (step-here g c h e ∙ f g p q); bounded = tt }
+  pub rule-passed : c ≡ 0x20 → (m : Command) (low high : ℕ) → low ≡ getD bytes (at + 2) 0 → high ≡ getD bytes (at + 3) 0
+      → m ≡ ruleOf at rules a low high → Passed 4 bytes at c a rules places m
+  unfolding decide commandChecks operands after
+  rule-passed e m low high l h i = let r = room 0x20 e in rw (e, i, l, h) (go r (ltb 127 rules) refl)
+    where
+      go : at + 1 + 3 ≤ length bytes → (b : Bool) → ltb 127 rules ≡ b → Passed 4 bytes at 0x20 a rules places
+          (cond b (Fault R.TooManyRules at) (Rule a (getD bytes (at + 2) 0) (getD bytes (at + 3) 0)))
+      go r true f = record { means = λ g p q. rw (p, f); bounded = tt }
+      go r false f = record { means = λ g p q. rw (p, f, four); bounded = (omega arith, omega (arith, ltb-false 127 rules f), refl) }
 
-    -- the command is read
-    read : (m : Command) (c : ℕ) → getD bytes at 0 ≡ c
-        → ((g : Grammar) → g .count ≡ rules → openRule g .count ≡ places → stepBy bytes at g c ≡ stepOf m at g)
-        → Bounded (length bytes) at rules places m → Reads bytes at rules places m
-    read m c e f b = record { means = λ g p q. sym (step-here g c h e ∙ f g p q); bounded = b }
+  -- 30 and 40, a command x of one operand whose limit is check 6, for its symbol s
+  place-passed : (x : ℕ) (s : Symbol) → at + 1 + 1 ≤ length bytes → eqb x 0x10 ≡ false
+      → ((g : Grammar) → stepPast 4 bytes at x a g
+      ≡ decide (fault (ltb 7 (openRule g .count)) 6 at ∷ []) stop (λ _. next (at + 2) (withPlace g s)))
+      → Passed 4 bytes at x a rules places (placeOf at places s)
+  unfolding decide
+  place-passed x s r y h = go (ltb 7 places) refl
+    where
+      go : (b : Bool) → ltb 7 places ≡ b → Passed 4 bytes at x a rules places (cond b (Fault R.TooManyPlaces at) (Place s))
+      go true f = record { means = λ g p q. rw (h g, q, f); bounded = tt }
+      go false f = record { means = λ g p q. rw (h g, q, f); bounded = (omega arith, omega (arith, ltb-false 7 places f), y) }
 
-    -- the test of the rules read so far
-    ruled : (g : Grammar) → g .count ≡ rules → (rules ≡ 0 → ⊥) → eqb (g .count) 0 ≡ false
-    ruled g p r = ne-eqb (g .count) 0 (λ z. r (sym p ∙ z))
+  pub nonterminal-passed : c ≡ 0x30 → (m : Command) → m ≡ placeOf at places (Nonterminal a) → Passed 4 bytes at c a rules places m
+  unfolding decide commandChecks operands after
+  nonterminal-passed e m i = let r = room 0x30 e in rw (e, i) (place-passed 0x30 (Nonterminal a) r refl (λ g. rw two))
 
-    -- ---- an unknown command
-    pub unknown-byte : (getD bytes at 0 ≡ 0x10 → ⊥) → (getD bytes at 0 ≡ 0x20 → ⊥) → (getD bytes at 0 ≡ 0x30 → ⊥)
-        → (getD bytes at 0 ≡ 0x40 → ⊥) → (getD bytes at 0 ≡ 0x50 → ⊥) → Reads bytes at rules places (Fault R.UnknownCommand at)
-    unfolding decide commandChecks unknown
-    unknown-byte n₁ n₂ n₃ n₄ n₅ =
-        let c = getD bytes at 0 in
-        refuse R.UnknownCommand at c refl (λ g p q.
-        rw (ne-eqb c 0x10 n₁, ne-eqb c 0x20 n₂, ne-eqb c 0x30 n₃, ne-eqb c 0x40 n₄, ne-eqb c 0x50 n₅))
+  pub terminal-passed : c ≡ 0x40 → (m : Command) → m ≡ placeOf at places (Terminal a) → Passed 4 bytes at c a rules places m
+  unfolding decide commandChecks operands after
+  terminal-passed e m i = let r = room 0x40 e in rw (e, i) (place-passed 0x40 (Terminal a) r refl (λ g. rw two))
 
-    -- ---- command 10
-    module _ (e : getD bytes at 0 ≡ 0x10) where
-      pub start-late : 0 < at → Reads bytes at rules places (Fault R.OutOfTurn at)
-      unfolding decide commandChecks unknown outOfTurn operands after
-      start-late t = refuse R.OutOfTurn at 0x10 e (λ g p q. rw (lt-ltb 0 at t))
+  pub end-passed : c ≡ 0x50 → (m : Command) → m ≡ endOf (at + 1) (length bytes) → Passed 4 bytes at c a rules places m
+  unfolding decide commandChecks operands after
+  end-passed e m i = rw (e, i) (go (ltb (at + 1) (length bytes)) refl)
+    where
+      go : (b : Bool) → ltb (at + 1) (length bytes) ≡ b → Passed 4 bytes at 0x50 a rules places (cond b (Fault R.FurtherByte (at + 1)) End)
+      go true f = record { means = λ g p q. rw f; bounded = tt }
+      go false f = record { means = λ g p q. rw f; bounded = tt }
 
-      pub start-short : at ≤ 0 → length bytes < at + 2 → Reads bytes at rules places (Fault R.UnexpectedEnd (length bytes))
-      unfolding decide commandChecks unknown outOfTurn operands after
-      start-short t u = refuse R.UnexpectedEnd (length bytes) 0x10 e (λ g p q. rw (le-ltb 0 at t, short u))
+  -- no other command is known
+  pub other-passed : (c ≡ 0x10 → ⊥) → (c ≡ 0x20 → ⊥) → (c ≡ 0x30 → ⊥) → (c ≡ 0x40 → ⊥) → (c ≡ 0x50 → ⊥) → (m : Command)
+      → Passed 4 bytes at c a rules places m
+  unfolding unknown
+  other-passed n₁ n₂ n₃ n₄ n₅ m =
+      let k = rw (ne-eqb c 0x10 n₁, ne-eqb c 0x20 n₂, ne-eqb c 0x30 n₃, ne-eqb c 0x40 n₄, ne-eqb c 0x50 n₅) at (W .known) in
+      let z : _≡_ {A = ℕ} 0 1 = cc in absurd (omega arith)
 
-      module _ (a : ℕ) (f : a ≡ getD bytes (at + 1) 0) (t : at ≤ 0) (u : at + 2 ≤ length bytes) where
-        pub start-large : (m : ℕ) → m ≤ a → 32 ≤ m → Reads bytes at rules places (Fault R.NonterminalTooLarge at)
-        unfolding decide commandChecks unknown outOfTurn operands after
-        start-large m v w = refuse R.NonterminalTooLarge at 0x10 e (λ g p q. rw (le-ltb 0 at t, whole u, ← f, large a m v w))
+-- ---- the operands: two checks are passed
 
-        pub start-read : a < 32 → Reads bytes at rules places (Start a)
-        unfolding decide commandChecks unknown outOfTurn operands after
-        start-read v = read (Start a) 0x10 e (λ g p q. rw (le-ltb 0 at t, whole u, ← f, small a v, two)) (u, omega arith)
+-- the class that was told
+pub class-told : (c : ℕ) (r k : Class) → r ≡ classOf c → r ≡ k → k ≡ classOf c
+class-told c r k e f = sym f ∙ e
 
-    -- ---- command 20
-    module _ (e : getD bytes at 0 ≡ 0x20) where
-      pub rule-first : at ≡ 0 → Reads bytes at rules places (Fault R.OutOfTurn at)
-      unfolding decide commandChecks unknown outOfTurn operands after
-      rule-first t = refuse R.OutOfTurn at 0x20 e (λ g p q. rw (eq-eqb at 0 t))
+-- a class that is known
+pub record Knows (n : ℕ) (nonterminal : Bool) (c : ℕ) : Type 0 where
+  pub known : unknown c ≡ false
+  pub number : n ≡ operands c
+  pub kind : nonterminal ≡ (eqb c 0x10 || eqb c 0x20 || eqb c 0x30)
 
-      pub rule-short : (at ≡ 0 → ⊥) → length bytes < at + 4 → Reads bytes at rules places (Fault R.UnexpectedEnd (length bytes))
-      unfolding decide commandChecks unknown outOfTurn operands after
-      rule-short t u = refuse R.UnexpectedEnd (length bytes) 0x20 e (λ g p q. rw (ne-eqb at 0 t, short₃ u))
+pub knows : (n : ℕ) (nonterminal : Bool) (c : ℕ) → Known n nonterminal ≡ classOf c → Knows n nonterminal c
+knows n nonterminal c e = go (unknown c) refl e
+  where
+    go : (b : Bool) → unknown c ≡ b → Known n nonterminal ≡ cond b Unknown (Known (operands c) (eqb c 0x10 || eqb c 0x20 || eqb c 0x30))
+        → Knows n nonterminal c
+    go true f i = let z : _≡_ {A = ℕ} 0 1 = cc in absurd (omega arith)
+    go false f i = record { known = f; number = cc; kind = cc }
 
-      module _ (a : ℕ) (f : a ≡ getD bytes (at + 1) 0) (t : at ≡ 0 → ⊥) (u : at + 4 ≤ length bytes) where
-        pub rule-large : (m : ℕ) → m ≤ a → 32 ≤ m → Reads bytes at rules places (Fault R.NonterminalTooLarge at)
-        unfolding decide commandChecks unknown outOfTurn operands after
-        rule-large m v w = refuse R.NonterminalTooLarge at 0x20 e (λ g p q. rw (ne-eqb at 0 t, whole₃ u, ← f, large a m v w))
+module _ (bytes : List ℕ) (at c n : ℕ) (nonterminal : Bool) (K : Known n nonterminal ≡ classOf c) (rules places : ℕ) where
+  module _ (l : at < length bytes) where
+    -- the operands are all there, or one is not
+    pub whole : n ≤ length bytes - (at + 1) → Whole (length bytes) at c
+    whole h =
+        let k = knows n nonterminal c K in
+        let e : n ≡ operands c = k .number in
+        record { known = k .known; room = omega arith }
 
-        module _ (v : a < 32) where
-          pub rule-many : (m : ℕ) → m ≤ rules → 128 ≤ m → Reads bytes at rules places (Fault R.TooManyRules at)
-          unfolding decide commandChecks unknown outOfTurn operands after
-          rule-many m w x =
-              refuse R.TooManyRules at 0x20 e (λ g p q. rw (ne-eqb at 0 t, whole₃ u, ← f, small a v, p, lt-ltb 127 rules (omega arith)))
+    enough : n ≤ length bytes - (at + 1) → ltb (length bytes) (at + 1 + operands c) ≡ false
+    enough h = le-ltb (length bytes) (at + 1 + operands c) (whole h .room)
 
-          pub rule-read : rules < 128 → Reads bytes at rules places (Rule a (getD bytes (at + 2) 0) (getD bytes (at + 3) 0))
-          unfolding decide commandChecks unknown outOfTurn operands after
-          rule-read w =
-              read (Rule a (getD bytes (at + 2) 0) (getD bytes (at + 3) 0)) 0x20 e
-              (λ g p q. rw (ne-eqb at 0 t, whole₃ u, ← f, small a v, p, le-ltb 127 rules (omega arith), four))
-              (u, omega arith, omega arith)
+    pub operands-short : length bytes - (at + 1) < n → (a : ℕ) → Passed 2 bytes at c a rules places (Fault R.UnexpectedEnd (length bytes))
+    unfolding decide commandChecks
+    operands-short h a =
+        let e : n ≡ operands c = knows n nonterminal c K .number in
+        record { means = λ g p q. rw (lt-ltb (length bytes) (at + 1 + operands c) (omega arith)); bounded = tt }
 
-    -- ---- command 30
-    module _ (e : getD bytes at 0 ≡ 0x30) where
-      pub nonterminal-first : at ≡ 0 → Reads bytes at rules places (Fault R.OutOfTurn at)
-      unfolding decide commandChecks unknown outOfTurn operands after
-      nonterminal-first t = refuse R.OutOfTurn at 0x30 e (λ g p q. rw (eq-eqb at 0 t))
+    module _ (h : n ≤ length bytes - (at + 1)) (a : ℕ) (i : a ≡ getD bytes (at + 1) 0) (large : Bool)
+        (e : large ≡ (nonterminal && ltb 31 a)) where
+      pub operands-large : large ≡ true → Passed 2 bytes at c (getD bytes (at + 1) 0) rules places (Fault R.NonterminalTooLarge at)
+      unfolding decide commandChecks
+      operands-large f =
+          rw (← i) (record { means = λ g p q. rw (enough h, ← knows n nonterminal c K .kind, ← e, f); bounded = tt })
 
-      module _ (t : at ≡ 0 → ⊥) where
-        pub nonterminal-bare : rules ≡ 0 → Reads bytes at rules places (Fault R.OutOfTurn at)
-        unfolding decide commandChecks unknown outOfTurn operands after
-        nonterminal-bare r = refuse R.OutOfTurn at 0x30 e (λ g p q. rw (ne-eqb at 0 t, eq-eqb (g .count) 0 (p ∙ r)))
+      pub operands-read : large ≡ false → (m : Command) → Passed 4 bytes at c a rules places m
+          → Passed 2 bytes at c (getD bytes (at + 1) 0) rules places m
+      unfolding decide commandChecks
+      operands-read f m P = rw (← i)
+          (record { means = λ g p q. rw (enough h, ← knows n nonterminal c K .kind, ← e, f) (P .means g p q); bounded = P .bounded })
 
-        module _ (r : rules ≡ 0 → ⊥) where
-          pub nonterminal-short : length bytes < at + 2 → Reads bytes at rules places (Fault R.UnexpectedEnd (length bytes))
-          unfolding decide commandChecks unknown outOfTurn operands after
-          nonterminal-short u =
-              refuse R.UnexpectedEnd (length bytes) 0x30 e (λ g p q. rw (ne-eqb at 0 t, ruled g p r, short u))
+-- ---- the whole command
 
-          module _ (a : ℕ) (f : a ≡ getD bytes (at + 1) 0) (u : at + 2 ≤ length bytes) where
-            pub nonterminal-large : (m : ℕ) → m ≤ a → 32 ≤ m → Reads bytes at rules places (Fault R.NonterminalTooLarge at)
-            unfolding decide commandChecks unknown outOfTurn operands after
-            nonterminal-large m v w =
-                refuse R.NonterminalTooLarge at 0x30 e (λ g p q. rw (ne-eqb at 0 t, ruled g p r, whole u, ← f, large a m v w))
+not-pos : (n : ℕ) → not (ltb 0 n) ≡ eqb n 0
+not-pos zero = refl
+not-pos (suc n) = rw (lt-ltb 0 (suc n) (omega arith), ne-eqb (suc n) 0 (λ e. omega arith))
 
-            module _ (v : a < 32) where
-              pub nonterminal-many : (m : ℕ) → m ≤ places → 8 ≤ m → Reads bytes at rules places (Fault R.TooManyPlaces at)
-              unfolding decide commandChecks unknown outOfTurn operands after
-              nonterminal-many m w x =
-                  refuse R.TooManyPlaces at 0x30 e (λ g p q.
-                  rw (ne-eqb at 0 t, ruled g p r, whole u, ← f, small a v, q, lt-ltb 7 places (omega arith)))
+-- the turn by what has been read is that by the offset and the rules
+pub turn-law : (c at : ℕ) (g : Grammar) (t : Turn) → TurnAt at g t → late c t ≡ outOfTurn c at g
+unfolding outOfTurn
+turn-law c at g t T = rw (T .started, T .opened, not-pos at, not-pos (g .count))
 
-              pub nonterminal-read : places < 8 → Reads bytes at rules places (Place (Nonterminal a))
-              unfolding decide commandChecks unknown outOfTurn operands after
-              nonterminal-read w =
-                  read (Place (Nonterminal a)) 0x30 e
-                  (λ g p q. rw (ne-eqb at 0 t, ruled g p r, whole u, ← f, small a v, q, le-ltb 7 places (omega arith), two))
-                  (u, omega arith, omega arith, le-leb a 31 (omega arith))
+-- so a step by what has been read is a step of loading
+pub turn-step : (bytes : List ℕ) (at : ℕ) (g : Grammar) (t : Turn) → TurnAt at g t → stepAfter t bytes at g ≡ step bytes at g
+unfolding step decide commandChecks
+turn-step bytes at g t T = rw (turn-law (getD bytes at 0) at g t T)
 
-    -- ---- command 40
-    module _ (e : getD bytes at 0 ≡ 0x40) where
-      pub terminal-first : at ≡ 0 → Reads bytes at rules places (Fault R.OutOfTurn at)
-      unfolding decide commandChecks unknown outOfTurn operands after
-      terminal-first t = refuse R.OutOfTurn at 0x40 e (λ g p q. rw (eq-eqb at 0 t))
+-- after the turn, each command but 10 has a start before it
+begun : (c : ℕ) (t : Turn) → late c t ≡ false → eqb c 0x10 ≡ false → t .started ≡ true
+begun c t f e = go (t .started) (rw e at f)
+  where
+    go : (b : Bool) → (not b || ((eqb c 0x30 || eqb c 0x40) && not (t .opened))) ≡ false → b ≡ true
+    go true f = refl
+    go false f = let z : _≡_ {A = ℕ} 0 1 = cc in absurd (omega arith)
 
-      module _ (t : at ≡ 0 → ⊥) where
-        pub terminal-bare : rules ≡ 0 → Reads bytes at rules places (Fault R.OutOfTurn at)
-        unfolding decide commandChecks unknown outOfTurn operands after
-        terminal-bare r = refuse R.OutOfTurn at 0x40 e (λ g p q. rw (ne-eqb at 0 t, eq-eqb (g .count) 0 (p ∙ r)))
+begun-all : (c : ℕ) (t : Turn) → late c t ≡ false → (len at rules places : ℕ) (m : Command) → Bounded len at c rules places m → Begun t m
+begun-all c t f len at rules places (Start k) B = tt
+begun-all c t f len at rules places (Rule k low high) B = begun c t f (B .2)
+begun-all c t f len at rules places (Place s) B = begun c t f (B .2)
+begun-all c t f len at rules places End B = tt
+begun-all c t f len at rules places (Fault r o) B = tt
 
-        module _ (r : rules ≡ 0 → ⊥) where
-          pub terminal-short : length bytes < at + 2 → Reads bytes at rules places (Fault R.UnexpectedEnd (length bytes))
-          unfolding decide commandChecks unknown outOfTurn operands after
-          terminal-short u =
-              refuse R.UnexpectedEnd (length bytes) 0x40 e (λ g p q. rw (ne-eqb at 0 t, ruled g p r, short u))
+module _ (bytes : List ℕ) (at : ℕ) (t : Turn) (rules places : ℕ) where
+  pub reads-ended : length bytes ≤ at → Reads bytes at t rules places (Fault R.UnexpectedEnd (length bytes))
+  unfolding decide
+  reads-ended h = record { means = λ g p q. rw (le-ltb at (length bytes) h); bounded = tt; begun = tt }
 
-          module _ (a : ℕ) (f : a ≡ getD bytes (at + 1) 0) (u : at + 2 ≤ length bytes) where
-            pub terminal-many : (m : ℕ) → m ≤ places → 8 ≤ m → Reads bytes at rules places (Fault R.TooManyPlaces at)
-            unfolding decide commandChecks unknown outOfTurn operands after
-            terminal-many m w x =
-                refuse R.TooManyPlaces at 0x40 e
-                (λ g p q. rw (ne-eqb at 0 t, ruled g p r, whole u, q, lt-ltb 7 places (omega arith)))
+  module _ (l : at < length bytes) where
+    pub reads-unknown : Unknown ≡ classOf (getD bytes at 0) → Reads bytes at t rules places (Fault R.UnknownCommand at)
+    unfolding decide
+    reads-unknown e =
+        record { means = λ g p q. rw (lt-ltb at (length bytes) l, none (unknown (getD bytes at 0)) e); bounded = tt; begun = tt }
+      where
+        none : (b : Bool) → Unknown ≡ cond b Unknown (Known (operands (getD bytes at 0)) (eqb (getD bytes at 0) 0x10
+            || eqb (getD bytes at 0) 0x20 || eqb (getD bytes at 0) 0x30)) → b ≡ true
+        none true e = refl
+        none false e = let z : _≡_ {A = ℕ} 0 1 = cc in absurd (omega arith)
 
-            pub terminal-read : places < 8 → Reads bytes at rules places (Place (Terminal a))
-            unfolding decide commandChecks unknown outOfTurn operands after
-            terminal-read w =
-                read (Place (Terminal a)) 0x40 e
-                (λ g p q. rw (ne-eqb at 0 t, ruled g p r, whole u, ← f, q, le-ltb 7 places (omega arith), two))
-                (u, omega arith, omega arith, refl)
+    module _ (r : Class) (n : ℕ) (nonterminal : Bool) (C : r ≡ classOf (getD bytes at 0)) (E : r ≡ Known n nonterminal) where
+      known-here : unknown (getD bytes at 0) ≡ false
+      known-here = knows n nonterminal (getD bytes at 0) (class-told (getD bytes at 0) r (Known n nonterminal) C E) .known
 
-    -- ---- command 50
-    module _ (e : getD bytes at 0 ≡ 0x50) where
-      pub end-first : at ≡ 0 → Reads bytes at rules places (Fault R.OutOfTurn at)
-      unfolding decide commandChecks unknown outOfTurn operands after
-      end-first t = refuse R.OutOfTurn at 0x50 e (λ g p q. rw (eq-eqb at 0 t))
+      pub reads-late : (b : Bool) → b ≡ late (getD bytes at 0) t → b ≡ true → Reads bytes at t rules places (Fault R.OutOfTurn at)
+      unfolding decide
+      reads-late b e f = record {
+        means = λ g p q. rw (lt-ltb at (length bytes) l, known-here, ← e, f);
+        bounded = tt;
+        begun = tt;
+      }
 
-      pub end-more : (at ≡ 0 → ⊥) → at + 1 < length bytes → Reads bytes at rules places (Fault R.FurtherByte (at + 1))
-      unfolding decide commandChecks unknown outOfTurn operands after
-      end-more t u =
-          refuse R.FurtherByte (at + 1) 0x50 e (λ g p q. rw (ne-eqb at 0 t, whole₀ h, lt-ltb (at + 1) (length bytes) u))
-
-      pub end-read : (at ≡ 0 → ⊥) → length bytes ≤ at + 1 → Reads bytes at rules places End
-      unfolding decide commandChecks unknown outOfTurn operands after
-      end-read t u = read End 0x50 e (λ g p q. rw (ne-eqb at 0 t, whole₀ h, le-ltb (at + 1) (length bytes) u)) tt
-
--- for `search`: each command's laws, with the comparison of numerals that they ask
-pub ruleset start-laws = (start-late, start-short, start-large, start-read, lit≤, tt)
-
-pub ruleset rule-laws = (rule-first, rule-short, rule-large, rule-many, rule-read, lit≤, tt)
-
-pub ruleset nonterminal-laws = (
-  nonterminal-first,
-  nonterminal-bare,
-  nonterminal-short,
-  nonterminal-large,
-  nonterminal-many,
-  nonterminal-read,
-  eqb-true,
-  eqb-false,
-  lit≤,
-  tt,
-)
-
-pub ruleset terminal-laws =
-    (terminal-first, terminal-bare, terminal-short, terminal-many, terminal-read, eqb-true, eqb-false, lit≤, tt)
-
-pub ruleset end-laws = (end-first, end-more, end-read)
+      pub reads-rest : (b : Bool) → b ≡ late (getD bytes at 0) t → b ≡ false → (m : Command)
+          → Passed 2 bytes at (getD bytes at 0) (getD bytes (at + 1) 0) rules places m → Reads bytes at t rules places m
+      unfolding decide
+      reads-rest b e f m P = record {
+        means = λ g p q. rw (lt-ltb at (length bytes) l, known-here, ← e, f)
+            (P .means g p q);
+        bounded = P .bounded;
+        begun = begun-all (getD bytes at 0) t (sym e ∙ f) (length bytes) at rules places m (P .bounded);
+      }

@@ -1,16 +1,32 @@
--- What a command that was read means: the step of loading that it makes, and the bounds that its operands keep.
+-- What a command that was read means: the step of loading that it makes, and the bounds that it keeps.
 -- Assumes nothing.
 use Prim.Native.Nat.{ℕ, _+_, _≤_, _<_}
-use mathlib.Core.Bool.{true}
-use mathlib.Core.List.{List}
+use mathlib.Core.Bool.{true, false, cond, not}
+use mathlib.Core.List.{List, [], _∷_}
 use mathlib.Core.Path.{_≡_}
-use lib.ListN.{length}
+use lib.Dec.{eqb, ltb}
+use lib.ListN.{length, getD, drop}
+use Rattle.grammar.specs.declared.Symbol.{Symbol}
 use Rattle.grammar.specs.declared.Grammar.{Grammar}
+use Rattle.grammar.specs.declared.Refusal.the-variants as R
 use Rattle.grammar.specs.Number.{numberOf}
-use Rattle.grammar.specs.Valid.{validSymbol}
-use Rattle.results.specs.Load.{Step, stop, next, done, step, signed, openRule, withStart, withRule, withPlace}
+use Rattle.results.specs.Answer.{decide}
+use Rattle.results.specs.Load.{Step, stop, next, done, fault, signed, openRule, withStart, withRule, withPlace}
+use Rattle.results.specs.Load.{operands, after, unknown, commandChecks}
+use Rattle.commands.specs.Turn.{late}
 use Rattle.commands.specs.declared.Command.{Command}
 use Rattle.commands.specs.declared.Command.the-variants.{Start, Rule, Place, End, Fault}
+use Rattle.commands.specs.declared.Turn.{Turn}
+
+-- 20 at an offset after so many rules; 30 and 40 in a rule of so many places; 50, which ends at an offset, in a book of so many bytes
+abbrev pub ruleOf : (at rules left low high : ℕ) → Command
+ruleOf at rules left low high = cond (ltb 127 rules) (Fault R.TooManyRules at) (Rule left low high)
+
+abbrev pub placeOf : (at places : ℕ) → Symbol → Command
+placeOf at places s = cond (ltb 7 places) (Fault R.TooManyPlaces at) (Place s)
+
+abbrev pub endOf : (past len : ℕ) → Command
+endOf past len = cond (ltb past len) (Fault R.FurtherByte past) End
 
 -- the step that a command at an offset makes
 abbrev pub stepOf : Command → ℕ → Grammar → Step
@@ -20,15 +36,47 @@ stepOf (Place s) at g = next (at + 2) (withPlace g s)
 stepOf End at g = done g
 stepOf (Fault r o) at g = stop (record { number = numberOf r; offset = o })
 
--- the bounds of a command in a book of so many bytes, after so many rules, the last of which has so many places
-abbrev pub Bounded : (len at rules places : ℕ) → Command → Type 0
-Bounded len at rules places (Start k) = (at + 2 ≤ len) × (k ≤ 31)
-Bounded len at rules places (Rule k low high) = (at + 4 ≤ len) × (k ≤ 31) × (rules < 128)
-Bounded len at rules places (Place s) = (at + 2 ≤ len) × (0 < rules) × (places < 8) × (validSymbol s ≡ true)
-Bounded len at rules places End = Unit {0}
-Bounded len at rules places (Fault r o) = Unit {0}
+-- the bounds of a command, whose byte is c, in a book of so many bytes, after so many rules, the last of which has so many places
+abbrev pub Bounded : (len at c rules places : ℕ) → Command → Type 0
+Bounded len at c rules places (Start k) = at + 2 ≤ len
+Bounded len at c rules places (Rule k low high) = (at + 4 ≤ len) × (rules < 128) × (eqb c 0x10 ≡ false)
+Bounded len at c rules places (Place s) = (at + 2 ≤ len) × (places < 8) × (eqb c 0x10 ≡ false)
+Bounded len at c rules places End = Unit {0}
+Bounded len at c rules places (Fault r o) = Unit {0}
 
--- c is the command at an offset, of each grammar that has so many rules, the last of which has so many places
-pub record Reads (bytes : List ℕ) (at rules places : ℕ) (c : Command) : Type 0 where
-  pub means : (g : Grammar) → g .count ≡ rules → openRule g .count ≡ places → stepOf c at g ≡ step bytes at g
-  pub bounded : Bounded (length bytes) at rules places c
+-- before a rule or a place a start has been read
+abbrev pub Begun : Turn → Command → Type 0
+Begun t (Start k) = Unit {0}
+Begun t (Rule k low high) = t .started ≡ true
+Begun t (Place s) = t .started ≡ true
+Begun t End = Unit {0}
+Begun t (Fault r o) = Unit {0}
+
+-- the command c is known, and all its operands are there
+pub record Whole (len at c : ℕ) : Type 0 where
+  pub known : unknown c ≡ false
+  pub room : at + 1 + operands c ≤ len
+
+-- the step of the command c, whose first operand is a, once the first n of its checks are passed
+abbrev pub stepPast : ℕ → List ℕ → (at c a : ℕ) → Grammar → Step
+stepPast n bytes at c a g =
+    decide (drop n (commandChecks bytes at c a g)) stop (λ _.
+    cond (eqb c 0x50) (done g) (next (at + 1 + operands c) (after c a (getD bytes (at + 2) 0) (getD bytes (at + 3) 0) g)))
+
+-- r is what the checks of c come to once the first n are passed, for each grammar of so many rules, the last of which has so many places
+pub record Passed (n : ℕ) (bytes : List ℕ) (at c a rules places : ℕ) (r : Command) : Type 0 where
+  pub means : (g : Grammar) → g .count ≡ rules → openRule g .count ≡ places → stepOf r at g ≡ stepPast n bytes at c a g
+  pub bounded : Bounded (length bytes) at c rules places r
+
+-- the step at an offset where t has been read, from any grammar on
+abbrev pub stepAfter : Turn → List ℕ → ℕ → Grammar → Step
+stepAfter t bytes at g =
+    let c = getD bytes at 0 in
+    decide (fault (not (ltb at (length bytes))) 1 (length bytes) ∷ fault (unknown c) 2 at ∷ fault (late c t) 3 at ∷ []) stop
+    (λ _. stepPast 2 bytes at c (getD bytes (at + 1) 0) g)
+
+-- r is the command at an offset where t has been read, for each grammar of so many rules, the last of which has so many places
+pub record Reads (bytes : List ℕ) (at : ℕ) (t : Turn) (rules places : ℕ) (r : Command) : Type 0 where
+  pub means : (g : Grammar) → g .count ≡ rules → openRule g .count ≡ places → stepOf r at g ≡ stepAfter t bytes at g
+  pub bounded : Bounded (length bytes) at (getD bytes at 0) rules places r
+  pub begun : Begun t r

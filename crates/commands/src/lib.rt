@@ -1,16 +1,20 @@
-// A command of a book with its operands, and command 20, which opens a rule.
+// The parts of a step of loading that need no more than a few numbers: the class of a command byte, the turn, and the limits.
 use grammar::Refusal;
 use grammar::Symbol;
-ghost use Prim.Native.Nat.{ℕ, _<_};
+ghost use mathlib.Core.Bool.{_&&_};
 ghost use mathlib.Core.Path.{_≡_};
-ghost use lib.ListN.{length, getD};
-ghost use Rattle.commands.specs.Command.{Reads};
+ghost use lib.Dec.{ltb};
+ghost use Rattle.commands.specs.Class.{classOf};
+ghost use Rattle.commands.specs.Command.{ruleOf, placeOf, endOf};
+ghost use Rattle.commands.specs.Turn.{late};
 
-// A book has at most this many rules.
+// A book has at most this many rules, and a rule this many places.
 const RULES: usize = sizes::MAX_RULES;
 
+const PLACES: usize = sizes::MAX_PLACES;
+
 // A nonterminal (kind) is below this.
-pub const NONTERMINALS: u8 = 32;
+const NONTERMINALS: u8 = 32;
 
 // A command with its operands, or the refusal of the command and the offset that the refusal names.
 pub enum Command {
@@ -21,34 +25,84 @@ pub enum Command {
     Fault(Refusal, usize),
 }
 
-// The byte at i, and 0 past the end.
-pub fn byte_at(bytes: &[u8], i: usize) -> u8
-    ensures { λ r. ⌜ r ≡ getD (now (bytes .entry)) i 0 ⌝ }
-{
-    if i < bytes.len() { bytes[i] } else { 0 }
+// What a command byte says: how many operands follow, and whether the first is a nonterminal; or nothing.
+pub enum Class {
+    Known(usize, bool),
+    Unknown,
 }
 
-// Command 20: a rule with its left side and its length, after as many rules as the book has before it.
-pub fn rule_at(bytes: &[u8], at: usize, rules: usize) -> Command
-    requires { ⌜ (at < length (now bytes)) × (getD (now bytes) at 0 ≡ 0x20) ⌝ }
-    ensures { λ r. ⌜ ((places : ℕ) → Reads (now (bytes .entry)) at rules places r) ⌝ }
+// What has been read before a command: a start, and a rule, to which places can be added.
+pub struct Turn {
+    pub started: bool,
+    pub opened: bool,
+}
+
+// Its first byte decides a command's operands.
+pub fn classify(c: u8) -> Class
+    ensures { λ r. ⌜ r ≡ classOf c ⌝ }
 {
-    let first = at + 1;
-    let left = byte_at(bytes, first);
-    if at == 0 {
-        return Command::Fault(Refusal::OutOfTurn, at);
+    match c {
+        0x10 => Class::Known(1, true),
+        0x20 => Class::Known(3, true),
+        0x30 => Class::Known(1, true),
+        0x40 => Class::Known(1, false),
+        0x50 => Class::Known(0, false),
+        _ => Class::Unknown,
     }
-    let after = at + 4;
-    if bytes.len() < after {
-        return Command::Fault(Refusal::UnexpectedEnd, bytes.len());
+}
+
+// Check 3: 10 not first or again, another command first, 30 or 40 before any 20.
+pub fn out_of_turn(c: u8, turn: Turn) -> bool
+    ensures { λ r. ⌜ r ≡ late c turn ⌝ }
+{
+    if c == 0x10 {
+        return turn.started;
     }
-    if left >= NONTERMINALS {
-        return Command::Fault(Refusal::NonterminalTooLarge, at);
+    if !turn.started {
+        return true;
     }
+    if c == 0x30 || c == 0x40 {
+        return !turn.opened;
+    }
+    false
+}
+
+// Check 4, for a command whose first operand is a.
+pub fn too_large(nonterminal: bool, a: u8) -> bool
+    ensures { λ r. ⌜ r ≡ (nonterminal && ltb 31 a) ⌝ }
+{
+    if nonterminal {
+        return a >= NONTERMINALS;
+    }
+    false
+}
+
+// Command 20 after so many rules: check 5.
+pub fn rule(at: usize, rules: usize, left: u8, low: u8, high: u8) -> Command
+    ensures { λ r. ⌜ r ≡ ruleOf at rules left low high ⌝ }
+{
     if rules >= RULES {
         return Command::Fault(Refusal::TooManyRules, at);
     }
-    let low = bytes[at + 2];
-    let high = bytes[at + 3];
     Command::Rule(left, low, high)
+}
+
+// Commands 30 and 40, in an open rule of so many places: check 6.
+pub fn place(at: usize, places: usize, symbol: Symbol) -> Command
+    ensures { λ r. ⌜ r ≡ placeOf at places symbol ⌝ }
+{
+    if places >= PLACES {
+        return Command::Fault(Refusal::TooManyPlaces, at);
+    }
+    Command::Place(symbol)
+}
+
+// Command 50, in a book of so many bytes, after which the offset is next: check 7.
+pub fn end(next: usize, len: usize) -> Command
+    ensures { λ r. ⌜ r ≡ endOf next len ⌝ }
+{
+    if next < len {
+        return Command::Fault(Refusal::FurtherByte, next);
+    }
+    Command::End
 }

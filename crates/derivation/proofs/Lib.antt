@@ -1,7 +1,2 @@
--- The laws of the walk over an offered derivation. What others cite: Whole and Nodes.
-pub mod Spans
-pub mod Walks
-pub mod Nodes
-pub mod Tests
-pub mod Steps
+-- The walk over the whole of an offered row decides whether it is listed.
 pub mod Whole

@@ -23,8 +23,8 @@ use Rattle.chart.proofs.SameTrees.{fits-same-rules, superfluous-same-rules}
 use Rattle.packed.specs.Packed.{cfgIn}
 use Rattle.results.specs.Check.{listed}
 use Rattle.results.proofs.Demand3.Rows.{listed-member, member-listed}
-use Rattle.derivation.specs.Walk.{Walked, Answers}
-use Rattle.derivation.proofs.Walks.{walk-unique}
+use Rattle.preorder.specs.Walk.{Walked, Answers}
+use Rattle.preorder.proofs.Walks.{walk-unique}
 
 -- ---- the test `listed` in terms of derivations
 

@@ -1,13 +1,10 @@
 // Whether an offered row of numbers is a derivation of an input: the walk over the whole of both.
 use packed::Packed;
-use walk::node;
+use preorder::walk::node;
 ghost use mathlib.Core.Path.{_≡_};
 ghost use Rattle.cfg.specs.Listing.{L};
 ghost use Rattle.packed.specs.Packed.{cfgIn};
 ghost use Rattle.results.specs.Check.{listed};
-
-pub mod offered;
-pub mod walk;
 
 // Whether the offered derivation is one of w.
 pub fn is_derivation(p: &Packed, start: usize, w: &[u8], e: &[u16]) -> bool

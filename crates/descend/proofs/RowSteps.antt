@@ -20,9 +20,10 @@ use Rattle.packed.proofs.Fitting.{symbol-nonterminal, symbol-terminal}
 use Rattle.tables.specs.Layout.{costIn, fullIn}
 use Rattle.tables.specs.Exact.{Packing}
 use Rattle.suffixes.specs.Within.{tailIn, rowAt}
-use Rattle.choose.specs.declared.look.Step.{Step}
-use Rattle.choose.specs.declared.look.Step.the-variants.{No, End, Byte, Node}
-use Rattle.choose.specs.Chosen.{EndChosen, Looked, at-end, at-byte, no-byte, at-node, no-node}
+use Rattle.steps.specs.declared.Step.{Step}
+use Rattle.steps.specs.declared.Step.the-variants.{No, End, Byte, Node}
+use Rattle.choose.specs.Chosen.{EndChosen}
+use Rattle.steps.specs.Looked.{Looked, at-end, at-byte, no-byte, at-node, no-node}
 use Rattle.descend.specs.Descend.{Below, FirstAt, NodeFirst, RowFirst}
 use Rattle.descend.proofs.Codes.{first-none, kept-none, first-same, kept-join, first-join}
 

@@ -1,9 +1,9 @@
 // The first derivation below a node, written from the left: a node calls the row of its rule's places, which calls the nodes below it.
 use super::open;
-use choose::look::Step;
-use choose::look::look;
 use fit::FitTable;
 use packed::Packed;
+use steps::Step;
+use steps::look;
 use suffixes::rows::Rows;
 use tables::layout::Full;
 use tables::layout::ROWS_SIZE;
@@ -52,7 +52,7 @@ pub fn node(
         &mut full,
         &mut rows,
     );
-    if r >= sizes::MAX_RULES {
+    if r >= sizes::NO_RULE {
         return 0;
     }
     nodes::put_node(j - i, r, out, at);

@@ -42,7 +42,7 @@ pub fn make_costs(
 }
 
 // Makes the costs over the span from i to j under the mask `own`, if they are not made, and those of the places of the first rule of k
-// from `from` on that they allow within the budget. The result is that rule, 128 if there is none.
+// from `from` on that they allow within the budget. The result is that rule, no rule if there is none.
 pub fn open_node(
     p: &Packed,
     rules: usize,
@@ -65,11 +65,11 @@ pub fn open_node(
         (now (full .exit)) (now (rows .exit)) r ⌝ }
 {
     if budget == 0 {
-        return sizes::MAX_RULES;
+        return sizes::NO_RULE;
     }
     make_costs(p, rules, chart, own, tables, i, j, full);
     let r = choose_rule(p, rules, from, k, full, tables, i, j, budget);
-    if r >= sizes::MAX_RULES {
+    if r >= sizes::NO_RULE {
         return r;
     }
     put_rows(p, r, fits, tables, full, i, j, rows);

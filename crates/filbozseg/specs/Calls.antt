@@ -1,4 +1,4 @@
--- What each exported function returns and leaves, in terms of the results of document 01. A grammar is a flat row (crate flat), a state of
+-- What each exported function returns and leaves, in terms of the results of document 01. A grammar is a flat row (crate rows), a state of
 -- the recognizer the row of a hand (crate hand).
 -- Assumes nothing.
 use Prim.Native.Nat.{ℕ}

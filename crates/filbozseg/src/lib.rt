@@ -19,7 +19,7 @@ pub extern "C" fn filbozseg_load(book: &[u8], grammar: &mut Flat, offset: &mut u
     let l = loader::load(book);
     let g = l.grammar;
     let outcome = l.outcome;
-    flat::write(g, grammar);
+    flatten::write(g, grammar);
     encoding::of_loading(outcome, offset)
 }
 

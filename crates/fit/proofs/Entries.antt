@@ -1,55 +1,86 @@
--- The byte of one position and rule, place by place.
+-- Entries of a fit table as they are written: one more place of one position, and what was written in two goes.
 -- Assumes nothing.
-use Prim.Native.Nat.{ℕ, _+_, _≤_, _<_}
+use Prim.Native.Nat.{ℕ, _+_, _*_, _<_}
 use mathlib.Core.Bool.{Bool, true, false}
 use mathlib.Core.List.{List}
-use mathlib.Core.Logic.{_≢_}
-use mathlib.Core.Path.{_≡_, sym, ap, _∙_, subst}
+use mathlib.Core.Logic.{_⊎_, inl, inr}
+use mathlib.Core.Path.{_≡_, refl, sym, ap, _∙_}
 use native.Mathlib.Decide.{ℕ-discrete}
 use native.Mathlib.Omega.{arith}
+use lib.ListN.{length, getD, set, length-set}
+use lib.Seq.{getD-set-same, getD-set-other}
+use Rattle.sizes.specs.Sizes.{maxRules}
 use Rattle.sets.specs.Set.{has, insert}
-use Rattle.sets.proofs.Laws.{has-empty, has-insert-same, has-insert-other, insert-below}
+use Rattle.sets.proofs.Laws.{has-insert-same, has-insert-other, insert-below}
 use Rattle.packed.specs.Packed.{symbolIn, fitsPlace}
-use Rattle.fit.specs.Fit.{Entry}
+use Rattle.fit.specs.Fit.{fitSize, entryIn, fitIn, Asked, Put, At}
 
-module _ (p w : List ℕ) (r i : ℕ) where
-  -- v is right for the places below q, and has no other
-  pub record EntryTo (q v : ℕ) : Type 0 where
-    pub small : v < 256
-    pub done : (k : ℕ) → k < q → has k v ≡ fitsPlace w (symbolIn p r k) i
-    pub rest : (k : ℕ) → q ≤ k → has k v ≡ false
+-- a byte with one of 8 members is a byte
+module _ (q x n v : ℕ) (f : n ≡ x) (g : v ≡ insert q n) where
+  pub byte-with : v ≡ insert q x
+  byte-with = g ∙ ap (insert q) f
 
-  pub entry-start : EntryTo 0 0
-  entry-start = record { small = omega arith; done = λ k h. absurd (omega arith); rest = λ k h. has-empty k }
+  pub byte-small : q < 8 → x < 256 → v < 256
+  byte-small h l = omega (arith, byte-with, insert-below 8 q x h l)
 
-  -- the places below q + 1, from those below q and q itself
-  done-more : (q x : ℕ) → ((k : ℕ) → k < q → has k x ≡ fitsPlace w (symbolIn p r k) i) → has q x ≡ fitsPlace w (symbolIn p r q) i
-      → (k : ℕ) → k < q + 1 → has k x ≡ fitsPlace w (symbolIn p r k) i
-  done-more q x done here k h = go (ℕ-discrete k q)
+module _ (p w : List ℕ) where
+  pub put-none : (asked : Asked) (t : List ℕ) → length t ≡ fitSize → ((i r q : ℕ) → asked i r q → ⊥) → Put p w asked t t
+  put-none asked t long none = record { long = long; here = λ i r q l m a. absurd (none i r q a); other = λ i r q l m n. refl }
+
+  -- one go and then another that asks nothing of the first; all says of each entry in which of them it is
+  pub put-then : (first second both : Asked) (t t' t'' : List ℕ) → Put p w first t t' → Put p w second t' t''
+      → ((i r q : ℕ) → both i r q → (first i r q × (second i r q → ⊥)) ⊎ (second i r q × (first i r q → ⊥)))
+      → ((i r q : ℕ) → first i r q → both i r q) → ((i r q : ℕ) → second i r q → both i r q) → Put p w both t t''
+  put-then first second both t t' t'' a b split left right =
+      record {
+        long = b .long;
+        here = λ i r q l m x e. go i r q l m e (split i r q x);
+        other = λ i r q l m n. b .other i r q l m (λ x. n (right i r q x)) ∙ a .other i r q l m (λ x. n (left i r q x));
+      }
     where
-      go : Dec (k ≡ q) → has k x ≡ fitsPlace w (symbolIn p r k) i
-      go (yes e) = subst (λ (j : ℕ). has j x ≡ fitsPlace w (symbolIn p r j) i) (sym e) here
-      go (no e) =
-          let d : k ≢ q = e in
-          done k (omega arith)
+      go : (i r q : ℕ) → i < 64 → r < maxRules → fitIn t i r q ≡ false
+          → (first i r q × (second i r q → ⊥)) ⊎ (second i r q × (first i r q → ⊥)) → fitIn t'' i r q ≡ fitsPlace w (symbolIn p r q) i
+      go i r q l m e (inl x) = b .other i r q l m (x .1) ∙ a .here i r q l m (x .0) e
+      go i r q l m e (inr x) = b .here i r q l m (x .0) (a .other i r q l m (x .1) ∙ e)
 
-  pub entry-with : (q v x : ℕ) (b : Bool) → q < 8 → b ≡ fitsPlace w (symbolIn p r q) i → b ≡ true → x ≡ insert q v
-      → EntryTo q v → EntryTo (q + 1) x
-  entry-with q v x b h e f g to =
-      record {
-        small = omega (arith, insert-below 8 q v h (to .small));
-        done = done-more q x (λ k l. ap (has k) g ∙ has-insert-other k q v (omega arith) ∙ to .done k l)
-            (ap (has q) g ∙ has-insert-same q v ∙ sym f ∙ e);
-        rest = λ k l. ap (has k) g ∙ has-insert-other k q v (omega arith) ∙ to .rest k (omega arith);
-      }
+  -- ---- one entry
 
-  pub entry-without : (q v x : ℕ) (b : Bool) → b ≡ fitsPlace w (symbolIn p r q) i → b ≡ false → x ≡ v → EntryTo q v → EntryTo (q + 1) x
-  entry-without q v x b e f g to =
-      record {
-        small = omega (arith, to .small);
-        done = done-more q x (λ k l. ap (has k) g ∙ to .done k l) (ap (has q) g ∙ to .rest q (omega arith) ∙ sym f ∙ e);
-        rest = λ k l. ap (has k) g ∙ to .rest k (omega arith);
-      }
+  module _ (r q i : ℕ) (below : r < 128) (low : i < 64) (t : List ℕ) (long : length t ≡ fitSize) where
+    pub unfit : (b : Bool) → b ≡ fitsPlace w (symbolIn p r q) i → b ≡ false → Put p w (At i r q) t t
+    unfit b e f =
+        record {
+          long = long;
+          here = λ a s j l m x z. z ∙ sym f ∙ e ∙ sym (at a s j x);
+          other = λ a s j l m n. refl;
+        }
+      where
+        at : (a s j : ℕ) → At i r q a s j → fitsPlace w (symbolIn p s j) a ≡ fitsPlace w (symbolIn p r q) i
+        at a s j (x, y, z) = rw (x, y, z)
 
-  pub entry-done : (q v : ℕ) → 8 ≤ q → EntryTo q v → Entry p w r i v
-  entry-done q v h to = record { small = to .small; exact = λ k l. to .done k (omega arith) }
+    module _ (v : ℕ) (b : Bool) (g : v ≡ insert q (entryIn t i r)) (e : b ≡ fitsPlace w (symbolIn p r q) i) (f : b ≡ true) where
+      abbrev new : List ℕ
+      new = set t (maxRules * i + r) v
+
+      new-here : entryIn new i r ≡ v
+      new-here = getD-set-same t (maxRules * i + r) v 0 (omega arith)
+
+      pub fitted : Put p w (At i r q) t new
+      unfolding fitIn
+      fitted =
+          record {
+            long = length-set t (maxRules * i + r) v ∙ long;
+            here = here;
+            other = λ a s j. other a s j (ℕ-discrete (maxRules * a + s) (maxRules * i + r));
+          }
+        where
+          here : (a s j : ℕ) → a < 64 → s < maxRules → At i r q a s j → fitIn t a s j ≡ false
+              → fitIn new a s j ≡ fitsPlace w (symbolIn p s j) a
+          here a s j l m (x, y, z) _ = rw (x, y, z) (ap (has q) (new-here ∙ g) ∙ has-insert-same q (entryIn t i r) ∙ sym f ∙ e)
+
+          other : (a s j : ℕ) → Dec (maxRules * a + s ≡ maxRules * i + r) → a < 64 → s < maxRules → (At i r q a s j → ⊥)
+              → fitIn new a s j ≡ fitIn t a s j
+          other a s j (yes d) l m n =
+              let x : a ≡ i = omega arith in
+              let y : s ≡ r = omega arith in
+              rw (x, y) (ap (has j) (new-here ∙ g) ∙ has-insert-other j q (entryIn t i r) (λ z. n (x, y, z)))
+          other a s j (no d) l m n = ap (has j) (getD-set-other t (maxRules * i + r) (maxRules * a + s) v 0 d)

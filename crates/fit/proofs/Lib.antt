@@ -1,3 +1,4 @@
 -- The laws of fit tables.
 pub mod Entries
 pub mod Tables
+pub mod Reading

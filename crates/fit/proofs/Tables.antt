@@ -1,91 +1,143 @@
--- The bytes of one position, rule by rule, and the table, position by position.
+-- The fit table, place by place and rule by rule: what the steps of the code give.
 -- Assumes nothing.
-use Prim.Native.Nat.{ℕ, _+_, _*_, _/_, _%_, _≤_, _<_}
-use mathlib.Core.Bool.{Bool}
+use Prim.Native.Nat.{ℕ, zero, suc, _+_, _*_, _≤_, _<_}
+use mathlib.Core.Bool.{Bool, true, false}
 use mathlib.Core.List.{List}
-use mathlib.Core.Logic.{_≢_}
+use mathlib.Core.Logic.{_≢_, _⊎_, inl, inr}
 use mathlib.Core.Path.{_≡_, refl, sym, ap, _∙_, subst}
-use native.Mathlib.Decide.{ℕ-discrete}
+use native.Mathlib.Decide.{ℕ-discrete, decLt}
 use native.Mathlib.Omega.{arith}
-use lib.ListN.{length, getD, set, replicate, length-set, length-replicate}
-use lib.Seq.{getD-set-same, getD-set-other}
+use lib.ListN.{length, getD, replicate, length-replicate}
+use borrow.Author.Tests.{le-ltb}
 use Rattle.sizes.specs.Sizes.{maxRules}
 use Rattle.sets.specs.Set.{has}
-use Rattle.fit.specs.Fit.{fitSize, entryIn, fitIn, Entry, PositionPut, Told}
+use Rattle.sets.proofs.Laws.{has-empty}
+use Rattle.cfg.specs.Grammar.{Symbol, nonterminal, terminal}
+use Rattle.chart.specs.Cell.{fitsAt}
+use Rattle.packed.specs.Packed.{leftIn, countIn, Used, isNonterminalIn, symbolIn, fitsPlace}
+use Rattle.packed.proofs.Fitting.{fits-nonterminal}
+use Rattle.packed.proofs.Laws.{count-unused}
+use Rattle.fit.specs.Fit.{fitSize, fitIn, Asked, Put, At, AtPlace, AtRule, Positions, Told}
+use Rattle.fit.proofs.Entries.{put-none, put-then}
 
--- ---- one position
+-- ---- one place
 
-module _ (p w : List ℕ) (i : ℕ) (t₀ : List ℕ) where
-  -- t is t₀ but for the bytes of position i and the rules below r, which are right
-  pub record PositionTo (r : ℕ) (t : List ℕ) : Type 0 where
-    pub long : length t ≡ fitSize
-    pub done : (s : ℕ) → s < r → Entry p w s i (entryIn t i s)
-    pub other : (j s : ℕ) → j ≢ i → s < maxRules → entryIn t j s ≡ entryIn t₀ j s
+module _ (p w : List ℕ) (r q : ℕ) (t₀ : List ℕ) where
+  pub place-start : length t₀ ≡ fitSize → Put p w (AtPlace 0 r q) t₀ t₀
+  place-start long = put-none p w (AtPlace 0 r q) t₀ long (λ i s j x. omega (arith, x .0))
 
-  pub position-start : length t₀ ≡ fitSize → PositionTo 0 t₀
-  position-start e = record { long = e; done = λ s h. absurd (omega arith); other = λ j s d h. refl }
-
-  pub position-step : (r v : ℕ) (t : List ℕ) → i < 64 → r < 128 → Entry p w r i v → PositionTo r t
-      → PositionTo (r + 1) (set t (maxRules * i + r) v)
-  position-step r v t low few entry to = record { long = length-set t (maxRules * i + r) v ∙ to .long; done = done; other = other }
+  -- one position more
+  pub place-step : (i : ℕ) (t t' : List ℕ) → Put p w (AtPlace i r q) t₀ t → Put p w (At i r q) t t' → Put p w (AtPlace (i + 1) r q) t₀ t'
+  place-step i t t' a b = put-then p w (AtPlace i r q) (At i r q) (AtPlace (i + 1) r q) t₀ t t' a b
+      (λ c s j x. go c s j x (ℕ-discrete c i))
+      (λ c s j x. (omega (arith, x .0), x .1, x .2)) (λ c s j x. (omega (arith, x .0), x .1, x .2))
     where
-      done : (s : ℕ) → s < r + 1 → Entry p w s i (entryIn (set t (maxRules * i + r) v) i s)
-      done s h = go (ℕ-discrete s r)
-        where
-          go : Dec (s ≡ r) → Entry p w s i (entryIn (set t (maxRules * i + r) v) i s)
-          go (yes e) = subst (λ (k : ℕ). Entry p w k i (entryIn (set t (maxRules * i + r) v) i k)) (sym e)
-              (subst (Entry p w r i) (sym (getD-set-same t (maxRules * i + r) v 0 (omega (arith, to .long)))) entry)
-          go (no e) =
-              let d : s ≢ r = e in
-              subst (Entry p w s i) (sym (getD-set-other t (maxRules * i + r) (maxRules * i + s) v 0 (omega arith)))
-              (to .done s (omega arith))
+      go : (c s j : ℕ) → AtPlace (i + 1) r q c s j → Dec (c ≡ i)
+          → (AtPlace i r q c s j × (At i r q c s j → ⊥)) ⊎ (At i r q c s j × (AtPlace i r q c s j → ⊥))
+      go c s j x (yes e) = inr ((e, x .1, x .2), λ y. omega (arith, y .0))
+      go c s j x (no e) = let d : c ≢ i = e in inl ((omega (arith, x .0), x .1, x .2), λ y. e (y .0))
 
-      other : (j s : ℕ) → j ≢ i → s < maxRules → entryIn (set t (maxRules * i + r) v) j s ≡ entryIn t₀ j s
-      other j s d h = getD-set-other t (maxRules * i + r) (maxRules * j + s) v 0 (omega arith) ∙ to .other j s d h
+  pub place-done : (i n : ℕ) (t : List ℕ) → i ≤ n → n ≤ i → Put p w (AtPlace i r q) t₀ t → Put p w (AtPlace n r q) t₀ t
+  place-done i n t l h to =
+      let e : i ≡ n = omega arith in
+      subst (λ (x : ℕ). Put p w (AtPlace x r q) t₀ t) e to
 
-  pub position-done : (r : ℕ) (t : List ℕ) → 128 ≤ r → PositionTo r t → PositionPut p w i t₀ t
-  position-done r t h to = record { long = to .long; here = λ s l. to .done s (omega arith); other = to .other }
-
--- ---- all positions
-
-module _ (p w : List ℕ) where
-  -- the bytes of the positions below i are right
-  pub record TableTo (i : ℕ) (t : List ℕ) : Type 0 where
-    pub long : length t ≡ fitSize
-    pub done : (j r : ℕ) → j < i → r < maxRules → Entry p w r j (entryIn t j r)
-
-  -- any number of bytes, so that nothing computes
-  table-of : (n : ℕ) → n ≡ fitSize → TableTo 0 (replicate n 0)
-  table-of n e = record { long = length-replicate {A = ℕ} n 0 ∙ e; done = λ j r h. absurd (omega arith) }
-
-  pub table-start : TableTo 0 (replicate fitSize 0)
-  table-start = table-of fitSize (λ i. fitSize)
-
-  pub table-step : (i : ℕ) (t t' : List ℕ) → PositionPut p w i t t' → TableTo i t → TableTo (i + 1) t'
-  table-step i t t' put to = record { long = put .long; done = done }
-    where
-      done : (j r : ℕ) → j < i + 1 → r < maxRules → Entry p w r j (entryIn t' j r)
-      done j r h l = go (ℕ-discrete j i)
-        where
-          go : Dec (j ≡ i) → Entry p w r j (entryIn t' j r)
-          go (yes e) = subst (λ (k : ℕ). Entry p w r k (entryIn t' k r)) (sym e) (put .here r l)
-          go (no e) =
-              let d : j ≢ i = e in
-              subst (Entry p w r j) (sym (put .other j r d l)) (to .done j r (omega arith) l)
-
-  pub table-done : (i : ℕ) (t : List ℕ) → 64 ≤ i → TableTo i t → Told p w t
-  unfolding fitIn
-  table-done i t h to =
+  -- a nonterminal fits no position
+  pub place-node : (n : ℕ) (b : Bool) → length t₀ ≡ fitSize → b ≡ isNonterminalIn p r q → b ≡ true → Put p w (AtPlace n r q) t₀ t₀
+  place-node n b long e f =
       record {
-        long = to .long;
-        small = λ x l.
-            let e : maxRules * (x / 128) + x % 128 ≡ x = omega arith in
-            subst (λ (y : ℕ). getD t y 0 < 256) e (to .done (x / 128) (x % 128) (omega arith) (omega arith) .small);
-        exact = λ j r q a b c. to .done j r (omega arith) b .exact q c;
+        long = long;
+        here = λ i s j l m x z. z ∙ fits-nonterminal p r q w i b e f ∙ at i s j x;
+        other = λ i s j l m x. refl;
       }
+    where
+      at : (i s j : ℕ) → AtPlace n r q i s j → fitsPlace w (symbolIn p r q) i ≡ fitsPlace w (symbolIn p s j) i
+      at i s j (x, y, z) = rw (y, z)
 
--- ---- reading
+-- ---- one rule
 
-pub fit-read : (t : List ℕ) (i r q v : ℕ) (b : Bool) → v ≡ entryIn t i r → b ≡ has q v → b ≡ fitIn t i r q
+module _ (p w : List ℕ) (n r : ℕ) (t₀ : List ℕ) where
+  pub rule-start : length t₀ ≡ fitSize → Put p w (AtRule n r 0) t₀ t₀
+  rule-start long = put-none p w (AtRule n r 0) t₀ long (λ i s j x. omega (arith, x .2))
+
+  pub rule-step : (q : ℕ) (t t' : List ℕ) → Put p w (AtRule n r q) t₀ t → Put p w (AtPlace n r q) t t' → Put p w (AtRule n r (q + 1)) t₀ t'
+  rule-step q t t' a b = put-then p w (AtRule n r q) (AtPlace n r q) (AtRule n r (q + 1)) t₀ t t' a b
+      (λ i s j x. go i s j x (ℕ-discrete j q))
+      (λ i s j x. (x .0, x .1, omega (arith, x .2))) (λ i s j x. (x .0, x .1, omega (arith, x .2)))
+    where
+      go : (i s j : ℕ) → AtRule n r (q + 1) i s j → Dec (j ≡ q)
+          → (AtRule n r q i s j × (AtPlace n r q i s j → ⊥)) ⊎ (AtPlace n r q i s j × (AtRule n r q i s j → ⊥))
+      go i s j x (yes e) = inr ((x .0, x .1, e), λ y. omega (arith, y .2))
+      go i s j x (no e) = let d : j ≢ q = e in inl ((x .0, x .1, omega (arith, x .2)), λ y. e (y .2))
+
+  pub rule-done : (q c : ℕ) (t : List ℕ) → q ≤ c → c ≤ q → c ≡ countIn p r → Put p w (AtRule n r q) t₀ t
+      → Put p w (AtRule n r (countIn p r)) t₀ t
+  rule-done q c t l h e to =
+      let d : q ≡ countIn p r = omega arith in
+      subst (λ (x : ℕ). Put p w (AtRule n r x) t₀ t) d to
+
+-- ---- all rules
+
+zero-word : (m x : ℕ) → _≡_ {A = ℕ} (getD (replicate m 0) x 0) 0
+zero-word zero x = refl
+zero-word (suc m) zero = refl
+zero-word (suc m) (suc x) = zero-word m x
+
+zero-fit : (m i r q : ℕ) → fitIn (replicate m 0) i r q ≡ false
 unfolding fitIn
-fit-read t i r q v b e f = f ∙ ap (has q) e
+zero-fit m i r q = ap (has q) (zero-word m (maxRules * i + r)) ∙ has-empty q
+
+-- nothing fits behind the input
+past-fits : (w : List ℕ) (s : Symbol) (i : ℕ) → length w ≤ i → fitsPlace w s i ≡ false
+unfolding fitsPlace fitsAt
+past-fits w (nonterminal k) i h = refl
+past-fits w (terminal t) i h = rw (le-ltb i (length w) h)
+
+-- a number with places is that of a rule
+places-used : (p : List ℕ) (r q : ℕ) → q < countIn p r → leftIn p r < 32
+places-used p r q h = go (decLt (leftIn p r) 32)
+  where
+    go : Dec (leftIn p r < 32) → leftIn p r < 32
+    go (yes l) = l
+    go (no l) = absurd (omega (arith, count-unused p r (omega arith)))
+
+module _ (p w : List ℕ) (n : ℕ) where
+  -- at n positions, the places of the rules below r
+  abbrev Below : ℕ → Asked
+  Below r i s j = (i < n) × (s < r) × (j < countIn p s)
+
+  -- the rules below r are told; any number of bytes, so that nothing computes
+  pub record TableTo (k r : ℕ) (t : List ℕ) : Type 0 where
+    pub put : Put p w (Below r) (replicate k 0) t
+
+  table-of : (k : ℕ) → k ≡ fitSize → TableTo k 0 (replicate k 0)
+  table-of k e = record {
+    put = put-none p w (Below 0) (replicate k 0) (length-replicate {A = ℕ} k 0 ∙ e) (λ i s j x. omega (arith, x .1));
+  }
+
+  pub table-start : TableTo fitSize 0 (replicate fitSize 0)
+  table-start = table-of fitSize refl
+
+  pub table-step : (k r : ℕ) (t t' : List ℕ) → TableTo k r t → Put p w (AtRule n r (countIn p r)) t t' → TableTo k (r + 1) t'
+  table-step k r t t' to put = record {
+    put = put-then p w (Below r) (AtRule n r (countIn p r)) (Below (r + 1)) (replicate k 0) t t' (to .put) put
+        (λ i s j x. go i s j x (ℕ-discrete s r))
+        (λ i s j x. (x .0, omega (arith, x .1), x .2))
+        (λ i s j x. (x .0, omega (arith, x .1), subst (λ (y : ℕ). j < countIn p y) (sym (x .1)) (x .2)));
+  }
+    where
+      go : (i s j : ℕ) → Below (r + 1) i s j → Dec (s ≡ r)
+          → (Below r i s j × (AtRule n r (countIn p r) i s j → ⊥)) ⊎ (AtRule n r (countIn p r) i s j × (Below r i s j → ⊥))
+      go i s j x (yes e) = inr ((x .0, e, subst (λ (y : ℕ). j < countIn p y) e (x .2)), λ y. omega (arith, y .1))
+      go i s j x (no e) = let d : s ≢ r = e in inl ((x .0, omega (arith, x .1), x .2), λ y. e (y .1))
+
+  pub table-done : (k rules r : ℕ) (t : List ℕ) → rules ≤ r → Used p rules → Positions (length w) n → TableTo k r t → Told p w t
+  table-done k rules r t h used positions to = record { long = to .put .long; exact = λ i s q l m c. go i s q l m c (decLt i n) }
+    where
+      go : (i s q : ℕ) → i < 64 → s < 128 → q < countIn p s → Dec (i < n) → fitIn t i s q ≡ fitsPlace w (symbolIn p s q) i
+      go i s q l m c (yes d) =
+          let b : s < rules = used s m (places-used p s q c) in
+          to .put .here i s q l m (d, omega arith, c) (zero-fit k i s q)
+      go i s q l m c (no d) =
+          to .put .other i s q l m (λ x. d (x .0)) ∙ zero-fit k i s q
+          ∙ sym (past-fits w (symbolIn p s q) i (positions .all i l (omega arith)))

@@ -1,15 +1,15 @@
 -- The fit table of a packed grammar and an input: for each position and rule one byte, whose bit q says whether place q of the rule is a
--- terminal that fits the byte at the position. A place past the rule's count is told by its bytes too, like any other.
+-- terminal that fits the byte at the position.
 -- Assumes nothing.
-use Prim.Native.Nat.{ℕ, _+_, _*_, _<_}
-use mathlib.Core.Bool.{Bool}
+use Prim.Native.Nat.{ℕ, _+_, _*_, _≤_, _<_}
+use mathlib.Core.Bool.{Bool, false}
 use mathlib.Core.List.{List}
-use mathlib.Core.Logic.{_≢_}
 use mathlib.Core.Path.{_≡_}
 use lib.ListN.{length, getD}
-use Rattle.sizes.specs.Sizes.{maxInput, maxRules, maxPlaces}
+use Rattle.sizes.specs.Sizes.{maxInput, maxRules}
 use Rattle.sets.specs.Set.{has}
-use Rattle.packed.specs.Packed.{symbolIn, fitsPlace}
+use Rattle.cfg.specs.Grammar.{Terminal}
+use Rattle.packed.specs.Packed.{countIn, isNonterminalIn, terminalIn, symbolIn, fitsPlace}
 
 -- the bytes of a fit table
 abbrev pub fitSize : ℕ
@@ -23,19 +23,43 @@ entryIn t i r = getD t (maxRules * i + r) 0
 unfoldable pub fitIn : List ℕ → ℕ → ℕ → ℕ → Bool
 fitIn t i r q = has q (entryIn t i r)
 
--- v is a byte that has the places of rule r that fit position i
-pub record Entry (p w : List ℕ) (r i v : ℕ) : Type 0 where
-  pub small : v < 256
-  pub exact : (q : ℕ) → q < maxPlaces → has q v ≡ fitsPlace w (symbolIn p r q) i
-
--- t is t₀ but for the bytes of position i, which are right
-pub record PositionPut (p w : List ℕ) (i : ℕ) (t₀ t : List ℕ) : Type 0 where
-  pub long : length t ≡ fitSize
-  pub here : (r : ℕ) → r < maxRules → Entry p w r i (entryIn t i r)
-  pub other : (j r : ℕ) → j ≢ i → r < maxRules → entryIn t j r ≡ entryIn t₀ j r
-
--- t tells for each position, rule and place whether they fit
+-- t tells for each position, rule and place of the rule whether they fit
 pub record Told (p w t : List ℕ) : Type 0 where
   pub long : length t ≡ fitSize
-  pub small : (x : ℕ) → x < fitSize → getD t x 0 < 256
-  pub exact : (i r q : ℕ) → i < maxInput → r < maxRules → q < maxPlaces → fitIn t i r q ≡ fitsPlace w (symbolIn p r q) i
+  pub exact : (i r q : ℕ) → i < maxInput → r < maxRules → q < countIn p r → fitIn t i r q ≡ fitsPlace w (symbolIn p r q) i
+
+-- t tells at the positions before n which terminals of the rules fit
+abbrev pub Tells : (ℕ → Terminal → Bool) → List ℕ → List ℕ → ℕ → Type 0
+Tells fit p t n =
+    (i r q : ℕ) → i < n → r < maxRules → q < countIn p r → isNonterminalIn p r q ≡ false
+    → has q (entryIn t i r) ≡ fit i (terminalIn p r q)
+
+-- ---- the table as it is written
+
+-- m is how many positions of n are told: all, 64 at most
+pub record Positions (n m : ℕ) : Type 0 where
+  pub small : m ≤ maxInput
+  pub all : (i : ℕ) → i < maxInput → m ≤ i → n ≤ i
+
+-- what is asked of a position, a rule and a place
+abbrev pub Asked : Type 1
+Asked = ℕ → ℕ → ℕ → Type 0
+
+-- where asked, t' tells whether they fit if t told that they do not; elsewhere it is as t
+pub record Put (p w : List ℕ) (asked : Asked) (t t' : List ℕ) : Type 0 where
+  pub long : length t' ≡ fitSize
+  pub here : (i r q : ℕ) → i < maxInput → r < maxRules → asked i r q → fitIn t i r q ≡ false
+      → fitIn t' i r q ≡ fitsPlace w (symbolIn p r q) i
+  pub other : (i r q : ℕ) → i < maxInput → r < maxRules → (asked i r q → ⊥) → fitIn t' i r q ≡ fitIn t i r q
+
+-- at position i, place q of rule r
+abbrev pub At : ℕ → ℕ → ℕ → Asked
+At i r q a s j = (a ≡ i) × (s ≡ r) × (j ≡ q)
+
+-- at the positions before n, place q of rule r
+abbrev pub AtPlace : ℕ → ℕ → ℕ → Asked
+AtPlace n r q i s j = (i < n) × (s ≡ r) × (j ≡ q)
+
+-- at these positions, the places of rule r below q
+abbrev pub AtRule : ℕ → ℕ → ℕ → Asked
+AtRule n r q i s j = (i < n) × (s ≡ r) × (j < q)

@@ -3,7 +3,9 @@ use packed::Packed;
 ghost use mathlib.Core.Path.{_≡_};
 ghost use Prim.Native.Nat.{_<_, _≤_};
 ghost use lib.ListN.{length};
-ghost use Rattle.fit.specs.Fit.{fitSize, fitIn, Entry, PositionPut, Told};
+ghost use Rattle.sets.specs.Set.{insert};
+ghost use Rattle.packed.specs.Packed.{countIn};
+ghost use Rattle.fit.specs.Fit.{fitSize, Told, Positions, Put, At, AtPlace, AtRule};
 
 // One byte for each position and rule.
 pub const FIT_SIZE: usize = sizes::MAX_INPUT * sizes::MAX_RULES;
@@ -16,47 +18,6 @@ pub fn tied_size() -> usize
     FIT_SIZE
 }
 
-// The places of rule r that fit position i, each a bit.
-fn entry(p: &Packed, r: usize, w: &[u8], i: usize) -> u8
-    requires { ⌜ r < 128 ⌝ }
-    ensures { λ v. ⌜ Entry (now (p .entry)) (now (w .entry)) r i v ⌝ }
-{
-    let mut v: u32 = 0;
-    let mut q = 0;
-    while q < sizes::MAX_PLACES {
-        if packed::fits_at(p, r, q, w, i) {
-            v = sets::with(v, q);
-        }
-        q += 1;
-    }
-    v as u8
-}
-
-// Writes the bytes of position i.
-fn write_position(p: &Packed, w: &[u8], i: usize, t: &mut FitTable)
-    requires { ⌜ (i < 64) × (length (now t) ≡ fitSize) ⌝ }
-    ensures { λ _. ⌜ PositionPut (now (p .entry)) (now (w .entry)) i (now (t .entry)) (now (t .exit)) ⌝ }
-{
-    let mut r = 0;
-    while r < sizes::MAX_RULES {
-        t[sizes::MAX_RULES * i + r] = entry(p, r, w, i);
-        r += 1;
-    }
-}
-
-// The fit table of a grammar and an input. Of an input longer than 64 bytes the first 64 positions are told.
-pub fn table(p: &Packed, w: &[u8]) -> FitTable
-    ensures { λ t. ⌜ Told (now (p .entry)) (now (w .entry)) t ⌝ }
-{
-    let mut t = [0u8; FIT_SIZE];
-    let mut i = 0;
-    while i < sizes::MAX_INPUT {
-        write_position(p, w, i, &mut t);
-        i += 1;
-    }
-    t
-}
-
 // A byte as a word.
 pub fn wide_word(x: u8) -> u32
     ensures { λ n. ⌜ n ≡ x ⌝ }
@@ -64,10 +25,82 @@ pub fn wide_word(x: u8) -> u32
     x as u32
 }
 
-// Whether place q of rule r fits position i, by the table.
-pub fn fits(t: &[u8], i: usize, r: usize, q: usize) -> bool
-    requires { ⌜ (i < 64) × (r < 128) × (q < 8) × (fitSize ≤ length (now t)) ⌝ }
-    ensures { λ b. ⌜ b ≡ fitIn (now (t .entry)) i r q ⌝ }
+// How many positions of an input are told: all, 64 at most.
+fn positions(n: usize) -> usize
+    ensures { λ m. ⌜ Positions n m ⌝ }
 {
-    sets::has(wide_word(t[sizes::MAX_RULES * i + r]), q)
+    if n < sizes::MAX_INPUT {
+        n
+    } else {
+        sizes::MAX_INPUT
+    }
+}
+
+// The byte, with place q in it.
+fn with_place(x: u8, q: usize) -> u8
+    requires { ⌜ q < 8 ⌝ }
+    ensures { λ v. ⌜ v ≡ insert q x ⌝ }
+{
+    sets::with(wide_word(x), q) as u8
+}
+
+// Tells of place q of rule r whether it fits position i.
+fn put_at(p: &Packed, r: usize, q: usize, w: &[u8], i: usize, t: &mut FitTable)
+    requires { ⌜ (r < 128) × (q < 8) × (i < 64) × (length (now t) ≡ fitSize) ⌝ }
+    ensures { λ _. ⌜ Put (now (p .entry)) (now (w .entry)) (At i r q) (now (t .entry)) (now (t .exit)) ⌝ }
+{
+    if packed::fits_at(p, r, q, w, i) {
+        t[sizes::MAX_RULES * i + r] = with_place(t[sizes::MAX_RULES * i + r], q);
+    }
+}
+
+// Tells of place q of rule r which of n positions it fits.
+fn write_place(p: &Packed, r: usize, q: usize, w: &[u8], n: usize, t: &mut FitTable)
+    requires { ⌜ (r < 128) × (q < 8) × (n ≤ 64) × (length (now t) ≡ fitSize) ⌝ }
+    ensures { λ _. ⌜ Put (now (p .entry)) (now (w .entry)) (AtPlace n r q) (now (t .entry)) (now (t .exit)) ⌝ }
+{
+    let mut i = 0;
+    while i < n {
+        put_at(p, r, q, w, i, t);
+        i += 1;
+    }
+}
+
+// The same; a nonterminal fits no position.
+fn put_place(p: &Packed, r: usize, q: usize, w: &[u8], n: usize, t: &mut FitTable)
+    requires { ⌜ (r < 128) × (q < 8) × (n ≤ 64) × (length (now t) ≡ fitSize) ⌝ }
+    ensures { λ _. ⌜ Put (now (p .entry)) (now (w .entry)) (AtPlace n r q) (now (t .entry)) (now (t .exit)) ⌝ }
+{
+    if packed::is_nonterminal(p, r, q) {
+        return;
+    }
+    write_place(p, r, q, w, n, t);
+}
+
+// Tells of the places of rule r which of n positions they fit.
+fn write_rule(p: &Packed, r: usize, w: &[u8], n: usize, t: &mut FitTable)
+    requires { ⌜ (r < 128) × (n ≤ 64) × (length (now t) ≡ fitSize) ⌝ }
+    ensures { λ _. ⌜ Put (now (p .entry)) (now (w .entry)) (AtRule n r (countIn (now (p .entry)) r)) (now (t .entry)) (now (t .exit)) ⌝ }
+{
+    let count = packed::count(p, r);
+    let mut q = 0;
+    while q < count {
+        put_place(p, r, q, w, n, t);
+        q += 1;
+    }
+}
+
+// The fit table of a grammar and an input. Of an input longer than 64 bytes the first 64 positions are told.
+pub fn table(p: &Packed, w: &[u8]) -> FitTable
+    ensures { λ t. ⌜ Told (now (p .entry)) (now (w .entry)) t ⌝ }
+{
+    let n = positions(w.len());
+    let rules = packed::rule_count(p);
+    let mut t = [0u8; FIT_SIZE];
+    let mut r = 0;
+    while r < rules {
+        write_rule(p, r, w, n, &mut t);
+        r += 1;
+    }
+    t
 }

@@ -1,11 +1,10 @@
-// A declared grammar as a flat row of numbers of 16 bits, which crosses to C and Rust. Check 8 refuses the grammar of a row exactly
-// if it has to refuse the row, and the row of a grammar exactly if it has to refuse the grammar.
+// A declared grammar, read from a flat row of numbers of 16 bits, which crosses to C and Rust (`flatten` writes it). Check 8 refuses the
+// grammar of a row exactly if it has to refuse the row, and the row of a grammar exactly if it has to refuse the grammar.
 mod reading;
-mod writing;
 
 use grammar::Grammar;
 ghost use mathlib.Core.Path.{_≡_};
-ghost use Rattle.rows.specs.Flat.{flatSize, grammarIn, flatOf};
+ghost use Rattle.rows.specs.Flat.{flatSize, grammarIn};
 
 // The numbers of a rule (its left side, its length, its count, and two for each place), and of a row.
 pub const RULE_NUMBERS: usize = 3 + 2 * sizes::MAX_PLACES;
@@ -33,21 +32,5 @@ pub fn read(f: &Flat) -> Grammar
         count: count,
         depth: depth,
         rules: rules,
-    }
-}
-
-// Writes the row of the grammar. The row is cleared first, so that its length is known whatever it held.
-pub fn write(g: Grammar, f: &mut Flat)
-    ensures { λ _. ⌜ now (f .exit) ≡ flatOf g ⌝ }
-{
-    *f = [0u16; FLAT_SIZE];
-    f[0] = g.start as u16;
-    f[1] = numbers::count_of(g.count);
-    f[2] = g.depth as u16;
-    let mut r = 0;
-    while r < sizes::MAX_RULES {
-        let rule = g.rules[r];
-        writing::write_rule(rule, 3 + RULE_NUMBERS * r, f);
-        r += 1;
     }
 }

@@ -14,7 +14,7 @@ use Rattle.chart.specs.Cell.{fitsAt}
 use Rattle.costs.specs.Span.{bytesOf, Tells, Reads, reads-end, reads-byte, Tree}
 use Rattle.costs.proofs.Span.{tells-input, least-same}
 use Rattle.tables.specs.Exact.{PastLast, FitTold, ChartTrue, Exact}
-use Rattle.tabulate.specs.Sofar.{Standing}
+use Rattle.spancosts.specs.Sofar.{Standing}
 use Rattle.tabulate.specs.Spans.{Tabulated}
 
 -- ---- forests over bytes that may stand in fewer places

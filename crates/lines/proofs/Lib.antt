@@ -1,3 +1,3 @@
--- The laws of the lines that are written. What others cite: Bounds.
+-- The laws of the lines that are written.
 pub mod Lines
 pub mod Bounds

@@ -1,5 +1,4 @@
-// The lines of the listing program, written into a lent buffer.
-pub mod fixed;
+// The line of a derivation in the listing, written into a lent buffer.
 pub mod line;
 
 ghost use mathlib.Core.Path.{_≡_};

@@ -15,6 +15,7 @@ use Rattle.grammar.specs.Zero.{zeroGrammar}
 use Rattle.grammar.proofs.RuleAt.{rule-past}
 use Rattle.results.specs.Load.{acceptedLoad, refusedLoad}
 use Rattle.loader.specs.Answer.{Refuses, Accepts}
+use Rattle.setters.specs.Setters.{setDepth}
 use Rattle.nullable.specs.Nullable.{Exact}
 use Rattle.loader.specs.declared.Outcome.the-variants.{Accepted, Refused}
 use Rattle.nullable.proofs.Depth.{exact-depth}
@@ -34,6 +35,6 @@ refuses r at g e =
     (sym e) (record { book = refl; depth = zero-depth })
 
 pub accepts : (g : Grammar) (set d : ℕ) → Exact g set → d ≡ card set
-    → Accepts g (record { outcome = Accepted; grammar = record { start = g .start; count = g .count; depth = d; rules = g .rules } })
+    → Accepts g (record { outcome = Accepted; grammar = setDepth g d })
 unfolding acceptedLoad
 accepts g set d E e = record { book = refl; depth = subst (Depth (wholeOf g)) (sym e) (exact-depth g set E) }

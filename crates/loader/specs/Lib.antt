@@ -1,3 +1,2 @@
--- What loading promises, and the rules that it makes.
+-- What loading promises.
 pub mod Answer
-pub mod Rule

@@ -1,5 +1,6 @@
 // The loader: from the bytes of a book to a grammar, or to the refusal and the offset of the first fault.
 use commands::Command;
+use commands::Turn;
 use grammar::Grammar;
 use grammar::Refusal;
 ghost use mathlib.Core.Bool.{true};
@@ -10,8 +11,6 @@ ghost use Rattle.grammar.specs.Valid.{validGrammar};
 ghost use Rattle.grammar.specs.View.{wholeOf};
 ghost use Rattle.results.specs.Load.{loadOf};
 ghost use Rattle.loader.specs.Answer.{loadingOf, Refuses, Accepts};
-
-mod rule;
 
 pub enum Outcome {
     Accepted,
@@ -54,24 +53,30 @@ pub fn load(bytes: &[u8]) -> Loaded
     ensures depth { λ r. ⌜ Depth (wholeOf (r .grammar)) (r .grammar .depth) ⌝ }
 {
     let mut g = grammar::zero_grammar();
+    let mut turn = Turn {
+        started: false,
+        opened: false,
+    };
     let mut at = 0;
     loop {
         let n = g.count;
-        let q = rule::last_of(n);
+        let q = setters::last_of(n);
         let open = g.rules[q];
-        let command = scanner::command_at(bytes, at, n, open.count);
+        let command = scanner::command_at(bytes, at, turn, n, open.count);
         match command {
             Command::Start(k) => {
                 g.start = k;
+                turn.started = true;
                 at += 2;
             }
             Command::Rule(k, low, high) => {
-                g.rules[n] = rule::opened(k, low, high);
+                g.rules[n] = setters::opened(k, low, high);
                 g.count = n + 1;
+                turn.opened = true;
                 at += 4;
             }
             Command::Place(s) => {
-                g.rules[q] = rule::placed(open, s);
+                g.rules[q] = setters::placed(open, s);
                 at += 2;
             }
             Command::End => {

@@ -2,5 +2,3 @@
 pub mod Depend
 pub mod Looking
 pub mod States
-pub mod Gather
-pub mod Nothing

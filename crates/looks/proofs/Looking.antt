@@ -8,16 +8,16 @@ use native.Mathlib.Omega.{arith}
 use lib.Dec.{ltb}
 use lib.ListN.{length, getD, set, length-set}
 use lib.Seq.{getD-set-same, getD-set-other}
-use borrow.Author.Tests.{ltb-true}
+use borrow.Author.Tests.{ltb-true, ne-eqb}
 use Rattle.sets.specs.Set.{has, insert}
 use Rattle.sets.specs.Pairs.{Common}
 use Rattle.sets.proofs.Laws.{has-empty, insert-old}
 use Rattle.packed.specs.Packed.{leftIn}
 use Rattle.grammar.proofs.All.{and-parts, true-false}
-use Rattle.cells.specs.Flags.{Fit, Sets, owned}
+use Rattle.cells.specs.Flags.{owned}
 use Rattle.cells.specs.Passes.{RuleMask, addedIn}
 use Rattle.cells.proofs.Owned.{owned-here, owned-end, cutting-owned, inner-owned}
-use Rattle.looks.specs.Looks.{Given, Agrees, Exact, Put, Again}
+use Rattle.looks.specs.Looks.{Agrees, Right, Put, Again}
 use Rattle.looks.proofs.Depend.{exact-on, no-flags}
 
 -- what is common to the set and the kinds agrees with the set
@@ -39,8 +39,8 @@ added-nothing p r v own f = go (has 0 v && ltb (leftIn p r) 32) refl
         sym (insert-old (leftIn p r) own (f (ltb-true (leftIn p r) 32 (u .1)) (u .0)))
     go false e = refl
 
-module _ (p : List ℕ) (r i n start inside last kinds own : ℕ) (flags made : List ℕ) (own-small : own < 2 ^ 32) (below : r < 128)
-    (order : i < n) (long : length flags ≡ 128) (made-long : length made ≡ 128) where
+module _ (p : List ℕ) (r start inside last kinds own : ℕ) (flags made : List ℕ) (own-small : own < 2 ^ 32) (below : r < 128)
+    (long : length flags ≡ 128) (made-long : length made ≡ 128) where
   -- the words of rule r written
   module _ (m c v : ℕ) where
     flag-here : getD (set flags r m) r 0 ≡ m
@@ -49,9 +49,8 @@ module _ (p : List ℕ) (r i n start inside last kinds own : ℕ) (flags made : 
     made-here : getD (set made r c) r 0 ≡ c
     made-here = getD-set-same made r c 0 (omega arith)
 
-    put : v ≡ addedIn p r m own → Agrees kinds c own
-        → ((fit : Fit) (sets : Sets) → Given fit sets p r i n start inside last kinds → Exact fit sets p r i n kinds c m)
-        → Put p r i n start inside last kinds own flags made (set flags r m) (set made r c) v
+    put : v ≡ addedIn p r m own → Agrees kinds c own → Right p r start inside last kinds c m
+        → Put p r start inside last kinds own flags made (set flags r m) (set made r c) v
     put e a exact =
         record {
           long = length-set flags r m ∙ long;
@@ -60,20 +59,20 @@ module _ (p : List ℕ) (r i n start inside last kinds own : ℕ) (flags made : 
           made-other = λ s d. getD-set-other made r s c 0 d;
           result = e ∙ ap (λ (x : ℕ). addedIn p r x own) (sym flag-here);
           agrees = subst (λ (x : ℕ). Agrees kinds x own) (sym made-here) a;
-          exact = λ fit sets given. subst (λ (x : ℕ). Exact fit sets p r i n kinds x (getD (set flags r m) r 0)) (sym made-here)
-              (subst (λ (x : ℕ). Exact fit sets p r i n kinds c x) (sym flag-here) (exact fit sets given));
+          exact = subst (λ (x : ℕ). Right p r start inside last kinds x (getD (set flags r m) r 0)) (sym made-here)
+              (subst (λ (x : ℕ). Right p r start inside last kinds c x) (sym flag-here) exact);
         }
 
-  pub looked : (m c v : ℕ) → RuleMask p r i n start own inside last m → Common own kinds c → v ≡ addedIn p r m own
-      → Put p r i n start inside last kinds own flags made (set flags r m) (set made r c) v
+  pub looked : (m c v : ℕ) → RuleMask p r false start own inside last m → Common own kinds c → v ≡ addedIn p r m own
+      → Put p r start inside last kinds own flags made (set flags r m) (set made r c) v
   looked m c v mask both e = put m c v e agree exact
     where
       agree : Agrees kinds c own
       agree = common-agrees kinds c own own-small both
 
-      exact : (fit : Fit) (sets : Sets) → Given fit sets p r i n start inside last kinds → Exact fit sets p r i n kinds c m
-      exact fit sets given = exact-on fit sets p r i n start inside last kinds order given own c m agree
-          (mask .exact fit (owned sets i n own) (record {
+      exact : Right p r start inside last kinds c m
+      exact fit sets i n order given = exact-on fit sets p r i n start inside last kinds order given own c m agree
+          (mask .exact fit (owned sets i n own) i n (omega arith) (sym (ne-eqb i n (omega arith))) (record {
             start = owned-end sets i n own i i (omega arith) ∙ given .empty;
             whole = owned-here sets i n own;
             inside = inner-owned fit sets i n p own r inside (given .begins);
@@ -82,22 +81,22 @@ module _ (p : List ℕ) (r i n start inside last kinds own : ℕ) (flags made : 
           }))
 
   pub passed-over : (c : ℕ) → inside ≡ 0 → Common own kinds c → c ≡ 0
-      → Put p r i n start inside last kinds own flags made (set flags r 0) (set made r 0) own
+      → Put p r start inside last kinds own flags made (set flags r 0) (set made r 0) own
   passed-over c none both z = put 0 0 own (added-nothing p r 0 own (λ _ h. absurd (true-false h (has-empty 0)))) agree exact
     where
       agree : Agrees kinds 0 own
       agree = subst (λ (x : ℕ). Agrees kinds x own) z (common-agrees kinds c own own-small both)
 
-      exact : (fit : Fit) (sets : Sets) → Given fit sets p r i n start inside last kinds → Exact fit sets p r i n kinds 0 0
-      exact fit sets given x a = no-flags fit sets p r i n start inside last kinds order given none x (a .0)
+      exact : Right p r start inside last kinds 0 0
+      exact fit sets i n order given x a = no-flags fit sets p r i n start inside last kinds order given none x (a .0)
           (λ k h. a .1 k h ∙ has-empty k)
 
-  pub looked-again : (v : ℕ) (flags' made' : List ℕ) → Put p r i n start inside last kinds own flags made flags' made' v
-      → Again p r i n start inside last kinds own flags made flags' made' v
+  pub looked-again : (v : ℕ) (flags' made' : List ℕ) → Put p r start inside last kinds own flags made flags' made' v
+      → Again p r start inside last kinds own flags made flags' made' v
   looked-again v flags' made' done = record { put = λ _ _. done }
 
   pub not-again : (c : ℕ) → Common own kinds c → c ≡ getD made r 0
-      → Again p r i n start inside last kinds own flags made flags made own
+      → Again p r start inside last kinds own flags made flags made own
   not-again c both e = record {
     put = λ exact closed. record {
       long = long;

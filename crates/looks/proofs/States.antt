@@ -18,11 +18,11 @@ use Rattle.chart.proofs.Rounds.{sub-empty}
 use Rattle.packed.specs.Packed.{leftIn, placesIn}
 use Rattle.packed.proofs.Laws.{places-start}
 use Rattle.grammar.proofs.All.{and-both}
-use Rattle.cells.specs.Flags.{Fit, Sets, owned}
-use Rattle.cells.specs.Passes.{Within, ClosedAt, addedIn}
+use Rattle.cells.specs.Flags.{owned}
+use Rattle.cells.specs.Passes.{Within, addedIn}
 use Rattle.cells.proofs.Owned.{owned-mono}
 use Rattle.cells.proofs.Passing.{added-le, added-within}
-use Rattle.looks.specs.Looks.{Given, Agrees, Exact, Put, Again, Givens, State, Passed, Closed}
+use Rattle.looks.specs.Looks.{Agrees, Right, Put, Again, Sound, State, Passed, Closed}
 
 -- adding keeps the members, and adds the left side where the flags have 0
 added-keeps : (p : List ℕ) (r v own : ℕ) → Within own (addedIn p r v own)
@@ -40,41 +40,40 @@ added-has p r v own l h =
     (and-both (has 0 v) (ltb (leftIn p r) 32) h (lt-ltb (leftIn p r) 32 l))
     ∙ has-insert-same (leftIn p r) own
 
-module _ (p : List ℕ) (rules i n start : ℕ) (insides lasts kinds : List ℕ) where
+module _ (p : List ℕ) (rules start : ℕ) (insides lasts kinds : List ℕ) where
   pub state-start : (flags made : List ℕ) → length flags ≡ 128 → length made ≡ 128
-      → State p rules i n start insides lasts kinds 0 0 flags made
+      → State p rules start insides lasts kinds 0 0 flags made
   state-start flags made long made-long =
       record {
         long = long;
         made-long = made-long;
         exact = λ r l. absurd (omega arith);
         closed = λ r l. absurd (omega arith);
-        sound = λ fit sets givens T c. sub-empty T;
+        sound = λ fit sets i n order givens T c. sub-empty T;
       }
 
   -- ---- one rule more, or once more
 
-  module _ (order : i < n) (few : rules ≤ 128) (m own r v : ℕ) (flags made flags' made' : List ℕ) (below : r < rules)
-      (state : State p rules i n start insides lasts kinds m own flags made)
-      (put : Put p r i n start (getD insides r 0) (getD lasts r 0) (getD kinds r 0) own flags made flags' made' v) where
+  module _ (few : rules ≤ 128) (m own r v : ℕ) (flags made flags' made' : List ℕ) (below : r < rules)
+      (state : State p rules start insides lasts kinds m own flags made)
+      (put : Put p r start (getD insides r 0) (getD lasts r 0) (getD kinds r 0) own flags made flags' made' v) where
     grown : Within own v
     grown k h = subst (λ (x : ℕ). has k x ≡ true) (sym (put .result)) (added-keeps p r (getD flags' r 0) own k h)
 
     put-le : own ≤ v
     put-le = subst (λ (x : ℕ). own ≤ x) (sym (put .result)) (added-le p r (getD flags' r 0) own)
 
-    put-sound : (fit : Fit) (sets : Sets) → Givens fit sets p rules i n start insides lasts kinds → (T : ℕ) → ClosedAt fit sets p i n T
-        → Within v T
-    put-sound fit sets givens T closed =
+    put-sound : Sound p rules start insides lasts kinds v
+    put-sound fit sets i n order givens T closed =
         subst (λ (x : ℕ). Within x T) (sym (put .result)) (added-within p r (getD flags' r 0) own T inT
         (λ l h. closed r (omega arith) l (owned-mono fit sets i n own T (omega arith) inT (placesIn p r)
         (ap (λ (x : List Symbol). cuts fit (owned sets i n own) x i n) (sym (places-start p r))
-        ∙ sym (put .exact fit sets (givens r below) own (put .agrees) 0 (omega arith)) ∙ h))))
+        ∙ sym (put .exact fit sets i n order (givens r below) own (put .agrees) 0 (omega arith)) ∙ h))))
       where
         inT : Within own T
-        inT = state .sound fit sets givens T closed
+        inT = state .sound fit sets i n order givens T closed
 
-    pub state-put : (m' : ℕ) → ((s : ℕ) → s < m' → s ≢ r → s < m) → State p rules i n start insides lasts kinds m' v flags' made'
+    pub state-put : (m' : ℕ) → ((s : ℕ) → s < m' → s ≢ r → s < m) → State p rules start insides lasts kinds m' v flags' made'
     state-put m' old =
         record {
           long = put .long;
@@ -84,14 +83,15 @@ module _ (p : List ℕ) (rules i n start : ℕ) (insides lasts kinds : List ℕ)
           sound = put-sound;
         }
       where
-        exact : (s : ℕ) → s < m' → Dec (s ≡ r) → (fit : Fit) (sets : Sets)
-            → Given fit sets p s i n start (getD insides s 0) (getD lasts s 0) (getD kinds s 0)
-            → Exact fit sets p s i n (getD kinds s 0) (getD made' s 0) (getD flags' s 0)
-        exact s l (yes d) fit sets = subst (λ (y : ℕ). Given fit sets p y i n start (getD insides y 0) (getD lasts y 0) (getD kinds y 0)
-            → Exact fit sets p y i n (getD kinds y 0) (getD made' y 0) (getD flags' y 0)) (sym d) (put .exact fit sets)
-        exact s l (no d) fit sets = λ given. subst (λ (y : ℕ). Exact fit sets p s i n (getD kinds s 0) y (getD flags' s 0))
-            (sym (put .made-other s d)) (subst (λ (y : ℕ). Exact fit sets p s i n (getD kinds s 0) (getD made s 0) y)
-            (sym (put .other s d)) (state .exact s (old s l d) fit sets given))
+        exact : (s : ℕ) → s < m' → Dec (s ≡ r)
+            → Right p s start (getD insides s 0) (getD lasts s 0) (getD kinds s 0) (getD made' s 0) (getD flags' s 0)
+        exact s l (yes d) = subst (λ (y : ℕ). Right p y start (getD insides y 0) (getD lasts y 0) (getD kinds y 0) (getD made' y 0)
+            (getD flags' y 0)) (sym d) (put .exact)
+        exact s l (no d) =
+            subst (λ (y : ℕ). Right p s start (getD insides s 0) (getD lasts s 0) (getD kinds s 0) y (getD flags' s 0))
+            (sym (put .made-other s d))
+            (subst (λ (y : ℕ). Right p s start (getD insides s 0) (getD lasts s 0) (getD kinds s 0) (getD made s 0) y)
+            (sym (put .other s d)) (state .exact s (old s l d)))
 
         closed : (s : ℕ) → s < m' → Dec (s ≡ r) → leftIn p s < 32 → has 0 (getD flags' s 0) ≡ true → has (leftIn p s) v ≡ true
         closed s l (yes d) = subst (λ (y : ℕ). leftIn p y < 32 → has 0 (getD flags' y 0) ≡ true → has (leftIn p y) v ≡ true) (sym d)
@@ -101,47 +101,47 @@ module _ (p : List ℕ) (rules i n start : ℕ) (insides lasts kinds : List ℕ)
     pub fresh-put : v ≡ own → Agrees (getD kinds r 0) (getD made' r 0) v
     fresh-put e = subst (λ (x : ℕ). Agrees (getD kinds r 0) (getD made' r 0) x) (sym e) (put .agrees)
 
-  pub first-step : (r own v : ℕ) (flags made flags' made' : List ℕ) → i < n → rules ≤ 128 → r < rules
-      → State p rules i n start insides lasts kinds r own flags made
-      → Put p r i n start (getD insides r 0) (getD lasts r 0) (getD kinds r 0) own flags made flags' made' v
-      → State p rules i n start insides lasts kinds (r + 1) v flags' made'
-  first-step r own v flags made flags' made' order few below state put =
-      state-put order few r own r v flags made flags' made' below state put (r + 1) (λ s l d. let e : s ≢ r = d in omega arith)
+  pub first-step : (r own v : ℕ) (flags made flags' made' : List ℕ) → rules ≤ 128 → r < rules
+      → State p rules start insides lasts kinds r own flags made
+      → Put p r start (getD insides r 0) (getD lasts r 0) (getD kinds r 0) own flags made flags' made' v
+      → State p rules start insides lasts kinds (r + 1) v flags' made'
+  first-step r own v flags made flags' made' few below state put =
+      state-put few r own r v flags made flags' made' below state put (r + 1) (λ s l d. let e : s ≢ r = d in omega arith)
 
   pub first-done : (r own : ℕ) (flags made : List ℕ) → r ≤ rules → rules ≤ r
-      → State p rules i n start insides lasts kinds r own flags made → State p rules i n start insides lasts kinds rules own flags made
+      → State p rules start insides lasts kinds r own flags made → State p rules start insides lasts kinds rules own flags made
   first-done r own flags made h l state =
       let e : r ≡ rules = omega arith in
-      subst (λ (x : ℕ). State p rules i n start insides lasts kinds x own flags made) e state
+      subst (λ (x : ℕ). State p rules start insides lasts kinds x own flags made) e state
 
   -- ---- again
 
-  pub again-start : (own : ℕ) (flags made : List ℕ) → State p rules i n start insides lasts kinds rules own flags made
-      → Passed p rules i n start insides lasts kinds 0 own own flags made
+  pub again-start : (own : ℕ) (flags made : List ℕ) → State p rules start insides lasts kinds rules own flags made
+      → Passed p rules start insides lasts kinds 0 own own flags made
   again-start own flags made state = record { state = state; grows = omega arith; fresh = λ e r l. absurd (omega arith) }
 
-  pub again-step : (r own v v' : ℕ) (flags made flags' made' : List ℕ) → i < n → rules ≤ 128 → r < rules
-      → Passed p rules i n start insides lasts kinds r own v flags made
-      → Again p r i n start (getD insides r 0) (getD lasts r 0) (getD kinds r 0) v flags made flags' made' v'
-      → Passed p rules i n start insides lasts kinds (r + 1) own v' flags' made'
-  again-step r own v v' flags made flags' made' order few below passed again =
+  pub again-step : (r own v v' : ℕ) (flags made flags' made' : List ℕ) → rules ≤ 128 → r < rules
+      → Passed p rules start insides lasts kinds r own v flags made
+      → Again p r start (getD insides r 0) (getD lasts r 0) (getD kinds r 0) v flags made flags' made' v'
+      → Passed p rules start insides lasts kinds (r + 1) own v' flags' made'
+  again-step r own v v' flags made flags' made' few below passed again =
       record {
-        state = state-put order few rules v r v' flags made flags' made' below (passed .state) put rules (λ s l d. l);
+        state = state-put few rules v r v' flags made flags' made' below (passed .state) put rules (λ s l d. l);
         grows = omega (arith, le, passed .grows);
         fresh = λ e s l. fresh e s l (ℕ-discrete s r);
       }
     where
-      put : Put p r i n start (getD insides r 0) (getD lasts r 0) (getD kinds r 0) v flags made flags' made' v'
+      put : Put p r start (getD insides r 0) (getD lasts r 0) (getD kinds r 0) v flags made flags' made' v'
       put = again .put (passed .state .exact r below) (passed .state .closed r below)
 
       le : v ≤ v'
-      le = put-le order few rules v r v' flags made flags' made' below (passed .state) put
+      le = put-le few rules v r v' flags made flags' made' below (passed .state) put
 
       fresh : v' ≡ own → (s : ℕ) → s < r + 1 → Dec (s ≡ r) → Agrees (getD kinds s 0) (getD made' s 0) v'
       fresh e s l (yes d) =
           let f : v' ≡ v = omega (arith, le, passed .grows) in
           subst (λ (y : ℕ). Agrees (getD kinds y 0) (getD made' y 0) v') (sym d)
-          (fresh-put order few rules v r v' flags made flags' made' below (passed .state) put f)
+          (fresh-put few rules v r v' flags made flags' made' below (passed .state) put f)
       fresh e s l (no d) =
           let g : s ≢ r = d in
           let f : v' ≡ v = omega (arith, le, passed .grows) in
@@ -150,22 +150,23 @@ module _ (p : List ℕ) (rules i n start : ℕ) (insides lasts kinds : List ℕ)
           (subst (λ (y : ℕ). Agrees (getD kinds s 0) (getD made s 0) y) (sym f) (passed .fresh h s (omega arith)))
 
   pub again-done : (r own v : ℕ) (flags made : List ℕ) → r ≤ rules → rules ≤ r
-      → Passed p rules i n start insides lasts kinds r own v flags made
-      → Passed p rules i n start insides lasts kinds rules own v flags made
+      → Passed p rules start insides lasts kinds r own v flags made
+      → Passed p rules start insides lasts kinds rules own v flags made
   again-done r own v flags made h l passed =
       let e : r ≡ rules = omega arith in
-      subst (λ (x : ℕ). Passed p rules i n start insides lasts kinds x own v flags made) e passed
+      subst (λ (x : ℕ). Passed p rules start insides lasts kinds x own v flags made) e passed
 
   -- ---- until nothing is added
 
-  pub closed-now : (own v : ℕ) (flags made : List ℕ) → v ≡ own → Passed p rules i n start insides lasts kinds rules own v flags made
-      → Closed p rules i n start insides lasts kinds v flags
+  pub closed-now : (own v : ℕ) (flags made : List ℕ) → v ≡ own → Passed p rules start insides lasts kinds rules own v flags made
+      → Closed p rules start insides lasts kinds v flags made
   closed-now own v flags made e passed =
       record {
         long = passed .state .long;
+        made-long = passed .state .made-long;
         sound = passed .state .sound;
-        settled = λ fit sets givens r l. record {
-          exact = passed .state .exact r l fit sets (givens r l) v (passed .fresh e r l);
+        settled = λ fit sets i n order givens r l. record {
+          exact = passed .state .exact r l fit sets i n order (givens r l) v (passed .fresh e r l);
           closed = passed .state .closed r l;
         };
       }

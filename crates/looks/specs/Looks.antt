@@ -1,8 +1,7 @@
--- Looking at the rules at one cell (i, n), i < n, again only where a rule's flags can have changed: what the words given mean, on what of
--- the cell's set a rule's flags depend, and what is promised of the set and of the flags. The promises hold for all sets that the words are
--- true of.
+-- Looking at the rules at one cell (i, n), i < n, again only where a rule's flags can have changed: what the words given mean, and what is
+-- promised of the set and of the flags. The promises hold for all cells and sets that the words are true of.
 -- Assumes nothing.
-use Prim.Native.Nat.{ℕ, _+_, _^_, _≤_, _<_}
+use Prim.Native.Nat.{ℕ, _^_, _≤_, _<_}
 use mathlib.Core.Bool.{true}
 use mathlib.Core.List.{List}
 use mathlib.Core.Logic.{_≢_}
@@ -10,14 +9,10 @@ use mathlib.Core.Path.{_≡_}
 use lib.ListN.{length, getD}
 use Rattle.sizes.specs.Sizes.{maxRules}
 use Rattle.sets.specs.Set.{has}
-use Rattle.cfg.specs.Grammar.{nonterminal}
-use Rattle.packed.specs.Packed.{countIn, symbolIn, leftIn}
+use Rattle.packed.specs.Packed.{leftIn}
 use Rattle.cells.specs.Flags.{Fit, Sets, Cutting, Inner, owned}
 use Rattle.cells.specs.Passes.{Within, ClosedAt, Settled, addedIn}
-
--- kinds has each nonterminal in a place of rule r behind which the places cut the empty span, last being the flags at the end
-pub record Kinds (p : List ℕ) (r last kinds : ℕ) : Type 0 where
-  pub all : (q k : ℕ) → q < countIn p r → symbolIn p r q ≡ nonterminal k → k < 32 → has (q + 1) last ≡ true → has k kinds ≡ true
+use Rattle.empty.specs.Empty.{Kinds}
 
 -- what is known of rule r before it is looked at
 pub record Given (fit : Fit) (sets : Sets) (p : List ℕ) (r i n start inside last kinds : ℕ) : Type 0 where
@@ -34,23 +29,26 @@ Agrees kinds made x = (x < 2 ^ 32) × ((k : ℕ) → has k kinds ≡ true → ha
 abbrev pub Exact : Fit → Sets → List ℕ → ℕ → ℕ → ℕ → ℕ → ℕ → ℕ → Type 0
 Exact fit sets p r i n kinds made v = (x : ℕ) → Agrees kinds made x → Cutting fit (owned sets i n x) p r i n v
 
+-- the same at each cell that the words are true of
+abbrev pub Right : List ℕ → ℕ → ℕ → ℕ → ℕ → ℕ → ℕ → ℕ → Type 0
+Right p r start inside last kinds made v =
+    (fit : Fit) (sets : Sets) (i n : ℕ) → i < n → Given fit sets p r i n start inside last kinds → Exact fit sets p r i n kinds made v
+
 -- rule r was looked at, or need not be, where the cell's set was own; own' is the set with its left side
-pub record Put (p : List ℕ) (r i n start inside last kinds own : ℕ) (flags made flags' made' : List ℕ) (own' : ℕ) : Type 0 where
+pub record Put (p : List ℕ) (r start inside last kinds own : ℕ) (flags made flags' made' : List ℕ) (own' : ℕ) : Type 0 where
   pub long : length flags' ≡ maxRules
   pub made-long : length made' ≡ maxRules
   pub other : (s : ℕ) → s ≢ r → getD flags' s 0 ≡ getD flags s 0
   pub made-other : (s : ℕ) → s ≢ r → getD made' s 0 ≡ getD made s 0
   pub result : own' ≡ addedIn p r (getD flags' r 0) own
   pub agrees : Agrees kinds (getD made' r 0) own
-  pub exact : (fit : Fit) (sets : Sets) → Given fit sets p r i n start inside last kinds
-      → Exact fit sets p r i n kinds (getD made' r 0) (getD flags' r 0)
+  pub exact : Right p r start inside last kinds (getD made' r 0) (getD flags' r 0)
 
 -- the same, where the flags that stand are right and add nothing
-pub record Again (p : List ℕ) (r i n start inside last kinds own : ℕ) (flags made flags' made' : List ℕ) (own' : ℕ) : Type 0 where
-  pub put : ((fit : Fit) (sets : Sets) → Given fit sets p r i n start inside last kinds
-      → Exact fit sets p r i n kinds (getD made r 0) (getD flags r 0))
+pub record Again (p : List ℕ) (r start inside last kinds own : ℕ) (flags made flags' made' : List ℕ) (own' : ℕ) : Type 0 where
+  pub put : Right p r start inside last kinds (getD made r 0) (getD flags r 0)
       → (leftIn p r < 32 → has 0 (getD flags r 0) ≡ true → has (leftIn p r) own ≡ true)
-      → Put p r i n start inside last kinds own flags made flags' made' own'
+      → Put p r start inside last kinds own flags made flags' made' own'
 
 -- ---- all rules
 
@@ -59,54 +57,31 @@ abbrev pub Givens : Fit → Sets → List ℕ → ℕ → ℕ → ℕ → ℕ �
 Givens fit sets p rules i n start insides lasts kinds =
     (r : ℕ) → r < rules → Given fit sets p r i n start (getD insides r 0) (getD lasts r 0) (getD kinds r 0)
 
--- the rules below m were looked at; own has nothing that a closed set lacks
-pub record State (p : List ℕ) (rules i n start : ℕ) (insides lasts kinds : List ℕ) (m own : ℕ) (flags made : List ℕ) : Type 0 where
+-- own has nothing that a closed set lacks
+abbrev pub Sound : List ℕ → ℕ → ℕ → List ℕ → List ℕ → List ℕ → ℕ → Type 0
+Sound p rules start insides lasts kinds own =
+    (fit : Fit) (sets : Sets) (i n : ℕ) → i < n → Givens fit sets p rules i n start insides lasts kinds
+    → (T : ℕ) → ClosedAt fit sets p i n T → Within own T
+
+-- the rules below m were looked at
+pub record State (p : List ℕ) (rules start : ℕ) (insides lasts kinds : List ℕ) (m own : ℕ) (flags made : List ℕ) : Type 0 where
   pub long : length flags ≡ maxRules
   pub made-long : length made ≡ maxRules
-  pub exact : (r : ℕ) → r < m → (fit : Fit) (sets : Sets)
-      → Given fit sets p r i n start (getD insides r 0) (getD lasts r 0) (getD kinds r 0)
-      → Exact fit sets p r i n (getD kinds r 0) (getD made r 0) (getD flags r 0)
+  pub exact : (r : ℕ) → r < m
+      → Right p r start (getD insides r 0) (getD lasts r 0) (getD kinds r 0) (getD made r 0) (getD flags r 0)
   pub closed : (r : ℕ) → r < m → leftIn p r < 32 → has 0 (getD flags r 0) ≡ true → has (leftIn p r) own ≡ true
-  pub sound : (fit : Fit) (sets : Sets) → Givens fit sets p rules i n start insides lasts kinds → (T : ℕ) → ClosedAt fit sets p i n T
-      → Within own T
+  pub sound : Sound p rules start insides lasts kinds own
 
 -- the rules were looked at again, and own became v; if nothing was added, all flags go by it
-pub record Passed (p : List ℕ) (rules i n start : ℕ) (insides lasts kinds : List ℕ) (m own v : ℕ) (flags made : List ℕ) : Type 0 where
-  pub state : State p rules i n start insides lasts kinds rules v flags made
+pub record Passed (p : List ℕ) (rules start : ℕ) (insides lasts kinds : List ℕ) (m own v : ℕ) (flags made : List ℕ) : Type 0 where
+  pub state : State p rules start insides lasts kinds rules v flags made
   pub grows : own ≤ v
   pub fresh : v ≡ own → (r : ℕ) → r < m → Agrees (getD kinds r 0) (getD made r 0) v
 
 -- v is the least closed set, and the flags are those of v
-pub record Closed (p : List ℕ) (rules i n start : ℕ) (insides lasts kinds : List ℕ) (v : ℕ) (flags : List ℕ) : Type 0 where
+pub record Closed (p : List ℕ) (rules start : ℕ) (insides lasts kinds : List ℕ) (v : ℕ) (flags made : List ℕ) : Type 0 where
   pub long : length flags ≡ maxRules
-  pub sound : (fit : Fit) (sets : Sets) → Givens fit sets p rules i n start insides lasts kinds → (T : ℕ) → ClosedAt fit sets p i n T
-      → Within v T
-  pub settled : (fit : Fit) (sets : Sets) → Givens fit sets p rules i n start insides lasts kinds
+  pub made-long : length made ≡ maxRules
+  pub sound : Sound p rules start insides lasts kinds v
+  pub settled : (fit : Fit) (sets : Sets) (i n : ℕ) → i < n → Givens fit sets p rules i n start insides lasts kinds
       → (r : ℕ) → r < rules → Settled fit sets p r i n v (getD flags r 0)
-
--- ---- the kinds of the rules
-
--- v' has what v has, and the nonterminal in place q of rule r if the places behind it cut the empty span
-pub record KindAt (p : List ℕ) (r q last v v' : ℕ) : Type 0 where
-  pub keeps : (k : ℕ) → has k v ≡ true → has k v' ≡ true
-  pub here : (k : ℕ) → symbolIn p r q ≡ nonterminal k → k < 32 → has (q + 1) last ≡ true → has k v' ≡ true
-
--- the kinds of the rules below a number
-pub record KindsAll (p : List ℕ) (rules : ℕ) (lasts kinds : List ℕ) : Type 0 where
-  pub long : length kinds ≡ maxRules
-  pub each : (r : ℕ) → r < rules → Kinds p r (getD lasts r 0) (getD kinds r 0)
-
--- ---- the empty span at n
-
--- the rules below m were looked at, and own became v
-pub record EmptyPassed (p : List ℕ) (n m own v : ℕ) (lasts : List ℕ) : Type 0 where
-  pub long : length lasts ≡ maxRules
-  pub grows : own ≤ v
-  pub sound : (fit : Fit) (sets : Sets) (T : ℕ) → ClosedAt fit sets p n n T → Within own T → Within v T
-  pub settled : v ≡ own → (fit : Fit) (sets : Sets) (r : ℕ) → r < m → Settled fit sets p r n n v (getD lasts r 0)
-
--- v is the least closed set, and the words are its flags
-pub record EmptyClosed (p : List ℕ) (rules n v : ℕ) (lasts : List ℕ) : Type 0 where
-  pub long : length lasts ≡ maxRules
-  pub sound : (fit : Fit) (sets : Sets) (T : ℕ) → ClosedAt fit sets p n n T → Within v T
-  pub settled : (fit : Fit) (sets : Sets) (r : ℕ) → r < rules → Settled fit sets p r n n v (getD lasts r 0)

@@ -1,6 +1,4 @@
 // Looking at the rules at one cell of a column, until nothing is added; a rule is looked at again only if its flags can have changed.
-pub mod empty;
-pub mod kinds;
 pub mod passes;
 
 use cells::passes::added;
@@ -11,12 +9,10 @@ ghost use Prim.Native.Nat.{_<_};
 ghost use lib.ListN.{length};
 ghost use Rattle.looks.specs.Looks.{Put, Again};
 
-// Looks at rule r at the cell (i, n) of which `own` is known.
+// Looks at rule r at a cell of which `own` is known.
 fn look(
     p: &Packed,
     r: usize,
-    i: usize,
-    n: usize,
     start: u32,
     inside: u32,
     last: u32,
@@ -25,12 +21,12 @@ fn look(
     flags: &mut [u32; 128],
     made: &mut [u32; 128],
 ) -> u32
-    requires { ⌜ (r < 128) × (i < n) × (length (now flags) ≡ 128) × (length (now made) ≡ 128) ⌝ }
+    requires { ⌜ (r < 128) × (length (now flags) ≡ 128) × (length (now made) ≡ 128) ⌝ }
     ensures { λ v.
-        ⌜ Put (now (p .entry)) r i n start inside last kinds own
+        ⌜ Put (now (p .entry)) r start inside last kinds own
         (now (flags .entry)) (now (made .entry)) (now (flags .exit)) (now (made .exit)) v ⌝ }
 {
-    let m = rule_mask(p, r, i, n, start, own, inside, last);
+    let m = rule_mask(p, r, false, start, own, inside, last);
     flags[r] = m;
     made[r] = sets::common(own, kinds);
     added(p, r, m, own)
@@ -40,8 +36,6 @@ fn look(
 pub fn look_first(
     p: &Packed,
     r: usize,
-    i: usize,
-    n: usize,
     start: u32,
     inside: u32,
     last: u32,
@@ -50,9 +44,9 @@ pub fn look_first(
     flags: &mut [u32; 128],
     made: &mut [u32; 128],
 ) -> u32
-    requires { ⌜ (r < 128) × (i < n) × (length (now flags) ≡ 128) × (length (now made) ≡ 128) ⌝ }
+    requires { ⌜ (r < 128) × (length (now flags) ≡ 128) × (length (now made) ≡ 128) ⌝ }
     ensures { λ v.
-        ⌜ Put (now (p .entry)) r i n start inside last kinds own
+        ⌜ Put (now (p .entry)) r start inside last kinds own
         (now (flags .entry)) (now (made .entry)) (now (flags .exit)) (now (made .exit)) v ⌝ }
 {
     if inside == 0 {
@@ -62,15 +56,13 @@ pub fn look_first(
             return own;
         }
     }
-    look(p, r, i, n, start, inside, last, kinds, own, flags, made)
+    look(p, r, start, inside, last, kinds, own, flags, made)
 }
 
 // A further look at rule r, if its flags can have changed.
 pub fn look_again(
     p: &Packed,
     r: usize,
-    i: usize,
-    n: usize,
     start: u32,
     inside: u32,
     last: u32,
@@ -79,13 +71,13 @@ pub fn look_again(
     flags: &mut [u32; 128],
     made: &mut [u32; 128],
 ) -> u32
-    requires { ⌜ (r < 128) × (i < n) × (length (now flags) ≡ 128) × (length (now made) ≡ 128) ⌝ }
+    requires { ⌜ (r < 128) × (length (now flags) ≡ 128) × (length (now made) ≡ 128) ⌝ }
     ensures { λ v.
-        ⌜ Again (now (p .entry)) r i n start inside last kinds own
+        ⌜ Again (now (p .entry)) r start inside last kinds own
         (now (flags .entry)) (now (made .entry)) (now (flags .exit)) (now (made .exit)) v ⌝ }
 {
     if sets::common(own, kinds) == made[r] {
         return own;
     }
-    look(p, r, i, n, start, inside, last, kinds, own, flags, made)
+    look(p, r, start, inside, last, kinds, own, flags, made)
 }

@@ -3,7 +3,7 @@ use super::look_again;
 use super::look_first;
 use packed::Packed;
 ghost use mathlib.Core.Path.{_≡_};
-ghost use Prim.Native.Nat.{_<_, _≤_};
+ghost use Prim.Native.Nat.{_≤_};
 ghost use lib.ListN.{length};
 ghost use Rattle.looks.specs.Looks.{State, Passed, Closed};
 
@@ -11,8 +11,6 @@ ghost use Rattle.looks.specs.Looks.{State, Passed, Closed};
 fn first(
     p: &Packed,
     rules: usize,
-    i: usize,
-    n: usize,
     start: u32,
     insides: &[u32; 128],
     lasts: &[u32; 128],
@@ -20,9 +18,9 @@ fn first(
     flags: &mut [u32; 128],
     made: &mut [u32; 128],
 ) -> u32
-    requires { ⌜ (rules ≤ 128) × (i < n) × (length (now flags) ≡ 128) × (length (now made) ≡ 128) ⌝ }
+    requires { ⌜ (rules ≤ 128) × (length (now flags) ≡ 128) × (length (now made) ≡ 128) ⌝ }
     ensures { λ v.
-        ⌜ State (now (p .entry)) rules i n start (now (insides .entry)) (now (lasts .entry)) (now (kinds .entry))
+        ⌜ State (now (p .entry)) rules start (now (insides .entry)) (now (lasts .entry)) (now (kinds .entry))
         rules v (now (flags .exit)) (now (made .exit)) ⌝ }
 {
     let mut own: u32 = 0;
@@ -31,8 +29,6 @@ fn first(
         own = look_first(
             p,
             r,
-            i,
-            n,
             start,
             insides[r],
             lasts[r],
@@ -50,8 +46,6 @@ fn first(
 fn again(
     p: &Packed,
     rules: usize,
-    i: usize,
-    n: usize,
     start: u32,
     insides: &[u32; 128],
     lasts: &[u32; 128],
@@ -60,28 +54,16 @@ fn again(
     flags: &mut [u32; 128],
     made: &mut [u32; 128],
 ) -> u32
-    requires { ⌜ (rules ≤ 128) × (i < n)
-        × State (now p) rules i n start (now insides) (now lasts) (now kinds) rules own (now flags) (now made) ⌝ }
+    requires { ⌜ (rules ≤ 128)
+        × State (now p) rules start (now insides) (now lasts) (now kinds) rules own (now flags) (now made) ⌝ }
     ensures { λ v.
-        ⌜ Passed (now (p .entry)) rules i n start (now (insides .entry)) (now (lasts .entry)) (now (kinds .entry))
+        ⌜ Passed (now (p .entry)) rules start (now (insides .entry)) (now (lasts .entry)) (now (kinds .entry))
         rules own v (now (flags .exit)) (now (made .exit)) ⌝ }
 {
     let mut v = own;
     let mut r = 0;
     while r < rules {
-        v = look_again(
-            p,
-            r,
-            i,
-            n,
-            start,
-            insides[r],
-            lasts[r],
-            kinds[r],
-            v,
-            flags,
-            made,
-        );
+        v = look_again(p, r, start, insides[r], lasts[r], kinds[r], v, flags, made);
         r += 1;
     }
     v
@@ -91,8 +73,6 @@ fn again(
 pub fn closure(
     p: &Packed,
     rules: usize,
-    i: usize,
-    n: usize,
     start: u32,
     insides: &[u32; 128],
     lasts: &[u32; 128],
@@ -100,26 +80,14 @@ pub fn closure(
     flags: &mut [u32; 128],
     made: &mut [u32; 128],
 ) -> u32
-    requires { ⌜ (rules ≤ 128) × (i < n) × (length (now flags) ≡ 128) × (length (now made) ≡ 128) ⌝ }
+    requires { ⌜ (rules ≤ 128) × (length (now flags) ≡ 128) × (length (now made) ≡ 128) ⌝ }
     ensures { λ v.
-        ⌜ Closed (now (p .entry)) rules i n start (now (insides .entry)) (now (lasts .entry)) (now (kinds .entry))
-        v (now (flags .exit)) ⌝ }
+        ⌜ Closed (now (p .entry)) rules start (now (insides .entry)) (now (lasts .entry)) (now (kinds .entry))
+        v (now (flags .exit)) (now (made .exit)) ⌝ }
 {
-    let mut own = first(p, rules, i, n, start, insides, lasts, kinds, flags, made);
+    let mut own = first(p, rules, start, insides, lasts, kinds, flags, made);
     loop {
-        let next = again(
-            p,
-            rules,
-            i,
-            n,
-            start,
-            insides,
-            lasts,
-            kinds,
-            own,
-            flags,
-            made,
-        );
+        let next = again(p, rules, start, insides, lasts, kinds, own, flags, made);
         if next == own {
             return next;
         }

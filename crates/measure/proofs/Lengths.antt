@@ -17,7 +17,7 @@ use Rattle.grammar.specs.View.{lengthsOf}
 use Rattle.grammar.specs.Zero.{noRule}
 use Rattle.results.specs.Measure.{sum}
 use Rattle.measure.specs.Measure.{lengthOfRule, lengthsIn}
-use Rattle.derivation.proofs.Nodes.{at-two}
+use Rattle.preorder.proofs.Nodes.{at-two}
 use Rattle.measure.proofs.Signed.{sum-size, fits-32, through}
 
 -- ---- a length of 16 bits in 32

@@ -1,7 +1,7 @@
 // The total length of a derivation: the rule lengths of its nodes added up, and the sum rounded to tenths.
-use derivation::offered::rule_number;
 use grammar::Grammar;
 use grammar::Rule;
+use preorder::offered::rule_number;
 ghost use mathlib.Core.List.{map};
 ghost use mathlib.Core.Path.{_≡_};
 ghost use Prim.Native.Nat.{_<_, _≤_};

@@ -1,6 +1,4 @@
 -- The laws of packed grammars. What others cite: Laws.
 pub mod Laws
 pub mod Fitting
-pub mod Row
-pub mod Rows
 pub mod Used

@@ -1,3 +1,2 @@
 -- The flat copy of a grammar, and what it means.
 pub mod Packed
-pub mod Place

@@ -1,18 +1,9 @@
 // The flat copy of a grammar for inner loops, which loops and recursion take by reference.
-use grammar::Grammar;
-use grammar::Rule;
-use grammar::tagged;
 use numbers::wide_byte;
-ghost use mathlib.Core.Bool.{true};
 ghost use mathlib.Core.Path.{_≡_};
-ghost use Prim.Native.Nat.{ℕ, _<_, _≤_};
-ghost use lib.ListN.{length};
+ghost use Prim.Native.Nat.{_<_, _≤_};
 ghost use Rattle.sets.specs.Set.{has as inSet};
-ghost use Rattle.cfg.specs.Grammar.{rule as ruleOfNumber};
-ghost use Rattle.grammar.specs.Valid.{validRule, validGrammar};
-ghost use Rattle.grammar.specs.View.{grammarOf};
-ghost use Rattle.packed.specs.Packed.{leftIn, Used, countIn, isNonterminalIn, valueIn, symbolIn, cfgIn, fitsPlace, packedSize};
-ghost use Rattle.packed.specs.Place.{RulePut};
+ghost use Rattle.packed.specs.Packed.{leftIn, Used, countIn, isNonterminalIn, valueIn, symbolIn, fitsPlace, packedSize};
 
 // The bytes of a rule (its left side, its count, and two for each place), and of a packed grammar.
 pub const RULE_BYTES: usize = 2 + 2 * sizes::MAX_PLACES;
@@ -106,38 +97,4 @@ pub fn fits_at(p: &Packed, r: usize, q: usize, w: &[u8], i: usize) -> bool
         return value(p, r, q) == wide_byte(w[i]);
     }
     false
-}
-
-// Writes the rule into row r.
-fn pack_rule(rule: Rule, r: usize, p: &mut Packed)
-    requires { ⌜ (r < 128) × (validRule rule ≡ true) × (length (now p) ≡ packedSize) ⌝ }
-    ensures { λ _. ⌜ RulePut rule r (now (p .entry)) (now (p .exit)) ⌝ }
-{
-    let n = rule.count;
-    p[RULE_BYTES * r] = rule.left;
-    p[RULE_BYTES * r + 1] = n as u8;
-    let mut q = 0;
-    while q < n {
-        let place = rule.places[q];
-        let s = place.symbol;
-        p[RULE_BYTES * r + 2 + 2 * q] = tagged::tag_of(s);
-        p[RULE_BYTES * r + 3 + 2 * q] = tagged::value_of(s);
-        q += 1;
-    }
-}
-
-// The packed grammar. Rules that are not used have the left side 255.
-pub fn pack(g: Grammar) -> Packed
-    requires { ⌜ validGrammar g ≡ true ⌝ }
-    ensures { λ p. ⌜ ((r : ℕ) → ruleOfNumber (cfgIn (g .start) p) r ≡ ruleOfNumber (grammarOf g) r) ⌝ }
-{
-    let mut p = [255u8; PACKED_SIZE];
-    let n = g.count;
-    let mut r = 0;
-    while r < n {
-        let rule = g.rules[r];
-        pack_rule(rule, r, &mut p);
-        r += 1;
-    }
-    p
 }

@@ -61,7 +61,8 @@ pub fn fill(g: Grammar, input: &[u8], chart: &mut [u32]) -> Packed
     ensures { λ p. ⌜ (now (chart .exit) ≡ filled (grammarOf g) (now (input .entry)) (now (chart .entry)))
         × ((r : ℕ) → ruleOfNumber (cfgIn (g .start) p) r ≡ ruleOfNumber (grammarOf g) r) ⌝ }
 {
-    let p = packed::pack(g);
-    columns::fill(&p, input, chart);
+    let p = packing::pack(g);
+    let fits = fit::table(&p, input);
+    columns::fill(&p, &fits, input.len(), chart);
     p
 }

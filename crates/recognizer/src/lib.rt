@@ -62,7 +62,7 @@ fn opening(g: Grammar, chart: &mut [u32]) -> Advanced
     requires { ⌜ (validGrammar g ≡ true) × (cells ≤ length (now chart)) ⌝ }
     ensures { λ r. ⌜ recognitionOf r (now (chart .exit)) ≡ openOf g (now (chart .entry)) ⌝ }
 {
-    let p = packed::pack(g);
+    let p = packing::pack(g);
     open_chart(&p, chart);
     let accepted = says(g.start, 0, chart);
     Advanced {
@@ -89,7 +89,7 @@ fn taking(h: Recognizer, g: Grammar, byte: u8, chart: &mut [u32]) -> Advanced
     requires { ⌜ (validGrammar g ≡ true) × (h .count < 64) × (cells ≤ length (now chart)) ⌝ }
     ensures { λ r. ⌜ recognitionOf r (now (chart .exit)) ≡ takeOf g (stateIn h) byte (now (chart .entry)) ⌝ }
 {
-    let p = packed::pack(g);
+    let p = packing::pack(g);
     let next = with_byte(h, byte);
     let n = next.count;
     let bytes = next.bytes;

@@ -10,6 +10,9 @@ pub const MAX_PLACES: usize = 8;
 
 pub const NONTERMINALS: usize = 32;
 
+// The number of no rule, one past the last: it stands for none.
+pub const NO_RULE: usize = MAX_RULES;
+
 // Bytes of an input (marks of a plate); where a span may start or end; cells of a chart (words of a sheet).
 pub const MAX_INPUT: usize = 64;
 

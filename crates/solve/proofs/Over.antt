@@ -13,7 +13,7 @@ use Rattle.costs.specs.Rule.{NodeCost, BareCost, together}
 use Rattle.costs.proofs.Rule.{rule-empty}
 use Rattle.packed.specs.Packed.{leftIn, placesIn}
 use Rattle.tables.specs.Layout.{fullIn, bareIn}
-use Rattle.tables.specs.Rule.{Known, OfRule}
+use Rattle.rulecosts.specs.Rule.{Known, OfRule}
 use Rattle.tables.specs.Exact.{Ready}
 use Rattle.solve.specs.Solve.{RuleOver, Wanted}
 

@@ -1,18 +1,19 @@
 // The least numbers of nodes over one whole span: passes of the rules, from too many everywhere on, until a pass changes nothing.
 use packed::Packed;
-use tables::alone::rule_empty;
+use rulecosts::alone::rule_empty;
+use rulecosts::rule::rule_cost;
 use tables::bare::bare;
 use tables::layout::Full;
 use tables::layout::Tables;
 use tables::least::TOO_MANY;
-use tables::rule::rule_cost;
 ghost use Prim.Native.Nat.{_<_, _≤_};
+ghost use Rattle.sizes.specs.Sizes.{maxRules, nonterminals, side};
 ghost use Rattle.solve.specs.Solve.{RuleOver, Wanted, Numbers, Improved, Passed, Solved};
 
 // The cost of rule r over the span from i to j, the node included: over no byte that of its places together, else by the table of costs
 // without a child over the whole span and through its places.
 pub fn rule_over(p: &Packed, r: usize, full: &Full, tables: &Tables, i: usize, j: usize) -> u16
-    requires { ⌜ (r < 128) × (i ≤ j) × (j < 65) ⌝ }
+    requires { ⌜ (r < maxRules) × (i ≤ j) × (j < side) ⌝ }
     ensures { λ v. ⌜ RuleOver (now (p .entry)) r (now (full .entry)) (now (tables .entry)) i j v ⌝ }
 {
     if i < j {
@@ -24,7 +25,7 @@ pub fn rule_over(p: &Packed, r: usize, full: &Full, tables: &Tables, i: usize, j
 
 // Whether the number of the nonterminal k is looked for: k is in the cell and not in the mask.
 fn wanted(k: usize, cell: u32, mask: u32) -> bool
-    requires { ⌜ k < 32 ⌝ }
+    requires { ⌜ k < nonterminals ⌝ }
     ensures { λ b. ⌜ Wanted k cell mask b ⌝ }
 {
     if sets::has(cell, k) {
@@ -44,7 +45,7 @@ fn improve(
     j: usize,
     full: &mut Full,
 ) -> bool
-    requires { ⌜ (r < 128) × (i ≤ j) × (j < 65) × Numbers (now full) ⌝ }
+    requires { ⌜ (r < maxRules) × (i ≤ j) × (j < side) × Numbers (now full) ⌝ }
     ensures { λ b.
         ⌜ Improved (now (p .entry)) r cell mask (now (tables .entry)) i j (now (full .entry)) (now (full .exit)) b ⌝ }
 {
@@ -72,7 +73,7 @@ fn pass(
     j: usize,
     full: &mut Full,
 ) -> bool
-    requires { ⌜ (rules ≤ 128) × (i ≤ j) × (j < 65) × Numbers (now full) ⌝ }
+    requires { ⌜ (rules ≤ maxRules) × (i ≤ j) × (j < side) × Numbers (now full) ⌝ }
     ensures { λ b.
         ⌜ Passed (now (p .entry)) rules cell mask (now (tables .entry)) i j (now (full .entry)) (now (full .exit)) b ⌝ }
 {
@@ -97,7 +98,7 @@ pub fn solve(
     i: usize,
     j: usize,
 ) -> Full
-    requires { ⌜ (rules ≤ 128) × (i ≤ j) × (j < 65) ⌝ }
+    requires { ⌜ (rules ≤ maxRules) × (i ≤ j) × (j < side) ⌝ }
     ensures { λ full. ⌜ Solved (now (p .entry)) rules cell mask (now (tables .entry)) i j full ⌝ }
 {
     let mut full = [TOO_MANY; sizes::NONTERMINALS];

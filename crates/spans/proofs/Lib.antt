@@ -1,6 +1,4 @@
 -- Laws that the proofs of the functions cite.
-pub mod Places
-pub mod Rules
 pub mod Rows
 pub mod Putting
 pub mod Telling

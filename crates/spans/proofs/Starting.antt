@@ -13,8 +13,8 @@ use Rattle.chart.specs.Cell.{cuts}
 use Rattle.packed.specs.Packed.{countIn}
 use Rattle.packed.proofs.Laws.{count-le}
 use Rattle.cells.specs.Flags.{Fit, Sets, tail, Cutting}
-use Rattle.spans.specs.Spans.{startsSize, startsOf, StartsTold}
-use Rattle.spans.specs.Ends.{RulePut, StartsFrom, FlagsPut}
+use Rattle.spans.specs.Spans.{startsSize, startsOf}
+use Rattle.spans.specs.Ends.{RulePut, StartsFrom, FlagsPut, StartsTold}
 
 module _ (p : List ℕ) (m i flags : ℕ) (starts live starts' live' : List ℕ) (put : RulePut p m i flags starts live starts' live') where
   -- the words of another rule stay

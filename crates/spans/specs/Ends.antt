@@ -8,10 +8,10 @@ use mathlib.Core.Path.{_≡_}
 use lib.ListN.{length, getD}
 use Rattle.sizes.specs.Sizes.{maxInput, maxRules, maxPlaces, nonterminals}
 use Rattle.sets.specs.Set.{has}
-use Rattle.chart.specs.Cell.{cell}
+use Rattle.chart.specs.Cell.{cell, cuts}
 use Rattle.packed.specs.Packed.{countIn}
-use Rattle.cells.specs.Flags.{Fit, Sets, Cutting}
-use Rattle.spans.specs.Spans.{endsSize, endsOf, startsSize, startsOf, StartsTold}
+use Rattle.cells.specs.Flags.{Fit, Sets, tail, Cutting}
+use Rattle.spans.specs.Spans.{endsSize, endsOf, startsSize, startsOf}
 
 -- ---- ends
 
@@ -61,6 +61,13 @@ pub record RulePut (p : List ℕ) (r i flags : ℕ) (starts live starts' live' :
       ⊎ ((j ≡ i) × ((q : ℕ) × (0 < q) × (q < countIn p r) × (x ≡ maxPlaces * r + q) × (has q flags ≡ true)))
   pub live-keeps : (x j : ℕ) → has j (getD live x 0) ≡ true → has j (getD live' x 0) ≡ true
   pub lives : (q : ℕ) → 0 < q → q < countIn p r → has q flags ≡ true → has i (getD live' r 0) ≡ true
+
+-- the words of rule r tell from which of the starts from j on and before n its places cut up to n, and have no other start
+pub record StartsTold (fit : Fit) (sets : Sets) (p : List ℕ) (r j n : ℕ) (starts : List ℕ) : Type 0 where
+  pub sound : (q a : ℕ) → 0 < q → q < countIn p r → has a (startsOf starts r q) ≡ true
+      → (j ≤ a) × (a < n) × (cuts fit sets (tail p r q) a n ≡ true)
+  pub all : (q a : ℕ) → 0 < q → q < countIn p r → j ≤ a → a < n → cuts fit sets (tail p r q) a n ≡ true
+      → has a (startsOf starts r q) ≡ true
 
 -- the starts of these rules from j on are told, and live
 pub record StartsFrom (fit : Fit) (sets : Sets) (p : List ℕ) (rules j n : ℕ) (starts live : List ℕ) : Type 0 where

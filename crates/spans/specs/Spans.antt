@@ -1,18 +1,10 @@
 -- Spans as bits: for a start and a nonterminal the set of its ends, and for a rule and a place the set of the starts from which on the
--- rule's places cut up to the column's end, each a set of 0..63. What such words mean, and what is promised of the cuts told by them.
+-- rule's places cut up to the column's end, each a set of 0..63. Where these words stand.
 -- Assumes nothing.
-use Prim.Native.Nat.{ℕ, _+_, _*_, _≤_, _<_}
-use mathlib.Core.Bool.{Bool, true, false}
+use Prim.Native.Nat.{ℕ, _+_, _*_}
 use mathlib.Core.List.{List}
-use mathlib.Core.Logic.{_↔_}
-use mathlib.Core.Path.{_≡_}
-use lib.ListN.{length, getD}
+use lib.ListN.{getD}
 use Rattle.sizes.specs.Sizes.{maxInput, maxRules, maxPlaces, nonterminals}
-use Rattle.sets.specs.Set.{has, insert}
-use Rattle.sets.specs.Pairs.{Meeting}
-use Rattle.chart.specs.Cell.{cuts}
-use Rattle.packed.specs.Packed.{countIn}
-use Rattle.cells.specs.Flags.{Fit, Sets, tail, Cutting, InnerAt, Inner}
 
 -- the words of the ends: one for each start and nonterminal
 abbrev pub endsSize : ℕ
@@ -29,52 +21,3 @@ startsSize = maxRules * maxPlaces
 -- the starts from which on the places q.. of rule r cut
 abbrev pub startsOf : List ℕ → ℕ → ℕ → ℕ
 startsOf starts r q = getD starts (maxPlaces * r + q) 0
-
--- the words of the start i tell the sets of the spans from i that end before n
-pub record EndsTold (sets : Sets) (i n : ℕ) (ends : List ℕ) : Type 0 where
-  pub exact : (k b : ℕ) → k < 32 → i < b → b < n → has b (endsOf ends i k) ≡ has k (sets i b)
-  pub high : (k b : ℕ) → 32 ≤ k → i < b → b < n → has k (sets i b) ≡ false
-
--- the words of rule r tell from which of the starts from j on and before n its places cut up to n, and have no other start
-pub record StartsTold (fit : Fit) (sets : Sets) (p : List ℕ) (r j n : ℕ) (starts : List ℕ) : Type 0 where
-  pub sound : (q a : ℕ) → 0 < q → q < countIn p r → has a (startsOf starts r q) ≡ true
-      → (j ≤ a) × (a < n) × (cuts fit sets (tail p r q) a n ≡ true)
-  pub all : (q a : ℕ) → 0 < q → q < countIn p r → j ≤ a → a < n → cuts fit sets (tail p r q) a n ≡ true
-      → has a (startsOf starts r q) ≡ true
-
--- what is known of rule r when the start i is looked at; last is its flags at the end n
-pub record Known (fit : Fit) (sets : Sets) (p : List ℕ) (r i n : ℕ) (ends starts : List ℕ) (last : ℕ) : Type 0 where
-  pub inside : EndsTold sets i n ends
-  pub behind : StartsTold fit sets p r (i + 1) n starts
-  pub after : Cutting fit sets p r n n last
-
--- reach has the ends of all spans from i that are not empty, live the starts of all words of rule r
-pub record Near (sets : Sets) (p : List ℕ) (r i n : ℕ) (starts : List ℕ) (reach live : ℕ) : Type 0 where
-  pub reaches : (k b : ℕ) → i < b → b < n → has k (sets i b) ≡ true → has b reach ≡ true
-  pub lives : (q a : ℕ) → 0 < q → q < countIn p r → has a (startsOf starts r q) ≡ true → has a live ≡ true
-
--- f says whether a rule can have an inner cut of the span from i to n: not, where no end from i, and not i + 1, is one of its starts
-pub record CanBegin (i n reach live : ℕ) (f : Bool) : Type 0 where
-  pub before : i + 1 < n → Meeting 64 (insert (i + 1) reach) live f
-  pub at-end : n ≤ i + 1 → f ≡ true
-
--- f says whether the places q.. of rule r cut the span from a to n, where the starts from j on are told
-pub record Follows (fit : Fit) (p : List ℕ) (r q a j n : ℕ) (starts : List ℕ) (last : ℕ) (f : Bool) : Type 0 where
-  pub exact : (sets : Sets) → StartsTold fit sets p r j n starts → Cutting fit sets p r n n last → f ≡ cuts fit sets (tail p r q) a n
-
--- f says whether an inner cut begins at place q
-pub record BeginsAt (fit : Fit) (p : List ℕ) (r q i n : ℕ) (ends starts : List ℕ) (last : ℕ) (f : Bool) : Type 0 where
-  pub exact : (sets : Sets) → Known fit sets p r i n ends starts last → (f ≡ true) ↔ InnerAt fit sets p r i n q
-
--- v is the set of the places at which an inner cut begins
-pub record Begins (fit : Fit) (p : List ℕ) (r i n : ℕ) (ends starts : List ℕ) (last v : ℕ) : Type 0 where
-  pub exact : (sets : Sets) → Known fit sets p r i n ends starts last → Inner fit sets p r i n v
-
--- the same where also reach and live are as they say
-pub record BeginsNear (fit : Fit) (p : List ℕ) (r i n : ℕ) (ends starts : List ℕ) (reach live last v : ℕ) : Type 0 where
-  pub exact : (sets : Sets) → Known fit sets p r i n ends starts last → Near sets p r i n starts reach live → Inner fit sets p r i n v
-
--- the same of each rule below a number
-pub record AllBegin (fit : Fit) (p : List ℕ) (rules i n : ℕ) (ends starts : List ℕ) (reach : ℕ) (live lasts insides : List ℕ) : Type 0 where
-  pub long : length insides ≡ maxRules
-  pub each : (r : ℕ) → r < rules → BeginsNear fit p r i n ends starts reach (getD live r 0) (getD lasts r 0) (getD insides r 0)

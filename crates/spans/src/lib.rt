@@ -1,6 +1,4 @@
-// Spans as bits: the words, and the cuts of a span that begin with a piece inside it.
-pub mod begins;
+// Spans as bits: the words, and how ends and starts are added to them.
 pub mod ends;
-pub mod insides;
 pub mod starts;
 pub mod words;

@@ -1,9 +1,9 @@
 // One line after the other.
 use fit::FitTable;
-use lines::fixed::put_more;
-use lines::fixed::put_no_reading;
-use lines::fixed::put_readings;
-use lines::fixed::put_refused;
+use fixed::put_more;
+use fixed::put_no_reading;
+use fixed::put_readings;
+use fixed::put_refused;
 use lines::line::put_line;
 use lister::Due;
 use measure::Lengths;

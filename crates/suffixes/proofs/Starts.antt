@@ -14,9 +14,10 @@ use Rattle.costs.specs.Cut.{within}
 use Rattle.packed.specs.Packed.{countIn}
 use Rattle.packed.proofs.Laws.{places-end}
 use Rattle.tables.specs.Layout.{costIn, fullIn, rowsSize}
-use Rattle.suffixes.specs.Suffix.{AtEnd}
+use Rattle.cuts.specs.Suffix.{AtEnd}
+use Rattle.cuts.specs.Within.{Rests, SuffixAt}
 use Rattle.costs.specs.Cut.{Fit}
-use Rattle.suffixes.specs.Within.{tailIn, Inside, Rests, SuffixAt, rowAt, Word, LaterStarts, ColumnFrom, ColumnPut}
+use Rattle.suffixes.specs.Within.{tailIn, Inside, rowAt, Word, LaterStarts, ColumnFrom, ColumnPut}
 
 module _ (p : List ℕ) (r word : ℕ) (tables full : List ℕ) (i a j at : ℕ) where
   pub column-start : (rows : List ℕ) {m : ℕ} → m ≡ countIn p r → ColumnFrom p r word tables full i a j at m rows rows

@@ -1,4 +1,3 @@
--- The least costs of the places of a rule from one place on: over a span, inside one, and from each start.
-pub mod Suffix
+-- The least costs of the places of a rule from each place on and from each start.
 pub mod Within
 pub mod Rows

@@ -1,11 +1,12 @@
 // The least costs of the places of a rule from one start on, for all its places: row q of 65 numbers has those of the places q.. .
-use super::suffix::at_end;
-use super::within::suffix_at;
+use cuts::suffix::at_end;
+use cuts::within::suffix_at;
 use packed::Packed;
 use tables::layout::Full;
 use tables::layout::Tables;
 ghost use Prim.Native.Nat.{_+_, _<_, _≤_};
 ghost use lib.ListN.{length};
+ghost use Rattle.sizes.specs.Sizes.{maxRules, side};
 ghost use Rattle.tables.specs.Layout.{rowsSize};
 ghost use Rattle.suffixes.specs.Within.{ColumnPut};
 
@@ -23,7 +24,7 @@ pub fn put_column(
     rows: &mut [u16],
     at: usize,
 )
-    requires { ⌜ (r < 128) × (i ≤ a) × (a ≤ j) × (j < 65) × (at + rowsSize ≤ length (now rows)) ⌝ }
+    requires { ⌜ (r < maxRules) × (i ≤ a) × (a ≤ j) × (j < side) × (at + rowsSize ≤ length (now rows)) ⌝ }
     ensures { λ _.
         ⌜ ColumnPut (now (p .entry)) r word (now (tables .entry)) (now (full .entry)) i a j at
         (now (rows .entry)) (now (rows .exit)) ⌝ }

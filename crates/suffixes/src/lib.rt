@@ -1,5 +1,3 @@
 // The least costs of the places of a rule, from each place on and from each start.
 pub mod column;
 pub mod rows;
-pub mod suffix;
-pub mod within;

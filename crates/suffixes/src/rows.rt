@@ -8,6 +8,7 @@ use tables::layout::Tables;
 ghost use mathlib.Core.Path.{_≡_};
 ghost use Prim.Native.Nat.{_+_, _<_, _≤_};
 ghost use lib.ListN.{length};
+ghost use Rattle.sizes.specs.Sizes.{maxRules, side};
 ghost use Rattle.tables.specs.Layout.{rowsSize};
 ghost use Rattle.suffixes.specs.Rows.{WordAt, StartPut, RowsPut};
 
@@ -16,7 +17,7 @@ pub type Rows = [u16; ROWS_SIZE];
 
 // Which places of rule r fit position a, as a word: none behind the last position of the span.
 fn word_at(fits: &FitTable, r: usize, a: usize, j: usize) -> u32
-    requires { ⌜ (r < 128) × (j < 65) ⌝ }
+    requires { ⌜ (r < maxRules) × (j < side) ⌝ }
     ensures { λ v. ⌜ WordAt (now (fits .entry)) r a j v ⌝ }
 {
     if a < j {
@@ -38,7 +39,7 @@ pub fn put_start(
     rows: &mut [u16],
     at: usize,
 )
-    requires { ⌜ (r < 128) × (i ≤ a) × (a ≤ j) × (j < 65) × (at + rowsSize ≤ length (now rows)) ⌝ }
+    requires { ⌜ (r < maxRules) × (i ≤ a) × (a ≤ j) × (j < side) × (at + rowsSize ≤ length (now rows)) ⌝ }
     ensures { λ _.
         ⌜ StartPut (now (p .entry)) r (now (fits .entry)) (now (tables .entry)) (now (full .entry)) i a j at
         (now (rows .entry)) (now (rows .exit)) ⌝ }
@@ -68,7 +69,7 @@ pub fn put_rows(
     j: usize,
     rows: &mut Rows,
 )
-    requires { ⌜ (r < 128) × (i ≤ j) × (j < 65) × (length (now rows) ≡ rowsSize) ⌝ }
+    requires { ⌜ (r < maxRules) × (i ≤ j) × (j < side) × (length (now rows) ≡ rowsSize) ⌝ }
     ensures { λ _.
         ⌜ RowsPut (now (p .entry)) r (now (fits .entry)) (now (tables .entry)) (now (full .entry)) i j (now (rows .exit)) ⌝ }
 {

@@ -1,6 +1,3 @@
--- Laws of the tables, by the tests that the code makes.
+-- Laws of the tables' places.
 pub mod Entries
-pub mod Sums
-pub mod Through
-pub mod Filling
 pub mod Bares

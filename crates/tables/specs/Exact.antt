@@ -16,9 +16,8 @@ use Rattle.fit.specs.Fit.{entryIn}
 use Rattle.costs.specs.Cut.{Fit, Cost}
 use Rattle.costs.specs.Lowest.{Lowest}
 use Rattle.costs.specs.Span.{Tree, Least}
-use Rattle.costs.specs.Rule.{BareCost}
-use Rattle.tables.specs.Layout.{costIn, bareIn, tablesSize}
-use Rattle.tables.specs.Rule.{Alones}
+use Rattle.costs.specs.Rule.{BareCost, alone}
+use Rattle.tables.specs.Layout.{costIn, aloneIn, bareIn, tablesSize}
 
 -- the grammar of the packed bytes; its start does not matter below the root
 abbrev pub Packing : List ℕ → Cfg
@@ -40,6 +39,10 @@ CellTrue p bytes i j set = (k : ℕ) → has k set ≡ false → (t : Forest) �
 -- the same for each cell of the chart up to n
 abbrev pub ChartTrue : List ℕ → (ℕ → ℕ → Type 0) → List ℕ → ℕ → Type 0
 ChartTrue p bytes chart n = (i j : ℕ) → i ≤ j → j ≤ n → CellTrue p bytes i j (cell chart i j)
+
+-- the numbers of the places of rule r that stand alone are those of `empty`, the costs over no byte
+abbrev pub Alones : (ℕ → ℕ) → List ℕ → ℕ → List ℕ → Type 0
+Alones empty p r tables = (q : ℕ) → q < countIn p r → aloneIn tables r q ≡ alone empty (placesIn p r) q
 
 -- what the cost of a rule over the span from i to j, which is not empty, is made of: `least` has the costs over the spans inside. Of a
 -- number that has no rule nothing is said

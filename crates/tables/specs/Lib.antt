@@ -1,4 +1,3 @@
--- The enumerator's tables: where their numbers stand, and the cost of a rule.
+-- The enumerator's tables: where their numbers stand, and when they are right.
 pub mod Layout
-pub mod Rule
 pub mod Exact

@@ -2,16 +2,17 @@
 use super::layout::BARES;
 use super::layout::Tables;
 ghost use mathlib.Core.Path.{_≡_};
-ghost use Prim.Native.Nat.{_<_};
-ghost use Rattle.tables.specs.Layout.{spanAt, bareAt, bareIn, tablesSize};
+ghost use Prim.Native.Nat.{_*_, _<_};
+ghost use Rattle.sizes.specs.Sizes.{maxRules, side};
+ghost use Rattle.tables.specs.Layout.{half, spanAt, bareAt, bareIn, tablesSize};
 
 // The starts before this one have a row of spans each, which the other starts share from its end.
 const HALF: usize = sizes::MAX_INPUT / 2;
 
 // The place of the span from i to j among the spans that are not empty.
 fn span_at(i: usize, j: usize) -> usize
-    requires { ⌜ (i < j) × (j < 65) ⌝ }
-    ensures { λ n. ⌜ (n ≡ spanAt i j) × (n < 2080) ⌝ }
+    requires { ⌜ (i < j) × (j < side) ⌝ }
+    ensures { λ n. ⌜ (n ≡ spanAt i j) × (n < half * side) ⌝ }
 {
     if i < HALF {
         sizes::SIDE * i + (j - i - 1)
@@ -22,7 +23,7 @@ fn span_at(i: usize, j: usize) -> usize
 
 // Where the number of rule r over the span from i to j stands.
 pub fn bare_at(i: usize, j: usize, r: usize) -> usize
-    requires { ⌜ (i < j) × (j < 65) × (r < 128) ⌝ }
+    requires { ⌜ (i < j) × (j < side) × (r < maxRules) ⌝ }
     ensures { λ n. ⌜ (n ≡ bareAt i j r) × (n < tablesSize) ⌝ }
 {
     BARES + sizes::MAX_RULES * span_at(i, j) + r
@@ -30,7 +31,7 @@ pub fn bare_at(i: usize, j: usize, r: usize) -> usize
 
 // That number.
 pub fn bare(tables: &Tables, i: usize, j: usize, r: usize) -> u16
-    requires { ⌜ (i < j) × (j < 65) × (r < 128) ⌝ }
+    requires { ⌜ (i < j) × (j < side) × (r < maxRules) ⌝ }
     ensures { λ v. ⌜ v ≡ bareIn (now (tables .entry)) i j r ⌝ }
 {
     tables[bare_at(i, j, r)]

@@ -3,6 +3,7 @@
 use super::least::TOO_MANY;
 ghost use mathlib.Core.Path.{_≡_};
 ghost use Prim.Native.Nat.{_<_};
+ghost use Rattle.sizes.specs.Sizes.{side};
 ghost use Rattle.tables.specs.Layout.{leastSize, alonesAt, baresAt, tablesSize, rowsSize, costIn, fullIn};
 
 pub const LEAST_SIZE: usize = sizes::NONTERMINALS * sizes::CELLS;
@@ -56,7 +57,7 @@ pub fn tied_rows() -> usize
 
 // The cost of the nonterminal k from a to b: 513 where k is from 32 on.
 pub fn cost(tables: &Tables, k: usize, a: usize, b: usize) -> u16
-    requires { ⌜ (a < 65) × (b < 65) ⌝ }
+    requires { ⌜ (a < side) × (b < side) ⌝ }
     ensures { λ v. ⌜ v ≡ costIn (now (tables .entry)) k a b ⌝ }
 {
     if k < sizes::NONTERMINALS {

@@ -1,6 +1,4 @@
 // The enumerator's tables: least numbers of nodes, capped at 513, which stands for none.
-pub mod alone;
 pub mod bare;
 pub mod layout;
 pub mod least;
-pub mod rule;

@@ -1,47 +1,84 @@
 -- The spans of one end, from the last start to the first, and all ends.
 -- Assumes nothing.
 use Prim.Native.Nat.{ℕ, _+_, _*_, _-_, _≤_, _<_}
+use mathlib.Core.Bool.{false}
 use mathlib.Core.List.{List}
-use mathlib.Core.Path.{_≡_, subst}
+use mathlib.Core.Path.{_≡_, ap, subst, _∙_}
 use native.Mathlib.Omega.{arith}
 use lib.ListN.{length, getD}
+use Rattle.sizes.specs.Sizes.{tooMany}
+use Rattle.sets.specs.Set.{has}
+use Rattle.sets.proofs.Laws.{has-empty}
+use Rattle.chart.specs.Cell.{cell}
 use Rattle.costs.specs.Cut.{Fit}
 use Rattle.costs.specs.Span.{Tells}
+use Rattle.costs.proofs.Lowest.{lowest-unique, lowest-none}
 use Rattle.costs.proofs.Plain.{least-unmasked}
 use Rattle.packed.proofs.Laws.{count-le}
-use Rattle.tables.specs.Layout.{tablesSize, fullIn}
-use Rattle.tables.specs.Rule.{AlonesFilled}
+use Rattle.tables.specs.Layout.{tablesSize, costIn, fullIn}
+use Rattle.rulecosts.specs.Rule.{AlonesFilled}
 use Rattle.tables.specs.Exact.{PastLast, ChartTrue, Exact}
 use Rattle.solve.specs.Solve.{Solved}
 use Rattle.solve.proofs.Trees.{solved-full}
-use Rattle.tabulate.specs.Writes.{allRows}
-use Rattle.tabulate.specs.Sofar.{Standing, Given, EmptyTrue, Sofar}
-use Rattle.tabulate.specs.Spans.{SpanPut, EmptyPut, EndFrom, EndPut, EndsBefore, EndsPut, Tabulated}
-use Rattle.tabulate.proofs.Kept.{ready-by}
+use Rattle.writes.specs.Writes.{allRows}
+use Rattle.reach.specs.Reach.{Reaches}
+use Rattle.live.specs.Live.{Reached}
+use Rattle.spancosts.specs.Sofar.{Standing, Given, EmptyTrue, Sofar, LiveFrom}
+use Rattle.spancosts.specs.Spans.{SpanPut, EmptyPut}
+use Rattle.tabulate.specs.Spans.{EndFrom, EndPut, EndsBefore, EndsPut, Tabulated}
+use Rattle.spancosts.proofs.Kept.{ready-by}
 
 module _ (p : List ℕ) (rules : ℕ) (fits chart : List ℕ) where
   -- ---- one end
 
   module _ (j : ℕ) where
-    pub end-start : (tables rows : List ℕ) → length tables ≡ tablesSize → length rows ≡ allRows
-        → EndFrom p rules fits chart j j tables rows tables rows
-    end-start tables rows e f = record { long = e; wide = f; exact = λ fit can G C S. S }
-
-    pub end-back : (n : ℕ) {tables₀ rows₀ tables₁ rows₁ tables rows : List ℕ} → 0 < n → n ≤ j
-        → EndFrom p rules fits chart n j tables₀ rows₀ tables₁ rows₁
-        → SpanPut p rules fits (getD chart (65 * (n - 1) + j) 0) (n - 1) j tables₁ rows₁ tables rows
-        → EndFrom p rules fits chart (n - 1) j tables₀ rows₀ tables rows
-    end-back n {tables₁ = tables₁} {rows₁} h l S P = record {
-      long = P .long;
-      wide = P .wide;
-      exact = λ fit can G C R.
-          let e : n ≡ n - 1 + 1 = omega arith in
-          P .exact fit can G (C (n - 1) (omega arith))
-          (subst (λ (x : ℕ). Sofar fit (Standing can) p rules x j tables₁ rows₁) e (S .exact fit can G C R));
+    pub end-start : (tables rows live : List ℕ) → length tables ≡ tablesSize → length rows ≡ allRows → length live ≡ 128
+        → EndFrom p rules fits chart j j tables rows tables rows live
+    end-start tables rows live e f g = record {
+      long = e;
+      wide = f;
+      size = g;
+      told = record { told = λ r c x y z w. absurd (omega arith) };
+      exact = λ fit can G C S. S;
     }
 
-    pub end-put : (empty : List ℕ) {i : ℕ} {tables₀ rows₀ tables₁ rows₁ tables rows : List ℕ} → i ≤ 0
-        → EmptyPut p rules fits empty j tables₀ rows₀ tables₁ rows₁ → EndFrom p rules fits chart i j tables₁ rows₁ tables rows
+    -- an end whose bit is not set costs too many: its cell is empty, so that no nonterminal has a tree there
+    reached-by : {fit : Fit} {bytes : ℕ → ℕ → Type 0} {i : ℕ} {tables rows reach : List ℕ} → i < j → j < 65
+        → Sofar fit bytes p rules (i + 1) j tables rows → ChartTrue p bytes chart j → Reaches chart j reach
+        → Reached tables (getD reach i 0) i j
+    reached-by {i = i} {tables} h l S C R k c x y f =
+        let e : cell chart i c ≡ 0 = R .from i h .empty c x y f in
+        let g : has k (cell chart i c) ≡ false = ap (has k) e ∙ has-empty k in
+        let z : tooMany ≡ costIn tables k i c =
+        lowest-unique (lowest-none (λ u t. absurd (C i c (omega arith) (omega arith) k g (t .0) (t .1))))
+        (S .least k i c (omega arith) (omega arith) (omega arith))
+        in
+        omega arith
+
+    pub end-back : (n : ℕ) {reach tables₀ rows₀ tables₁ rows₁ live₁ tables rows live : List ℕ} → 0 < n → n ≤ j → j < 65
+        → Reaches chart j reach → EndFrom p rules fits chart n j tables₀ rows₀ tables₁ rows₁ live₁
+        → SpanPut p rules fits (getD chart (65 * (n - 1) + j) 0) (getD reach (n - 1) 0) (n - 1) j tables₁ rows₁ live₁ tables rows live
+        → EndFrom p rules fits chart (n - 1) j tables₀ rows₀ tables rows live
+    end-back n {tables₁ = tables₁} {rows₁} {live₁} h l k R S P = record {
+      long = P .long;
+      wide = P .wide;
+      size = P .size;
+      told = P .told live;
+      exact = λ fit can G C D.
+          let A : Sofar fit (Standing can) p rules (n - 1 + 1) j tables₁ rows₁ =
+          subst (λ (x : ℕ). Sofar fit (Standing can) p rules x j tables₁ rows₁) e (S .exact fit can G C D)
+          in
+          P .exact fit can G (C (n - 1) j (omega arith) (omega arith)) (reached-by (omega arith) k A C R) live A;
+    }
+      where
+        e : n ≡ n - 1 + 1
+        e = omega arith
+
+        live : LiveFrom p rules (n - 1 + 1) j rows₁ live₁
+        live = subst (λ (x : ℕ). LiveFrom p rules x j rows₁ live₁) e (S .told)
+
+    pub end-put : (empty : List ℕ) {i : ℕ} {tables₀ rows₀ tables₁ rows₁ tables rows live : List ℕ} → i ≤ 0
+        → EmptyPut p rules fits empty j tables₀ rows₀ tables₁ rows₁ → EndFrom p rules fits chart i j tables₁ rows₁ tables rows live
         → EndPut p rules fits chart empty j tables₀ rows₀ tables rows
     end-put empty {i} {tables = tables} {rows} h D S = record {
       long = S .long;
@@ -95,7 +132,7 @@ module _ (p : List ℕ) (rules : ℕ) (fits chart : List ℕ) where
       wide = P .wide;
       exact = λ fit can G E C A.
           next-end (omega arith)
-          (P .exact fit can (given-less h G) E (λ a x. C a j (omega arith) h) (S .exact fit can G E C A));
+          (P .exact fit can (given-less h G) E (λ a b x y. C a b x (omega arith)) (S .exact fit can G E C A));
     }
 
     pub ends-end : {j : ℕ} {tables₀ tables rows : List ℕ} → n < j → j ≤ n + 1 → n < 65

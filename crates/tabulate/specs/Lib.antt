@@ -1,5 +1,2 @@
--- How the tables are made: what each function writes, and what is right when the spans up to one are done.
-pub mod Writes
-pub mod Starts
-pub mod Sofar
+-- How the tables are made: what is right when the spans up to an end are done.
 pub mod Spans

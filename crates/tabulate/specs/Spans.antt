@@ -7,42 +7,20 @@ use mathlib.Core.List.{List}
 use mathlib.Core.Path.{_≡_}
 use lib.ListN.{length}
 use Rattle.sizes.specs.Sizes.{maxRules}
-use Rattle.chart.specs.Cell.{cell}
 use Rattle.costs.specs.Cut.{Fit}
 use Rattle.costs.specs.Span.{Tells}
 use Rattle.tables.specs.Layout.{tablesSize, fullIn}
-use Rattle.tables.specs.Rule.{Alones}
-use Rattle.tables.specs.Exact.{PastLast, FitTold, CellTrue, ChartTrue, Exact}
-use Rattle.tabulate.specs.Writes.{allRows}
-use Rattle.tabulate.specs.Sofar.{Standing, Given, EmptyTrue, Sofar, Opened}
-
--- the costs over the span from i to j that need no numbers of the whole of it are made
-pub record SpanOpened (p : List ℕ) (rules : ℕ) (fits : List ℕ) (i j : ℕ) (tables₀ rows₀ tables rows : List ℕ) : Type 0 where
-  pub long : length tables ≡ tablesSize
-  pub wide : length rows ≡ allRows
-  pub exact : (fit : Fit) (can : ℕ → ℕ → Bool) → FitTold fit p fits j → Sofar fit (Standing can) p rules (i + 1) j tables₀ rows₀
-      → Opened fit (Standing can) p rules i j tables rows
-
--- the span from i to j is done
-pub record SpanPut (p : List ℕ) (rules : ℕ) (fits : List ℕ) (set i j : ℕ) (tables₀ rows₀ tables rows : List ℕ) : Type 0 where
-  pub long : length tables ≡ tablesSize
-  pub wide : length rows ≡ allRows
-  pub exact : (fit : Fit) (can : ℕ → ℕ → Bool) → Given fit (Standing can) p rules fits j → CellTrue p (Standing can) i j set
-      → Sofar fit (Standing can) p rules (i + 1) j tables₀ rows₀ → Sofar fit (Standing can) p rules i j tables rows
-
--- the empty span at j is done
-pub record EmptyPut (p : List ℕ) (rules : ℕ) (fits empty : List ℕ) (j : ℕ) (tables₀ rows₀ tables rows : List ℕ) : Type 0 where
-  pub long : length tables ≡ tablesSize
-  pub wide : length rows ≡ allRows
-  pub exact : (fit : Fit) (can : ℕ → ℕ → Bool) → FitTold fit p fits j → EmptyTrue p (Standing can) empty
-      → Sofar fit (Standing can) p rules (j + 1) j tables₀ rows₀ → Sofar fit (Standing can) p rules j j tables rows
+use Rattle.tables.specs.Exact.{Alones, PastLast, FitTold, ChartTrue, Exact}
+use Rattle.writes.specs.Writes.{allRows}
+use Rattle.spancosts.specs.Sofar.{Standing, Given, EmptyTrue, Sofar, LiveFrom}
 
 -- the spans that end at j and start from i on are done, the empty one having been
-pub record EndFrom (p : List ℕ) (rules : ℕ) (fits chart : List ℕ) (i j : ℕ) (tables₀ rows₀ tables rows : List ℕ) : Type 0 where
+pub record EndFrom (p : List ℕ) (rules : ℕ) (fits chart : List ℕ) (i j : ℕ) (tables₀ rows₀ tables rows live : List ℕ) : Type 0 where
   pub long : length tables ≡ tablesSize
   pub wide : length rows ≡ allRows
-  pub exact : (fit : Fit) (can : ℕ → ℕ → Bool) → Given fit (Standing can) p rules fits j
-      → ((a : ℕ) → a < j → CellTrue p (Standing can) a j (cell chart a j))
+  pub size : length live ≡ maxRules
+  pub told : LiveFrom p rules i j rows live
+  pub exact : (fit : Fit) (can : ℕ → ℕ → Bool) → Given fit (Standing can) p rules fits j → ChartTrue p (Standing can) chart j
       → Sofar fit (Standing can) p rules j j tables₀ rows₀ → Sofar fit (Standing can) p rules i j tables rows
 
 -- all spans that end at j are done
@@ -50,8 +28,8 @@ pub record EndPut (p : List ℕ) (rules : ℕ) (fits chart empty : List ℕ) (j 
   pub long : length tables ≡ tablesSize
   pub wide : length rows ≡ allRows
   pub exact : (fit : Fit) (can : ℕ → ℕ → Bool) → Given fit (Standing can) p rules fits j → EmptyTrue p (Standing can) empty
-      → ((a : ℕ) → a < j → CellTrue p (Standing can) a j (cell chart a j))
-      → Sofar fit (Standing can) p rules (j + 1) j tables₀ rows₀ → Sofar fit (Standing can) p rules 0 j tables rows
+      → ChartTrue p (Standing can) chart j → Sofar fit (Standing can) p rules (j + 1) j tables₀ rows₀
+      → Sofar fit (Standing can) p rules 0 j tables rows
 
 -- the spans that end before j are done
 pub record EndsBefore (p : List ℕ) (rules : ℕ) (fits chart empty : List ℕ) (n j : ℕ) (tables₀ tables rows : List ℕ) : Type 0 where

@@ -1,21 +1,24 @@
 // All spans: for each end, from the empty span there to the start of the input.
-use super::spans::put_empty;
-use super::spans::put_span;
-use super::writes::ALL_ROWS;
-use super::writes::AllRows;
-use super::writes::nothing;
 use fit::FitTable;
 use packed::Packed;
+use reach::Reach;
+use reach::reaches;
+use rulecosts::alone::fill_alone;
 use solve::solve;
-use tables::alone::fill_alone;
+use spancosts::put_empty;
+use spancosts::put_span;
 use tables::layout::Full;
 use tables::layout::Tables;
+use writes::ALL_ROWS;
+use writes::AllRows;
+use writes::nothing;
 ghost use mathlib.Core.Path.{_≡_};
 ghost use Prim.Native.Nat.{_<_, _≤_};
 ghost use lib.ListN.{length};
-ghost use Rattle.sizes.specs.Sizes.{cells};
+ghost use Rattle.sizes.specs.Sizes.{maxRules, side, cells};
 ghost use Rattle.tables.specs.Layout.{tablesSize};
-ghost use Rattle.tabulate.specs.Writes.{allRows, Nothing};
+ghost use Rattle.writes.specs.Writes.{allRows, Nothing};
+ghost use Rattle.reach.specs.Reach.{Reaches};
 ghost use Rattle.tabulate.specs.Spans.{EndPut, EndsPut, Tabulated};
 
 // The spans that end at j, those that end before being done.
@@ -26,17 +29,19 @@ fn put_end(
     chart: &[u32],
     empty: &Full,
     nothing: &Full,
+    reach: &Reach,
     j: usize,
     tables: &mut Tables,
     rows: &mut AllRows,
 )
-    requires { ⌜ (rules ≤ 128) × (cells ≤ length (now chart)) × Nothing (now nothing) × (j < 65)
-        × (length (now tables) ≡ tablesSize) × (length (now rows) ≡ allRows) ⌝ }
+    requires { ⌜ (rules ≤ maxRules) × (cells ≤ length (now chart)) × Nothing (now nothing) × (j < side)
+        × Reaches (now chart) j (now reach) × (length (now tables) ≡ tablesSize) × (length (now rows) ≡ allRows) ⌝ }
     ensures { λ _.
         ⌜ EndPut (now (p .entry)) rules (now (fits .entry)) (now (chart .entry)) (now (empty .entry)) j
         (now (tables .entry)) (now (rows .entry)) (now (tables .exit)) (now (rows .exit)) ⌝ }
 {
     put_empty(p, rules, fits, empty, j, tables, rows);
+    let mut live = [0u64; sizes::MAX_RULES];
     let mut i = j;
     while i > 0 {
         i -= 1;
@@ -46,10 +51,12 @@ fn put_end(
             fits,
             chart[sizes::SIDE * i + j],
             nothing,
+            reach[i],
             i,
             j,
             tables,
             rows,
+            &mut live,
         );
     }
 }
@@ -64,16 +71,28 @@ fn put_ends(
     n: usize,
     tables: &mut Tables,
 )
-    requires { ⌜ (rules ≤ 128) × (cells ≤ length (now chart)) × (n < 65) × (length (now tables) ≡ tablesSize) ⌝ }
+    requires { ⌜ (rules ≤ maxRules) × (cells ≤ length (now chart)) × (n < side) × (length (now tables) ≡ tablesSize) ⌝ }
     ensures { λ _.
         ⌜ EndsPut (now (p .entry)) rules (now (fits .entry)) (now (chart .entry)) (now (empty .entry)) n
         (now (tables .entry)) (now (tables .exit)) ⌝ }
 {
     let none = nothing();
+    let reach = reaches(chart, n);
     let mut rows = [0u16; ALL_ROWS];
     let mut j = 0;
     while j <= n {
-        put_end(p, rules, fits, chart, empty, &none, j, tables, &mut rows);
+        put_end(
+            p,
+            rules,
+            fits,
+            chart,
+            empty,
+            &none,
+            &reach,
+            j,
+            tables,
+            &mut rows,
+        );
         j += 1;
     }
 }
@@ -87,7 +106,7 @@ pub fn tabulate(
     n: usize,
     tables: &mut Tables,
 )
-    requires { ⌜ (rules ≤ 128) × (n < 65) × (cells ≤ length (now chart)) × (length (now tables) ≡ tablesSize) ⌝ }
+    requires { ⌜ (rules ≤ maxRules) × (n < side) × (cells ≤ length (now chart)) × (length (now tables) ≡ tablesSize) ⌝ }
     ensures { λ _. ⌜ Tabulated (now (p .entry)) rules (now (fits .entry)) (now (chart .entry)) n (now (tables .exit)) ⌝ }
 {
     let empty = solve(p, rules, chart[0], 0, tables, 0, 0);

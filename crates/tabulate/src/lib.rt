@@ -1,5 +1,2 @@
 // Makes the enumerator's tables, all in one array: end by end, and for each end from the last start to the first.
 pub mod ends;
-pub mod spans;
-pub mod starts;
-pub mod writes;

@@ -1,6 +1,6 @@
--- The final theorems over the definitions, each proved by citation. The demands are those of 00-demands.md, word for word there; the other
--- sources are sections of document 01 (01-scope.md). The definitions stand in `cfg/specs`, `chart/specs`, `grammar/specs`,
--- `results/specs`, `text/specs` and `demands/specs`, and none in a `proofs/` folder.
+-- The final theorems over the definitions, each proved by citation. The demands are the customer's three (README says them in short); the
+-- other sources are sections of document 01, his scope (docs/REFERENCE.md says what it fixes). The definitions stand in `cfg/specs`,
+-- `chart/specs`, `grammar/specs`, `results/specs`, `text/specs` and `demands/specs`, and none in a `proofs/` folder.
 --
 --   statement                         says                                                            source
 --   starred-table                     the starred plates, from book bytes to answers                   Plates from the drawer
@@ -34,8 +34,8 @@
 -- That the lines which the listing program writes, from its first step until its last, are textOf of book and plate is
 -- stepper/proofs/Printed.antt: printed-text.
 --
--- `tools/trace-check` reads the table above and fails if a call lacks its equality or has a `requires`. With the last three, demand-3 is a
--- claim about the code's first, next and count.
+-- `tools/trace-check` reads the table above and fails if a call lacks its equality or has a `requires`; README's table of the calls is held
+-- to this file by it too. With the last three, demand-3 is a claim about the code's first, next and count.
 -- Assumes nothing.
 use Prim.Native.Nat.{ℕ, suc, _+_, _-_, _≤_, _<_}
 use mathlib.Core.Bool.{true, false}

@@ -6,8 +6,8 @@ use borrow.Author.Needs.{needs}
 use Rattle.beyond.proofs.Frames.{frame-unmade}
 use Rattle.advance.proofs.Calls.{μ-child, child-at, child-below, μ-last, last-at, last-below, μ-node, node-at, node-below}
 use Rattle.advance.proofs.Calls.{μ-row, row-at, row-below, μ-turned, turned-at, turned-below}
-use Rattle.advance.proofs.Reading.{byte-room, node-room}
-use Rattle.advance.proofs.Reaching.{reach-room}
+use Rattle.placed.proofs.Reading.{byte-room, node-room}
+use Rattle.placed.proofs.Reaching.{reach-room}
 use Rattle.advance.proofs.RowSteps.{row-none, row-end, row-byte, row-last, row-rest, row-child}
 use Rattle.advance.proofs.ChildSteps.{child-dear, child-moved}
 use Rattle.advance.proofs.LastSteps.{last-none, last-still, last-moves}
@@ -25,9 +25,9 @@ use Rattle.advance.proofs.+child-child+last-last+next-node+row-row+turn
 use Rattle.beyond.proofs.frame.rest_of.Reads as rest-of
 use Rattle.beyond.proofs.later.later_rule.Reads as later-rule
 use Rattle.wider.proofs.moved.moved.Reads as moved
-use Rattle.advance.proofs.look.look.Reads as look
-use Rattle.advance.proofs.look.rule_at.Reads as rule-at
-use Rattle.advance.proofs.reach.reach.Reads as reach
+use Rattle.placed.proofs.look.look.Reads as look
+use Rattle.placed.proofs.look.rule_at.Reads as rule-at
+use Rattle.placed.proofs.reach.reach.Reads as reach
 use Rattle.nodes.proofs.child_set.Reads as child-set
 use Rattle.nodes.proofs.own_set.Reads as own-set
 use Rattle.advance.proofs.+child-child+last-last+next-node+row-row+turned-turned.{statement}
@@ -200,45 +200,45 @@ pub +child·child+last·last+next·node+row·row+turned·turned-spec : {M : Type
 +child·child+last·last+next·node+row·row+turned·turned-spec = close μ-child μ-last μ-node μ-row μ-turned
     (λ t. child-lts.spec (child-calls t) (child-at t) child.Post
     (λ c κs. search needs) (λ c. child-dear (omega arith) (omega arith) (omega arith) (c .before .rest-of .ensures) (omega arith))
-    (λ c. search needs) (λ c. search needs) (λ c κs. search needs) (λ c κs. omega arith) (child-moved-requires t) (λ c. search needs)
+    (λ c. omega arith) (λ c. omega arith) (λ c κs. omega arith) (λ c κs. omega arith) (child-moved-requires t) (λ c. omega arith)
     (child-returns-2 t))
     (λ t. last-lts.spec (last-calls t) (last-at t) last.Post
-    (λ c κs. search needs) (λ c. search needs) (λ c. search needs) (λ c. search needs)
+    (λ c κs. omega arith) (λ c. omega arith) (λ c. omega arith) (λ c. omega arith)
     (λ c. omega (arith, reach-room (c .before .before .before .reach .ensures) (c .before .there .given .1)))
-    (λ c κs. search needs) (last-node-requires t) (λ c. search needs) (last-returns t)
+    (λ c κs. omega arith) (last-node-requires t) (λ c. omega arith) (last-returns t)
     (λ c. omega (
       arith,
       reach-room (c .before .before .before .before .before .before .before .before .before .reach .ensures)
           (c .before .before .before .before .before .before .before .there .given .1),
     ))
-    (last-add-result t) (λ c. search needs) (λ c. last-none (c .before .before .reach .ensures) (c .enum-told .given .1))
-    (λ c. search needs) (last-returns-3 t))
+    (last-add-result t) (λ c. omega arith) (λ c. last-none (c .before .before .reach .ensures) (c .enum-told .given .1))
+    (λ c. omega arith) (last-returns-3 t))
     (λ t. node-lts.spec (node-calls t) (node-at t) node.Post
-    (λ c κs. search needs) (λ c. search needs) (λ c. node-none (omega arith) (c .before .rule-at .ensures) (omega arith))
-    (λ c κs. search needs) (λ c. c .before .before .rule-at .ensures .room (omega arith)) (λ c. search needs)
+    (λ c κs. omega arith) (λ c. omega arith) (λ c. node-none (omega arith) (c .before .rule-at .ensures) (omega arith))
+    (λ c κs. omega arith) (λ c. c .before .before .rule-at .ensures .room (omega arith)) (λ c. omega arith)
     (λ c κs. omega (arith, c .before .before .before .rule-at .ensures .room (omega arith)))
-    (λ c. omega (arith, c .before .before .before .last .ensures .kept .few)) (λ c. search needs) (node-returns-2 t)
-    (node-turned-requires t) (λ c. search needs) (node-returns-3 t))
+    (λ c. omega (arith, c .before .before .before .last .ensures .kept .few)) (λ c. omega arith) (node-returns-2 t)
+    (node-turned-requires t) (λ c. omega arith) (node-returns-3 t))
     (λ t. row-lts.spec (row-calls t) (row-at t) row.Post
-    (λ c κs. search needs) (λ c. search needs) (λ c. search needs) (λ c. search needs) (λ c. search needs) (λ c. search needs)
-    (row-row-requires t) (λ c. search needs) (λ c. search needs) (λ c. search needs)
+    (λ c κs. omega arith) (λ c. omega arith) (λ c. omega arith) (λ c. omega arith) (λ c. omega arith) (λ c. omega arith)
+    (row-row-requires t) (λ c. omega arith) (λ c. omega arith) (λ c. omega arith)
     (λ c. omega (arith, node-room (c .before .before .before .before .before .look .ensures) (c .before .before .before .step .given .1)))
     (λ c. omega (
       arith,
       node-room (c .before .before .before .before .before .before .look .ensures)
           (c .before .before .before .before .step .given .1),
-    )) (row-row-requires-2 t) (row-add-result t) (λ c. search needs) (row-returns t)
-    (row-child-requires t) (λ c. search needs)
+    )) (row-row-requires-2 t) (row-add-result t) (λ c. omega arith) (row-returns t)
+    (row-child-requires t) (λ c. omega arith)
     (λ c. row-none (omega arith) (omega arith) (c .before .before .before .before .before .before .pre .1 .1)
-    (c .before .before .look .ensures) (c .enum-told .given .1)) (λ c. search needs)
+    (c .before .before .look .ensures) (c .enum-told .given .1)) (λ c. omega arith)
     (λ c. row-end (omega arith) (omega arith) (c .before .before .before .before .before .before .pre .1 .1)
-    (c .before .before .look .ensures) (c .enum-told2 .given .1)) (λ c. search needs)
+    (c .before .before .look .ensures) (c .enum-told2 .given .1)) (λ c. omega arith)
     (λ c. row-byte (omega arith) (omega arith) (c .before .before .before .before .before .before .before .before .look .ensures)
-    (c .before .before .before .before .before .before .enum-told3 .given .1) (c .before .before .row .ensures)) (λ c. search needs)
+    (c .before .before .before .before .before .before .enum-told3 .given .1) (c .before .before .row .ensures)) (λ c. omega arith)
     (λ c. row-last (omega arith) (omega arith) (c .before .before .before .before .before .before .pre .1 .1)
-    (c .before .before .look .ensures) (c .enum-told4 .given .1)) (λ c. search needs) (row-returns-6 t))
+    (c .before .before .look .ensures) (c .enum-told4 .given .1)) (λ c. omega arith) (row-returns-6 t))
     λ t. turned-lts.spec (turned-calls t) (turned-at t) turned.Post
-    (λ c. search needs) (λ c. search needs) (λ c κs. (omega arith, (omega arith, frame-unmade (search needs)))) (turned-add-result t)
-    (λ c. search needs)
+    (λ c. omega arith) (λ c. omega arith) (λ c κs. (omega arith, (omega arith, frame-unmade (omega arith)))) (turned-add-result t)
+    (λ c. omega arith)
     (λ c. turned-moves (omega arith) (c .before .before .before .row .ensures) (omega arith) (omega arith))
-    (turned-later-rule-requires t) (λ c. search needs) (turned-returns-2 t)
+    (turned-later-rule-requires t) (λ c. omega arith) (turned-returns-2 t)

@@ -1,20 +1,11 @@
 -- `columns::complete` meets its contract.
 -- Assumes nothing.
-use borrow.Author.Needs.{needs}
+use native.Mathlib.Omega.{arith}
 use Rattle.columns.proofs.Writing.{cell-first-row}
 use Rattle.sets.specs.Set.{has}
 use mathlib.Core.Path.{ap, _∙_}
 use Rattle.columns.proofs.complete.Statement.{statement}
 use Rattle.columns.proofs.complete.Tie as tie
-
-mul-contains : tie.Need-mul-contains
-mul-contains c = search needs
-
-shared-slice-read-contains : tie.Need-shared-slice-read-contains
-shared-slice-read-contains c = search needs
-
-contains-requires : tie.Need-contains-requires
-contains-requires c κs = search needs
 
 returns : tie.Need-returns
 returns c =
@@ -23,4 +14,4 @@ returns c =
 
 pub complete-spec : {M : Type 1} → statement M
 complete-spec =
-    tie.close (tie.spec mul-contains shared-slice-read-contains contains-requires returns)
+    tie.close (tie.spec (λ c. omega arith) (λ c. omega arith) (λ c κs. omega arith) returns)

@@ -2,12 +2,21 @@
 -- Assumes nothing.
 use borrow.Author.Needs.{needs}
 use native.Mathlib.Omega.{arith}
-use Rattle.columns.proofs.Filling.{told-found}
+use Rattle.columns.proofs.Filling.{column-of}
 use Rattle.columns.proofs.write_column.Statement.{statement}
 use Rattle.columns.proofs.write_column.Tie as tie
 
-column-requires : tie.Need-column-requires
-column-requires c κs = (omega arith, search needs, search told-found)
+returns : tie.Need-returns
+returns c = search column-of
 
 pub write-column-spec : {M : Type 1} → statement M
-write-column-spec = tie.close (tie.spec (λ c κs. search needs) column-requires (λ c. search needs) (λ c. search needs))
+write-column-spec =
+    tie.close
+    (tie.spec
+    (λ c κs. omega arith)
+    (λ c κs. omega arith)
+    (λ c κs. omega arith)
+    (λ c κs. omega arith)
+    (λ c κs. search needs)
+    (λ c. omega arith)
+    returns)

@@ -1,6 +1,6 @@
 -- `count::count` meets its contract: a check that fails refuses, and else the chart is filled and the derivations are counted.
 -- Assumes nothing.
-use borrow.Author.Needs.{needs}
+use native.Mathlib.Omega.{arith}
 use Rattle.prepare.proofs.Judging.{judged-ready}
 use Rattle.count.proofs.Calls.{count-refused, filled-ready, count-answered}
 use Rattle.count.proofs.count.Statement.{statement}
@@ -15,22 +15,9 @@ count-filled-requires c κs =
     let passed = after-fill .before .before in
     filled-ready _ _ _ _ (passed .before .before .judge .ensures) (passed .enum-told .given .1) _ _ (after-fill .fill .ensures)
 
-returns : tie.Need-returns
-returns c = search count-refused
-
-returns-2 : tie.Need-returns-2
-returns-2 c = search count-answered
-
 pub count-spec : {M : Type 1} → statement M
 count-spec =
     tie.close
     (tie.spec
-    (λ c κs. search needs)
-    (λ c. search needs)
-    (λ c. search needs)
-    fill-requires
-    (λ c κs. search needs)
-    count-filled-requires
-    returns
-    (λ c. search needs)
-    returns-2)
+    (λ c κs. omega arith) (λ c. omega arith) (λ c. omega arith) fill-requires (λ c κs. omega arith) count-filled-requires
+    (λ c. search count-refused) (λ c. omega arith) (λ c. search count-answered))

@@ -1,15 +1,13 @@
 -- `count::count_filled` meets its contract: 0 where the chart is not complete, and else what is counted over trees.
 -- Assumes nothing.
+use native.Mathlib.Omega.{arith}
 use borrow.Author.Needs.{needs}
 use Rattle.count.proofs.Made.{count-none, count-complete}
 use Rattle.count.proofs.count_filled.Statement.{statement}
 use Rattle.count.proofs.count_filled.Tie as tie
 
-returns : tie.Need-returns
-returns c = search count-complete
-
-returns-2 : tie.Need-returns-2
-returns-2 c = search count-none
-
 pub count-filled-spec : {M : Type 1} → statement M
-count-filled-spec = tie.close (tie.spec (λ c κs. search needs) (λ c κs. search needs) returns returns-2)
+count-filled-spec =
+    tie.close
+    (tie.spec
+    (λ c κs. omega arith) (λ c κs. search needs) (λ c. search count-complete) (λ c. search count-none))

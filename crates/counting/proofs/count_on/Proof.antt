@@ -2,7 +2,6 @@
 -- The measure is what is left of 4,096. Assumes nothing.
 use Prim.Native.Nat.{_≤_, _-_}
 use native.Mathlib.Omega.{arith}
-use borrow.Author.Needs.{needs}
 use Rattle.counting.proofs.Loop.{CountedTo, counted-start, counted-step, counted-last, counted-all}
 use Rattle.counting.proofs.count_on.Statement.{statement}
 use Rattle.counting.proofs.count_on.Tie as tie
@@ -16,23 +15,14 @@ abbrev μ-loop : tie.MeasureT-loop
 loop-holds : tie.Need-loop-holds Inv-loop μ-loop
 loop-holds c = (omega arith, search counted-start)
 
-advance-root-requires : tie.Need-advance-root-requires Inv-loop μ-loop
-advance-root-requires c κs = search needs
-
-same-length : tie.Need-same-length Inv-loop μ-loop
-same-length c = search needs
-
 returns : tie.Need-returns Inv-loop μ-loop
 returns c =
     let after-call = c .before .before .before in
     counted-last _ _ _ _ _ _ _ _ _ _ _ _ (after-call .before .before .before .loop .inv .1) (after-call .advance-root .ensures)
-    (search needs) (omega arith)
+    (omega arith) (omega arith)
 
 loop-again : tie.Need-loop-again Inv-loop μ-loop
 loop-again c = (omega arith, search counted-step)
-
-same-length-2 : tie.Need-same-length-2 Inv-loop μ-loop
-same-length-2 c = search needs
 
 returns-2 : tie.Need-returns-2 Inv-loop μ-loop
 returns-2 c = counted-all _ _ _ _ _ _ _ _ _ (c .before .loop .i) (c .before .loop .inv .1) (omega arith)
@@ -41,15 +31,5 @@ pub count-on-spec : {M : Type 1} → statement M
 count-on-spec =
     tie.close
     (tie.spec
-    Inv-loop
-    μ-loop
-    loop-holds
-    advance-root-requires
-    (λ c. omega arith)
-    same-length
-    returns
-    (λ c. omega arith)
-    (λ c. omega arith)
-    loop-again
-    same-length-2
-    returns-2)
+    Inv-loop μ-loop loop-holds (λ c κs. omega arith) (λ c. omega arith) (λ c. omega arith) returns (λ c. omega arith) (λ c. omega arith)
+    loop-again (λ c. omega arith) returns-2)

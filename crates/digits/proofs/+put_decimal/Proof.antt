@@ -2,7 +2,6 @@
 -- Assumes nothing.
 use Prim.Native.Nat.{ℕ, _<_}
 use native.Mathlib.Omega.{arith}
-use borrow.Author.Needs.{needs}
 use borrow.Fn.Kinds.{In}
 use borrow.Fn.PlainCycle.{Measures, is, falls, and}
 use Rattle.digits.proofs.Decimal.{length-more, room-one, room-more, written-one, written-more}
@@ -38,16 +37,6 @@ put-decimal-put-byte-requires-2 t c κs =
 
 pub +put-decimal-spec : {M : Type 1} → statement M
 +put-decimal-spec = close μ-put-decimal λ t. put-decimal-lts.spec (calls t)
-    (put-decimal-at t)
-    put-decimal.Post
-    (λ c. search needs)
-    (λ c. search needs)
-    (λ c κs. search room-one)
-    (put-decimal-put-decimal-requires t)
-    (λ c. search needs)
-    (λ c. search needs)
-    (put-decimal-put-byte-requires-2 t)
-    (λ c. search needs)
-    (λ c. search written-one)
-    (λ c. search needs)
-    (λ c. search written-more)
+    (put-decimal-at t) put-decimal.Post (λ c. omega arith) (λ c. omega arith) (λ c κs. search room-one)
+    (put-decimal-put-decimal-requires t) (λ c. omega arith) (λ c. omega arith) (put-decimal-put-byte-requires-2 t) (λ c. omega arith)
+    (λ c. search written-one) (λ c. omega arith) (λ c. search written-more)

@@ -1,6 +1,6 @@
 -- `digits::put_signed` meets its contract, by the sign.
 -- Assumes nothing.
-use borrow.Author.Needs.{needs}
+use native.Mathlib.Omega.{arith}
 use Rattle.digits.proofs.Signed.{negated-fits, negated-casts, room-negated, written-negative}
 use Rattle.digits.proofs.Signed.{natural-casts, room-natural, written-natural}
 use Rattle.digits.proofs.put_signed.Statement.{statement}
@@ -34,13 +34,5 @@ pub put-signed-spec : {M : Type 1} → statement M
 put-signed-spec =
     tie.close
     (tie.spec
-    (λ c κs. search needs)
-    (λ c. search negated-fits)
-    cast-put-decimal
-    (λ c κs. search room-negated)
-    cast-put-decimal-2
-    (λ c κs. search room-natural)
-    (λ c. search needs)
-    returns
-    (λ c. search needs)
-    returns-2)
+    (λ c κs. omega arith) (λ c. search negated-fits) cast-put-decimal (λ c κs. search room-negated) cast-put-decimal-2
+    (λ c κs. search room-natural) (λ c. omega arith) returns (λ c. omega arith) returns-2)

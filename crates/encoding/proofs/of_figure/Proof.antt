@@ -1,6 +1,6 @@
 -- `encoding::of_figure` meets its contract, one case for each answer.
 -- Assumes nothing.
-use borrow.Author.Needs.{needs}
+use native.Mathlib.Omega.{arith}
 use Rattle.codes.proofs.Codes.{figure-refused, code-exactly, code-more, figure-exactly, figure-more, figure-none}
 use Rattle.encoding.proofs.of_figure.Statement.{statement}
 use Rattle.encoding.proofs.of_figure.Tie as tie
@@ -18,10 +18,4 @@ pub of-figure-spec : {M : Type 1} → statement M
 of-figure-spec =
     tie.close
     (tie.spec
-    (λ c. search needs)
-    (λ c. search needs)
-    (λ c. search needs)
-    (λ c κs. search needs)
-    returns
-    returns-2
-    returns-3)
+    (λ c. omega arith) (λ c. omega arith) (λ c. omega arith) (λ c κs. omega arith) returns returns-2 returns-3)

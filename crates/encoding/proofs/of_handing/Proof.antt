@@ -1,6 +1,6 @@
 -- `encoding::of_handing` meets its contract, one case for each answer.
 -- Assumes nothing.
-use borrow.Author.Needs.{needs}
+use native.Mathlib.Omega.{arith}
 use Rattle.codes.proofs.Codes.{handing-refused, code-handed, code-nothing, nodes-handed, nodes-nothing, nodes-refused}
 use Rattle.encoding.proofs.of_handing.Statement.{statement}
 use Rattle.encoding.proofs.of_handing.Tie as tie
@@ -18,10 +18,4 @@ pub of-handing-spec : {M : Type 1} → statement M
 of-handing-spec =
     tie.close
     (tie.spec
-    (λ c. search needs)
-    (λ c. search needs)
-    (λ c. search needs)
-    (λ c κs. search needs)
-    returns
-    returns-2
-    returns-3)
+    (λ c. omega arith) (λ c. omega arith) (λ c. omega arith) (λ c κs. omega arith) returns returns-2 returns-3)

@@ -1,6 +1,6 @@
 -- `encoding::of_taking` meets its contract, one case for each answer.
 -- Assumes nothing.
-use borrow.Author.Needs.{needs}
+use native.Mathlib.Omega.{arith}
 use Rattle.codes.proofs.Codes.{verdict-refused, row-refused, row-yes, row-no, code-yes, code-no}
 use Rattle.encoding.proofs.of_taking.Statement.{statement}
 use Rattle.encoding.proofs.of_taking.Tie as tie
@@ -18,12 +18,5 @@ pub of-taking-spec : {M : Type 1} → statement M
 of-taking-spec =
     tie.close
     (tie.spec
-    (λ c. search needs)
-    (λ c κs. search needs)
-    (λ c. search needs)
-    (λ c κs. search needs)
-    (λ c. search needs)
-    (λ c κs. search needs)
-    returns
-    returns-2
-    returns-3)
+    (λ c. omega arith) (λ c κs. omega arith) (λ c. omega arith) (λ c κs. omega arith) (λ c. omega arith) (λ c κs. omega arith) returns
+    returns-2 returns-3)

@@ -1,6 +1,6 @@
 -- `first::first` meets its contract: a check that fails refuses, and else the chart is filled and the first derivation is handed out.
 -- Assumes nothing.
-use borrow.Author.Needs.{needs}
+use native.Mathlib.Omega.{arith}
 use Rattle.prepare.proofs.Judging.{output-ready}
 use Rattle.first.proofs.Calls.{first-refused, filled-ready, first-answered}
 use Rattle.first.proofs.first.Statement.{statement}
@@ -15,23 +15,9 @@ first-filled-requires c κs =
     let passed = after-fill .before .before in
     filled-ready _ _ _ _ _ _ _ (passed .before .before .judge-output .ensures) (passed .enum-told .given .1) (after-fill .fill .ensures)
 
-returns : tie.Need-returns
-returns c = search first-refused
-
-returns-2 : tie.Need-returns-2
-returns-2 c = search first-answered
-
 pub first-spec : {M : Type 1} → statement M
 first-spec =
     tie.close
     (tie.spec
-    (λ c κs. search needs)
-    (λ c. search needs)
-    (λ c. search needs)
-    fill-requires
-    (λ c κs. search needs)
-    first-filled-requires
-    returns
-    (λ c. search needs)
-    (λ c. search needs)
-    returns-2)
+    (λ c κs. omega arith) (λ c. omega arith) (λ c. omega arith) fill-requires (λ c κs. omega arith) first-filled-requires
+    (λ c. search first-refused) (λ c. omega arith) (λ c. omega arith) (λ c. search first-answered))

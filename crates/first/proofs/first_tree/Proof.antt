@@ -1,6 +1,7 @@
 -- `first::first_tree` meets its contract: the tables are made for the input, so what they hand out is its first derivation.
 -- Assumes nothing.
 use Prim.Native.Nat.{ℕ}
+use native.Mathlib.Omega.{arith}
 use lib.ListN.{length-replicate}
 use borrow.Author.Needs.{needs}
 use Rattle.tables.specs.Layout.{tablesSize}
@@ -9,17 +10,10 @@ use Rattle.first.proofs.first_tree.Statement.{statement}
 use Rattle.first.proofs.first_tree.Tie as tie
 
 build-requires : tie.Need-build-requires
-build-requires c κs = (search needs, search needs, length-replicate {A = ℕ} tablesSize 0, search needs, search needs)
-
-returns : tie.Need-returns
-returns c = search (needs, made-tree)
+build-requires c κs = (omega arith, omega arith, length-replicate {A = ℕ} tablesSize 0, search needs, search needs)
 
 pub first-tree-spec : {M : Type 1} → statement M
 first-tree-spec =
     tie.close
     (tie.spec
-    (λ c κs. search needs)
-    build-requires
-    (λ c κs. search needs)
-    (λ c. search needs)
-    returns)
+    (λ c κs. omega arith) build-requires (λ c κs. omega arith) (λ c. omega arith) (λ c. search (needs, made-tree)))

@@ -1,31 +1,27 @@
--- `fit::table` meets its contract. The loop's invariant: the bytes of the positions passed are right.
--- The measure is what is left of the positions. Assumes nothing.
-use Prim.Native.Nat.{_≤_, _-_}
+-- `fit::table` meets its contract. The loop's invariant: the rules passed are told.
+-- The measure is what is left of the rules. Assumes nothing.
+use borrow.Author.Needs.{needs}
 use native.Mathlib.Omega.{arith}
+use Prim.Native.Nat.{_≤_, _-_}
+use Rattle.fit.specs.Fit.{fitSize}
 use Rattle.fit.proofs.Tables.{TableTo, table-start, table-step, table-done}
 use Rattle.fit.proofs.table.Statement.{statement}
 use Rattle.fit.proofs.table.Tie as tie
 
 abbrev Inv-loop : tie.InvT-loop
-Inv-loop p w t₀ i₀ t i = (i ≤ 64) × TableTo p w i t
+Inv-loop p w n rules t₀ r₀ t r = (r ≤ rules) × TableTo p w n fitSize r t
 
 abbrev μ-loop : tie.MeasureT-loop
-μ-loop p w t₀ i₀ t i = 64 - i
+μ-loop p w n rules t₀ r₀ t r = rules - r
 
 loop-holds : tie.Need-loop-holds Inv-loop μ-loop
-loop-holds c = (omega arith, table-start _ _)
+loop-holds c = (omega arith, table-start _ _ _)
 
-write-position-requires : tie.Need-write-position-requires Inv-loop μ-loop
-write-position-requires c κs = (omega arith, c .before .before .loop .inv .1 .long)
-
-add-i : tie.Need-add-i Inv-loop μ-loop
-add-i c = omega arith
-
-loop-less : tie.Need-loop-less Inv-loop μ-loop
-loop-less c = omega arith
+write-rule-requires : tie.Need-write-rule-requires Inv-loop μ-loop
+write-rule-requires c κs = (omega arith, search needs, c .before .before .loop .inv .1 .put .long)
 
 loop-again : tie.Need-loop-again Inv-loop μ-loop
-loop-again c = (omega arith, table-step _ _ _ _ _ (c .write-position .ensures) (c .before .before .before .loop .inv .1))
+loop-again c = (omega arith, search table-step)
 
 returns : tie.Need-returns Inv-loop μ-loop
 returns c = search table-done
@@ -36,9 +32,11 @@ table-spec =
     (tie.spec
     Inv-loop
     μ-loop
+    (λ c κs. omega arith)
+    (λ c κs. omega arith)
     loop-holds
-    write-position-requires
-    add-i
-    loop-less
+    write-rule-requires
+    (λ c. omega arith)
+    (λ c. omega arith)
     loop-again
     returns)

@@ -20,35 +20,11 @@ abbrev μ-loop : tie.MeasureT-loop
 loop-holds : tie.Need-loop-holds Inv-loop μ-loop
 loop-holds c = copied-start _ _ _ refl
 
-element-copy-out-h : tie.Need-element-copy-out-h Inv-loop μ-loop
-element-copy-out-h c = search needs
-
-cast-h : tie.Need-cast-h Inv-loop μ-loop
-cast-h c = search needs
-
-mul-h : tie.Need-mul-h Inv-loop μ-loop
-mul-h c = search needs
-
-element-write-h : tie.Need-element-write-h Inv-loop μ-loop
-element-write-h c = search needs
-
-add-k : tie.Need-add-k Inv-loop μ-loop
-add-k c = search needs
-
-loop-less : tie.Need-loop-less Inv-loop μ-loop
-loop-less c = search needs
-
 loop-again : tie.Need-loop-again Inv-loop μ-loop
 loop-again c =
     let l = c .before .before in
     copied-step _ _ _ _ _ (l .loop .inv) (omega (arith, simp length-map at (l .before .before .good .0 .1 .1 .0 .1 .0 .1))) (omega arith)
     (omega arith) refl
-
-count-of-requires : tie.Need-count-of-requires Inv-loop μ-loop
-count-of-requires c κs = search needs
-
-element-write-h-2 : tie.Need-element-write-h-2 Inv-loop μ-loop
-element-write-h-2 c = search needs
 
 returns : tie.Need-returns Inv-loop μ-loop
 returns c =
@@ -60,16 +36,5 @@ pub write-spec : {M : Type 1} → statement M
 write-spec =
     tie.close
     (tie.spec
-    Inv-loop
-    μ-loop
-    loop-holds
-    element-copy-out-h
-    cast-h
-    mul-h
-    element-write-h
-    add-k
-    loop-less
-    loop-again
-    count-of-requires
-    element-write-h-2
-    returns)
+    Inv-loop μ-loop loop-holds (λ c. omega arith) (λ c. search needs) (λ c. omega arith) (λ c. omega arith) (λ c. omega arith)
+    (λ c. omega arith) loop-again (λ c κs. omega arith) (λ c. omega arith) returns)

@@ -1,6 +1,6 @@
 -- `initial::build` meets its contract: the tables are right for the input.
 -- Assumes nothing.
-use borrow.Author.Needs.{needs}
+use native.Mathlib.Omega.{arith}
 use Rattle.initial.proofs.Writing.{built}
 use Rattle.initial.proofs.build.Statement.{statement}
 use Rattle.initial.proofs.build.Tie as tie
@@ -12,4 +12,4 @@ returns c =
     built _ _ _ _ _ _ short told cells (after-rules .rule-count .ensures) (c .tabulate .ensures)
 
 pub build-spec : {M : Type 1} → statement M
-build-spec = tie.close (tie.spec (λ c κs. search needs) (λ c κs. search needs) returns)
+build-spec = tie.close (tie.spec (λ c κs. omega arith) (λ c κs. omega arith) returns)

@@ -4,7 +4,6 @@ use Prim.Native.Nat.{ℕ}
 use native.Mathlib.Omega.{arith}
 use lib.IntN.{ℤ, pos}
 use lib.ListN.{length-replicate}
-use borrow.Author.Needs.{needs}
 use Rattle.sizes.specs.Sizes.{maxRules, cells, outputSize}
 use Rattle.tables.specs.Layout.{tablesSize}
 use Rattle.list.proofs.print.Statement.{statement}
@@ -31,10 +30,4 @@ pub print-spec : {M : Type 1} → statement M
 print-spec =
     tie.close
     (tie.spec
-    (λ c. search needs)
-    (λ c. search needs)
-    begin-requires
-    (λ c. search needs)
-    (λ c. search needs)
-    print-from-requires
-    (λ c. search needs))
+    (λ c. omega arith) (λ c. omega arith) begin-requires (λ c. omega arith) (λ c. omega arith) print-from-requires (λ c. omega arith))

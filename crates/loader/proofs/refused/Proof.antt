@@ -1,14 +1,8 @@
 -- `loader::refused` meets its contract. Assumes nothing.
-use borrow.Author.Needs.{needs}
+use native.Mathlib.Omega.{arith}
 use Rattle.loader.proofs.Answer.{refuses}
 use Rattle.loader.proofs.refused.Statement.{statement}
 use Rattle.loader.proofs.refused.Tie as tie
 
-zero-grammar-requires : tie.Need-zero-grammar-requires
-zero-grammar-requires c κs = search needs
-
-returns : tie.Need-returns
-returns c = search refuses
-
 pub refused-spec : {M : Type 1} → statement M
-refused-spec = tie.close (tie.spec zero-grammar-requires returns)
+refused-spec = tie.close (tie.spec (λ c κs. omega arith) (λ c. search refuses))

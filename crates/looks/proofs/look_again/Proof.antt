@@ -1,6 +1,6 @@
 -- `looks::look_again` meets its contract.
 -- Assumes nothing.
-use borrow.Author.Needs.{needs}
+use native.Mathlib.Omega.{arith}
 use Rattle.looks.proofs.Looking.{looked-again, not-again}
 use Rattle.looks.proofs.look_again.Statement.{statement}
 use Rattle.looks.proofs.look_again.Tie as tie
@@ -15,9 +15,9 @@ pub look-again-spec : {M : Type 1} → statement M
 look-again-spec =
     tie.close
     (tie.spec
-    (λ c κs. search needs)
-    (λ c. search needs)
-    (λ c. search needs)
+    (λ c κs. omega arith)
+    (λ c. omega arith)
+    (λ c. omega arith)
     returns
-    (λ c κs. search needs)
+    (λ c κs. omega arith)
     returns-2)

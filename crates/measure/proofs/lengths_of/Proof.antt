@@ -20,30 +20,6 @@ Inv-loop g l₀ r₀ l r = (r ≤ 128) × (length l ≡ 128) × (take r l ≡ ta
 abbrev μ-loop : tie.MeasureT-loop
 μ-loop g l₀ r₀ l r = 128 - r
 
-loop-holds : tie.Need-loop-holds Inv-loop μ-loop
-loop-holds c = search needs
-
-mul-rule : tie.Need-mul-rule Inv-loop μ-loop
-mul-rule c = search needs
-
-element-copy-out-rule : tie.Need-element-copy-out-rule Inv-loop μ-loop
-element-copy-out-rule c = search needs
-
-length-of-requires : tie.Need-length-of-requires Inv-loop μ-loop
-length-of-requires c κs = search needs
-
-mul-l : tie.Need-mul-l Inv-loop μ-loop
-mul-l c = search needs
-
-array-set-from-l : tie.Need-array-set-from-l Inv-loop μ-loop
-array-set-from-l c = search needs
-
-add-r : tie.Need-add-r Inv-loop μ-loop
-add-r c = search needs
-
-loop-less : tie.Need-loop-less Inv-loop μ-loop
-loop-less c = search needs
-
 loop-again : tie.Need-loop-again Inv-loop μ-loop
 loop-again c =
     let b = c .before .before .before in
@@ -66,15 +42,5 @@ pub lengths-of-spec : {M : Type 1} → statement M
 lengths-of-spec =
     tie.close
     (tie.spec
-    Inv-loop
-    μ-loop
-    loop-holds
-    mul-rule
-    element-copy-out-rule
-    length-of-requires
-    mul-l
-    array-set-from-l
-    add-r
-    loop-less
-    loop-again
-    returns)
+    Inv-loop μ-loop (λ c. search needs) (λ c. omega arith) (λ c. omega arith) (λ c κs. omega arith) (λ c. omega arith) (λ c. omega arith)
+    (λ c. omega arith) (λ c. omega arith) loop-again returns)

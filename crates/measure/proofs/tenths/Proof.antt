@@ -8,14 +8,8 @@ use Rattle.measure.proofs.Signed.{through}
 use Rattle.measure.proofs.tenths.Statement.{statement}
 use Rattle.measure.proofs.tenths.Tie as tie
 
-total-requires : tie.Need-total-requires
-total-requires c κs = search needs
-
-rounded-requires : tie.Need-rounded-requires
-rounded-requires c κs = search needs
-
 returns : tie.Need-returns
 returns c = through _ (c .rounded .ok) ∙ c .rounded .ensures ∙ ap rounded (through _ (omega arith) ∙ c .before .total .ensures .0)
 
 pub tenths-spec : {M : Type 1} → statement M
-tenths-spec = tie.close (tie.spec total-requires rounded-requires returns)
+tenths-spec = tie.close (tie.spec (λ c κs. omega arith) (λ c κs. search needs) returns)

@@ -14,7 +14,6 @@ use mir.Val.{toZ}
 use Rattle.results.specs.Measure.{sum as sumOf}
 use Rattle.measure.specs.Measure.{lengthsIn}
 use Rattle.measure.proofs.Lengths.{more-fits, sum-start, next-rule, next-none, sum-done, lengths-beyond}
-use borrow.Author.Needs.{needs}
 use Rattle.measure.proofs.total.Statement.{statement}
 use Rattle.measure.proofs.total.Tie as tie
 
@@ -28,27 +27,6 @@ abbrev μ-loop : tie.MeasureT-loop
 
 loop-holds : tie.Need-loop-holds Inv-loop μ-loop
 loop-holds c = (omega arith, refl, sum-start _ _, omega arith)
-
-rule-number-requires : tie.Need-rule-number-requires Inv-loop μ-loop
-rule-number-requires c κs = search needs
-
-mul-widened : tie.Need-mul-widened Inv-loop μ-loop
-mul-widened c = search needs
-
-shared-slice-copy-out-widened : tie.Need-shared-slice-copy-out-widened Inv-loop μ-loop
-shared-slice-copy-out-widened c = search needs
-
-widened-requires : tie.Need-widened-requires Inv-loop μ-loop
-widened-requires c κs = search needs
-
-add-sum : tie.Need-add-sum Inv-loop μ-loop
-add-sum c = search more-fits
-
-add-i : tie.Need-add-i Inv-loop μ-loop
-add-i c = search needs
-
-loop-less : tie.Need-loop-less Inv-loop μ-loop
-loop-less c = search needs
 
 loop-again : tie.Need-loop-again Inv-loop μ-loop
 loop-again c =
@@ -77,15 +55,5 @@ pub total-spec : {M : Type 1} → statement M
 total-spec =
     tie.close
     (tie.spec
-    Inv-loop
-    μ-loop
-    loop-holds
-    rule-number-requires
-    mul-widened
-    shared-slice-copy-out-widened
-    widened-requires
-    add-sum
-    add-i
-    loop-less
-    loop-again
-    returns)
+    Inv-loop μ-loop loop-holds (λ c κs. omega arith) (λ c. omega arith) (λ c. omega arith) (λ c κs. omega arith) (λ c. search more-fits)
+    (λ c. omega arith) (λ c. omega arith) loop-again returns)

@@ -4,11 +4,8 @@ use Rattle.measure.proofs.Lengths.{wide-fits, wide, wide-size}
 use Rattle.measure.proofs.widened.Statement.{statement}
 use Rattle.measure.proofs.widened.Tie as tie
 
-cast-result : tie.Need-cast-result
-cast-result c = search wide-fits
-
 returns : tie.Need-returns
 returns c = (search wide, search wide-size)
 
 pub widened-spec : {M : Type 1} → statement M
-widened-spec = tie.close (tie.spec cast-result returns)
+widened-spec = tie.close (tie.spec (λ c. search wide-fits) returns)

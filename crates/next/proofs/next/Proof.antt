@@ -1,6 +1,6 @@
 -- `next::next` meets its contract: a check that fails refuses, and else the chart is filled and what comes after is handed out.
 -- Assumes nothing.
-use borrow.Author.Needs.{needs}
+use native.Mathlib.Omega.{arith}
 use Rattle.prepare.proofs.Judging.{output-ready}
 use Rattle.first.proofs.Calls.{filled-ready}
 use Rattle.next.proofs.Calls.{next-refused, next-answered}
@@ -16,23 +16,9 @@ next-filled-requires c κs =
     let passed = after-fill .before .before in
     filled-ready _ _ _ _ _ _ _ (passed .before .before .judge-output .ensures) (passed .enum-told .given .1) (after-fill .fill .ensures)
 
-returns : tie.Need-returns
-returns c = search next-refused
-
-returns-2 : tie.Need-returns-2
-returns-2 c = search next-answered
-
 pub next-spec : {M : Type 1} → statement M
 next-spec =
     tie.close
     (tie.spec
-    (λ c κs. search needs)
-    (λ c. search needs)
-    (λ c. search needs)
-    fill-requires
-    (λ c κs. search needs)
-    next-filled-requires
-    returns
-    (λ c. search needs)
-    (λ c. search needs)
-    returns-2)
+    (λ c κs. omega arith) (λ c. omega arith) (λ c. omega arith) fill-requires (λ c κs. omega arith) next-filled-requires
+    (λ c. search next-refused) (λ c. omega arith) (λ c. omega arith) (λ c. search next-answered))

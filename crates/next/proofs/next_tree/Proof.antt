@@ -1,6 +1,7 @@
 -- `next::next_tree` meets its contract: the tables are made for the input, so what they hand out comes after the offered derivation.
 -- Assumes nothing.
 use Prim.Native.Nat.{ℕ}
+use native.Mathlib.Omega.{arith}
 use lib.ListN.{length-replicate}
 use borrow.Author.Needs.{needs}
 use Rattle.tables.specs.Layout.{tablesSize}
@@ -9,14 +10,13 @@ use Rattle.next.proofs.next_tree.Statement.{statement}
 use Rattle.next.proofs.next_tree.Tie as tie
 
 build-requires : tie.Need-build-requires
-build-requires c κs = (search needs, search needs, length-replicate {A = ℕ} tablesSize 0, search needs, search needs)
+build-requires c κs = (omega arith, omega arith, length-replicate {A = ℕ} tablesSize 0, search needs, search needs)
 
 next-made-requires : tie.Need-next-made-requires
-next-made-requires c κs = (search needs, search needs, search needs, search offered-short, search needs)
-
-returns : tie.Need-returns
-returns c = search (needs, made-tree)
+next-made-requires c κs = (omega arith, omega arith, omega arith, search offered-short, omega arith)
 
 pub next-tree-spec : {M : Type 1} → statement M
 next-tree-spec =
-    tie.close (tie.spec (λ c κs. search needs) build-requires next-made-requires (λ c. search needs) returns)
+    tie.close
+    (tie.spec
+    (λ c κs. omega arith) build-requires next-made-requires (λ c. omega arith) (λ c. search (needs, made-tree)))

@@ -24,5 +24,4 @@ returns-2 : tie.Need-returns-2
 returns-2 c = unsigned-natural _ (c .before .fits .z) (c .if1 .left)
 
 pub unsigned-spec : {M : Type 1} → statement M
-unsigned-spec =
-    tie.close (tie.spec sub-result cast-result sub-result-2 cast-result-2 returns returns-2)
+unsigned-spec = tie.close (tie.spec sub-result cast-result sub-result-2 cast-result-2 returns returns-2)

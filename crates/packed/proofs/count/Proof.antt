@@ -1,24 +1,9 @@
 -- `packed::count` meets its contract: the byte read, or 8 where it is larger; 0 for a rule that is not there.
 -- Assumes nothing.
-use borrow.Author.Needs.{needs}
+use native.Mathlib.Omega.{arith}
 use Rattle.packed.proofs.Laws.{count-small, count-large, count-none}
 use Rattle.packed.proofs.count.Statement.{statement}
 use Rattle.packed.proofs.count.Tie as tie
-
-left-requires : tie.Need-left-requires
-left-requires c κs = search needs
-
-mul-wide-byte : tie.Need-mul-wide-byte
-mul-wide-byte c = search needs
-
-add-wide-byte : tie.Need-add-wide-byte
-add-wide-byte c = search needs
-
-element-copy-out-wide-byte : tie.Need-element-copy-out-wide-byte
-element-copy-out-wide-byte c = search needs
-
-wide-byte-requires : tie.Need-wide-byte-requires
-wide-byte-requires c κs = search needs
 
 returns : tie.Need-returns
 returns c =
@@ -37,11 +22,4 @@ pub count-spec : {M : Type 1} → statement M
 count-spec =
     tie.close
     (tie.spec
-    left-requires
-    mul-wide-byte
-    add-wide-byte
-    element-copy-out-wide-byte
-    wide-byte-requires
-    returns
-    returns-2
-    returns-3)
+    (λ c κs. omega arith) (λ c. omega arith) (λ c. omega arith) (λ c. omega arith) (λ c κs. omega arith) returns returns-2 returns-3)

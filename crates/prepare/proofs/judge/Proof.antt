@@ -1,12 +1,9 @@
 -- `prepare::judge` meets its contract, one case for each check.
 -- Assumes nothing.
-use borrow.Author.Needs.{needs}
+use native.Mathlib.Omega.{arith}
 use Rattle.prepare.proofs.Judging.{judge-laws}
 use Rattle.prepare.proofs.judge.Statement.{statement}
 use Rattle.prepare.proofs.judge.Tie as tie
-
-valid-requires : tie.Need-valid-requires
-valid-requires c κs = search needs
 
 returns : tie.Need-returns
 returns c = search judge-laws
@@ -25,4 +22,4 @@ returns-5 c = search judge-laws
 
 pub judge-spec : {M : Type 1} → statement M
 judge-spec =
-    tie.close (tie.spec valid-requires returns returns-2 returns-3 returns-4 returns-5)
+    tie.close (tie.spec (λ c κs. omega arith) returns returns-2 returns-3 returns-4 returns-5)

@@ -1,24 +1,10 @@
 -- `recognizer::opening` meets its contract.
 -- Assumes nothing.
 use borrow.Author.Needs.{needs}
+use native.Mathlib.Omega.{arith}
 use Rattle.recognizer.proofs.Calls.{open-right}
 use Rattle.recognizer.proofs.opening.Statement.{statement}
 use Rattle.recognizer.proofs.opening.Tie as tie
-
-pack-requires : tie.Need-pack-requires
-pack-requires c κs = search needs
-
-open-chart-requires : tie.Need-open-chart-requires
-open-chart-requires c κs = search needs
-
-says-requires : tie.Need-says-requires
-says-requires c κs = search needs
-
-blank-requires : tie.Need-blank-requires
-blank-requires c κs = search needs
-
-same-length : tie.Need-same-length
-same-length c = search needs
 
 returns : tie.Need-returns
 returns c =
@@ -30,4 +16,4 @@ returns c =
 pub opening-spec : {M : Type 1} → statement M
 opening-spec =
     tie.close
-    (tie.spec pack-requires open-chart-requires says-requires blank-requires same-length returns)
+    (tie.spec (λ c κs. search needs) (λ c κs. omega arith) (λ c κs. omega arith) (λ c κs. omega arith) (λ c. omega arith) returns)

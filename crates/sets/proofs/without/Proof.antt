@@ -2,7 +2,6 @@
 use mathlib.Core.Path.{ap}
 use native.Mathlib.Omega.{arith}
 use Prim.Native.Nat.{_-_}
-use borrow.Author.Needs.{needs}
 use Rattle.sets.proofs.Machine.{shift-one}
 use Rattle.sets.proofs.Pairs.{taken-away, without-is}
 use Rattle.sets.proofs.without.Statement.{statement}
@@ -15,4 +14,4 @@ returns : tie.Need-returns
 returns c = without-is (c .args .k) (c .args .w) _ (c .pre .1) (ap (λ x. c .args .w - x) (shift-one 32 (c .args .k) (c .pre .0)))
 
 pub without-spec : {M : Type 1} → statement M
-without-spec = tie.close (tie.spec (λ c. search needs) (λ c. search needs) sub-result returns)
+without-spec = tie.close (tie.spec (λ c. omega arith) (λ c. omega arith) sub-result returns)

@@ -1,5 +1,6 @@
 -- `solve::improve` meets its contract.
 -- Assumes nothing.
+use native.Mathlib.Omega.{arith}
 use borrow.Author.Needs.{needs}
 use Rattle.solve.proofs.Lowering.{improved-lower, improved-same, improved-not, improved-hole}
 use Rattle.solve.proofs.improve.Statement.{statement}
@@ -12,10 +13,10 @@ improve-spec =
     (λ c κs. search needs)
     (λ c κs. search needs)
     (λ c κs. search needs)
-    (λ c. search needs)
-    (λ c. search needs)
-    (λ c. search needs)
-    (λ c. search needs)
+    (λ c. omega arith)
+    (λ c. omega arith)
+    (λ c. omega arith)
+    (λ c. omega arith)
     (λ c. search (needs, improved-lower))
     (λ c. search (needs, improved-same))
     (λ c. search (needs, improved-not))

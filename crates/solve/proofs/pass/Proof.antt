@@ -2,6 +2,7 @@
 -- Assumes nothing.
 use Prim.Native.Nat.{_-_, _≤_}
 use mathlib.Core.Logic.{⊎-elim}
+use native.Mathlib.Omega.{arith}
 use borrow.Author.Needs.{needs}
 use Rattle.solve.specs.Solve.{Passed}
 use Rattle.solve.proofs.Passing.{passed-start, passed-changed, passed-kept, passed-end}
@@ -25,7 +26,7 @@ pass-spec =
     μ-loop
     (λ c. search (needs, passed-start))
     (λ c κs. search needs)
-    (λ c. search needs)
-    (λ c. search needs)
+    (λ c. omega arith)
+    (λ c. omega arith)
     loop-again
     (λ c. search (needs, passed-end)))

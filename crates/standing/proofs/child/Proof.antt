@@ -1,5 +1,6 @@
 -- `standing::child` meets its contract.
 -- Assumes nothing.
+use native.Mathlib.Omega.{arith}
 use borrow.Author.Needs.{needs}
 use Rattle.standing.proofs.Counts.{child-nonterminal, child-terminal}
 use Rattle.standing.proofs.child.Statement.{statement}
@@ -9,6 +10,4 @@ pub child-spec : {M : Type 1} → statement M
 child-spec =
     tie.close
     (tie.spec
-    (λ c κs. search needs)
-    (λ c. (search (needs, child-nonterminal), search needs))
-    (λ c. (search (needs, child-terminal), search needs)))
+    (λ c κs. omega arith) (λ c. (search (needs, child-nonterminal), omega arith)) (λ c. (search (needs, child-terminal), omega arith)))

@@ -1,6 +1,7 @@
 -- `standing::children` meets its contract. The loop's invariant: the nonterminals of the places passed. The measure is what is left of
 -- them. Assumes nothing.
 use Prim.Native.Nat.{_-_, _≤_}
+use native.Mathlib.Omega.{arith}
 use borrow.Author.Needs.{needs}
 use Rattle.standing.proofs.Counts.{Counted, counted-start, counted-step, counted-end}
 use Rattle.standing.proofs.children.Statement.{statement}
@@ -16,13 +17,5 @@ pub children-spec : {M : Type 1} → statement M
 children-spec =
     tie.close
     (tie.spec
-    Inv-loop
-    μ-loop
-    (λ c κs. search needs)
-    (λ c. search (needs, counted-start))
-    (λ c κs. search needs)
-    (λ c. search needs)
-    (λ c. search needs)
-    (λ c. search needs)
-    (λ c. search (needs, counted-step))
-    (λ c. search (needs, counted-end)))
+    Inv-loop μ-loop (λ c κs. omega arith) (λ c. search (needs, counted-start)) (λ c κs. omega arith) (λ c. omega arith) (λ c. omega arith)
+    (λ c. omega arith) (λ c. search (needs, counted-step)) (λ c. search (needs, counted-end)))

@@ -2,6 +2,7 @@
 -- most, and what is left of a tree that stands there is a row for the children to come. The measure is what is left of the buffer.
 -- Assumes nothing.
 use Prim.Native.Nat.{_+_, _*_, _-_, _≤_}
+use native.Mathlib.Omega.{arith}
 use borrow.Author.Needs.{needs}
 use Rattle.standing.proofs.Walk.{Walked, walked-start, walked-step, sized-full, sized-no-rule, sized-done}
 use Rattle.standing.proofs.size.Statement.{statement}
@@ -17,22 +18,7 @@ pub size-spec : {M : Type 1} → statement M
 size-spec =
     tie.close
     (tie.spec
-    Inv-loop
-    μ-loop
-    (λ c. search (needs, walked-start))
-    (λ c. search needs)
-    (λ c. search (needs, sized-full))
-    (λ c. search needs)
-    (λ c. search needs)
-    (λ c. search needs)
-    (λ c. search needs)
-    (λ c. search needs)
-    (λ c κs. search needs)
-    (λ c. search (needs, sized-no-rule))
-    (λ c. search needs)
-    (λ c κs. search needs)
-    (λ c. search needs)
-    (λ c. search needs)
-    (λ c. search needs)
-    (λ c. search (needs, walked-step))
+    Inv-loop μ-loop (λ c. search (needs, walked-start)) (λ c. omega arith) (λ c. search (needs, sized-full)) (λ c. omega arith)
+    (λ c. omega arith) (λ c. omega arith) (λ c. omega arith) (λ c. omega arith) (λ c κs. omega arith) (λ c. search (needs, sized-no-rule))
+    (λ c. omega arith) (λ c κs. omega arith) (λ c. omega arith) (λ c. omega arith) (λ c. omega arith) (λ c. search (needs, walked-step))
     (λ c. search (needs, sized-done)))

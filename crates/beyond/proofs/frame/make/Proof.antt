@@ -1,5 +1,6 @@
 -- `beyond::frame::make` meets its contract.
 -- Assumes nothing.
+use native.Mathlib.Omega.{arith}
 use borrow.Author.Needs.{needs}
 use Rattle.beyond.proofs.Frames.{made-new, made-found}
 use Rattle.beyond.proofs.frame.make.Statement.{statement}
@@ -9,9 +10,5 @@ pub make-spec : {M : Type 1} → statement M
 make-spec =
     tie.close
     (tie.spec
-    (λ c. search needs)
-    (λ c κs. search needs)
-    (λ c κs. search needs)
-    (λ c κs. search needs)
-    (λ c. search (needs, made-new))
+    (λ c. omega arith) (λ c κs. omega arith) (λ c κs. search needs) (λ c κs. omega arith) (λ c. search (needs, made-new))
     (λ c. search (needs, made-found)))

@@ -43,17 +43,6 @@ pub later-rule-spec : {M : Type 1} → statement M
 later-rule-spec =
     tie.close
     (tie.spec
-    (λ c. search needs)
-    (λ c κs. search needs)
-    (λ c. later-absent (omega arith) (c .before .no-rule .ensures (search needs)))
-    (λ c. search needs)
-    (λ c κs. search needs)
-    returns-2
-    (λ c. search needs)
-    put-node-requires
-    sub-row
-    (λ c. search needs)
-    row-requires
-    add-result
-    (λ c. search needs)
-    returns-3)
+    (λ c. omega arith) (λ c κs. omega arith) (λ c. later-absent (omega arith) (c .before .no-rule .ensures (search needs)))
+    (λ c. omega arith) (λ c κs. search needs) returns-2 (λ c. omega arith) put-node-requires sub-row (λ c. omega arith) row-requires
+    add-result (λ c. omega arith) returns-3)

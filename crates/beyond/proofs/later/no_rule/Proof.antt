@@ -3,7 +3,6 @@
 use Prim.Native.Nat.{_-_}
 use mathlib.Core.Bool.{false≢true}
 use native.Mathlib.Omega.{arith}
-use borrow.Author.Needs.{needs}
 use Rattle.beyond.specs.Beyond.{NoRules}
 use Rattle.beyond.proofs.LaterRules.{none-yet, none-more, none-all}
 use Rattle.beyond.proofs.later.no_rule.Statement.{statement}
@@ -18,18 +17,11 @@ abbrev μ-loop : tie.MeasureT-loop
 loop-again : tie.Need-loop-again Inv-loop μ-loop
 loop-again c =
     let d = c .before .before .before in
-    none-more (d .before .args .p .now) (d .loop .inv) (c .before .left .ensures) (search needs)
+    none-more (d .before .args .p .now) (d .loop .inv) (c .before .left .ensures) (omega arith)
 
 pub no-rule-spec : {M : Type 1} → statement M
 no-rule-spec =
     tie.close
     (tie.spec
-    Inv-loop
-    μ-loop
-    (λ c. none-yet _ _ _)
-    (λ c κs. search needs)
-    (λ c e. absurd (false≢true e))
-    (λ c. search needs)
-    (λ c. omega arith)
-    loop-again
-    (λ c e. none-all (c .before .before .args .p .now) (c .before .loop .inv) (omega arith)))
+    Inv-loop μ-loop (λ c. none-yet _ _ _) (λ c κs. omega arith) (λ c e. absurd (false≢true e)) (λ c. omega arith) (λ c. omega arith)
+    loop-again (λ c e. none-all (c .before .before .args .p .now) (c .before .loop .inv) (omega arith)))

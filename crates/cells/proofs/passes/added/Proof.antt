@@ -1,18 +1,9 @@
 -- `cells::passes::added` meets its contract.
 -- Assumes nothing.
-use borrow.Author.Needs.{needs}
+use native.Mathlib.Omega.{arith}
 use Rattle.cells.proofs.Rule.{added-in, added-high, added-none}
 use Rattle.cells.proofs.passes.added.Statement.{statement}
 use Rattle.cells.proofs.passes.added.Tie as tie
-
-contains-requires : tie.Need-contains-requires
-contains-requires c κs = search needs
-
-left-requires : tie.Need-left-requires
-left-requires c κs = search needs
-
-with-requires : tie.Need-with-requires
-with-requires c κs = search needs
 
 returns : tie.Need-returns
 returns c = search added-in
@@ -24,5 +15,4 @@ returns-3 : tie.Need-returns-3
 returns-3 c = search added-none
 
 pub added-spec : {M : Type 1} → statement M
-added-spec =
-    tie.close (tie.spec contains-requires left-requires with-requires returns returns-2 returns-3)
+added-spec = tie.close (tie.spec (λ c κs. omega arith) (λ c κs. omega arith) (λ c κs. omega arith) returns returns-2 returns-3)

@@ -5,7 +5,6 @@ use mathlib.Core.Path.{_≡_}
 use native.Mathlib.Omega.{arith}
 use lib.ListN.{getD}
 use borrow.Author.Count.{below-more}
-use borrow.Author.Needs.{needs}
 use Rattle.checker.proofs.Bags.{tallies-differ, tallies-same}
 use Rattle.checker.proofs.build.same_rules.Statement.{statement}
 use Rattle.checker.proofs.build.same_rules.Tie as tie
@@ -16,26 +15,8 @@ Inv-loop a b x y r₀ r = (r ≤ 128) × ((k : ℕ) → k < r → getD x k 0 ≡
 abbrev μ-loop : tie.MeasureT-loop
 μ-loop a b x y r₀ r = 128 - r
 
-tally-requires : tie.Need-tally-requires Inv-loop μ-loop
-tally-requires c κs = search needs
-
-tally-requires-2 : tie.Need-tally-requires-2 Inv-loop μ-loop
-tally-requires-2 c κs = search needs
-
 loop-holds : tie.Need-loop-holds Inv-loop μ-loop
 loop-holds c = (omega arith, λ k h. absurd (omega arith))
-
-mul-if1 : tie.Need-mul-if1 Inv-loop μ-loop
-mul-if1 c = search needs
-
-array-read-if1 : tie.Need-array-read-if1 Inv-loop μ-loop
-array-read-if1 c = search needs
-
-mul-if1-2 : tie.Need-mul-if1-2 Inv-loop μ-loop
-mul-if1-2 c = search needs
-
-array-read-if1-2 : tie.Need-array-read-if1-2 Inv-loop μ-loop
-array-read-if1-2 c = search needs
 
 returns : tie.Need-returns Inv-loop μ-loop
 returns c =
@@ -43,12 +24,6 @@ returns c =
     let x = y .before in
     tallies-differ _ _ (x .tally .result) (y .tally2 .result) (x .tally .ensures) (y .tally2 .ensures) (c .before .before .loop .r)
     (c .before .loop-test .taken) (c .if1 .taken)
-
-add-r : tie.Need-add-r Inv-loop μ-loop
-add-r c = search needs
-
-loop-less : tie.Need-loop-less Inv-loop μ-loop
-loop-less c = search needs
 
 loop-again : tie.Need-loop-again Inv-loop μ-loop
 loop-again c = (omega arith, below-more _ _ (c .before .before .loop .inv .1) (c .if1 .left))
@@ -66,17 +41,5 @@ pub same-rules-spec : {M : Type 1} → statement M
 same-rules-spec =
     tie.close
     (tie.spec
-    Inv-loop
-    μ-loop
-    tally-requires
-    tally-requires-2
-    loop-holds
-    mul-if1
-    array-read-if1
-    mul-if1-2
-    array-read-if1-2
-    returns
-    add-r
-    loop-less
-    loop-again
-    returns-2)
+    Inv-loop μ-loop (λ c κs. omega arith) (λ c κs. omega arith) loop-holds (λ c. omega arith) (λ c. omega arith) (λ c. omega arith)
+    (λ c. omega arith) returns (λ c. omega arith) (λ c. omega arith) loop-again returns-2)

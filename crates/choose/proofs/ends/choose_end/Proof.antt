@@ -2,6 +2,7 @@
 -- measure is what is left of the ends.
 -- Assumes nothing.
 use Prim.Native.Nat.{_+_, _-_, _≤_}
+use native.Mathlib.Omega.{arith}
 use borrow.Author.Needs.{needs}
 use Rattle.choose.specs.Chosen.{EndsPassed}
 use Rattle.choose.proofs.Chosen.{ends-none, ends-more, end-found, end-none}
@@ -17,31 +18,20 @@ abbrev μ-loop : tie.MeasureT-loop
 
 loop-again : tie.Need-loop-again Inv-loop μ-loop
 loop-again c = (
-  search needs,
-  search needs,
-  ends-more (c .before .before .before .piece .ensures) (c .before .sum .ensures) (search needs)
+  omega arith,
+  omega arith,
+  ends-more (c .before .before .before .piece .ensures) (c .before .sum .ensures) (omega arith)
       (c .before .before .before .before .before .loop .inv .2),
 )
 
 returns : tie.Need-returns Inv-loop μ-loop
 returns c =
-    end-found (c .before .before .before .piece .ensures) (c .before .sum .ensures) (search needs) (search needs)
+    end-found (c .before .before .before .piece .ensures) (c .before .sum .ensures) (omega arith) (omega arith)
     (c .before .before .before .before .before .loop .inv .2)
 
 pub choose-end-spec : {M : Type 1} → statement M
 choose-end-spec =
     tie.close
     (tie.spec
-    Inv-loop
-    μ-loop
-    (λ c. search (needs, ends-none))
-    (λ c κs. search needs)
-    (λ c. search needs)
-    (λ c. search needs)
-    (λ c. search needs)
-    (λ c κs. search needs)
-    returns
-    (λ c. search needs)
-    (λ c. search needs)
-    loop-again
-    (λ c. search (needs, end-none)))
+    Inv-loop μ-loop (λ c. search (needs, ends-none)) (λ c κs. omega arith) (λ c. omega arith) (λ c. omega arith) (λ c. omega arith)
+    (λ c κs. omega arith) returns (λ c. omega arith) (λ c. omega arith) loop-again (λ c. search (needs, end-none)))

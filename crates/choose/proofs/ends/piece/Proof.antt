@@ -1,5 +1,6 @@
 -- `choose::ends::piece` meets its contract.
 -- Assumes nothing.
+use native.Mathlib.Omega.{arith}
 use borrow.Author.Needs.{needs}
 use Rattle.choose.proofs.Chosen.{piece-later, piece-short, piece-whole}
 use Rattle.choose.proofs.ends.piece.Statement.{statement}
@@ -9,9 +10,5 @@ pub piece-spec : {M : Type 1} → statement M
 piece-spec =
     tie.close
     (tie.spec
-    (λ c κs. search needs)
-    (λ c. search (needs, piece-later))
-    (λ c κs. search needs)
-    (λ c. search (needs, piece-short))
-    (λ c κs. search needs)
-    (λ c. search (needs, piece-whole)))
+    (λ c κs. omega arith) (λ c. search (needs, piece-later)) (λ c κs. omega arith) (λ c. search (needs, piece-short))
+    (λ c κs. omega arith) (λ c. search (needs, piece-whole)))

@@ -2,6 +2,7 @@
 -- nonterminals. The measure is what is left of the rules.
 -- Assumes nothing.
 use Prim.Native.Nat.{_-_}
+use native.Mathlib.Omega.{arith}
 use borrow.Author.Needs.{needs}
 use Rattle.choose.specs.Chosen.{RulesPassed}
 use Rattle.choose.proofs.Chosen.{passed-none, passed-more, rule-found, rule-none}
@@ -21,12 +22,5 @@ pub choose-rule-spec : {M : Type 1} → statement M
 choose-rule-spec =
     tie.close
     (tie.spec
-    Inv-loop
-    μ-loop
-    (λ c. search (needs, passed-none))
-    (λ c κs. search needs)
-    (λ c. search (needs, rule-found))
-    (λ c. search needs)
-    (λ c. search needs)
-    loop-again
-    (λ c. search (needs, rule-none)))
+    Inv-loop μ-loop (λ c. search (needs, passed-none)) (λ c κs. omega arith) (λ c. search (needs, rule-found)) (λ c. omega arith)
+    (λ c. omega arith) loop-again (λ c. search (needs, rule-none)))

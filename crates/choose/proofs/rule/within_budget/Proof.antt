@@ -1,5 +1,6 @@
 -- `choose::rule::within_budget` meets its contract.
 -- Assumes nothing.
+use native.Mathlib.Omega.{arith}
 use borrow.Author.Needs.{needs}
 use Rattle.choose.proofs.Chosen.{tested-other, tested-cost}
 use Rattle.choose.proofs.rule.within_budget.Statement.{statement}
@@ -9,8 +10,5 @@ pub within-budget-spec : {M : Type 1} → statement M
 within-budget-spec =
     tie.close
     (tie.spec
-    (λ c κs. search needs)
-    (λ c. search (needs, tested-other))
-    (λ c κs. search needs)
-    (λ c κs. search needs)
+    (λ c κs. omega arith) (λ c. search (needs, tested-other)) (λ c κs. omega arith) (λ c κs. omega arith)
     (λ c. search (needs, tested-cost)))

@@ -2,23 +2,41 @@
 -- The measure is the start. Assumes nothing.
 use borrow.Author.Needs.{needs}
 use native.Mathlib.Omega.{arith}
+use mathlib.Core.Path.{_≡_}
 use Prim.Native.Nat.{_≤_}
+use lib.ListN.{length}
 use Rattle.columns.proofs.Writing.{LowerTo, lower-start, lower-step, lower-done}
 use Rattle.columns.proofs.write.lower_cells.Statement.{statement}
 use Rattle.columns.proofs.write.lower_cells.Tie as tie
 
 abbrev Inv-loop : tie.InvT-loop
-Inv-loop p rules w n ends reach lasts kinds chart₀ starts₀ live₀ i₀ chart starts live i =
-    (i ≤ n) × LowerTo p w rules n ends reach lasts chart₀ starts₀ live₀ i chart starts live
+Inv-loop p rules fits n ends reach lasts kinds chart₀ starts₀ live₀ insides₀ flags₀ made₀ i₀ chart starts live insides flags made i =
+    (i ≤ n) × (length insides ≡ 128) × (length flags ≡ 128) × (length made ≡ 128)
+    × LowerTo p fits rules n ends reach lasts chart₀ starts₀ live₀ i chart starts live
 
 abbrev μ-loop : tie.MeasureT-loop
-μ-loop p rules w n ends reach lasts kinds chart₀ starts₀ live₀ i₀ chart starts live i = i
+μ-loop p rules fits n ends reach lasts kinds chart₀ starts₀ live₀ insides₀ flags₀ made₀ i₀ chart starts live insides flags made i = i
 
 loop-holds : tie.Need-loop-holds Inv-loop μ-loop
-loop-holds c = (omega arith, search lower-start)
+loop-holds c = (omega arith, search needs, search needs, search needs, search lower-start)
+
+close-cell-requires : tie.Need-close-cell-requires Inv-loop μ-loop
+close-cell-requires c κs = (
+  omega arith,
+  search needs,
+  omega arith,
+  omega arith,
+  search needs,
+  search needs,
+  search needs,
+  search needs,
+  search needs,
+  search needs,
+  search needs,
+)
 
 loop-again : tie.Need-loop-again Inv-loop μ-loop
-loop-again c = (omega arith, search lower-step)
+loop-again c = (omega arith, search needs, search needs, search needs, search lower-step)
 
 returns : tie.Need-returns Inv-loop μ-loop
 returns c = search lower-done
@@ -31,8 +49,8 @@ lower-cells-spec =
     μ-loop
     loop-holds
     (λ c. omega arith)
-    (λ c κs. search needs)
+    close-cell-requires
     (λ c. omega arith)
     loop-again
-    (λ c. search needs)
+    (λ c. omega arith)
     returns)

@@ -15,7 +15,7 @@ use Rattle.descend.proofs.first.+node+row.Lts-node as node-lts
 use Rattle.descend.proofs.first.row.Reads as row
 use Rattle.descend.proofs.first.row.Kinds as row-kinds
 use Rattle.descend.proofs.first.+node+row.Lts-row as row-lts
-use Rattle.choose.proofs.look.look.Reads as look-reads
+use Rattle.steps.proofs.look.Reads as look-reads
 use Rattle.nodes.proofs.child_set.Reads as child-set-reads
 use Rattle.descend.proofs.open.open_node.Reads as open-node-reads
 use Rattle.nodes.proofs.own_set.Reads as own-set-reads
@@ -70,7 +70,7 @@ row-calls t = (
 
 node-returns : (t : ℕ) → node-lts.Need-returns (node-calls t) (node-at t) node.Post
 node-returns t c =
-    node-none (search needs) (omega arith) (c .before .before .before .before .own-set .ensures) (c .before .open-node .ensures)
+    node-none (omega arith) (omega arith) (c .before .before .before .before .own-set .ensures) (c .before .open-node .ensures)
     (omega arith)
 
 node-put-node-requires : (t : ℕ) → node-lts.Need-put-node-requires (node-calls t) (node-at t) node.Post
@@ -144,16 +144,16 @@ row-add-result t c =
 
 row-returns : (t : ℕ) → row-lts.Need-returns (row-calls t) (row-at t) row.Post
 row-returns t c =
-    row-none _ _ _ (search needs) (search needs) (omega arith) (c .before .before .look .ensures) (c .enum-told .given .1)
+    row-none _ _ _ (omega arith) (omega arith) (omega arith) (c .before .before .look .ensures) (c .enum-told .given .1)
 
 row-returns-2 : (t : ℕ) → row-lts.Need-returns-2 (row-calls t) (row-at t) row.Post
 row-returns-2 t c =
-    row-end _ _ _ (search needs) (search needs) (omega arith) (c .before .before .look .ensures) (c .enum-told2 .given .1)
+    row-end _ _ _ (omega arith) (omega arith) (omega arith) (c .before .before .look .ensures) (c .enum-told2 .given .1)
 
 row-returns-3 : (t : ℕ) → row-lts.Need-returns-3 (row-calls t) (row-at t) row.Post
 row-returns-3 t c =
     let d = c .before .before .before .before in
-    row-byte _ _ _ (search needs) (search needs) (omega arith) (d .before .before .look .ensures) (d .enum-told3 .given .1)
+    row-byte _ _ _ (omega arith) (omega arith) (omega arith) (d .before .before .look .ensures) (d .enum-told3 .given .1)
     (c .before .before .row .ensures)
 
 row-returns-4 : (t : ℕ) → row-lts.Need-returns-4 (row-calls t) (row-at t) row.Post
@@ -166,43 +166,11 @@ row-returns-4 t c =
 
 pub +node+row-spec : {M : Type 1} → statement M
 +node+row-spec = close μ-node μ-row (λ t. node-lts.spec (node-calls t)
-    (node-at t)
-    node.Post
-    (λ c κs. search needs)
-    (λ c κs. search (needs, maybe-unmade))
-    (node-returns t)
-    (λ c. search needs)
-    (node-put-node-requires t)
-    (node-sub-row t)
-    (λ c. search needs)
-    (node-row-requires t)
-    (node-add-result t)
-    (λ c. search needs)
+    (node-at t) node.Post (λ c κs. omega arith) (λ c κs. search (needs, maybe-unmade)) (node-returns t) (λ c. omega arith)
+    (node-put-node-requires t) (node-sub-row t) (λ c. omega arith) (node-row-requires t) (node-add-result t) (λ c. omega arith)
     (node-returns-2 t))
     λ t. row-lts.spec
-    (row-calls t)
-    (row-at t)
-    row.Post
-    (λ c κs. search needs)
-    (λ c. search needs)
-    (λ c. search needs)
-    (λ c. search needs)
-    (λ c. search needs)
-    (λ c. search needs)
-    (row-row-requires t)
-    (λ c. search needs)
-    (λ c. search needs)
-    (row-sub-child-set-2 t)
-    (λ c κs. search needs)
-    (row-node-requires t)
-    (λ c. search needs)
-    (row-sub-row t)
-    (row-add-row-4 t)
-    (row-row-requires-2 t)
-    (row-add-result t)
-    (row-returns t)
-    (row-returns-2 t)
-    (λ c. search needs)
-    (row-returns-3 t)
-    (λ c. search needs)
-    (row-returns-4 t)
+    (row-calls t) (row-at t) row.Post (λ c κs. omega arith) (λ c. omega arith) (λ c. omega arith) (λ c. omega arith) (λ c. omega arith)
+    (λ c. omega arith) (row-row-requires t) (λ c. omega arith) (λ c. omega arith) (row-sub-child-set-2 t) (λ c κs. omega arith)
+    (row-node-requires t) (λ c. omega arith) (row-sub-row t) (row-add-row-4 t) (row-row-requires-2 t) (row-add-result t) (row-returns t)
+    (row-returns-2 t) (λ c. omega arith) (row-returns-3 t) (λ c. omega arith) (row-returns-4 t)

@@ -1,5 +1,6 @@
 -- `descend::open::make_costs` meets its contract.
 -- Assumes nothing.
+use native.Mathlib.Omega.{arith}
 use borrow.Author.Needs.{needs}
 use Rattle.descend.proofs.Opening.{maybe-made}
 use Rattle.descend.proofs.open.make_costs.Statement.{statement}
@@ -9,12 +10,5 @@ pub make-costs-spec : {M : Type 1} → statement M
 make-costs-spec =
     tie.close
     (tie.spec
-    (λ c. search needs)
-    (λ c κs. search needs)
-    (λ c. search needs)
-    (λ c. search needs)
-    (λ c. search needs)
-    (λ c. search needs)
-    (λ c κs. search needs)
-    (λ c. search needs)
-    (λ c. search (needs, maybe-made)))
+    (λ c. omega arith) (λ c κs. omega arith) (λ c. omega arith) (λ c. omega arith) (λ c. omega arith) (λ c. omega arith)
+    (λ c κs. omega arith) (λ c. search needs) (λ c. search (needs, maybe-made)))

@@ -4,7 +4,6 @@ use Prim.Native.Nat.{_≤_, _-_}
 use native.Mathlib.Omega.{arith}
 use mathlib.Core.Path.{_≡_, refl}
 use lib.ListN.{length, take, length-set}
-use borrow.Author.Needs.{needs}
 use Rattle.rows.specs.Flat.{recordsFrom, placeIn, placesIn}
 use Rattle.rows.proofs.Records.{records-step, records-done}
 use Rattle.flat.proofs.reading.read_places.Statement.{statement}
@@ -16,33 +15,9 @@ Inv-loop f at places₀ q₀ places q = (q ≤ 8) × (length places ≡ 8) × (t
 abbrev μ-loop : tie.MeasureT-loop
 μ-loop f at places₀ q₀ places q = 8 - q
 
-zero-place-requires : tie.Need-zero-place-requires Inv-loop μ-loop
-zero-place-requires c κs = search needs
-
 loop-holds : tie.Need-loop-holds Inv-loop μ-loop
 unfolding recordsFrom
 loop-holds c = (omega arith, refl, refl)
-
-mul-read-place : tie.Need-mul-read-place Inv-loop μ-loop
-mul-read-place c = search needs
-
-add-read-place : tie.Need-add-read-place Inv-loop μ-loop
-add-read-place c = search needs
-
-read-place-requires : tie.Need-read-place-requires Inv-loop μ-loop
-read-place-requires c κs = search needs
-
-mul-places : tie.Need-mul-places Inv-loop μ-loop
-mul-places c = search needs
-
-array-set-from-places : tie.Need-array-set-from-places Inv-loop μ-loop
-array-set-from-places c = search needs
-
-add-q : tie.Need-add-q Inv-loop μ-loop
-add-q c = search needs
-
-loop-less : tie.Need-loop-less Inv-loop μ-loop
-loop-less c = search needs
 
 loop-again : tie.Need-loop-again Inv-loop μ-loop
 loop-again c = (
@@ -59,16 +34,5 @@ pub read-places-spec : {M : Type 1} → statement M
 read-places-spec =
     tie.close
     (tie.spec
-    Inv-loop
-    μ-loop
-    zero-place-requires
-    loop-holds
-    mul-read-place
-    add-read-place
-    read-place-requires
-    mul-places
-    array-set-from-places
-    add-q
-    loop-less
-    loop-again
-    returns)
+    Inv-loop μ-loop (λ c κs. omega arith) loop-holds (λ c. omega arith) (λ c. omega arith) (λ c κs. omega arith) (λ c. omega arith)
+    (λ c. omega arith) (λ c. omega arith) (λ c. omega arith) loop-again returns)

@@ -24,45 +24,14 @@ returns c = ⊎-elim (λ w. search rule-left) (λ w. rule-count _ (omega (arith,
 
 loop-holds : tie.Need-loop-holds Inv-loop μ-loop
 unfolding all
-loop-holds c = (search needs, search needs, search needs, refl)
-
-mul-p : tie.Need-mul-p Inv-loop μ-loop
-mul-p c = search needs
-
-element-copy-out-p : tie.Need-element-copy-out-p Inv-loop μ-loop
-element-copy-out-p c = omega arith
-
-valid-place-requires : tie.Need-valid-place-requires Inv-loop μ-loop
-valid-place-requires c κs = search needs
-
-returns-2 : tie.Need-returns-2 Inv-loop μ-loop
-returns-2 c = search rule-place
-
-add-q : tie.Need-add-q Inv-loop μ-loop
-add-q c = search needs
-
-loop-less : tie.Need-loop-less Inv-loop μ-loop
-loop-less c = search needs
+loop-holds c = (omega arith, search needs, omega arith, refl)
 
 loop-again : tie.Need-loop-again Inv-loop μ-loop
 loop-again c = (omega arith, omega arith, omega arith, search all-next)
-
-returns-3 : tie.Need-returns-3 Inv-loop μ-loop
-returns-3 c = search rule-passes
 
 pub valid-rule-spec : {M : Type 1} → statement M
 valid-rule-spec =
     tie.close
     (tie.spec
-    Inv-loop
-    μ-loop
-    returns
-    loop-holds
-    mul-p
-    element-copy-out-p
-    valid-place-requires
-    returns-2
-    add-q
-    loop-less
-    loop-again
-    returns-3)
+    Inv-loop μ-loop returns loop-holds (λ c. omega arith) (λ c. omega arith) (λ c κs. omega arith) (λ c. search rule-place)
+    (λ c. omega arith) (λ c. omega arith) loop-again (λ c. search rule-passes))

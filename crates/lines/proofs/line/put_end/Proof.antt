@@ -1,5 +1,6 @@
 -- `lines::line::put_end` meets its contract.
 -- Assumes nothing.
+use native.Mathlib.Omega.{arith}
 use Rattle.lines.proofs.Lines.{end-done}
 use borrow.Author.Needs.{needs}
 use Rattle.lines.proofs.line.put_end.Statement.{statement}
@@ -9,9 +10,4 @@ pub put-end-spec : {M : Type 1} → statement M
 put-end-spec =
     tie.close
     (tie.spec
-    (λ c. search needs)
-    (λ c κs. search needs)
-    (λ c κs. search needs)
-    (λ c κs. search needs)
-    (λ c. search needs)
-    (λ c. search end-done))
+    (λ c. omega arith) (λ c κs. omega arith) (λ c κs. search needs) (λ c κs. omega arith) (λ c. omega arith) (λ c. search end-done))

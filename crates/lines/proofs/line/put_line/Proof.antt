@@ -3,7 +3,6 @@
 use Prim.Native.Nat.{_*_}
 use native.Mathlib.Omega.{arith}
 use lib.ListN.{take}
-use borrow.Author.Needs.{needs}
 use Rattle.digits.proofs.Decimal.{digits-16}
 use Rattle.lines.proofs.Lines.{through-size, line-done}
 use Rattle.lines.proofs.line.put_line.Statement.{statement}
@@ -37,12 +36,4 @@ returns c =
     (colon .put-byte .ensures) (nodes .put-nodes .ensures .0) (last .put-end .ensures)
 
 pub put-line-spec : {M : Type 1} → statement M
-put-line-spec =
-    tie.close
-    (tie.spec
-    put-decimal-requires
-    put-byte-requires
-    put-nodes-requires
-    put-end-requires
-    (λ c. search needs)
-    returns)
+put-line-spec = tie.close (tie.spec put-decimal-requires put-byte-requires put-nodes-requires put-end-requires (λ c. omega arith) returns)

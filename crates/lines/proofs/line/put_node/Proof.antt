@@ -1,7 +1,6 @@
 -- `lines::line::put_node` meets its contract.
 -- Assumes nothing.
 use native.Mathlib.Omega.{arith}
-use borrow.Author.Needs.{needs}
 use Rattle.digits.proofs.Decimal.{digits-16}
 use Rattle.lines.proofs.Lines.{node-done}
 use Rattle.lines.proofs.line.put_node.Statement.{statement}
@@ -36,9 +35,4 @@ pub put-node-spec : {M : Type 1} → statement M
 put-node-spec =
     tie.close
     (tie.spec
-    (λ c κs. search needs)
-    put-decimal-requires
-    put-byte-requires-2
-    put-decimal-requires-2
-    (λ c. search needs)
-    returns)
+    (λ c κs. omega arith) put-decimal-requires put-byte-requires-2 put-decimal-requires-2 (λ c. omega arith) returns)

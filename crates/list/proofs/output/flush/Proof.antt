@@ -15,9 +15,4 @@ pub flush-spec : {M : Type 1} → statement M
 flush-spec =
     tie.close
     (tie.spec
-    (λ c κs. search needs)
-    (λ c. search needs)
-    slice-aggregate-write
-    (λ c κs. search needs)
-    (λ c. search needs)
-    (λ c. search needs))
+    (λ c κs. omega arith) (λ c. search needs) slice-aggregate-write (λ c κs. omega arith) (λ c. search needs) (λ c. omega arith))

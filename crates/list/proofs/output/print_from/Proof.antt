@@ -19,7 +19,7 @@ abbrev μ-loop : tie.MeasureT-loop
 μ-loop p lengths fits chart tables buf₀ out₀ then₀ at₀ turns₀ buf out then at turns = turns
 
 loop-holds : tie.Need-loop-holds Inv-loop μ-loop
-loop-holds c = (search needs, omega arith, length-replicate {A = ℕ} bufferSize 0, search needs, search needs)
+loop-holds c = (search needs, omega arith, length-replicate {A = ℕ} bufferSize 0, omega arith, omega arith)
 
 slice-aggregate-print-line : tie.Need-slice-aggregate-print-line Inv-loop μ-loop
 slice-aggregate-print-line c = sym (c .before .before .before .loop .inv .2)
@@ -34,16 +34,5 @@ pub print-from-spec : {M : Type 1} → statement M
 print-from-spec =
     tie.close
     (tie.spec
-    Inv-loop
-    μ-loop
-    loop-holds
-    slice-aggregate-print-line
-    (λ c κs. search needs)
-    (λ c κs. search needs)
-    (λ c. search needs)
-    (λ c. search needs)
-    (λ c. omega arith)
-    (λ c. omega arith)
-    loop-again
-    (λ c. search needs)
-    (λ c. search needs))
+    Inv-loop μ-loop loop-holds slice-aggregate-print-line (λ c κs. search needs) (λ c κs. omega arith) (λ c. omega arith)
+    (λ c. omega arith) (λ c. omega arith) (λ c. omega arith) loop-again (λ c. omega arith) (λ c. omega arith))

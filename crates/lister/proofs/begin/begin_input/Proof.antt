@@ -1,5 +1,6 @@
 -- `lister::begin::begin_input` meets its contract: of the checks only 9 can fail, and else the chart is filled.
 -- Assumes nothing.
+use native.Mathlib.Omega.{arith}
 use lib.ListN.{length-map}
 use borrow.Author.Needs.{needs}
 use Rattle.prepare.proofs.Judging.{judged-ready}
@@ -16,10 +17,7 @@ begin-filled-requires c κs =
     let passed = after-fill .before .before in
     let ready = judged-filled _ _ _ _ (passed .before .before .judge .ensures) (passed .enum-told .given .1) _ _
     (after-fill .fill .ensures) in
-    (ready .0, ready .1, search needs, search needs, ready .2)
-
-returns : tie.Need-returns
-returns c = search (needs, input-refused)
+    (ready .0, ready .1, omega arith, omega arith, ready .2)
 
 returns-2 : tie.Need-returns-2
 returns-2 c =
@@ -36,16 +34,6 @@ pub begin-input-spec : {M : Type 1} → statement M
 begin-input-spec =
     tie.close
     (tie.spec
-    (λ c κs. search needs)
-    (λ c. search needs)
-    (λ c κs. search needs)
-    (λ c κs. search needs)
-    (λ c. search needs)
-    fill-requires
-    (λ c κs. search needs)
-    (λ c κs. search needs)
-    begin-filled-requires
-    returns
-    (λ c. search needs)
-    (λ c. search needs)
-    returns-2)
+    (λ c κs. omega arith) (λ c. omega arith) (λ c κs. omega arith) (λ c κs. omega arith) (λ c. omega arith) fill-requires
+    (λ c κs. omega arith) (λ c κs. omega arith) begin-filled-requires (λ c. search (needs, input-refused)) (λ c. omega arith)
+    (λ c. omega arith) returns-2)

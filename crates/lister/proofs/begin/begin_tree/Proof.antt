@@ -1,5 +1,6 @@
 -- `lister::begin::begin_tree` meets its contract: the first derivation stands in the buffer, or each tree is too large.
 -- Assumes nothing.
+use native.Mathlib.Omega.{arith}
 use borrow.Author.Needs.{needs}
 use Rattle.lister.proofs.Opening.{tree-refused, tree-begun}
 use Rattle.lister.proofs.begin.begin_tree.Statement.{statement}
@@ -8,17 +9,9 @@ use Rattle.lister.proofs.begin.begin_tree.Tie as tie
 returns : tie.Need-returns
 returns c = tree-refused _ _ _ _ _ _ _ (c .before .before .before .build .ensures) _ (c .before .exists .ensures) (search needs) _
 
-returns-2 : tie.Need-returns-2
-returns-2 c = search (needs, tree-begun)
-
 pub begin-tree-spec : {M : Type 1} → statement M
 begin-tree-spec =
     tie.close
     (tie.spec
-    (λ c κs. search needs)
-    (λ c κs. search needs)
-    (λ c κs. search needs)
-    returns
-    (λ c κs. search needs)
-    (λ c. search needs)
-    returns-2)
+    (λ c κs. omega arith) (λ c κs. search needs) (λ c κs. omega arith) returns (λ c κs. omega arith) (λ c. omega arith)
+    (λ c. search (needs, tree-begun)))

@@ -9,17 +9,17 @@ use Rattle.looks.proofs.passes.again.Statement.{statement}
 use Rattle.looks.proofs.passes.again.Tie as tie
 
 abbrev Inv-loop : tie.InvT-loop
-Inv-loop p rules i n start insides lasts kinds own flags₀ made₀ v₀ r₀ flags made v r =
-    (r ≤ rules) × Passed p rules i n start insides lasts kinds r own v flags made
+Inv-loop p rules start insides lasts kinds own flags₀ made₀ v₀ r₀ flags made v r =
+    (r ≤ rules) × Passed p rules start insides lasts kinds r own v flags made
 
 abbrev μ-loop : tie.MeasureT-loop
-μ-loop p rules i n start insides lasts kinds own flags₀ made₀ v₀ r₀ flags made v r = rules - r
+μ-loop p rules start insides lasts kinds own flags₀ made₀ v₀ r₀ flags made v r = rules - r
 
 loop-holds : tie.Need-loop-holds Inv-loop μ-loop
 loop-holds c = (omega arith, search again-start)
 
 look-again-requires : tie.Need-look-again-requires Inv-loop μ-loop
-look-again-requires c κs = (omega arith, omega arith, search needs, search needs)
+look-again-requires c κs = (omega arith, search needs, search needs)
 
 loop-again : tie.Need-loop-again Inv-loop μ-loop
 loop-again c = (omega arith, search again-step)

@@ -9,11 +9,11 @@ use Rattle.looks.proofs.passes.closure.Statement.{statement}
 use Rattle.looks.proofs.passes.closure.Tie as tie
 
 abbrev Inv-loop : tie.InvT-loop
-Inv-loop p rules i n start insides lasts kinds flags₀ made₀ own₀ flags made own =
-    (own < 2 ^ 32) × State p rules i n start insides lasts kinds rules own flags made
+Inv-loop p rules start insides lasts kinds flags₀ made₀ own₀ flags made own =
+    (own < 2 ^ 32) × State p rules start insides lasts kinds rules own flags made
 
 abbrev μ-loop : tie.MeasureT-loop
-μ-loop p rules i n start insides lasts kinds flags₀ made₀ own₀ flags made own = 2 ^ 32 - own
+μ-loop p rules start insides lasts kinds flags₀ made₀ own₀ flags made own = 2 ^ 32 - own
 
 loop-holds : tie.Need-loop-holds Inv-loop μ-loop
 loop-holds c = (omega arith, search needs)
@@ -30,7 +30,7 @@ closure-spec =
     (tie.spec
     Inv-loop
     μ-loop
-    (λ c κs. search needs)
+    (λ c κs. omega arith)
     loop-holds
     (λ c κs. search needs)
     returns

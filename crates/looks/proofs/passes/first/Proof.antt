@@ -9,17 +9,17 @@ use Rattle.looks.proofs.passes.first.Statement.{statement}
 use Rattle.looks.proofs.passes.first.Tie as tie
 
 abbrev Inv-loop : tie.InvT-loop
-Inv-loop p rules i n start insides lasts kinds flags₀ made₀ own₀ r₀ flags made own r =
-    (r ≤ rules) × State p rules i n start insides lasts kinds r own flags made
+Inv-loop p rules start insides lasts kinds flags₀ made₀ own₀ r₀ flags made own r =
+    (r ≤ rules) × State p rules start insides lasts kinds r own flags made
 
 abbrev μ-loop : tie.MeasureT-loop
-μ-loop p rules i n start insides lasts kinds flags₀ made₀ own₀ r₀ flags made own r = rules - r
+μ-loop p rules start insides lasts kinds flags₀ made₀ own₀ r₀ flags made own r = rules - r
 
 loop-holds : tie.Need-loop-holds Inv-loop μ-loop
 loop-holds c = (omega arith, search state-start)
 
 look-first-requires : tie.Need-look-first-requires Inv-loop μ-loop
-look-first-requires c κs = (omega arith, omega arith, search needs, search needs)
+look-first-requires c κs = (omega arith, search needs, search needs)
 
 loop-again : tie.Need-loop-again Inv-loop μ-loop
 loop-again c = (omega arith, search first-step)

@@ -1,5 +1,5 @@
 -- `sets::wide::has` meets its contract: the shifted and masked word is bit k. Assumes nothing.
-use borrow.Author.Needs.{needs}
+use native.Mathlib.Omega.{arith}
 use Rattle.sets.proofs.Machine.{mask-is-has}
 use Rattle.sets.proofs.wide.has.Statement.{statement}
 use Rattle.sets.proofs.wide.has.Tie as tie
@@ -8,4 +8,4 @@ returns : tie.Need-returns
 returns c = mask-is-has (c .args .k) (c .args .w)
 
 pub has-spec : {M : Type 1} → statement M
-has-spec = tie.close (tie.spec (λ c. search needs) returns)
+has-spec = tie.close (tie.spec (λ c. omega arith) returns)

@@ -1,5 +1,5 @@
 -- `sets::wide::with` meets its contract: `or` with the shifted 1 inserts k. Assumes nothing.
-use borrow.Author.Needs.{needs}
+use native.Mathlib.Omega.{arith}
 use Rattle.sets.proofs.Machine.{shift-or-is-insert}
 use Rattle.sets.proofs.wide.with.Statement.{statement}
 use Rattle.sets.proofs.wide.with.Tie as tie
@@ -8,4 +8,4 @@ returns : tie.Need-returns
 returns c = shift-or-is-insert 64 (c .args .k) (c .args .w) (c .pre)
 
 pub with-spec : {M : Type 1} → statement M
-with-spec = tie.close (tie.spec (λ c. search needs) returns)
+with-spec = tie.close (tie.spec (λ c. omega arith) returns)

@@ -1,6 +1,7 @@
 -- `spans::ends::put` meets its contract.
 -- Assumes nothing.
 use borrow.Author.Needs.{needs}
+use native.Mathlib.Omega.{arith}
 use Rattle.spans.proofs.Putting.{cell-put, cell-empty}
 use Rattle.spans.proofs.ends.put.Statement.{statement}
 use Rattle.spans.proofs.ends.put.Tie as tie
@@ -15,11 +16,11 @@ pub put-spec : {M : Type 1} → statement M
 put-spec =
     tie.close
     (tie.spec
-    (λ c. search needs)
-    (λ c. search needs)
-    (λ c κs. search needs)
-    (λ c. search needs)
-    (λ c. search needs)
-    (λ c κs. search needs)
+    (λ c. omega arith)
+    (λ c. omega arith)
+    (λ c κs. omega arith)
+    (λ c. omega arith)
+    (λ c. omega arith)
+    (λ c κs. omega arith)
     returns
     returns-2)

@@ -1,6 +1,7 @@
 -- `spans::ends::put_members` meets its contract. The loop's invariant: the members taken out of the word are done.
 -- The measure is what is left of the word. Assumes nothing.
 use borrow.Author.Needs.{needs}
+use native.Mathlib.Omega.{arith}
 use Rattle.spans.proofs.Putting.{PutTo, put-start, put-step, put-done, rest-less}
 use Rattle.spans.proofs.ends.put_members.Statement.{statement}
 use Rattle.spans.proofs.ends.put_members.Tie as tie
@@ -30,16 +31,16 @@ put-members-spec =
     Inv-loop
     μ-loop
     loop-holds
-    (λ c κs. search needs)
-    (λ c. search needs)
-    (λ c. search needs)
-    (λ c. search needs)
-    (λ c. search needs)
-    (λ c κs. search needs)
-    (λ c. search needs)
-    (λ c. search needs)
-    (λ c. search needs)
-    (λ c. search needs)
+    (λ c κs. omega arith)
+    (λ c. omega arith)
+    (λ c. omega arith)
+    (λ c. omega arith)
+    (λ c. omega arith)
+    (λ c κs. omega arith)
+    (λ c. omega arith)
+    (λ c. omega arith)
+    (λ c. omega arith)
+    (λ c. omega arith)
     (λ c κs. search needs)
     loop-less
     loop-again

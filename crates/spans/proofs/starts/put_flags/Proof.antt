@@ -32,8 +32,8 @@ put-flags-spec =
     Inv-loop
     μ-loop
     loop-holds
-    (λ c. search needs)
-    (λ c. search needs)
+    (λ c. omega arith)
+    (λ c. omega arith)
     put-rule-requires
     (λ c. omega arith)
     (λ c. omega arith)

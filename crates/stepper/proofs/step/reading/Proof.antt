@@ -3,7 +3,6 @@
 use Prim.Native.Nat.{_*_}
 use native.Mathlib.Omega.{arith}
 use lib.ListN.{length-take}
-use borrow.Author.Needs.{needs}
 use Rattle.stepper.proofs.Measured.{kept-small, tenths-small, line-put}
 use Rattle.stepper.proofs.step.reading.Statement.{statement}
 use Rattle.stepper.proofs.step.reading.Tie as tie
@@ -40,11 +39,5 @@ pub reading-spec : {M : Type 1} → statement M
 reading-spec =
     tie.close
     (tie.spec
-    (λ c. omega arith)
-    slice-aggregate-total
-    total-requires
-    rounded-requires
-    (λ c. omega arith)
-    put-line-requires
-    (λ c. search needs)
+    (λ c. omega arith) slice-aggregate-total total-requires rounded-requires (λ c. omega arith) put-line-requires (λ c. omega arith)
     returns)

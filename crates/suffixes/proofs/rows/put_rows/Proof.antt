@@ -1,6 +1,7 @@
 -- `suffixes::rows::put_rows` meets its contract. The loop's invariant: the costs from the starts passed are written. The measure is the
 -- start. Assumes nothing.
 use Prim.Native.Nat.{_+_, _≤_}
+use native.Mathlib.Omega.{arith}
 use borrow.Author.Needs.{needs}
 use Rattle.suffixes.specs.Rows.{RowsFrom}
 use Rattle.suffixes.proofs.AllStarts.{rows-start, rows-back, rows-end}
@@ -19,10 +20,10 @@ put-rows-spec =
     (tie.spec
     Inv-loop
     μ-loop
-    (λ c. search needs)
+    (λ c. omega arith)
     (λ c. search (needs, rows-start))
-    (λ c. search needs)
+    (λ c. omega arith)
     (λ c κs. search needs)
-    (λ c. search needs)
+    (λ c. omega arith)
     (λ c. search (needs, rows-back))
     (λ c. search (needs, rows-end)))

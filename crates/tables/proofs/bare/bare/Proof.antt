@@ -1,5 +1,6 @@
 -- `tables::bare::bare` meets its contract.
 -- Assumes nothing.
+use native.Mathlib.Omega.{arith}
 use borrow.Author.Needs.{needs}
 use Rattle.tables.proofs.Bares.{bare-read}
 use Rattle.tables.proofs.bare.bare.Statement.{statement}
@@ -10,6 +11,6 @@ bare-spec =
     tie.close
     (tie.spec
     (λ c κs. search needs)
-    (λ c. search needs)
-    (λ c. search needs)
+    (λ c. omega arith)
+    (λ c. omega arith)
     (λ c. search (needs, bare-read)))

@@ -1,5 +1,6 @@
 -- `tables::bare::bare_at` meets its contract.
 -- Assumes nothing.
+use native.Mathlib.Omega.{arith}
 use borrow.Author.Needs.{needs}
 use Rattle.tables.proofs.Bares.{bare-placed}
 use Rattle.tables.proofs.bare.bare_at.Statement.{statement}
@@ -10,7 +11,7 @@ bare-at-spec =
     tie.close
     (tie.spec
     (λ c κs. search needs)
-    (λ c. search needs)
-    (λ c. search needs)
-    (λ c. search needs)
+    (λ c. omega arith)
+    (λ c. omega arith)
+    (λ c. omega arith)
     (λ c. (search (needs, bare-placed), search needs)))

@@ -1,5 +1,6 @@
 -- `tables::layout::full_of` meets its contract.
 -- Assumes nothing.
+use native.Mathlib.Omega.{arith}
 use borrow.Author.Needs.{needs}
 use Rattle.tables.proofs.Entries.{full-read, full-none}
 use Rattle.tables.proofs.layout.full_of.Statement.{statement}
@@ -9,7 +10,7 @@ pub full-of-spec : {M : Type 1} → statement M
 full-of-spec =
     tie.close
     (tie.spec
-    (λ c. search needs)
-    (λ c. search needs)
+    (λ c. omega arith)
+    (λ c. omega arith)
     (λ c. search (needs, full-read))
     (λ c. search (needs, full-none)))

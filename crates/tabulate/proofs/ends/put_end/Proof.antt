@@ -1,6 +1,7 @@
 -- `tabulate::ends::put_end` meets its contract. The loop's invariant: the spans from the starts passed are done. The measure is the start.
 -- Assumes nothing.
 use Prim.Native.Nat.{_≤_}
+use native.Mathlib.Omega.{arith}
 use borrow.Author.Needs.{needs}
 use Rattle.tabulate.specs.Spans.{EndFrom}
 use Rattle.tabulate.proofs.Ending.{end-start, end-back, end-put}
@@ -8,11 +9,11 @@ use Rattle.tabulate.proofs.ends.put_end.Statement.{statement}
 use Rattle.tabulate.proofs.ends.put_end.Tie as tie
 
 abbrev Inv-loop : tie.InvT-loop
-Inv-loop p rules fits chart empty nothing j tables₀ rows₀ i₀ tables rows i =
-    (i ≤ j) × EndFrom p rules fits chart i j tables₀ rows₀ tables rows
+Inv-loop p rules fits chart empty nothing reach j tables₀ rows₀ live₀ i₀ tables rows live i =
+    (i ≤ j) × EndFrom p rules fits chart i j tables₀ rows₀ tables rows live
 
 abbrev μ-loop : tie.MeasureT-loop
-μ-loop p rules fits chart empty nothing j tables₀ rows₀ i₀ tables rows i = i
+μ-loop p rules fits chart empty nothing reach j tables₀ rows₀ live₀ i₀ tables rows live i = i
 
 loop-holds : tie.Need-loop-holds Inv-loop μ-loop
 loop-holds c = search (needs, end-start)
@@ -31,12 +32,14 @@ put-end-spec =
     μ-loop
     (λ c κs. search needs)
     loop-holds
-    (λ c. search needs)
-    (λ c. search needs)
-    (λ c. search needs)
-    (λ c. search needs)
-    (λ c. search needs)
+    (λ c. omega arith)
+    (λ c. omega arith)
+    (λ c. omega arith)
+    (λ c. omega arith)
+    (λ c. omega arith)
+    (λ c. omega arith)
+    (λ c. omega arith)
     (λ c κs. search needs)
-    (λ c. search needs)
+    (λ c. omega arith)
     loop-again
     returns)

@@ -1,18 +1,20 @@
 -- `tabulate::ends::put_ends` meets its contract. The loop's invariant: the spans of the ends passed are done. The measure is what is left
 -- of the ends. Assumes nothing.
 use Prim.Native.Nat.{_+_, _-_, _≤_}
+use native.Mathlib.Omega.{arith}
 use borrow.Author.Needs.{needs}
+use Rattle.reach.proofs.Reaching.{reaches-less}
 use Rattle.tabulate.specs.Spans.{EndsBefore}
 use Rattle.tabulate.proofs.Ending.{ends-start, ends-step, ends-end}
 use Rattle.tabulate.proofs.ends.put_ends.Statement.{statement}
 use Rattle.tabulate.proofs.ends.put_ends.Tie as tie
 
 abbrev Inv-loop : tie.InvT-loop
-Inv-loop p rules fits chart empty n tables₀ none rows₀ j₀ tables rows j =
+Inv-loop p rules fits chart empty n tables₀ none reach rows₀ j₀ tables rows j =
     (j ≤ n + 1) × EndsBefore p rules fits chart empty n j tables₀ tables rows
 
 abbrev μ-loop : tie.MeasureT-loop
-μ-loop p rules fits chart empty n tables₀ none rows₀ j₀ tables rows j = n + 1 - j
+μ-loop p rules fits chart empty n tables₀ none reach rows₀ j₀ tables rows j = n + 1 - j
 
 loop-holds : tie.Need-loop-holds Inv-loop μ-loop
 loop-holds c = (search needs, ends-start _ _ _ _ _ _ _ _ (search needs) (search needs))
@@ -24,9 +26,10 @@ put-ends-spec =
     Inv-loop
     μ-loop
     (λ c κs. search needs)
-    loop-holds
     (λ c κs. search needs)
-    (λ c. search needs)
-    (λ c. search needs)
+    loop-holds
+    (λ c κs. search (needs, reaches-less))
+    (λ c. omega arith)
+    (λ c. omega arith)
     (λ c. search (needs, ends-step))
     (λ c. search (needs, ends-end)))

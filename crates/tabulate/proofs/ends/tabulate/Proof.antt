@@ -1,5 +1,6 @@
 -- `tabulate::ends::tabulate` meets its contract.
 -- Assumes nothing.
+use native.Mathlib.Omega.{arith}
 use borrow.Author.Needs.{needs}
 use Rattle.tabulate.proofs.Ending.{tabulated}
 use Rattle.tabulate.proofs.ends.tabulate.Statement.{statement}
@@ -12,7 +13,7 @@ pub tabulate-spec : {M : Type 1} → statement M
 tabulate-spec =
     tie.close
     (tie.spec
-    (λ c. search needs)
+    (λ c. omega arith)
     (λ c κs. search needs)
     (λ c κs. search needs)
     (λ c κs. search needs)

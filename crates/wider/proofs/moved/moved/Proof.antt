@@ -1,5 +1,6 @@
 -- `wider::moved::moved` meets its contract.
 -- Assumes nothing.
+use native.Mathlib.Omega.{arith}
 use borrow.Author.Needs.{needs}
 use Rattle.wider.proofs.WiderNodes.{moved-rest, moved-wider}
 use Rattle.wider.proofs.moved.moved.Statement.{statement}
@@ -9,13 +10,5 @@ pub moved-spec : {M : Type 1} → statement M
 moved-spec =
     tie.close
     (tie.spec
-    (λ c. search needs)
-    (λ c. search needs)
-    (λ c. search needs)
-    (λ c κs. search needs)
-    (λ c. search needs)
-    (λ c. search needs)
-    (λ c. search (needs, moved-rest))
-    (λ c κs. search needs)
-    (λ c. search needs)
-    (λ c. search (needs, moved-wider)))
+    (λ c. omega arith) (λ c. omega arith) (λ c. omega arith) (λ c κs. omega arith) (λ c. omega arith) (λ c. omega arith)
+    (λ c. search (needs, moved-rest)) (λ c κs. omega arith) (λ c. omega arith) (λ c. search (needs, moved-wider)))

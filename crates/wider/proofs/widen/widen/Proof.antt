@@ -1,13 +1,12 @@
 -- `wider::widen::widen` meets its contract.
 -- Assumes nothing.
 use native.Mathlib.Omega.{arith}
-use borrow.Author.Needs.{needs}
 use Rattle.wider.proofs.WiderNodes.{widen-none, widen-some}
 use Rattle.wider.proofs.widen.widen.Statement.{statement}
 use Rattle.wider.proofs.widen.widen.Tie as tie
 
 returns : tie.Need-returns
-returns c = widen-none (search needs) (search needs) (search needs) (c .before .choose-end .ensures) (search needs)
+returns c = widen-none (omega arith) (omega arith) (omega arith) (c .before .choose-end .ensures) (omega arith)
 
 sub-share : tie.Need-sub-share
 sub-share c =
@@ -27,26 +26,7 @@ pub widen-spec : {M : Type 1} → statement M
 widen-spec =
     tie.close
     (tie.spec
-    (λ c. search needs)
-    (λ c. search needs)
-    (λ c. search needs)
-    (λ c κs. search needs)
-    returns
-    (λ c. search needs)
-    (λ c. search needs)
-    (λ c κs. search needs)
-    (λ c. search needs)
-    (λ c. search needs)
-    (λ c. search needs)
-    (λ c. search needs)
-    (λ c. search needs)
-    (λ c κs. search needs)
-    sub-share
-    (λ c κs. search needs)
-    (λ c. search needs)
-    (λ c. search needs)
-    (λ c. search needs)
-    (λ c κs. search needs)
-    (λ c. search needs)
-    (λ c. search needs)
-    returns-2)
+    (λ c. omega arith) (λ c. omega arith) (λ c. omega arith) (λ c κs. omega arith) returns (λ c. omega arith) (λ c. omega arith)
+    (λ c κs. omega arith) (λ c. omega arith) (λ c. omega arith) (λ c. omega arith) (λ c. omega arith) (λ c. omega arith)
+    (λ c κs. omega arith) sub-share (λ c κs. omega arith) (λ c. omega arith) (λ c. omega arith) (λ c. omega arith) (λ c κs. omega arith)
+    (λ c. omega arith) (λ c. omega arith) returns-2)

@@ -1,0 +1,44 @@
+-- `columns::take_all` meets its contract. The loop's invariant: the positions passed are taken, and the columns before them told.
+-- The measure is what is left of the positions. Assumes nothing.
+use borrow.Author.Needs.{needs}
+use native.Mathlib.Omega.{arith}
+use Prim.Native.Nat.{_-_}
+use Rattle.columns.proofs.Filling.{FillTo, fill-zero, fill-go, fill-taken}
+use Rattle.columns.proofs.take_all.Statement.{statement}
+use Rattle.columns.proofs.take_all.Tie as tie
+
+abbrev Inv-loop : tie.InvT-loop
+Inv-loop p rules fits n own lasts kinds chart₀ ends₀ reach₀ m₀ chart ends reach m = FillTo p fits n chart₀ m chart ends reach
+
+abbrev μ-loop : tie.MeasureT-loop
+μ-loop p rules fits n own lasts kinds chart₀ ends₀ reach₀ m₀ chart ends reach m = n - m
+
+loop-holds : tie.Need-loop-holds Inv-loop μ-loop
+loop-holds c = fill-zero _ _ _ _
+
+put-column-requires : tie.Need-put-column-requires Inv-loop μ-loop
+put-column-requires c κs = (omega arith, omega arith, search needs, search needs)
+
+loop-again : tie.Need-loop-again Inv-loop μ-loop
+loop-again c = search fill-go
+
+same-length : tie.Need-same-length Inv-loop μ-loop
+same-length c = c .before .loop .inv .long
+
+returns : tie.Need-returns Inv-loop μ-loop
+returns c = search fill-taken
+
+pub take-all-spec : {M : Type 1} → statement M
+take-all-spec =
+    tie.close
+    (tie.spec
+    Inv-loop
+    μ-loop
+    loop-holds
+    put-column-requires
+    (λ c. omega arith)
+    (λ c κs. search needs)
+    (λ c. omega arith)
+    loop-again
+    same-length
+    returns)

@@ -1,0 +1,46 @@
+-- `cuts::suffix::over_ends` meets its contract. The loop's invariant: the least over the ends passed. The measure is what is
+-- left of them. Assumes nothing.
+use Prim.Native.Nat.{_-_, _≤_}
+use native.Mathlib.Omega.{arith}
+use borrow.Author.Needs.{needs}
+use Rattle.sizes.specs.Sizes.{tooMany}
+use Rattle.cuts.specs.Suffix.{EndsBefore}
+use Rattle.cuts.proofs.Ends.{ends-start, ends-step, ends-last}
+use Rattle.cuts.proofs.suffix.over_ends.Statement.{statement}
+use Rattle.cuts.proofs.suffix.over_ends.Tie as tie
+
+abbrev Inv-loop : tie.InvT-loop
+Inv-loop tables k a b last rests at best₀ c₀ best c =
+    (a ≤ c) × (c ≤ b) × (best ≤ tooMany) × EndsBefore tables k a b last rests at c best
+
+abbrev μ-loop : tie.MeasureT-loop
+μ-loop tables k a b last rests at best₀ c₀ best c = b - c
+
+loop-again : tie.Need-loop-again Inv-loop μ-loop
+loop-again c = search (needs, ends-step)
+
+returns : tie.Need-returns Inv-loop μ-loop
+returns c = search (needs, ends-last)
+
+pub over-ends-spec : {M : Type 1} → statement M
+over-ends-spec =
+    tie.close
+    (tie.spec
+    Inv-loop
+    μ-loop
+    (λ c. search (needs, ends-start))
+    (λ c κs. search needs)
+    (λ c. omega arith)
+    (λ c. omega arith)
+    (λ c. omega arith)
+    (λ c κs. search needs)
+    (λ c κs. search needs)
+    (λ c. omega arith)
+    (λ c. omega arith)
+    loop-again
+    (λ c. omega arith)
+    (λ c. omega arith)
+    (λ c. omega arith)
+    (λ c κs. search needs)
+    (λ c κs. search needs)
+    returns)

@@ -1,0 +1,64 @@
+// The least cost of the places of a rule from one place on, over a span: at a nonterminal, at a terminal, at the end of the row. The costs
+// of the places behind it stand in `rests` from `at` on, one for each start.
+use tables::layout::Tables;
+use tables::layout::cost;
+use tables::least::TOO_MANY;
+use tables::least::capped;
+use tables::least::lower;
+ghost use mathlib.Core.Path.{_≡_};
+ghost use Prim.Native.Nat.{_+_, _<_, _≤_, min};
+ghost use lib.ListN.{length};
+ghost use Rattle.sizes.specs.Sizes.{side, tooMany};
+ghost use Rattle.cuts.specs.Suffix.{AtNonterminal, AtTerminal, AtEnd};
+
+// The sum of two numbers of nodes, of each 513 if that is less. It stays a 16-bit number without a test of its own, so that the loop below
+// takes several ends at a time.
+fn sum(a: u16, b: u16) -> u16
+    ensures { λ r. ⌜ r ≡ min a tooMany + min b tooMany ⌝ }
+{
+    lower(a, TOO_MANY) + lower(b, TOO_MANY)
+}
+
+// At the nonterminal k, from a to b: the least over its ends c of its own cost and that of the places behind it. `last` is its cost up to
+// b, which is not the table's where that span is the whole.
+pub fn over_ends(
+    tables: &Tables,
+    k: usize,
+    a: usize,
+    b: usize,
+    last: u16,
+    rests: &[u16],
+    at: usize,
+) -> u16
+    requires { ⌜ (a ≤ b) × (b < side) × (at + side ≤ length (now rests)) ⌝ }
+    ensures { λ v. ⌜ AtNonterminal (now (tables .entry)) k a b last (now (rests .entry)) at v ⌝ }
+{
+    let mut best = TOO_MANY;
+    let mut c = a;
+    while c < b {
+        best = lower(best, sum(cost(tables, k, a, c), rests[at + c]));
+        c += 1;
+    }
+    lower(best, capped(last, rests[at + b]))
+}
+
+// At a terminal, from a to b: the cost of the places behind it, if it fits the byte at a.
+pub fn at_terminal(fits: bool, a: usize, b: usize, rests: &[u16], at: usize) -> u16
+    requires { ⌜ (b < side) × (at + side ≤ length (now rests)) ⌝ }
+    ensures { λ v. ⌜ AtTerminal fits a b (now (rests .entry)) at v ⌝ }
+{
+    if a < b {
+        if fits {
+            return rests[at + (a + 1)];
+        }
+    }
+    TOO_MANY
+}
+
+// Behind the last place, from a to b: nothing is left, or too much.
+pub fn at_end(a: usize, b: usize) -> u16
+    requires { ⌜ a ≤ b ⌝ }
+    ensures { λ v. ⌜ AtEnd a b v ⌝ }
+{
+    if a < b { TOO_MANY } else { 0 }
+}

@@ -1,0 +1,39 @@
+-- `empty::kinds::all_kinds` meets its contract. The loop's invariant: those of the rules passed.
+-- The measure is what is left of the rules. Assumes nothing.
+use native.Mathlib.Omega.{arith}
+use Prim.Native.Nat.{_≤_, _-_}
+use Rattle.empty.proofs.Gather.{AllTo, all-start, all-step, all-done}
+use Rattle.empty.proofs.kinds.all_kinds.Statement.{statement}
+use Rattle.empty.proofs.kinds.all_kinds.Tie as tie
+
+abbrev Inv-loop : tie.InvT-loop
+Inv-loop p rules lasts kinds₀ r₀ kinds r = (r ≤ rules) × AllTo p rules lasts r kinds
+
+abbrev μ-loop : tie.MeasureT-loop
+μ-loop p rules lasts kinds₀ r₀ kinds r = rules - r
+
+loop-holds : tie.Need-loop-holds Inv-loop μ-loop
+loop-holds c = (omega arith, search all-start)
+
+loop-again : tie.Need-loop-again Inv-loop μ-loop
+loop-again c = (omega arith, all-step _ _ _ _ _ _ (omega arith) (c .kinds-of .ensures) (c .before .before .before .loop .inv .1))
+
+returns : tie.Need-returns Inv-loop μ-loop
+returns c = search all-done
+
+pub all-kinds-spec : {M : Type 1} → statement M
+all-kinds-spec =
+    tie.close
+    (tie.spec
+    Inv-loop
+    μ-loop
+    loop-holds
+    (λ c. omega arith)
+    (λ c. omega arith)
+    (λ c κs. omega arith)
+    (λ c. omega arith)
+    (λ c. omega arith)
+    (λ c. omega arith)
+    (λ c. omega arith)
+    loop-again
+    returns)

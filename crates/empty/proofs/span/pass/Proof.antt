@@ -1,0 +1,39 @@
+-- `empty::span::pass` meets its contract. The loop's invariant: the same of the rules passed.
+-- The measure is what is left of the rules. Assumes nothing.
+use native.Mathlib.Omega.{arith}
+use Prim.Native.Nat.{_≤_, _-_}
+use Rattle.empty.specs.Empty.{EmptyPassed}
+use Rattle.empty.proofs.Nothing.{empty-start, empty-step, empty-done}
+use Rattle.empty.proofs.span.pass.Statement.{statement}
+use Rattle.empty.proofs.span.pass.Tie as tie
+
+abbrev Inv-loop : tie.InvT-loop
+Inv-loop p rules own lasts₀ v₀ r₀ lasts v r = (r ≤ rules) × EmptyPassed p r own v lasts
+
+abbrev μ-loop : tie.MeasureT-loop
+μ-loop p rules own lasts₀ v₀ r₀ lasts v r = rules - r
+
+loop-holds : tie.Need-loop-holds Inv-loop μ-loop
+loop-holds c = (omega arith, search empty-start)
+
+loop-again : tie.Need-loop-again Inv-loop μ-loop
+loop-again c = (omega arith, search empty-step)
+
+returns : tie.Need-returns Inv-loop μ-loop
+returns c = search empty-done
+
+pub pass-spec : {M : Type 1} → statement M
+pass-spec =
+    tie.close
+    (tie.spec
+    Inv-loop
+    μ-loop
+    loop-holds
+    (λ c κs. omega arith)
+    (λ c. omega arith)
+    (λ c. omega arith)
+    (λ c κs. omega arith)
+    (λ c. omega arith)
+    (λ c. omega arith)
+    loop-again
+    returns)

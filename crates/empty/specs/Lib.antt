@@ -1,0 +1,2 @@
+-- The empty span at the end of a column, and the kinds of the rules.
+pub mod Empty

@@ -1,0 +1,22 @@
+// The empty span at the end of a column: its set, the flags of the rules at it, and on which nonterminals of a cell's set the flags of a
+// rule depend. No byte and no other cell is looked at, so all this is the same for every column.
+pub mod kinds;
+pub mod span;
+
+use kinds::all_kinds;
+use packed::Packed;
+use span::closure;
+ghost use mathlib.Core.Path.{_≡_};
+ghost use Prim.Native.Nat.{_≤_};
+ghost use lib.ListN.{length};
+ghost use Rattle.empty.specs.Empty.{EmptyTold};
+
+// The set of the empty span, with the flags and the kinds of the rules below a number.
+pub fn tell(p: &Packed, rules: usize, lasts: &mut [u32; 128], kinds: &mut [u32; 128]) -> u32
+    requires { ⌜ (rules ≤ 128) × (length (now lasts) ≡ 128) × (length (now kinds) ≡ 128) ⌝ }
+    ensures { λ v. ⌜ EmptyTold (now (p .entry)) rules v (now (lasts .exit)) (now (kinds .exit)) ⌝ }
+{
+    let own = closure(p, rules, lasts);
+    all_kinds(p, rules, lasts, kinds);
+    own
+}

@@ -1,0 +1,14 @@
+-- `fixed::put_more` meets its contract.
+-- Assumes nothing.
+use native.Mathlib.Omega.{arith}
+use borrow.Author.Needs.{needs}
+use Rattle.text.specs.Line.{readingsLine}
+use Rattle.fixed.proofs.put_more.Statement.{statement}
+use Rattle.fixed.proofs.put_more.Tie as tie
+
+returns : tie.Need-returns
+unfolding readingsLine
+returns c = search needs
+
+pub put-more-spec : {M : Type 1} → statement M
+put-more-spec = tie.close (tie.spec (λ c. omega arith) (λ c κs. omega arith) (λ c. omega arith) returns)

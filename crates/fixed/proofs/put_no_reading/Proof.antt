@@ -1,0 +1,14 @@
+-- `fixed::put_no_reading` meets its contract.
+-- Assumes nothing.
+use native.Mathlib.Omega.{arith}
+use borrow.Author.Needs.{needs}
+use Rattle.text.specs.Line.{noReadingLine}
+use Rattle.fixed.proofs.put_no_reading.Statement.{statement}
+use Rattle.fixed.proofs.put_no_reading.Tie as tie
+
+returns : tie.Need-returns
+unfolding noReadingLine
+returns c = search needs
+
+pub put-no-reading-spec : {M : Type 1} → statement M
+put-no-reading-spec = tie.close (tie.spec (λ c. omega arith) (λ c κs. omega arith) (λ c. omega arith) returns)

@@ -1,0 +1,42 @@
+-- `flatten::write` meets its contract. The loop's invariant: the rules passed stand behind the first three numbers.
+-- The measure is what is left of the 128 rules. Assumes nothing.
+use Prim.Native.Nat.{ℕ, _≤_, _-_}
+use native.Mathlib.Omega.{arith}
+use mathlib.Core.Path.{refl}
+use lib.ListN.{length-set, length-map, length-replicate, replicate}
+use Rattle.grammar.specs.Zero.{noRule}
+use Rattle.rows.specs.Flat.{flatRule, flatSize, ruleNumbers}
+use Rattle.flatten.proofs.Written.{Written, written-start, written-step, grammar-done}
+use Rattle.flatten.proofs.write.Statement.{statement}
+use Rattle.flatten.proofs.write.Tie as tie
+
+abbrev Inv-loop : tie.InvT-loop
+Inv-loop f₀ g r₀ f r = (r ≤ 128) × Written flatRule ruleNumbers 3 (g .rules) f₀ r f
+
+abbrev μ-loop : tie.MeasureT-loop
+μ-loop f₀ g r₀ f r = 128 - r
+
+loop-holds : tie.Need-loop-holds Inv-loop μ-loop
+loop-holds c = (omega arith, written-start _ _ _ _ _ (simp (length-set, length-replicate) refl))
+
+loop-again : tie.Need-loop-again Inv-loop μ-loop
+loop-again c = (
+  omega arith,
+  written-step _ _ _ _ noRule _ _ _ _
+      (omega (arith, simp length-map at (c .before .before .before .before .before .before .before .good .0 .1 .1 .1 .1 .1 .0 .1 .0 .1)))
+      (c .write-rule .ensures .1) (c .write-rule .ensures .0) (c .before .before .before .before .loop .inv .1),
+)
+
+returns : tie.Need-returns Inv-loop μ-loop
+returns c =
+    grammar-done _ (replicate flatSize 0) _ _ _ (length-replicate {A = ℕ} flatSize 0)
+    (simp length-map at (c .before .before .before .before .good .0 .1 .1 .1 .1 .1 .0 .1 .0 .1)) (omega arith) (omega arith)
+    (c .before .before .count-of .ensures) (c .before .loop .inv .1)
+
+pub write-spec : {M : Type 1} → statement M
+write-spec =
+    tie.close
+    (tie.spec
+    Inv-loop μ-loop (λ c. omega arith) (λ c. omega arith) (λ c κs. omega arith) (λ c. omega arith) (λ c. omega arith) (λ c. omega arith)
+    loop-holds (λ c. omega arith) (λ c. omega arith) (λ c. omega arith) (λ c. omega arith) (λ c κs. omega arith) (λ c. omega arith)
+    (λ c. omega arith) loop-again returns)

@@ -1,0 +1,48 @@
+-- `flatten::write_rule` meets its contract. The loop's invariant: the places passed stand behind the rule's first three numbers.
+-- The measure is what is left of the 8 places. Assumes nothing.
+use Prim.Native.Nat.{_≤_, _+_, _-_}
+use native.Mathlib.Omega.{arith}
+use lib.ListN.{length-set, length-map}
+use Rattle.grammar.specs.Zero.{zeroPlace}
+use Rattle.rows.specs.Flat.{flatPlace}
+use Rattle.flatten.proofs.Written.{Written, written-start, written-step, rule-done}
+use Rattle.flatten.proofs.write_rule.Statement.{statement}
+use Rattle.flatten.proofs.write_rule.Tie as tie
+
+abbrev Inv-loop : tie.InvT-loop
+Inv-loop at f₀ rule z q₀ f q = (q ≤ 8) × Written flatPlace 2 (at + 3) (rule .places) f₀ q f
+
+abbrev μ-loop : tie.MeasureT-loop
+μ-loop at f₀ rule z q₀ f q = 8 - q
+
+loop-holds : tie.Need-loop-holds Inv-loop μ-loop
+loop-holds c = (omega arith, written-start _ _ _ _ _ (simp length-set (c .before .before .before .pre .1)))
+
+loop-again : tie.Need-loop-again Inv-loop μ-loop
+loop-again c = (
+  omega arith,
+  written-step _ _ _ _ zeroPlace _ _ _ _
+      (omega (
+        arith,
+        simp length-map at (c .before .before .before .before .before .before .before .before .good .0 .1 .1 .1 .1 .1 .0 .1 .0 .1),
+      ))
+      (c .write-place .ensures .1) (c .write-place .ensures .0) (c .before .before .before .before .loop .inv .1),
+)
+
+returns : tie.Need-returns Inv-loop μ-loop
+returns c = (
+  rule-done _ _ (c .before .before .before .before .before .pre .0) _ _ _ _ _ (c .before .before .before .before .before .pre .1)
+      (simp length-map at (c .before .before .before .before .before .good .0 .1 .1 .1 .1 .1 .0 .1 .0 .1))
+      (record { sfits = c .before .before .before .before .before .good .0 .1 .1 .1 .0 .1 }) (omega arith) (omega arith)
+      (c .before .before .before .unsigned .ensures) (c .before .before .count-of .ensures) (c .before .loop .inv .1),
+  c .before .loop .inv .1 .long,
+)
+
+pub write-rule-spec : {M : Type 1} → statement M
+write-rule-spec =
+    tie.close
+    (tie.spec
+    Inv-loop μ-loop (λ c. omega arith) (λ c. omega arith) (λ c. omega arith) (λ c κs. omega arith) (λ c. omega arith) (λ c. omega arith)
+    (λ c. omega arith) (λ c κs. omega arith) (λ c. omega arith) (λ c. omega arith) (λ c. omega arith) loop-holds (λ c. omega arith)
+    (λ c. omega arith) (λ c. omega arith) (λ c. omega arith) (λ c. omega arith) (λ c κs. omega arith) (λ c. omega arith)
+    (λ c. omega arith) loop-again returns)

@@ -1,0 +1,37 @@
+-- `live::mark::stands` meets its contract. The loop's invariant: the places behind q cost too many. The measure is the place.
+-- Assumes nothing.
+use Prim.Native.Nat.{_≤_}
+use mathlib.Core.Bool.{true≢false}
+use native.Mathlib.Omega.{arith}
+use borrow.Author.Needs.{needs}
+use Rattle.packed.proofs.Laws.{count-le}
+use Rattle.live.proofs.Marking.{Above, above-start, above-back, above-all}
+use Rattle.live.proofs.mark.stands.Statement.{statement}
+use Rattle.live.proofs.mark.stands.Tie as tie
+
+abbrev Inv-loop : tie.InvT-loop
+Inv-loop p r i rows q₀ q = (q ≤ 8) × Above p r i rows q
+
+abbrev μ-loop : tie.MeasureT-loop
+μ-loop p r i rows q₀ q = q
+
+loop-holds : tie.Need-loop-holds Inv-loop μ-loop
+loop-holds c = (search (needs, count-le), search (needs, above-start))
+
+loop-again : tie.Need-loop-again Inv-loop μ-loop
+loop-again c = (search needs, search (needs, above-back))
+
+pub stands-spec : {M : Type 1} → statement M
+stands-spec =
+    tie.close
+    (tie.spec
+    Inv-loop
+    μ-loop
+    (λ c κs. search needs)
+    loop-holds
+    (λ c. omega arith) (λ c. omega arith) (λ c. omega arith) (λ c. omega arith) (λ c. omega arith) (λ c. search needs)
+    (λ c e. absurd (true≢false e))
+    (λ c. omega arith)
+    (λ c. omega arith)
+    loop-again
+    (λ c. search (needs, above-all)))

@@ -1,0 +1,39 @@
+-- `live::open::put_none` meets its contract. The loop's invariant: the places passed have too many. The measure is what is left of them.
+-- Assumes nothing.
+use Prim.Native.Nat.{_+_, _-_, _≤_}
+use mathlib.Core.Path.{_≡_}
+use native.Mathlib.Omega.{arith}
+use borrow.Author.Needs.{needs}
+use lib.ListN.{length}
+use Rattle.packed.proofs.Laws.{count-le}
+use Rattle.writes.specs.Writes.{allRows}
+use Rattle.live.specs.Live.{NoneBefore}
+use Rattle.live.proofs.Marking.{none-start, none-step, none-end}
+use Rattle.live.proofs.open.put_none.Statement.{statement}
+use Rattle.live.proofs.open.put_none.Tie as tie
+
+abbrev Inv-loop : tie.InvT-loop
+Inv-loop p r i rows₀ count q₀ rows q = (count ≤ 8) × (q ≤ count + 1) × (length rows ≡ allRows) × NoneBefore p r i q rows₀ rows
+
+abbrev μ-loop : tie.MeasureT-loop
+μ-loop p r i rows₀ count q₀ rows q = count + 1 - q
+
+loop-holds : tie.Need-loop-holds Inv-loop μ-loop
+loop-holds c = (search (needs, count-le), search needs, search needs, search (needs, none-start))
+
+loop-again : tie.Need-loop-again Inv-loop μ-loop
+loop-again c = (search needs, search needs, search needs, search (needs, none-step))
+
+pub put-none-spec : {M : Type 1} → statement M
+put-none-spec =
+    tie.close
+    (tie.spec
+    Inv-loop
+    μ-loop
+    (λ c κs. search needs)
+    loop-holds
+    (λ c. omega arith) (λ c. omega arith) (λ c. omega arith) (λ c. omega arith) (λ c. omega arith) (λ c. search needs)
+    (λ c. omega arith)
+    (λ c. omega arith)
+    loop-again
+    (λ c. search (needs, none-end)))

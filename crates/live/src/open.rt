@@ -1,0 +1,93 @@
+// The costs of one rule from i to j, without a child over the whole span: made as everywhere, or too many for all its places where no
+// piece from i ends at a live start.
+use super::mark::Live;
+use super::mark::mark;
+use fit::FitTable;
+use packed::Packed;
+use suffixes::rows::put_start;
+use tables::layout::Full;
+use tables::layout::ROWS_SIZE;
+use tables::layout::Tables;
+use tables::least::TOO_MANY;
+use writes::AllRows;
+ghost use mathlib.Core.Path.{_≡_};
+ghost use Prim.Native.Nat.{_<_};
+ghost use lib.ListN.{length};
+ghost use Rattle.sizes.specs.Sizes.{maxRules, side};
+ghost use Rattle.writes.specs.Writes.{allRows, Nothing};
+ghost use Rattle.live.specs.Live.{NonePut, Passing, RulePut, RuleOpened};
+
+// Whether rule r is passed over: the byte at i ends inside the span and not at a live start, and no nonterminal from i ends at one.
+fn passed_over(i: usize, j: usize, reach: u64, live: u64) -> bool
+    requires { ⌜ (i < j) × (j < side) ⌝ }
+    ensures { λ b. ⌜ Passing i j reach live b ⌝ }
+{
+    if i + 1 < j {
+        if sets::wide::has(live, i + 1) {
+            return false;
+        }
+        return !sets::wide::meets(reach, live);
+    }
+    false
+}
+
+// Writes too many for all places of rule r from i on.
+fn put_none(p: &Packed, r: usize, i: usize, rows: &mut AllRows)
+    requires { ⌜ (r < maxRules) × (i < side) × (length (now rows) ≡ allRows) ⌝ }
+    ensures { λ _. ⌜ NonePut (now (p .entry)) r i (now (rows .entry)) (now (rows .exit)) ⌝ }
+{
+    let count = packed::count(p, r);
+    let mut q = 0;
+    while q <= count {
+        rows[ROWS_SIZE * r + sizes::SIDE * q + i] = TOO_MANY;
+        q += 1;
+    }
+}
+
+// Writes the costs of rule r from i to j, those of the later starts being written, and adds i to its live starts if it is one.
+pub fn put_rule(
+    p: &Packed,
+    r: usize,
+    fits: &FitTable,
+    tables: &Tables,
+    full: &Full,
+    i: usize,
+    j: usize,
+    rows: &mut AllRows,
+    live: &mut Live,
+)
+    requires { ⌜ (r < maxRules) × (i < j) × (j < side) × (length (now rows) ≡ allRows) × (length (now live) ≡ maxRules) ⌝ }
+    ensures { λ _.
+        ⌜ RulePut (now (p .entry)) r (now (fits .entry)) (now (tables .entry)) (now (full .entry)) i j
+        (now (rows .entry)) (now (live .entry)) (now (rows .exit)) (now (live .exit)) ⌝ }
+{
+    put_start(p, r, fits, tables, full, i, i, j, rows, ROWS_SIZE * r);
+    mark(p, r, i, rows, live);
+}
+
+// The same where nothing covers the whole span, a rule that is passed over having too many everywhere. `reach` has the ends of
+// nonterminals from i on.
+pub fn open_rule(
+    p: &Packed,
+    r: usize,
+    fits: &FitTable,
+    tables: &Tables,
+    nothing: &Full,
+    reach: u64,
+    i: usize,
+    j: usize,
+    rows: &mut AllRows,
+    live: &mut Live,
+)
+    requires { ⌜ (r < maxRules) × (i < j) × (j < side) × Nothing (now nothing) × (length (now rows) ≡ allRows)
+        × (length (now live) ≡ maxRules) ⌝ }
+    ensures { λ _.
+        ⌜ RuleOpened (now (p .entry)) r (now (fits .entry)) (now (tables .entry)) (now (nothing .entry)) reach i j
+        (now (rows .entry)) (now (live .entry)) (now (rows .exit)) (now (live .exit)) ⌝ }
+{
+    if passed_over(i, j, reach, live[r]) {
+        put_none(p, r, i, rows);
+    } else {
+        put_rule(p, r, fits, tables, nothing, i, j, rows, live);
+    }
+}

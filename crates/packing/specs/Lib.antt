@@ -1,0 +1,2 @@
+-- What writing one rule leaves.
+pub mod Place

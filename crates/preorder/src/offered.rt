@@ -1,0 +1,25 @@
+// The numbers of an offered derivation e: its node i is the two at 2 i (how many bytes it covers) and 2 i + 1 (its rule).
+ghost use mathlib.Core.Path.{_≡_};
+ghost use Prim.Native.Nat.{_*_, _+_, _<_, min};
+ghost use lib.ListN.{length, getD};
+
+// A number of an offered derivation.
+pub fn number(e: &[u16], i: usize) -> usize
+    requires { ⌜ i < length (now e) ⌝ }
+    ensures { λ r. ⌜ (r ≡ getD (now (e .entry)) i 0) × (r < 65536) ⌝ }
+{
+    e[i] as usize
+}
+
+// The rule of node i, or that of no rule if it is larger.
+pub fn rule_number(e: &[u16], i: usize) -> usize
+    requires { ⌜ (2 * i + 1 < length (now e)) × (i < 512) ⌝ }
+    ensures { λ r. ⌜ r ≡ min (getD (now (e .entry)) (2 * i + 1) 0) 128 ⌝ }
+{
+    let r = number(e, 2 * i + 1);
+    if r < sizes::MAX_RULES {
+        r
+    } else {
+        sizes::NO_RULE
+    }
+}

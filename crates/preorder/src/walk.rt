@@ -1,0 +1,147 @@
+// The checker proper: the checker of a node calls the walker of a row of places, which calls the checker of a node.
+use crate::offered::number;
+use packed::Packed;
+ghost use mathlib.Core.List.{[], _∷_};
+ghost use Prim.Native.Nat.{_*_, _+_, _-_, _<_, _≤_};
+ghost use lib.ListN.{length};
+ghost use Rattle.cfg.specs.Grammar.{nonterminal};
+ghost use Rattle.packed.specs.Packed.{placesFrom, countIn, cfgIn};
+ghost use Rattle.enumeration.specs.Rows.{SameSpan};
+ghost use Rattle.preorder.specs.Walk.{Walked, Answers, Room, Opens, Looked};
+ghost use Rattle.sizes.specs.Sizes.{tooMany};
+
+// What comes next in a row: nothing that fits, its end, a byte, or a node of a nonterminal over so many bytes.
+pub enum Step {
+    No,
+    End,
+    Byte,
+    Node(usize, usize),
+}
+
+// Of the set `above` over `cover` bytes, what matters for a node over c bytes: all of it, or nothing.
+fn same_span(cover: usize, above: u32, c: usize) -> u32
+    ensures { λ set. ⌜ SameSpan cover above c set ⌝ }
+{
+    if c == cover { above } else { 0 }
+}
+
+// The rule of node `at`, if the node covers c bytes and is of the nonterminal k, which is not in the set; else that of no rule.
+fn rule_at(p: &Packed, e: &[u16], n: usize, set: u32, k: usize, c: usize, at: usize) -> usize
+    requires { ⌜ (2 * n ≤ length (now e)) × (n ≤ 512) ⌝ }
+    ensures { λ r. ⌜ Answers (Opens (now (p .entry)) (now (e .entry)) n set k c at) 128 r ⌝ }
+{
+    if k > 31 {
+        return sizes::NO_RULE;
+    }
+    if at >= n {
+        return sizes::NO_RULE;
+    }
+    if number(e, 2 * at) != c {
+        return sizes::NO_RULE;
+    }
+    let r = number(e, 2 * at + 1);
+    if r > 127 {
+        return sizes::NO_RULE;
+    }
+    if packed::left(p, r) != k {
+        return sizes::NO_RULE;
+    }
+    if sets::has(set, k) { sizes::NO_RULE } else { r }
+}
+
+// What comes next at place q of rule r, over the bytes `from` to `to`.
+fn look(
+    p: &Packed,
+    w: &[u8],
+    e: &[u16],
+    n: usize,
+    r: usize,
+    q: usize,
+    at: usize,
+    from: usize,
+    to: usize,
+) -> Step
+    requires { ⌜ (r < 128) × (2 * n ≤ length (now e)) × (n ≤ 512) × (from ≤ to) × (to ≤ length (now w)) ⌝ }
+    ensures { λ s. ⌜ Looked (now (p .entry)) (now (w .entry)) (now (e .entry)) n r q at from to s ⌝ }
+{
+    if packed::count(p, r) <= q {
+        if from == to {
+            return Step::End;
+        }
+        return Step::No;
+    }
+    if packed::is_nonterminal(p, r, q) {
+        if at < n {
+            let c = number(e, 2 * at);
+            if c <= to - from {
+                return Step::Node(packed::value(p, r, q), c);
+            }
+        }
+        return Step::No;
+    }
+    if from < to {
+        if packed::fits_at(p, r, q, w, from) {
+            return Step::Byte;
+        }
+    }
+    Step::No
+}
+
+// The node after a node of the nonterminal k over the bytes `from` to `to` that stands at node `at`; TOO_MANY if there is none there.
+pub fn node(
+    p: &Packed,
+    w: &[u8],
+    e: &[u16],
+    n: usize,
+    cover: usize,
+    above: u32,
+    k: usize,
+    at: usize,
+    from: usize,
+    to: usize,
+) -> usize
+    requires { ⌜ Room (now w) (now e) n cover at from to ⌝ }
+    ensures { λ next. ⌜ Answers (Walked (cfgIn 0 (now (p .entry))) (now (w .entry)) (now (e .entry)) n cover above
+        (nonterminal k ∷ []) at from to) tooMany next ⌝ }
+{
+    let c = to - from;
+    let set = same_span(cover, above, c);
+    let r = rule_at(p, e, n, set, k, c, at);
+    if r > 127 {
+        return sizes::TOO_MANY;
+    }
+    row(p, w, e, n, c, sets::with(set, k), r, 0, at + 1, from, to)
+}
+
+// The node after a row for the places of rule r from place q on; TOO_MANY if there is none.
+pub fn row(
+    p: &Packed,
+    w: &[u8],
+    e: &[u16],
+    n: usize,
+    cover: usize,
+    above: u32,
+    r: usize,
+    q: usize,
+    at: usize,
+    from: usize,
+    to: usize,
+) -> usize
+    requires { ⌜ (r < 128) × Room (now w) (now e) n cover at from to ⌝ }
+    ensures { λ next. ⌜ Answers (Walked (cfgIn 0 (now (p .entry))) (now (w .entry)) (now (e .entry)) n cover above
+        (placesFrom (now (p .entry)) r q (countIn (now (p .entry)) r - q)) at from to) tooMany next ⌝ }
+{
+    let step = look(p, w, e, n, r, q, at, from, to);
+    match step {
+        Step::No => sizes::TOO_MANY,
+        Step::End => at,
+        Step::Byte => row(p, w, e, n, cover, above, r, q + 1, at, from + 1, to),
+        Step::Node(k, c) => {
+            let next = node(p, w, e, n, cover, above, k, at, from, from + c);
+            if next > sizes::MAX_NODES {
+                return sizes::TOO_MANY;
+            }
+            row(p, w, e, n, cover, above, r, q + 1, next, from + c, to)
+        }
+    }
+}

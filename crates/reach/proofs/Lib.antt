@@ -1,0 +1,2 @@
+-- Laws of these sets.
+pub mod Reaching

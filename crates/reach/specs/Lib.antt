@@ -1,0 +1,2 @@
+-- The ends of nonterminals from each start.
+pub mod Reach

@@ -1,0 +1,23 @@
+-- The ends of nonterminals from each start, as sets: an end that is not in the set has an empty cell.
+-- Assumes nothing.
+use Prim.Native.Nat.{ℕ, _<_}
+use mathlib.Core.Bool.{false}
+use mathlib.Core.List.{List}
+use mathlib.Core.Path.{_≡_}
+use lib.ListN.{length, getD}
+use Rattle.sizes.specs.Sizes.{maxInput}
+use Rattle.sets.specs.Set.{has}
+use Rattle.chart.specs.Cell.{cell}
+
+-- the set has the ends before n from i on
+pub record ReachFrom (chart : List ℕ) (i n ends : ℕ) : Type 0 where
+  pub empty : (c : ℕ) → i < c → c < n → has c ends ≡ false → cell chart i c ≡ 0
+
+-- the same for each start before m
+pub record ReachesBefore (chart : List ℕ) (n m : ℕ) (reach : List ℕ) : Type 0 where
+  pub long : length reach ≡ maxInput
+  pub from : (i : ℕ) → i < m → ReachFrom chart i n (getD reach i 0)
+
+-- the same for all starts before n
+abbrev pub Reaches : List ℕ → ℕ → List ℕ → Type 0
+Reaches chart n reach = ReachesBefore chart n n reach

@@ -1,0 +1,28 @@
+-- `rulecosts::alone::fill_alone` meets its contract. The loop's invariant: the numbers of the rules passed are right. The measure is what
+-- is left of them. Assumes nothing.
+use Prim.Native.Nat.{_-_, _≤_}
+use native.Mathlib.Omega.{arith}
+use borrow.Author.Needs.{needs}
+use Rattle.rulecosts.specs.Rule.{AlonesFilled}
+use Rattle.rulecosts.proofs.Filling.{filled-start, filled-step, filled-end}
+use Rattle.rulecosts.proofs.alone.fill_alone.Statement.{statement}
+use Rattle.rulecosts.proofs.alone.fill_alone.Tie as tie
+
+abbrev Inv-loop : tie.InvT-loop
+Inv-loop p empty tables₀ r₀ tables r = (r ≤ 128) × AlonesFilled p empty r tables
+
+abbrev μ-loop : tie.MeasureT-loop
+μ-loop p empty tables₀ r₀ tables r = 128 - r
+
+pub fill-alone-spec : {M : Type 1} → statement M
+fill-alone-spec =
+    tie.close
+    (tie.spec
+    Inv-loop
+    μ-loop
+    (λ c. search (needs, filled-start))
+    (λ c κs. search needs)
+    (λ c. omega arith)
+    (λ c. omega arith)
+    (λ c. search (needs, filled-step))
+    (λ c. search (needs, filled-end)))

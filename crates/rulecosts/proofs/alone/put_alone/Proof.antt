@@ -1,0 +1,40 @@
+-- `rulecosts::alone::put_alone` meets its contract. The loop's invariant: the numbers of the places passed are written. The measure is
+-- what is left of them. Assumes nothing.
+use Prim.Native.Nat.{_-_, _≤_}
+use native.Mathlib.Omega.{arith}
+use borrow.Author.Needs.{needs}
+use Rattle.rulecosts.specs.Rule.{AloneBefore}
+use Rattle.rulecosts.proofs.Filling.{alone-start, alone-step, alone-end}
+use Rattle.rulecosts.proofs.alone.put_alone.Statement.{statement}
+use Rattle.rulecosts.proofs.alone.put_alone.Tie as tie
+
+abbrev Inv-loop : tie.InvT-loop
+Inv-loop p r empty tables₀ sum q₀ tables q = (q ≤ 8) × AloneBefore p r empty q tables₀ tables
+
+abbrev μ-loop : tie.MeasureT-loop
+μ-loop p r empty tables₀ sum q₀ tables q = 8 - q
+
+loop-again : tie.Need-loop-again Inv-loop μ-loop
+loop-again c = search (needs, alone-step)
+
+returns : tie.Need-returns Inv-loop μ-loop
+returns c = search (needs, alone-end)
+
+pub put-alone-spec : {M : Type 1} → statement M
+put-alone-spec =
+    tie.close
+    (tie.spec
+    Inv-loop
+    μ-loop
+    (λ c κs. search needs)
+    (λ c. search (needs, alone-start))
+    (λ c κs. search needs)
+    (λ c. omega arith)
+    (λ c. omega arith)
+    (λ c. omega arith)
+    (λ c. omega arith)
+    (λ c. omega arith)
+    (λ c. omega arith)
+    (λ c. omega arith)
+    loop-again
+    returns)

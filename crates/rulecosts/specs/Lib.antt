@@ -1,0 +1,2 @@
+-- The cost of a rule over a span.
+pub mod Rule

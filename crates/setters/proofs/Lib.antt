@@ -1,0 +1,2 @@
+-- The laws of the setters.
+pub mod Setters

@@ -1,0 +1,2 @@
+-- Records with one part changed.
+pub mod Setters

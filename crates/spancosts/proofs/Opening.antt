@@ -1,0 +1,82 @@
+-- The costs over one span that need no numbers of the whole of it.
+-- Assumes nothing.
+use Prim.Native.Nat.{ℕ, _+_, _*_, _≤_, _<_}
+use mathlib.Core.Bool.{false}
+use mathlib.Core.List.{List}
+use mathlib.Core.Path.{_≡_, sym, subst}
+use native.Mathlib.Decide.{ℕ-discrete}
+use native.Mathlib.Omega.{arith}
+use lib.ListN.{getD}
+use Rattle.sizes.specs.Sizes.{tooMany}
+use Rattle.cfg.specs.Grammar.{Symbol}
+use Rattle.costs.specs.Cut.{Fit, LeastCut, within}
+use Rattle.costs.specs.Lowest.{Lowest}
+use Rattle.costs.specs.Rule.{BareCost}
+use Rattle.costs.proofs.Cut.{leastcut-same, leastcut-places}
+use Rattle.costs.proofs.Within.{within-full, within-least, leastcut-later}
+use Rattle.costs.proofs.Rule.{rule-node}
+use Rattle.packed.specs.Packed.{countIn, placesIn}
+use Rattle.packed.proofs.Laws.{count-le, places-start}
+use Rattle.suffixes.specs.Within.{tailIn, LaterStarts}
+use Rattle.tables.specs.Layout.{alonesAt, costIn, fullIn, bareIn}
+use Rattle.tables.specs.Exact.{FitTold}
+use Rattle.writes.specs.Writes.{placeAt, Nothing, BaresPut}
+use Rattle.live.specs.Live.{Silent, liveIn, Reached}
+use Rattle.starts.specs.Starts.{StartsOpened}
+use Rattle.starts.proofs.Columns.{silent-kept}
+use Rattle.spancosts.specs.Sofar.{Standing, Sofar, Opened, LiveFrom}
+use Rattle.spancosts.specs.Spans.{SpanOpened}
+use Rattle.writes.proofs.Written.{cost-same}
+use Rattle.spancosts.proofs.Kept.{sofar-kept}
+
+module _ (p : List ℕ) (rules : ℕ) (fits nothing : List ℕ) (reach i j : ℕ) (tables₀ rows₀ live₀ tables rows live : List ℕ)
+    (o : rules ≤ 128) (h : i < j) (l : j < 65) (N : Nothing nothing)
+    (A : StartsOpened p rules fits tables₀ nothing reach i j rows₀ live₀ rows live)
+    (B : BaresPut rules i j rows tables₀ tables) where
+  costs : (k a b : ℕ) → a < 65 → b < 65 → costIn tables k a b ≡ costIn tables₀ k a b
+  costs k a b x y = cost-same tables₀ tables k a b (λ z. B .front (4225 * k + 65 * a + b) (omega arith))
+
+  -- the starts told live, with i among them
+  told : LiveFrom p rules (i + 1) j rows₀ live₀ → LiveFrom p rules i j rows live
+  told L = record { told = λ r c x y z f. go r c x y z f (ℕ-discrete c i) }
+    where
+      go : (r c : ℕ) → r < rules → i ≤ c → c < j → liveIn live r c ≡ false → Dec (c ≡ i) → Silent p r c rows
+      go r c x y z f (yes e) = rw e (A .told r x (rw e at f))
+      go r c x y z f (no e) =
+          let d : ¬ (c ≡ i) = e in
+          silent-kept p r c rows₀ rows (λ q w. A .other r q c (omega arith) w (omega arith) e)
+          (L .told r c x (omega arith) z (A .grown r c f))
+
+  module _ (fit : Fit) (bytes : ℕ → ℕ → Type 0) (F : FitTold fit p fits j) (R : Reached tables₀ reach i j)
+      (L : LiveFrom p rules (i + 1) j rows₀ live₀) (S : Sofar fit bytes p rules (i + 1) j tables₀ rows₀) where
+    later : (r : ℕ) → r < rules → LaterStarts fit p r tables₀ nothing i i j rows₀ (585 * r)
+    later r x q c y z w = leastcut-later (fullIn nothing) i z (S .starts r q c x y (omega arith) w)
+
+    column : (r q : ℕ) → r < rules → q ≤ countIn p r
+        → LeastCut fit (within i j (λ _. tooMany) (costIn tables)) (tailIn p r q) i j (getD rows (placeAt r q i) 0)
+    column r q x y =
+        leastcut-same i j
+        (λ k a b u v w. within-least (λ _. tooMany) (costIn tables₀) (costIn tables) i j k a b u v w
+        (λ s. sym (costs k a b (omega arith) (omega arith))))
+        (leastcut-places (λ k a c m. within-full (fullIn nothing) (λ _. tooMany) (costIn tables₀) i j k a c (N .none k))
+        (A .exact fit F R r x (λ c u v f. L .told r c x (omega arith) v f) (later r x) q y))
+
+    bare : (r : ℕ) → r < rules → Lowest (BareCost fit (costIn tables) (placesIn p r) i j) (bareIn tables i j r)
+    bare r x =
+        subst (λ (v : ℕ). Lowest (BareCost fit (costIn tables) (placesIn p r) i j) v) (sym (B .here r x))
+        (rule-node
+        (subst (λ (s : List Symbol). LeastCut fit (within i j (λ _. tooMany) (costIn tables)) s i j (getD rows (placeAt r 0 i) 0))
+        (places-start p r) (column r 0 x (omega arith))))
+
+    behind : Sofar fit bytes p rules (i + 1) j tables rows
+    behind = sofar-kept l S
+        (λ k a b x y d. costs k a b (omega arith) y)
+        (λ r q x y. B .front (alonesAt + 8 * r + q) (omega arith))
+        (λ a b r x y d m. B .other a b r x y (omega arith) (λ e. let u = e .0 in let v = e .1 in omega arith))
+        (λ r q c x y z w. let m = count-le p r in A .other r q c (omega arith) (omega arith) (omega arith) (λ e. omega arith))
+
+    opened : Opened fit bytes p rules i j tables rows
+    opened = record { sofar = behind; bare = bare; column = column }
+
+  pub span-opened : SpanOpened p rules fits reach i j tables₀ rows₀ live₀ tables rows live
+  span-opened = record { long = B .long; wide = A .long; size = A .size; told = told; exact = λ fit can. opened fit (Standing can) }

@@ -1,0 +1,88 @@
+// One span: its costs that need no numbers of the whole of it, its numbers, and with them the rows from its start on.
+use fit::FitTable;
+use live::mark::Live;
+use packed::Packed;
+use solve::solve;
+use starts::open_starts;
+use starts::put_starts;
+use starts::put_suffixes;
+use tables::layout::Full;
+use tables::layout::Tables;
+use writes::AllRows;
+use writes::put_bares;
+use writes::put_least;
+ghost use mathlib.Core.Path.{_≡_};
+ghost use Prim.Native.Nat.{_<_, _≤_};
+ghost use lib.ListN.{length};
+ghost use Rattle.sizes.specs.Sizes.{maxRules, side};
+ghost use Rattle.tables.specs.Layout.{tablesSize};
+ghost use Rattle.writes.specs.Writes.{allRows, Nothing};
+ghost use Rattle.spancosts.specs.Spans.{SpanOpened, SpanPut, EmptyPut};
+
+// The rows from i on and the costs of the rules, without a child over the whole of i to j; `reach` has the ends of nonterminals from i on.
+fn open_span(
+    p: &Packed,
+    rules: usize,
+    fits: &FitTable,
+    nothing: &Full,
+    reach: u64,
+    i: usize,
+    j: usize,
+    tables: &mut Tables,
+    rows: &mut AllRows,
+    live: &mut Live,
+)
+    requires { ⌜ (rules ≤ maxRules) × (i < j) × (j < side) × Nothing (now nothing)
+        × (length (now tables) ≡ tablesSize) × (length (now rows) ≡ allRows) × (length (now live) ≡ maxRules) ⌝ }
+    ensures { λ _.
+        ⌜ SpanOpened (now (p .entry)) rules (now (fits .entry)) reach i j
+        (now (tables .entry)) (now (rows .entry)) (now (live .entry)) (now (tables .exit)) (now (rows .exit)) (now (live .exit)) ⌝ }
+{
+    open_starts(p, rules, fits, tables, nothing, reach, i, j, rows, live);
+    put_bares(rules, i, j, rows, tables);
+}
+
+// The span from i to j, which is not empty, those with the same end and a later start being done; `cell` is its cell of the chart.
+pub fn put_span(
+    p: &Packed,
+    rules: usize,
+    fits: &FitTable,
+    cell: u32,
+    nothing: &Full,
+    reach: u64,
+    i: usize,
+    j: usize,
+    tables: &mut Tables,
+    rows: &mut AllRows,
+    live: &mut Live,
+)
+    requires { ⌜ (rules ≤ maxRules) × (i < j) × (j < side) × Nothing (now nothing)
+        × (length (now tables) ≡ tablesSize) × (length (now rows) ≡ allRows) × (length (now live) ≡ maxRules) ⌝ }
+    ensures { λ _.
+        ⌜ SpanPut (now (p .entry)) rules (now (fits .entry)) cell reach i j
+        (now (tables .entry)) (now (rows .entry)) (now (live .entry)) (now (tables .exit)) (now (rows .exit)) (now (live .exit)) ⌝ }
+{
+    open_span(p, rules, fits, nothing, reach, i, j, tables, rows, live);
+    let full = solve(p, rules, cell, 0, tables, i, j);
+    put_least(&full, i, j, tables);
+    put_suffixes(p, rules, fits, tables, &full, cell, i, j, rows, live);
+}
+
+// The empty span at j; `empty` has its numbers.
+pub fn put_empty(
+    p: &Packed,
+    rules: usize,
+    fits: &FitTable,
+    empty: &Full,
+    j: usize,
+    tables: &mut Tables,
+    rows: &mut AllRows,
+)
+    requires { ⌜ (rules ≤ maxRules) × (j < side) × (length (now tables) ≡ tablesSize) × (length (now rows) ≡ allRows) ⌝ }
+    ensures { λ _.
+        ⌜ EmptyPut (now (p .entry)) rules (now (fits .entry)) (now (empty .entry)) j (now (tables .entry)) (now (rows .entry))
+        (now (tables .exit)) (now (rows .exit)) ⌝ }
+{
+    put_least(empty, j, j, tables);
+    put_starts(p, rules, fits, tables, empty, j, j, rows);
+}

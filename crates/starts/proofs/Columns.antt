@@ -1,0 +1,129 @@
+-- The rows of all rules, written rule by rule from one start on.
+-- Assumes nothing.
+use Prim.Native.Nat.{ℕ, _+_, _*_, _≤_, _<_}
+use mathlib.Core.List.{List}
+use mathlib.Core.Bool.{false}
+use mathlib.Core.Path.{_≡_, refl, sym, subst, _∙_}
+use native.Mathlib.Decide.{ℕ-discrete}
+use native.Mathlib.Omega.{arith}
+use lib.ListN.{length, getD}
+use Rattle.costs.specs.Cut.{Fit}
+use Rattle.packed.proofs.Laws.{count-le}
+use Rattle.suffixes.specs.Within.{tailIn, Inside, LaterStarts}
+use Rattle.suffixes.specs.Rows.{StartPut}
+use Rattle.tables.specs.Exact.{FitTold}
+use Rattle.writes.specs.Writes.{allRows, placeAt}
+use Rattle.live.specs.Live.{Silent, liveIn, LiveTold, Reached, OneRule, RuleOpened}
+use Rattle.starts.specs.Starts.{OtherStarts, StartRight, StartsPut, StartsOpened}
+
+-- ---- what writing one rule from i on leaves as found
+
+module _ (p : List ℕ) (i m : ℕ) (rows rows' : List ℕ) (l : i < 65) (O : OneRule p m i rows rows') where
+  pub other-starts : OtherStarts i rows rows'
+  other-starts r q c x y z d = let e : ¬ (c ≡ i) = d in O (placeAt r q c) (λ s u v. e (omega arith))
+
+  pub other-rules : (r q : ℕ) → ¬ (r ≡ m) → q ≤ 8 → getD rows' (placeAt r q i) 0 ≡ getD rows (placeAt r q i) 0
+  other-rules r q d y = let b = count-le p m in O (placeAt r q i) (λ s u v. d (omega arith))
+
+  pub right-kept : (fit : Fit) (tables full : List ℕ) (j r : ℕ) → ¬ (r ≡ m) → StartRight fit p r tables full i j rows
+      → StartRight fit p r tables full i j rows'
+  right-kept fit tables full j r d R q y =
+      let b = count-le p r in
+      subst (λ (v : ℕ). Inside fit tables full i j (tailIn p r q) i v) (sym (other-rules r q d (omega arith))) (R q y)
+
+-- a start stays silent where its numbers stay
+pub silent-kept : (p : List ℕ) (r c : ℕ) (rows rows' : List ℕ)
+    → ((q : ℕ) → q ≤ 8 → getD rows' (placeAt r q c) 0 ≡ getD rows (placeAt r q c) 0) → Silent p r c rows → Silent p r c rows'
+silent-kept p r c rows rows' f S q z y = let b = count-le p r in let e = f q (omega arith) in let x = S q z y in omega arith
+
+module _ (p fits tables full : List ℕ) (i j : ℕ) where
+  -- the costs from later starts stay right
+  pub later-kept : (fit : Fit) (r : ℕ) (rows₀ rows : List ℕ) → r < 128 → j < 65 → OtherStarts i rows₀ rows
+      → LaterStarts fit p r tables full i i j rows₀ (585 * r) → LaterStarts fit p r tables full i i j rows (585 * r)
+  later-kept fit r rows₀ rows h l O L q c x y z =
+      let b = count-le p r in
+      let d : ¬ (c ≡ i) = λ e. omega arith in
+      subst (λ (v : ℕ). Inside fit tables full i j (tailIn p r q) c v) (sym (O r q c h (omega arith) (omega arith) d)) (L q c x y z)
+
+  -- ---- all rules
+
+  pub starts-start : (rows : List ℕ) → length rows ≡ allRows → StartsPut p 0 fits tables full i j rows rows
+  starts-start rows e = record { long = e; other = λ r q c x y z d. refl; exact = λ fit F r h L. absurd (omega arith) }
+
+  module _ (m rules : ℕ) (rows₀ rows rows' : List ℕ) (b : i ≤ j) (l : j < 65) (h : m < rules) (o : rules ≤ 128)
+      (S : StartsPut p m fits tables full i j rows₀ rows) (P : StartPut p m fits tables full i i j (585 * m) rows rows') where
+    right : (fit : Fit) → FitTold fit p fits j → (r : ℕ) → r < m + 1 → Dec (r ≡ m)
+        → LaterStarts fit p r tables full i i j rows₀ (585 * r) → StartRight fit p r tables full i j rows'
+    right fit F r x (yes e) L q y =
+        rw e (P .exact fit F (later-kept fit m rows₀ rows (omega arith) l (S .other)
+        (subst (λ (v : ℕ). LaterStarts fit p v tables full i i j rows₀ (585 * v)) e L)) q (rw e at y))
+    right fit F r x (no e) L q y =
+        let d : ¬ (r ≡ m) = e in
+        right-kept p i m rows rows' (omega arith) (P .other) fit tables full j r e (S .exact fit F r (omega arith) L) q y
+
+    pub starts-step : StartsPut p (m + 1) fits tables full i j rows₀ rows'
+    starts-step = record {
+      long = P .long ∙ S .long;
+      other = λ r q c x y z d. other-starts p i m rows rows' (omega arith) (P .other) r q c x y z d ∙ S .other r q c x y z d;
+      exact = λ fit F r x L. right fit F r x (ℕ-discrete r m) L;
+    }
+
+  pub starts-end : {m rules : ℕ} {rows₀ rows : List ℕ} → m ≤ rules → rules ≤ m → StartsPut p m fits tables full i j rows₀ rows
+      → StartsPut p rules fits tables full i j rows₀ rows
+  starts-end {m} {rules} x y S = let e : m ≡ rules = omega arith in rw e at S
+
+  -- ---- those that are not passed over
+
+  module _ (reach : ℕ) where
+    pub opened-start : (rows live : List ℕ) → length rows ≡ allRows → length live ≡ 128
+        → StartsOpened p 0 fits tables full reach i j rows live rows live
+    opened-start rows live e f = record {
+      long = e;
+      size = f;
+      other = λ r q c x y z d. refl;
+      exact = λ fit F R r h L X. absurd (omega arith);
+      grown = λ r c g. g;
+      told = λ r h g. absurd (omega arith);
+    }
+
+    module _ (m rules : ℕ) {rows₀ live₀ rows live rows' live' : List ℕ} (b : i < j) (l : j < 65) (h : m < rules) (o : rules ≤ 128)
+        (S : StartsOpened p m fits tables full reach i j rows₀ live₀ rows live)
+        (P : RuleOpened p m fits tables full reach i j rows live rows' live') where
+      -- what is told of the later starts is told still
+      live-kept : LiveTold p m i j rows₀ live₀ → LiveTold p m i j rows live
+      live-kept L c x y f =
+          let d : ¬ (c ≡ i) = λ e. omega arith in
+          silent-kept p m c rows₀ rows (λ q z. S .other m q c (omega arith) z (omega arith) d) (L c x y (S .grown m c f))
+
+      right-opened : (fit : Fit) → FitTold fit p fits j → Reached tables reach i j → (r : ℕ) → r < m + 1 → Dec (r ≡ m)
+          → LiveTold p r i j rows₀ live₀ → LaterStarts fit p r tables full i i j rows₀ (585 * r)
+          → StartRight fit p r tables full i j rows'
+      right-opened fit F R r x (yes e) L X q y =
+          rw e (P .exact fit F R (live-kept (subst (λ (v : ℕ). LiveTold p v i j rows₀ live₀) e L))
+          (later-kept fit m rows₀ rows (omega arith) l (S .other)
+          (subst (λ (v : ℕ). LaterStarts fit p v tables full i i j rows₀ (585 * v)) e X)) q (rw e at y))
+      right-opened fit F R r x (no e) L X q y =
+          let d : ¬ (r ≡ m) = e in
+          right-kept p i m rows rows' (omega arith) (P .other) fit tables full j r e (S .exact fit F R r (omega arith) L X) q y
+
+      told-opened : (r : ℕ) → r < m + 1 → Dec (r ≡ m) → liveIn live' r i ≡ false → Silent p r i rows'
+      told-opened r x (yes e) f = rw e (P .marked .here (rw e at f))
+      told-opened r x (no e) f =
+          let d : ¬ (r ≡ m) = e in
+          silent-kept p r i rows rows' (λ q z. other-rules p i m rows rows' (omega arith) (P .other) r q e z)
+          (S .told r (omega arith) (P .marked .grown r i f))
+
+      pub opened-step : StartsOpened p (m + 1) fits tables full reach i j rows₀ live₀ rows' live'
+      opened-step = record {
+        long = P .long ∙ S .long;
+        size = P .marked .size;
+        other = λ r q c x y z d. other-starts p i m rows rows' (omega arith) (P .other) r q c x y z d ∙ S .other r q c x y z d;
+        exact = λ fit F R r x L X. right-opened fit F R r x (ℕ-discrete r m) L X;
+        grown = λ r c f. S .grown r c (P .marked .grown r c f);
+        told = λ r x f. told-opened r x (ℕ-discrete r m) f;
+      }
+
+    pub opened-end : {m rules : ℕ} {rows₀ live₀ rows live : List ℕ} → m ≤ rules → rules ≤ m
+        → StartsOpened p m fits tables full reach i j rows₀ live₀ rows live
+        → StartsOpened p rules fits tables full reach i j rows₀ live₀ rows live
+    opened-end {m} {rules} x y S = let e : m ≡ rules = omega arith in rw e at S

@@ -1,0 +1,3 @@
+-- Laws of these rows.
+pub mod Columns
+pub mod Again

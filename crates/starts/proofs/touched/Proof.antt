@@ -1,0 +1,39 @@
+-- `starts::touched` meets its contract. The loop's invariant: the places passed hold no nonterminal of the set. The measure is
+-- what is left of them. Assumes nothing.
+use Prim.Native.Nat.{_-_, _≤_}
+use mathlib.Core.Bool.{true≢false}
+use mathlib.Core.Logic.{⊎-elim}
+use native.Mathlib.Omega.{arith}
+use borrow.Author.Needs.{needs}
+use Rattle.starts.proofs.Again.{Before, before-start, before-terminal, before-other, before-all}
+use Rattle.starts.proofs.touched.Statement.{statement}
+use Rattle.starts.proofs.touched.Tie as tie
+
+abbrev Inv-loop : tie.InvT-loop
+Inv-loop p r cell count q₀ q = (q ≤ count) × Before p r cell q
+
+abbrev μ-loop : tie.MeasureT-loop
+μ-loop p r cell count q₀ q = count - q
+
+loop-again : tie.Need-loop-again Inv-loop μ-loop
+loop-again c = ⊎-elim (λ w. search (needs, before-other)) (λ w. search (needs, before-terminal)) (c .if1 .came)
+
+returns-2 : tie.Need-returns-2 Inv-loop μ-loop
+returns-2 c = search (needs, before-all)
+
+pub touched-spec : {M : Type 1} → statement M
+touched-spec =
+    tie.close
+    (tie.spec
+    Inv-loop
+    μ-loop
+    (λ c κs. search needs)
+    (λ c. search (needs, before-start))
+    (λ c κs. search needs)
+    (λ c κs. search needs)
+    (λ c κs. search needs)
+    (λ c e. absurd (true≢false e))
+    (λ c. omega arith)
+    (λ c. omega arith)
+    loop-again
+    returns-2)

@@ -1,0 +1,2 @@
+-- The rows of all rules, written from one start on.
+pub mod Starts

@@ -1,0 +1,2 @@
+-- Laws of what comes next, by the tests that the code makes.
+pub mod Looking

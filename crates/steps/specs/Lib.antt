@@ -1,0 +1,2 @@
+-- What comes next at a place of a rule.
+pub mod Looked

@@ -1,9 +1,0 @@
--- `tabulate::spans::put_empty` meets its contract.
--- Assumes nothing.
-use borrow.Author.Needs.{needs}
-use Rattle.tabulate.proofs.Closing.{empty-put}
-use Rattle.tabulate.proofs.spans.put_empty.Statement.{statement}
-use Rattle.tabulate.proofs.spans.put_empty.Tie as tie
-
-pub put-empty-spec : {M : Type 1} → statement M
-put-empty-spec = tie.close (tie.spec (λ c κs. search needs) (λ c κs. search needs) (λ c. search (needs, empty-put)))

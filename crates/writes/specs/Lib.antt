@@ -1,0 +1,2 @@
+-- What is written into the tables.
+pub mod Writes
