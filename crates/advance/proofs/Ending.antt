@@ -1,6 +1,5 @@
 -- That the last node of a row is last, or that it has none: what that says of the row at a byte, at a node with others behind it, and at
--- that last node.
--- Assumes nothing.
+-- that last node. Assumes nothing.
 use Prim.Native.Nat.{ℕ, _+_, _*_, _-_, _<_}
 use mathlib.Core.Bool.{true, false, true≢false}
 use mathlib.Core.List.{List, _++_}

@@ -1,5 +1,4 @@
--- The steps of the last node of a row, with premises as the code gives them: there is none, or it moves, or it is last.
--- Assumes nothing.
+-- The steps of the last node of a row, with premises as the code gives them: there is none, or it moves, or it is last. Assumes nothing.
 use Prim.Native.Nat.{ℕ, _+_, _-_, _≤_, _<_}
 use mathlib.Core.List.{List, [], _∷_}
 use mathlib.Core.Path.{_≡_, subst}

@@ -1,6 +1,5 @@
 -- The steps of a node, with premises as its code gives them: the last node below it moves, or the row below it, or a later rule is written,
--- or it is last.
--- Assumes nothing.
+-- or it is last. Assumes nothing.
 use Prim.Native.Nat.{ℕ, _+_, _*_, _-_, _≤_, _<_}
 use mathlib.Core.List.{List, [], _∷_}
 use mathlib.Core.Path.{_≡_, sym, subst, _∙_}

@@ -1,6 +1,5 @@
 -- What the advance gives, with the tables made: the numbers of the derivation after the one that stands, or that there is none. What is
--- promised of the input is promised where the tables are right for it and a forest of the set stands in the buffer.
--- Assumes nothing.
+-- promised of the input is promised where the tables are right for it and a forest of the set stands in the buffer. Assumes nothing.
 use Prim.Native.Nat.{ℕ, _+_, _-_, _≤_, _<_}
 use mathlib.Core.List.{List, _∷_}
 use mathlib.Core.Path.{_≡_}

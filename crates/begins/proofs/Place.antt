@@ -1,5 +1,4 @@
--- One place of a rule, by spans as bits: what the steps of the code give.
--- Assumes nothing.
+-- One place of a rule, by spans as bits: what the steps of the code give. Assumes nothing.
 use Prim.Native.Nat.{ℕ, suc, _+_, _≤_, _<_}
 use mathlib.Core.Bool.{Bool, true, false}
 use mathlib.Core.List.{List}

@@ -1,5 +1,4 @@
--- All places of a rule, and the test by which a rule is passed over: what the steps of the code give.
--- Assumes nothing.
+-- All places of a rule, and the test by which a rule is passed over: what the steps of the code give. Assumes nothing.
 use Prim.Native.Nat.{ℕ, suc, _+_, _≤_, _<_}
 use mathlib.Core.Bool.{Bool, true, false, cond}
 use mathlib.Core.List.{List}

@@ -1,6 +1,5 @@
 -- Where the cuts of a span begin whose first piece lies inside it, by spans as bits: what is known of a rule at one start, and what is
--- promised of the places told.
--- Assumes nothing.
+-- promised of the places told. Assumes nothing.
 use Prim.Native.Nat.{ℕ, _+_, _≤_, _<_}
 use mathlib.Core.Bool.{Bool, true, false}
 use mathlib.Core.List.{List}

@@ -1,5 +1,4 @@
--- Codes that stand in a buffer, one behind the other, and what is kept where a part of the buffer is written.
--- Assumes nothing.
+-- Codes that stand in a buffer, one behind the other, and what is kept where a part of the buffer is written. Assumes nothing.
 use Prim.Native.Nat.{ℕ, _+_, _*_, _-_, _≤_, _<_}
 use mathlib.Core.List.{List, [], _∷_, _++_}
 use mathlib.Core.Path.{_≡_, sym, ap, _∙_}

@@ -1,5 +1,4 @@
--- The frame of a node: not made, made, and what it says of an input when it is made.
--- Assumes nothing.
+-- The frame of a node: not made, made, and what it says of an input when it is made. Assumes nothing.
 use Prim.Native.Nat.{ℕ, _≤_}
 use mathlib.Core.List.{List}
 use mathlib.Core.Path.{_≡_}

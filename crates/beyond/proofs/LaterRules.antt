@@ -1,5 +1,4 @@
--- A later rule at a node, with premises as the code gives them.
--- Assumes nothing.
+-- A later rule at a node, with premises as the code gives them. Assumes nothing.
 use Prim.Native.Nat.{ℕ, _+_, _-_, _≤_, _<_}
 use mathlib.Core.List.{List, [], _∷_}
 use mathlib.Core.Logic.{_≢_}

@@ -1,6 +1,5 @@
 -- What comes after what stands in a buffer, and what is written where that is a later rule. What is promised of the input is promised where
--- the tables are right for it.
--- Assumes nothing.
+-- the tables are right for it. Assumes nothing.
 use Prim.Native.Nat.{ℕ, _+_, _*_, _-_, _≤_, _<_}
 use mathlib.Core.Bool.{Bool, true}
 use mathlib.Core.List.{List}

@@ -1,5 +1,4 @@
--- How a cut of a span begins: with a piece inside the span, an empty piece, or the whole.
--- Assumes nothing.
+-- How a cut of a span begins: with a piece inside the span, an empty piece, or the whole. Assumes nothing.
 use Prim.Native.Nat.{ℕ, suc, _≤_, _<_}
 use mathlib.Core.Bool.{true}
 use mathlib.Core.List.{List, _∷_}

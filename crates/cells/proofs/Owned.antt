@@ -1,5 +1,4 @@
--- Sets with another set for one span: where they differ, and what cuts a span by the ones and by the others.
--- Assumes nothing.
+-- Sets with another set for one span: where they differ, and what cuts a span by the ones and by the others. Assumes nothing.
 use Prim.Native.Nat.{ℕ, suc, _≤_, _<_}
 use mathlib.Core.Bool.{Bool, true, false, cond, _&&_}
 use mathlib.Core.List.{List}

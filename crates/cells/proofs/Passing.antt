@@ -1,5 +1,4 @@
--- Adding the left side of a rule to the set of a cell.
--- Assumes nothing.
+-- Adding the left side of a rule to the set of a cell. Assumes nothing.
 use Prim.Native.Nat.{ℕ, _≤_, _<_}
 use mathlib.Core.Bool.{Bool, true, false, cond, _&&_}
 use mathlib.Core.List.{List}

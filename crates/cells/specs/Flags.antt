@@ -1,6 +1,5 @@
 -- Flags: for a rule and a start, the set of the places from which on the rule's places cut the span up to the column's end. What such a
--- word means, also where only the cuts are meant whose first piece lies inside the span.
--- Assumes nothing.
+-- word means, also where only the cuts are meant whose first piece lies inside the span. Assumes nothing.
 use Prim.Native.Nat.{ℕ, suc, _-_, _≤_, _<_}
 use mathlib.Core.Bool.{Bool, true, cond, _&&_}
 use mathlib.Core.List.{List}

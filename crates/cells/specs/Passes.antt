@@ -1,6 +1,5 @@
 -- One rule at one cell (i, n): what the words given mean, and what is promised of its flags, for all sets that the words given are true of.
--- And when a set is closed under the rules as that of the cell.
--- Assumes nothing.
+-- And when a set is closed under the rules as that of the cell. Assumes nothing.
 use Prim.Native.Nat.{ℕ, _+_, _≤_, _<_}
 use mathlib.Core.Bool.{Bool, true, cond, _&&_, _||_}
 use mathlib.Core.List.{List}

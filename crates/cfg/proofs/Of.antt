@@ -1,5 +1,4 @@
--- A number has one rule, and that is a rule of one nonterminal.
--- Assumes nothing.
+-- A number has one rule, and that is a rule of one nonterminal. Assumes nothing.
 use Prim.Native.Nat.{ℕ}
 use mathlib.Core.Option.{Option·some-injective}
 use mathlib.Core.Path.{_≡_, refl, sym, ap, _∙_}

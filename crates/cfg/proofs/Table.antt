@@ -1,6 +1,5 @@
 -- Rows that the abstract definitions must give: what L holds and in which order, what superfluous recursion is and is not, and where
--- the limit of 512 nodes lies. The tables from the bytes of books to the answers are those of crate `results`.
--- Assumes nothing.
+-- the limit of 512 nodes lies. The tables from the bytes of books to the answers are those of crate `results`. Assumes nothing.
 use Prim.Native.Nat.{ℕ}
 use mathlib.Core.List.{List, [], _∷_, map}
 use mathlib.Core.Option.{Option, none, some, Option·some-injective}

@@ -1,5 +1,4 @@
--- Superfluous recursion, derivations (document 01: readings) and their order.
--- Assumes nothing.
+-- Superfluous recursion, derivations (document 01: readings) and their order. Assumes nothing.
 use Prim.Native.Nat.{ℕ, _≤_, _<_}
 use mathlib.Core.List.{List, [], _∷_}
 use mathlib.Core.Path.{_≡_}

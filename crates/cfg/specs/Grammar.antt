@@ -1,5 +1,4 @@
--- Abstract context-free grammars. Document 01 calls a grammar a book, a nonterminal a kind, and a terminal a mark.
--- Assumes nothing.
+-- Abstract context-free grammars. Document 01 calls a grammar a book, a nonterminal a kind, and a terminal a mark. Assumes nothing.
 use Prim.Native.Nat.{ℕ}
 use mathlib.Core.Bool.{Bool}
 use mathlib.Core.List.{List}

@@ -1,6 +1,5 @@
 -- The list L of all derivations of an input, in rising order, as a function: it tries the covers of the next node from the
--- smallest, for each the rules from the smallest, and for each of these goes on from the left.
--- Assumes nothing.
+-- smallest, for each the rules from the smallest, and for each of these goes on from the left. Assumes nothing.
 use Prim.Native.Nat.{ℕ, zero, suc}
 use mathlib.Core.Bool.{Bool, true, false, _&&_, _||_, not}
 use mathlib.Core.List.{List, [], _∷_, _++_, map}

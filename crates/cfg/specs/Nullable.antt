@@ -1,5 +1,4 @@
--- Nullable nonterminals (document 01: blank kinds) and what holds of the nullable depth (blank depth).
--- Assumes nothing.
+-- Nullable nonterminals (document 01: blank kinds) and what holds of the nullable depth (blank depth). Assumes nothing.
 use Prim.Native.Nat.{ℕ, _≤_}
 use mathlib.Core.List.{[]}
 use mathlib.Core.Path.{_≡_}

@@ -1,5 +1,4 @@
--- Parse trees of a context-free grammar, over any grammar and any input.
--- Assumes nothing.
+-- Parse trees of a context-free grammar, over any grammar and any input. Assumes nothing.
 use Prim.Native.Nat.{ℕ, suc, _+_, max}
 use mathlib.Core.Bool.{true}
 use mathlib.Core.List.{List, [], _∷_, _++_}

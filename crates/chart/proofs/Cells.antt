@@ -1,6 +1,5 @@
 -- The cells of a column: each is the rounds of the rules over its own set, the later cells of the column and the earlier columns; what
--- such a cell sees; and that a column looks only at the cells of earlier columns and at the bytes before it.
--- Assumes nothing.
+-- such a cell sees; and that a column looks only at the cells of earlier columns and at the bytes before it. Assumes nothing.
 use Prim.Native.Nat.{ℕ, zero, suc, _+_, _-_, _^_, _≤_, _<_}
 use mathlib.Core.Bool.{Bool}
 use mathlib.Core.List.{List, _∷_}

@@ -1,6 +1,5 @@
 -- When the places of a rule cut a span into pieces, as a relation over any pieces: equivalent to the test `cuts`, and monotone in the
--- pieces.
--- Assumes nothing.
+-- pieces. Assumes nothing.
 use Prim.Native.Nat.{ℕ, zero, suc, _+_, _-_, _≤_, _<_}
 use mathlib.Core.Bool.{Bool, true, false, _||_, false≢true, and-eq-true-iff}
 use mathlib.Core.List.{List, [], _∷_}

@@ -1,6 +1,5 @@
 -- What one round of the rules gives: a nonterminal is in the set exactly if a rule of it cuts the span. Where each rule's left side is
--- below 32, the set is a word of 32 bits.
--- Assumes nothing.
+-- below 32, the set is a word of 32 bits. Assumes nothing.
 use Prim.Native.Nat.{ℕ, zero, suc, _^_, _<_}
 use mathlib.Core.Bool.{Bool, true, false, false≢true}
 use mathlib.Core.List.{List, [], _∷_}

@@ -1,6 +1,5 @@
 -- A chart is exact up to a column if its cells have exactly the nonterminals that derive their spans. Opening makes it so, and writing the
--- next column and taking bytes keep it so.
--- Assumes nothing.
+-- next column and taking bytes keep it so. Assumes nothing.
 use Prim.Native.Nat.{ℕ, suc, _+_, _≤_, _<_}
 use mathlib.Core.Bool.{true}
 use mathlib.Core.List.{List, [], _∷_, _++_, append-nil}

@@ -1,5 +1,4 @@
--- Opening and taking bytes, one after the other: which cells change, and what lies in front of and behind the chart's end.
--- Assumes nothing.
+-- Opening and taking bytes, one after the other: which cells change, and what lies in front of and behind the chart's end. Assumes nothing.
 use Prim.Native.Nat.{ℕ, suc, _+_, _≤_, _<_}
 use mathlib.Core.Bool.{Bool}
 use mathlib.Core.List.{List, [], _∷_, _++_, append-nil}

@@ -1,6 +1,5 @@
 -- A column is closed under the rules, and inside whatever is closed under them: over any predicate on the cells of the column, so that
--- what is not a set of bits (there is a tree) can bound it.
--- Assumes nothing.
+-- what is not a set of bits (there is a tree) can bound it. Assumes nothing.
 use Prim.Native.Nat.{ℕ, zero, suc, _-_, _≤_, _<_}
 use mathlib.Core.Bool.{Bool, true}
 use mathlib.Core.List.{List}

@@ -1,6 +1,5 @@
 -- The column is the joint least one that is closed under the rules, over any chart found; it has as many cells as it is asked for
--- (`column-length`), each a word of 32 bits (`column-lt`).
--- Assumes nothing.
+-- (`column-length`), each a word of 32 bits (`column-lt`). Assumes nothing.
 use Prim.Native.Nat.{ℕ, suc, _≤_, _<_}
 use mathlib.Core.Bool.{Bool, true}
 use mathlib.Core.List.{List}

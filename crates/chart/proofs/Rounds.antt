@@ -1,6 +1,5 @@
 -- A step on sets that is monotone and gives members below 32 only: 32 rounds from the empty set come to a set closed under the step,
--- and to the least one.
--- Assumes nothing.
+-- and to the least one. Assumes nothing.
 use Prim.Native.Nat.{ℕ, zero, suc, _<_}
 use mathlib.Core.Bool.{Bool, true, false, false≢true}
 use mathlib.Core.Logic.{_⊎_, inl, inr}

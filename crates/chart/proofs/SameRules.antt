@@ -1,6 +1,5 @@
 -- Grammars that give each number the same rule have the same charts: neither column is larger than the other, since each is closed under
--- the rules of both.
--- Assumes nothing.
+-- the rules of both. Assumes nothing.
 use Prim.Native.Nat.{ℕ, suc, _≤_}
 use mathlib.Core.Bool.{Bool, true}
 use mathlib.Core.List.{List, [], _∷_, _++_}

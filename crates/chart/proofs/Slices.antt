@@ -1,5 +1,4 @@
--- Slices of the input: put together, and taken apart.
--- Assumes nothing.
+-- Slices of the input: put together, and taken apart. Assumes nothing.
 use Prim.Native.Nat.{ℕ, suc, _+_, _-_, _≤_, _<_}
 use mathlib.Core.List.{List, [], _∷_, _++_}
 use mathlib.Core.Path.{_≡_, sym, ap, _∙_}

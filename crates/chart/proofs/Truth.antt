@@ -1,6 +1,5 @@
 -- What a filled chart says: its cells have exactly the nonterminals with a parse tree over the span, it is complete exactly if the input
--- has a tree, and neither what was found in the chart nor what lies behind it matters.
--- Assumes nothing.
+-- has a tree, and neither what was found in the chart nor what lies behind it matters. Assumes nothing.
 use Prim.Native.Nat.{ℕ, suc, _+_, _≤_, _<_}
 use mathlib.Core.Bool.{true}
 use mathlib.Core.List.{List, []}

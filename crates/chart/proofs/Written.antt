@@ -1,5 +1,4 @@
--- Writing a column: what stands in the cells afterwards, and that nothing else is written.
--- Assumes nothing.
+-- Writing a column: what stands in the cells afterwards, and that nothing else is written. Assumes nothing.
 use Prim.Native.Nat.{ℕ, suc, _+_, _-_, _≤_, _<_}
 use mathlib.Core.Bool.{Bool}
 use mathlib.Core.List.{List, [], _∷_}

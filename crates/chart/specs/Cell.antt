@@ -1,5 +1,4 @@
--- The chart (document 01: sheet) and its cells (words), and when the places of a rule cut a span (stretch) into pieces.
--- Assumes nothing.
+-- The chart (document 01: sheet) and its cells (words), and when the places of a rule cut a span (stretch) into pieces. Assumes nothing.
 use Prim.Native.Nat.{ℕ, zero, suc, _+_, _*_, _-_}
 use mathlib.Core.Bool.{Bool, true, false, _&&_, _||_}
 use mathlib.Core.List.{List, [], _∷_}

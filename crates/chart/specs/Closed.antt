@@ -1,6 +1,5 @@
 -- When given cells of one column are closed under the rules, earlier columns as found. The least such cells are the column that taking
--- writes.
--- Assumes nothing.
+-- writes. Assumes nothing.
 use Prim.Native.Nat.{ℕ, _≤_}
 use mathlib.Core.Bool.{Bool, true, false}
 use mathlib.Core.List.{List}

@@ -1,5 +1,4 @@
--- The columns of the chart: opening, taking a byte, and filling, over any chart found.
--- Assumes nothing.
+-- The columns of the chart: opening, taking a byte, and filling, over any chart found. Assumes nothing.
 use Prim.Native.Nat.{ℕ, zero, suc, _-_}
 use mathlib.Core.Bool.{Bool, true, false}
 use mathlib.Core.List.{List, [], _∷_, _++_}

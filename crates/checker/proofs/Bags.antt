@@ -1,5 +1,4 @@
--- When two lists agree as bags; and the rules of a derivation are below 128.
--- Assumes nothing.
+-- When two lists agree as bags; and the rules of a derivation are below 128. Assumes nothing.
 use Prim.Native.Nat.{ℕ, suc, _+_, _≤_, _<_}
 use mathlib.Core.Bool.{Bool, true, false, cond}
 use mathlib.Core.List.{List, [], _∷_, _++_, append-nil}

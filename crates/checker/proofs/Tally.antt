@@ -1,5 +1,4 @@
--- Counting the rules of the nodes that cover something, node by node.
--- Assumes nothing.
+-- Counting the rules of the nodes that cover something, node by node. Assumes nothing.
 use Prim.Native.Nat.{ℕ, suc, _+_, _*_, _/_, _≤_, _<_, min}
 use mathlib.Core.Bool.{Bool, true, false, cond}
 use mathlib.Core.List.{List, [], _∷_}

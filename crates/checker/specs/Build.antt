@@ -1,5 +1,4 @@
--- How often each rule is used by the nodes that cover something.
--- Assumes nothing.
+-- How often each rule is used by the nodes that cover something. Assumes nothing.
 use Prim.Native.Nat.{ℕ, _+_, _*_, _≤_, _<_, min}
 use mathlib.Core.Bool.{cond}
 use mathlib.Core.List.{List}

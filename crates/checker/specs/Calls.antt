@@ -1,5 +1,4 @@
--- What the exported calls answer, in the words and numbers of document 01.
--- Assumes nothing.
+-- What the exported calls answer, in the words and numbers of document 01. Assumes nothing.
 use Prim.Native.Nat.{ℕ}
 use mathlib.Core.Bool.{Bool, not}
 use mathlib.Core.List.{List, [], _∷_}

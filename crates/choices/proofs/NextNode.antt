@@ -1,6 +1,5 @@
 -- At a node of the nonterminal k over the span from i to j, where a tree stands: what comes after it. The row below moves first, then the
--- rule; else the tree is last. The costs are those under the mask with k in it.
--- Assumes nothing.
+-- rule; else the tree is last. The costs are those under the mask with k in it. Assumes nothing.
 use Prim.Native.Nat.{ℕ, _-_, _≤_, _<_}
 use mathlib.Core.Bool.{Bool}
 use mathlib.Core.List.{List, _∷_}

@@ -1,6 +1,5 @@
 -- At the root: what stands for a member of the list L, and from the tree after it to the member after it. The trees are those of a
--- grammar G that gives each number the same rule as G', of which L is asked; the start symbol of G does not matter.
--- Assumes nothing.
+-- grammar G that gives each number the same rule as G', of which L is asked; the start symbol of G does not matter. Assumes nothing.
 use Prim.Native.Nat.{ℕ, suc, _<_}
 use mathlib.Core.List.{List, [], _∷_, _++_, List·Memᴰ}
 use mathlib.Core.Path.{_≡_, refl, sym, ap, subst, _∙_}

@@ -1,6 +1,5 @@
 -- At a place of a rule over the span from i to j, where a row stands: what comes after it. The rest moves first, then the child, then the
--- child's end; else the row is last.
--- Assumes nothing.
+-- child's end; else the row is last. Assumes nothing.
 use Prim.Native.Nat.{ℕ, _+_, _-_, _*_, _≤_, _<_}
 use mathlib.Core.Bool.{Bool}
 use mathlib.Core.List.{List, [], _∷_, _++_}

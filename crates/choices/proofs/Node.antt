@@ -1,6 +1,5 @@
 -- At a node of the nonterminal k over the span from i to j: the first rule whose cost is within the budget is the rule of the first tree.
--- The costs are those under the mask with k in it.
--- Assumes nothing.
+-- The costs are those under the mask with k in it. Assumes nothing.
 use Prim.Native.Nat.{ℕ, suc, _-_, _≤_, _<_}
 use mathlib.Core.Bool.{Bool, false}
 use mathlib.Core.List.{List, _∷_}

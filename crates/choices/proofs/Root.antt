@@ -1,6 +1,5 @@
 -- At the root: from the first tree over the whole input to the head of the list L, and where L has no member. The costs are those of a
--- grammar G that gives each number the same rule as G', of which L is asked; the start symbol of G does not matter.
--- Assumes nothing.
+-- grammar G that gives each number the same rule as G', of which L is asked; the start symbol of G does not matter. Assumes nothing.
 use Prim.Native.Nat.{ℕ, _≤_}
 use mathlib.Core.List.{List, [], _∷_}
 use mathlib.Core.Path.{_≡_, refl, sym, subst}

@@ -1,6 +1,5 @@
 -- At a place of a rule over the span from i to j: the first end whose cost is within the budget is the end of the first child, and what
--- the rest leaves of the budget is the child's.
--- Assumes nothing.
+-- the rest leaves of the budget is the child's. Assumes nothing.
 use Prim.Native.Nat.{ℕ, suc, _+_, _-_, _*_, _≤_, _<_}
 use mathlib.Core.Bool.{Bool, true}
 use mathlib.Core.List.{List, [], _∷_, _++_}

@@ -1,6 +1,5 @@
 -- What stands over a span, opened: a row behind its first leaf or its first node, and a node with the row below it. The numbers of what
--- stands say where the first node ends, and which rule it has.
--- Assumes nothing.
+-- stands say where the first node ends, and which rule it has. Assumes nothing.
 use Prim.Native.Nat.{ℕ, suc, _+_, _-_, _≤_}
 use mathlib.Core.List.{List, [], _∷_, _++_}
 use mathlib.Core.Path.{_≡_, sym, ap, subst, _∙_}

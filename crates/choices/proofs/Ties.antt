@@ -1,6 +1,5 @@
 -- The forests of the enumeration are those over the bytes of the input, within a budget; so the least cost of a piece, and that of the
--- places behind it, bound the nodes of the rows over them.
--- Assumes nothing.
+-- places behind it, bound the nodes of the rows over them. Assumes nothing.
 use Prim.Native.Nat.{ℕ, _-_, _≤_}
 use mathlib.Core.Bool.{Bool}
 use mathlib.Core.List.{List}

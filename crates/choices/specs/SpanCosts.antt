@@ -1,5 +1,4 @@
--- What is known of the costs over one span of an input.
--- Assumes nothing.
+-- What is known of the costs over one span of an input. Assumes nothing.
 use Prim.Native.Nat.{ℕ, _≤_, _<_}
 use mathlib.Core.Bool.{Bool}
 use mathlib.Core.List.{List}

@@ -1,5 +1,4 @@
--- The rule and the end that are chosen, by the tests that the code makes.
--- Assumes nothing.
+-- The rule and the end that are chosen, by the tests that the code makes. Assumes nothing.
 use Prim.Native.Nat.{ℕ, _+_, _*_, _-_, _≤_, _<_}
 use mathlib.Core.Bool.{Bool, true, false}
 use mathlib.Core.List.{List}

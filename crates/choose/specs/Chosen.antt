@@ -1,5 +1,4 @@
--- Which rule and which end are chosen, by the costs that the tables have: numbers only, no trees.
--- Assumes nothing.
+-- Which rule and which end are chosen, by the costs that the tables have: numbers only, no trees. Assumes nothing.
 use Prim.Native.Nat.{ℕ, _+_, _*_, _-_, _≤_, _<_}
 use mathlib.Core.Bool.{Bool, true, false}
 use mathlib.Core.List.{List}

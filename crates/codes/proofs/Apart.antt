@@ -1,5 +1,4 @@
--- The code and the number left together tell the answers of a call apart.
--- Assumes nothing.
+-- The code and the number left together tell the answers of a call apart. Assumes nothing.
 use Prim.Native.Nat.{ℕ}
 use native.Mathlib.Omega.{arith}
 use mathlib.Core.Bool.{Bool, true, false}

@@ -1,5 +1,4 @@
--- The code of a refused call, and what each answer leaves in the place that was lent for it.
--- Assumes nothing.
+-- The code of a refused call, and what each answer leaves in the place that was lent for it. Assumes nothing.
 use Prim.Native.Nat.{ℕ, _+_}
 use mathlib.Core.List.{List}
 use mathlib.Core.Path.{_≡_, sym, ap, _∙_}

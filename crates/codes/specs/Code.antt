@@ -1,7 +1,6 @@
 -- The numbers in which an answer is returned: the code of each kind of answer, and what is left in a place that was lent, by what was
 -- found there. A code is 0 for no and none; 1 for yes, loaded, measured, handed out and counted; 2 for more; 256 and the number of a
--- refusal.
--- Assumes nothing.
+-- refusal. Assumes nothing.
 use Prim.Native.Nat.{ℕ, _+_}
 use mathlib.Core.Bool.{Bool, true, false}
 use mathlib.Core.List.{List}

@@ -1,5 +1,4 @@
--- Clearing the chart, opening it, and taking the bytes of an input one after the other.
--- Assumes nothing.
+-- Clearing the chart, opening it, and taking the bytes of an input one after the other. Assumes nothing.
 use Prim.Native.Nat.{ℕ, suc, _+_, _-_, _^_, _≤_, _<_}
 use mathlib.Core.List.{List, [], _∷_, _++_}
 use mathlib.Core.Path.{_≡_, refl, sym, ap, _∙_, subst}

@@ -1,5 +1,4 @@
--- The ends of the columns: of none at first, and a column written changes nothing in those before it.
--- Assumes nothing.
+-- The ends of the columns: of none at first, and a column written changes nothing in those before it. Assumes nothing.
 use Prim.Native.Nat.{ℕ, _+_, _*_, _≤_}
 use mathlib.Core.List.{List}
 use mathlib.Core.Logic.{inl, inr}

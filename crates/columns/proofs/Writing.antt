@@ -1,5 +1,4 @@
--- A column, written cell by cell from the last start down: how one cell goes on, and where it begins and ends.
--- Assumes nothing.
+-- A column, written cell by cell from the last start down: how one cell goes on, and where it begins and ends. Assumes nothing.
 use Prim.Native.Nat.{ℕ, zero, suc, _+_, _*_, _-_, _^_, _≤_, _<_}
 use mathlib.Core.Bool.{true, false}
 use mathlib.Core.List.{List}

@@ -1,5 +1,4 @@
--- A column of the chart, written cell by cell from the last start down, by spans as bits.
--- Assumes nothing.
+-- A column of the chart, written cell by cell from the last start down, by spans as bits. Assumes nothing.
 use Prim.Native.Nat.{ℕ, _+_, _≤_, _<_}
 use mathlib.Core.List.{List, [], _++_}
 use mathlib.Core.Logic.{_≢_}

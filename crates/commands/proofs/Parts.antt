@@ -1,5 +1,4 @@
--- The parts of a step, by the tests that the code makes of them.
--- Assumes nothing.
+-- The parts of a step, by the tests that the code makes of them. Assumes nothing.
 use Prim.Native.Nat.{ℕ, _≤_, _<_}
 use native.Mathlib.Omega.{arith}
 use mathlib.Core.Bool.{true, false, not}

@@ -1,5 +1,4 @@
--- One step of loading, by the command byte and the tests that the code makes, in their order: from the limits backwards.
--- Assumes nothing.
+-- One step of loading, by the command byte and the tests that the code makes, in their order: from the limits backwards. Assumes nothing.
 use Prim.Native.Nat.{ℕ, zero, suc, _+_, _-_, _≤_, _<_}
 use native.Mathlib.Omega.{arith}
 use mathlib.Core.Bool.{Bool, true, false, cond, not, _&&_, _||_}

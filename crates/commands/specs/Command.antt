@@ -1,5 +1,4 @@
--- What a command that was read means: the step of loading that it makes, and the bounds that it keeps.
--- Assumes nothing.
+-- What a command that was read means: the step of loading that it makes, and the bounds that it keeps. Assumes nothing.
 use Prim.Native.Nat.{ℕ, _+_, _≤_, _<_}
 use mathlib.Core.Bool.{true, false, cond, not}
 use mathlib.Core.List.{List, [], _∷_}

@@ -1,6 +1,5 @@
 -- The least cost of cutting a span: without places, of a terminal and the rest, of a nonterminal and the rest as a minimum over its ends;
--- and it depends only on the costs of the spans inside.
--- Assumes nothing.
+-- and it depends only on the costs of the spans inside. Assumes nothing.
 use Prim.Native.Nat.{ℕ, suc, _+_, _≤_, _<_, min}
 use mathlib.Core.Bool.{Bool, true, false, true≢false}
 use mathlib.Core.List.{List, [], _∷_, List·Memᴰ, List·Memᴰ·head, List·Memᴰ·tail}

@@ -1,6 +1,5 @@
 -- Trees without superfluous recursion, a node at a time: below a node over the whole span its own nonterminal joins the mask, so the cost
--- of a rule under that larger mask is the least number of nodes of such a tree with that rule.
--- Assumes nothing.
+-- of a rule under that larger mask is the least number of nodes of such a tree with that rule. Assumes nothing.
 use Prim.Native.Nat.{ℕ, suc, _+_, _-_, _≤_, _<_}
 use mathlib.Core.Bool.{Bool, true, false}
 use mathlib.Core.List.{List, [], _∷_, append-nil}

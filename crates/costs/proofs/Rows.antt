@@ -1,7 +1,6 @@
 -- From numbers to trees: where the costs are the least numbers of nodes, over the whole span under a mask and over any other, the least
 -- cost of cutting is the least number of nodes of a forest for the places. The two halves, a forest for each cut and a cut for each forest,
--- ask less: the first that each cost is reached by a tree, the second that no tree of at most N nodes is below its cost.
--- Assumes nothing.
+-- ask less: the first that each cost is reached by a tree, the second that no tree of at most N nodes is below its cost. Assumes nothing.
 use Prim.Native.Nat.{ℕ, suc, _+_, _-_, _≤_, _<_}
 use mathlib.Core.Bool.{Bool, true}
 use mathlib.Core.List.{List, [], _∷_, _++_, append-nil}

@@ -1,6 +1,5 @@
 -- The cost of a rule over a span, the node included: over no byte, one more than its places together; over a span that is not empty, the
--- smaller of the cost without a child over the whole span and the costs through one such child.
--- Assumes nothing.
+-- smaller of the cost without a child over the whole span and the costs through one such child. Assumes nothing.
 use Prim.Native.Nat.{ℕ, zero, suc, _+_, _-_, _≤_, _<_, min}
 use mathlib.Core.Bool.{Bool}
 use mathlib.Core.List.{List, [], _∷_}

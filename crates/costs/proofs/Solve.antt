@@ -1,6 +1,5 @@
 -- Numbers for one span that are sound and stable are the least numbers of nodes, by induction on the number of nodes; and the cost of a
--- rule keeps them sound. Of a nonterminal of the mask, a sound number is none, so stability asks nothing of it.
--- Assumes nothing.
+-- rule keeps them sound. Of a nonterminal of the mask, a sound number is none, so stability asks nothing of it. Assumes nothing.
 use Prim.Native.Nat.{ℕ, zero, suc, _+_, _-_, _≤_, _<_}
 use mathlib.Core.Bool.{Bool, true, false, true≢false}
 use mathlib.Core.List.{List, [], _∷_, append-nil}

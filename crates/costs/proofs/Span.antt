@@ -1,6 +1,5 @@
 -- Lists that may stand in a span, put together and taken apart; those of one input are its slices, so that trees over its bytes are its
--- parse trees; and the least number of nodes of a set of forests.
--- Assumes nothing.
+-- parse trees; and the least number of nodes of a set of forests. Assumes nothing.
 use Prim.Native.Nat.{ℕ, suc, _+_, _≤_, _<_}
 use mathlib.Core.Bool.{true}
 use mathlib.Core.List.{List, [], _∷_, _++_}

@@ -1,5 +1,4 @@
--- A cut of a span that is not empty has no piece over the whole span, or exactly one and all others empty.
--- Assumes nothing.
+-- A cut of a span that is not empty has no piece over the whole span, or exactly one and all others empty. Assumes nothing.
 use Prim.Native.Nat.{ℕ, zero, suc, _+_, _-_, _≤_, _<_}
 use mathlib.Core.Bool.{Bool}
 use mathlib.Core.List.{List, [], _∷_}

@@ -1,5 +1,4 @@
--- The cost of a piece inside a span: of the whole of it, or of a smaller piece.
--- Assumes nothing.
+-- The cost of a piece inside a span: of the whole of it, or of a smaller piece. Assumes nothing.
 use Prim.Native.Nat.{ℕ, _-_, _≤_, _<_}
 use mathlib.Core.Bool.{Bool, true, false, _&&_}
 use mathlib.Core.List.{List}

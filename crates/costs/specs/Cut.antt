@@ -1,5 +1,4 @@
--- What it costs to cut a span into pieces for the places of a rule: numbers only, no trees.
--- Assumes nothing.
+-- What it costs to cut a span into pieces for the places of a rule: numbers only, no trees. Assumes nothing.
 use Prim.Native.Nat.{ℕ, suc, _+_, _≤_, _<_}
 use mathlib.Core.Bool.{Bool, true, false, _&&_}
 use mathlib.Core.List.{List, [], _∷_}

@@ -1,5 +1,4 @@
--- The lowest number of a set of numbers, capped at `tooMany`, and sets of numbers that a loop goes through.
--- Assumes nothing.
+-- The lowest number of a set of numbers, capped at `tooMany`, and sets of numbers that a loop goes through. Assumes nothing.
 use Prim.Native.Nat.{ℕ, _≤_, _<_}
 use Rattle.sizes.specs.Sizes.{tooMany}
 

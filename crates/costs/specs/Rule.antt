@@ -1,6 +1,5 @@
 -- What a node costs over a span, by its rule's places and by numbers only: without a child over the whole span, or by the one child that
--- covers it and the empty trees beside it.
--- Assumes nothing.
+-- covers it and the empty trees beside it. Assumes nothing.
 use Prim.Native.Nat.{ℕ, zero, suc, _+_, min}
 use mathlib.Core.Bool.{Bool}
 use mathlib.Core.List.{List, [], _∷_}

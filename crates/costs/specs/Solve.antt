@@ -1,5 +1,4 @@
--- When numbers for one span are right: each is reached by a tree, and no rule gives a lower one.
--- Assumes nothing.
+-- When numbers for one span are right: each is reached by a tree, and no rule gives a lower one. Assumes nothing.
 use Prim.Native.Nat.{ℕ, _-_, _≤_, _<_}
 use mathlib.Core.Bool.{Bool, false}
 use mathlib.Core.List.{List, [], _∷_}

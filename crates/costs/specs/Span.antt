@@ -1,7 +1,6 @@
 -- Forests over a span of positions. `bytes a m` says that the byte m may stand at position a: of one input that is its byte, so that the
 -- forests are its own; where several bytes may stand at a position, they are those of all inputs that fit. The leaves hold bytes either
--- way, so that fitting, superfluous recursion and codes are those of the grammar.
--- Assumes nothing.
+-- way, so that fitting, superfluous recursion and codes are those of the grammar. Assumes nothing.
 use Prim.Native.Nat.{ℕ, suc, _-_, _≤_, _<_}
 use mathlib.Core.Bool.{Bool, true}
 use mathlib.Core.List.{List, [], _∷_}

@@ -1,5 +1,4 @@
--- What is counted once the tables are made, and over the filled chart, by the tests that the code makes.
--- Assumes nothing.
+-- What is counted once the tables are made, and over the filled chart, by the tests that the code makes. Assumes nothing.
 use Prim.Native.Nat.{ℕ, _≤_, _<_}
 use mathlib.Core.Bool.{Bool, true, false}
 use mathlib.Core.List.{List, [], _∷_}

@@ -1,5 +1,4 @@
--- What count gives, in the words and numbers of document 01.
--- Assumes nothing.
+-- What count gives, in the words and numbers of document 01. Assumes nothing.
 use Prim.Native.Nat.{ℕ}
 use mathlib.Core.Bool.{true, false, cond}
 use mathlib.Core.List.{List}

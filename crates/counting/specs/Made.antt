@@ -1,5 +1,4 @@
--- What is counted once the tables are made.
--- Assumes nothing.
+-- What is counted once the tables are made. Assumes nothing.
 use Prim.Native.Nat.{ℕ, _<_}
 use mathlib.Core.List.{List, []}
 use mathlib.Core.Path.{_≡_}

@@ -1,5 +1,4 @@
--- The least cost at a nonterminal place, as a running minimum over its ends.
--- Assumes nothing.
+-- The least cost at a nonterminal place, as a running minimum over its ends. Assumes nothing.
 use Prim.Native.Nat.{ℕ, _+_, _≤_, _<_, min}
 use mathlib.Core.List.{List}
 use mathlib.Core.Path.{_≡_, ap, _∙_}

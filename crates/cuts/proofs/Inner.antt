@@ -1,5 +1,4 @@
--- The least cost of the places of a rule from one place on, inside a span, by the tests that the code makes.
--- Assumes nothing.
+-- The least cost of the places of a rule from one place on, inside a span, by the tests that the code makes. Assumes nothing.
 use Prim.Native.Nat.{ℕ, suc, _-_, _≤_, _<_}
 use mathlib.Core.Bool.{Bool, true, false}
 use mathlib.Core.List.{List, _∷_}

@@ -1,5 +1,4 @@
--- The least cost of the places of a rule from one place on, over a span, from that of the places behind it.
--- Assumes nothing.
+-- The least cost of the places of a rule from one place on, over a span, from that of the places behind it. Assumes nothing.
 use Prim.Native.Nat.{ℕ, suc, _+_, _≤_, _<_}
 use mathlib.Core.Bool.{Bool}
 use mathlib.Core.List.{List, [], _∷_}

@@ -1,6 +1,5 @@
 -- The least cost of the places of a rule from one place on, inside a span from i to j: a child over the whole of it costs what the
--- numbers of that span say, any other what the least table says.
--- Assumes nothing.
+-- numbers of that span say, any other what the least table says. Assumes nothing.
 use Prim.Native.Nat.{ℕ, suc, _+_, _-_, _≤_, _<_}
 use mathlib.Core.Bool.{Bool, false}
 use mathlib.Core.List.{List, _∷_}

@@ -1,5 +1,4 @@
--- Demand 1, put together for each call.
--- Assumes nothing.
+-- Demand 1, put together for each call. Assumes nothing.
 use Prim.Native.Nat.{ℕ}
 use mathlib.Core.List.{List}
 use Rattle.grammar.specs.declared.Grammar.{Grammar}

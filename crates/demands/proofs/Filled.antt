@@ -1,6 +1,5 @@
 -- Once checks 8 to 11 are passed, the chart is the one of opening and then taking the whole input, whatever the answer: also after
--- refusals 12 and 13, "no", "none" and "no reading".
--- Assumes nothing.
+-- refusals 12 and 13, "no", "none" and "no reading". Assumes nothing.
 use Prim.Native.Nat.{ℕ, _≤_}
 use mathlib.Core.Bool.{true}
 use mathlib.Core.List.{List, []}

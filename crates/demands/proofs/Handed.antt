@@ -1,5 +1,4 @@
--- What first and next hand out is in the list.
--- Assumes nothing.
+-- What first and next hand out is in the list. Assumes nothing.
 use Prim.Native.Nat.{ℕ}
 use mathlib.Core.Bool.{Bool, true, false}
 use mathlib.Core.List.{List, [], _∷_, List·Memᴰ}

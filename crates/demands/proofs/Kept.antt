@@ -1,6 +1,5 @@
 -- Whatever is handed in: a call keeps the length of the chart and what lies behind its 4,225 cells; first and next keep the length of the
--- output and what lies behind a derivation handed out, and the whole output where none is.
--- Assumes nothing.
+-- output and what lies behind a derivation handed out, and the whole output where none is. Assumes nothing.
 use Prim.Native.Nat.{ℕ, _*_, _/_, _≤_}
 use mathlib.Core.List.{List, [], _∷_, _++_, List·Memᴰ}
 use mathlib.Core.Option.{Option, none, some}

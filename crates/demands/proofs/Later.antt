@@ -1,5 +1,4 @@
--- Which refusals may come after the checks 8 to 11, 14 and 15: 12 and 13 only.
--- Assumes nothing.
+-- Which refusals may come after the checks 8 to 11, 14 and 15: 12 and 13 only. Assumes nothing.
 use Prim.Native.Nat.{ℕ, _≤_, _<_}
 use mathlib.Core.Bool.{Bool, true, false, cond}
 use mathlib.Core.List.{List, [], _∷_}

@@ -1,6 +1,5 @@
 -- The tests on the list L in terms of derivations: a row is listed exactly if it is a derivation, and the list is empty exactly if
--- there is none.
--- Assumes nothing.
+-- there is none. Assumes nothing.
 use Prim.Native.Nat.{ℕ}
 use mathlib.Core.Bool.{Bool, true, false, not}
 use mathlib.Core.List.{List, [], _∷_, List·Memᴰ, List·Memᴰ·head, List·Memᴰ·not-nil}

@@ -1,5 +1,4 @@
--- Loading: the number of a fault, and the offset that is given for it.
--- Assumes nothing.
+-- Loading: the number of a fault, and the offset that is given for it. Assumes nothing.
 use Prim.Native.Nat.{ℕ}
 use native.Mathlib.Omega.{arith}
 use mathlib.Core.Bool.{Bool, true, false, cond}

@@ -1,5 +1,4 @@
--- Loading: at each command the first refusal that applies is given, and none without cause.
--- Assumes nothing.
+-- Loading: at each command the first refusal that applies is given, and none without cause. Assumes nothing.
 use Prim.Native.Nat.{ℕ, _+_}
 use mathlib.Core.Bool.{Bool, true, false, cond}
 use mathlib.Core.List.{List, [], _∷_}

@@ -1,5 +1,4 @@
--- Refusal 12 of next, length and same build is given exactly where an offered derivation is none of the input.
--- Assumes nothing.
+-- Refusal 12 of next, length and same build is given exactly where an offered derivation is none of the input. Assumes nothing.
 use Prim.Native.Nat.{ℕ}
 use mathlib.Core.Bool.{Bool, true, false}
 use mathlib.Core.List.{List, [], _∷_}

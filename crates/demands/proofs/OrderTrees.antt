@@ -1,5 +1,4 @@
--- Refusal 13 of first and count is given exactly where the input has a tree and no derivation.
--- Assumes nothing.
+-- Refusal 13 of first and count is given exactly where the input has a tree and no derivation. Assumes nothing.
 use Prim.Native.Nat.{ℕ}
 use mathlib.Core.Bool.{Bool, true, false, cond, true≢false}
 use mathlib.Core.List.{List, [], _∷_, cons≢nil}

@@ -1,5 +1,4 @@
--- Opening and then taking any row of bytes: the state, the answer and the chart.
--- Assumes nothing.
+-- Opening and then taking any row of bytes: the state, the answer and the chart. Assumes nothing.
 use Prim.Native.Nat.{ℕ, _+_, _≤_, _<_}
 use mathlib.Core.Bool.{Bool, true, false, not}
 use mathlib.Core.List.{List, [], _∷_, _++_, append-nil}

@@ -1,5 +1,4 @@
--- Taking a byte over any chart and any state: the state, the one column that is written, and the answer.
--- Assumes nothing.
+-- Taking a byte over any chart and any state: the state, the one column that is written, and the answer. Assumes nothing.
 use Prim.Native.Nat.{ℕ, _+_, _≤_, _<_}
 use mathlib.Core.Bool.{true}
 use mathlib.Core.List.{List}

@@ -1,6 +1,5 @@
 -- Whatever is handed in: refusals 8 to 11, 14 and 15 leave the chart, the output and the state as found. Of a call that refuses only with
--- these every refusal is meant, of the others those below 12.
--- Assumes nothing.
+-- these every refusal is meant, of the others those below 12. Assumes nothing.
 use Prim.Native.Nat.{ℕ, _≤_, _<_}
 use mathlib.Core.List.{List, []}
 use mathlib.Core.Logic.{⊎-elim}

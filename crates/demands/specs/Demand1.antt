@@ -1,5 +1,4 @@
--- Demand 1 for each call: what it keeps, which refusal it gives, and what it leaves after each.
--- Assumes nothing.
+-- Demand 1 for each call: what it keeps, which refusal it gives, and what it leaves after each. Assumes nothing.
 use Prim.Native.Nat.{ℕ, _≤_, _<_}
 use mathlib.Core.Bool.{true}
 use mathlib.Core.List.{List, []}

@@ -1,5 +1,4 @@
--- What a call keeps of what it was lent: the chart (sheet) and the output.
--- Assumes nothing.
+-- What a call keeps of what it was lent: the chart (sheet) and the output. Assumes nothing.
 use Prim.Native.Nat.{ℕ, _*_}
 use mathlib.Core.List.{List}
 use mathlib.Core.Path.{_≡_}

@@ -1,5 +1,4 @@
--- Demand 1 for loading: a book is refused at its first fault from the left, or read to its end; and what either gives.
--- Assumes nothing.
+-- Demand 1 for loading: a book is refused at its first fault from the left, or read to its end; and what either gives. Assumes nothing.
 use Prim.Native.Nat.{ℕ, _+_, _-_, _≤_, _<_}
 use mathlib.Core.Bool.{true}
 use mathlib.Core.List.{List}

@@ -1,6 +1,5 @@
 -- Loading, at one command: the refusal given is the first that applies, in document 01's order: 1 where the book has ended, then 2, 3, 1,
--- 4, then 5 or 6, and 7 after 50.
--- Assumes nothing.
+-- 4, then 5 or 6, and 7 after 50. Assumes nothing.
 use Prim.Native.Nat.{ℕ, _+_}
 use mathlib.Core.Bool.{Bool, true, false, _&&_, _||_, not}
 use mathlib.Core.List.{List}

@@ -1,6 +1,5 @@
 -- For each call: the refusal given is the first that applies, in document 01's order. Each field is one refusal: those before it do not
--- apply and it does; the last field says that without any of them no refusal of these is given.
--- Assumes nothing.
+-- apply and it does; the last field says that without any of them no refusal of these is given. Assumes nothing.
 use Prim.Native.Nat.{ℕ, _≤_, _<_}
 use mathlib.Core.Bool.{Bool, true, false}
 use mathlib.Core.List.{List}

@@ -1,5 +1,4 @@
--- The refusals after the checks 8 to 11: 12 for offered derivations and 13 for trees, given exactly where they apply.
--- Assumes nothing.
+-- The refusals after the checks 8 to 11: 12 for offered derivations and 13 for trees, given exactly where they apply. Assumes nothing.
 use Prim.Native.Nat.{ℕ}
 use mathlib.Core.List.{List}
 use mathlib.Core.Logic.{_⊎_}

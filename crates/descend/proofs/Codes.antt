@@ -1,5 +1,4 @@
--- Codes in an output: written behind one another, and behind the numbers of a node.
--- Assumes nothing.
+-- Codes in an output: written behind one another, and behind the numbers of a node. Assumes nothing.
 use Prim.Native.Nat.{ℕ, suc, _+_, _*_, _-_, _≤_, _<_}
 use mathlib.Core.List.{List, [], _∷_, _++_}
 use mathlib.Core.Path.{_≡_, refl, sym, ap, _∙_}

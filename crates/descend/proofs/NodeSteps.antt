@@ -1,5 +1,4 @@
--- The steps of a node, with premises as its code gives them.
--- Assumes nothing.
+-- The steps of a node, with premises as its code gives them. Assumes nothing.
 use Prim.Native.Nat.{ℕ, _+_, _-_, _≤_, _<_}
 use mathlib.Core.List.{List, _∷_}
 use mathlib.Core.Path.{_≡_, sym, subst, _∙_}

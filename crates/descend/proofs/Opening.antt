@@ -1,5 +1,4 @@
--- What is made for a node, by the tests that the code makes.
--- Assumes nothing.
+-- What is made for a node, by the tests that the code makes. Assumes nothing.
 use Prim.Native.Nat.{ℕ, _≤_}
 use mathlib.Core.List.{List}
 use mathlib.Core.Path.{_≡_}

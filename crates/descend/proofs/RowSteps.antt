@@ -1,5 +1,4 @@
--- The steps of a row, with premises as its code gives them.
--- Assumes nothing.
+-- The steps of a row, with premises as its code gives them. Assumes nothing.
 use Prim.Native.Nat.{ℕ, suc, _+_, _*_, _-_, _≤_, _<_}
 use mathlib.Core.Bool.{true, false}
 use mathlib.Core.List.{List, [], _∷_}

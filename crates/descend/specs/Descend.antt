@@ -1,5 +1,4 @@
--- What the first derivation below a node is, with the tables made: which numbers it writes, and what it keeps.
--- Assumes nothing.
+-- What the first derivation below a node is, with the tables made: which numbers it writes, and what it keeps. Assumes nothing.
 use Prim.Native.Nat.{ℕ, _+_, _*_, _-_, _≤_, _<_}
 use mathlib.Core.List.{List}
 use mathlib.Core.Path.{_≡_}

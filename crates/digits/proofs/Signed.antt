@@ -1,5 +1,4 @@
--- Signed numbers of 32 bits in decimal: the size of a negative one, taken apart from its sign.
--- Assumes nothing.
+-- Signed numbers of 32 bits in decimal: the size of a negative one, taken apart from its sign. Assumes nothing.
 use Prim.Native.Nat.{ℕ, suc, _+_, _≤_, _<_}
 use native.Mathlib.Nat.{zero-add}
 use native.Mathlib.Omega.{arith}

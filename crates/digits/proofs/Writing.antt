@@ -1,5 +1,4 @@
--- Bytes written into a buffer: nothing, one byte, one piece behind another.
--- Assumes nothing.
+-- Bytes written into a buffer: nothing, one byte, one piece behind another. Assumes nothing.
 use Prim.Native.Nat.{ℕ, _+_, _≤_, _<_}
 use native.Mathlib.Numerals.{add-one}
 use native.Mathlib.Omega.{arith}

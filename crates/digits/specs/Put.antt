@@ -1,5 +1,4 @@
--- Bytes written into a buffer behind those that stand there already, and the sizes of lengths.
--- Assumes nothing.
+-- Bytes written into a buffer behind those that stand there already, and the sizes of lengths. Assumes nothing.
 use Prim.Native.Nat.{ℕ, _+_}
 use mathlib.Core.List.{List, _++_}
 use mathlib.Core.Path.{_≡_}

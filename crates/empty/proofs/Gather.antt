@@ -1,5 +1,4 @@
--- The kinds of a rule, gathered place by place: what the steps of the code give.
--- Assumes nothing.
+-- The kinds of a rule, gathered place by place: what the steps of the code give. Assumes nothing.
 use Prim.Native.Nat.{ℕ, _+_, _≤_, _<_}
 use mathlib.Core.Bool.{Bool, true, false}
 use mathlib.Core.List.{List}

@@ -1,5 +1,4 @@
--- Passes over the empty span at the end n of a column, for every n: what the steps of the code give.
--- Assumes nothing.
+-- Passes over the empty span at the end n of a column, for every n: what the steps of the code give. Assumes nothing.
 use Prim.Native.Nat.{ℕ, _+_, _≤_, _<_}
 use mathlib.Core.Bool.{true}
 use mathlib.Core.List.{List}

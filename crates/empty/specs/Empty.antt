@@ -1,6 +1,5 @@
 -- The empty span at the end n of a column: its set and the flags of the rules at it, for every n, whatever fits and whatever the sets of
--- the other spans are. And on what of a cell's set a rule's flags depend.
--- Assumes nothing.
+-- the other spans are. And on what of a cell's set a rule's flags depend. Assumes nothing.
 use Prim.Native.Nat.{ℕ, _+_, _≤_, _<_}
 use mathlib.Core.Bool.{true}
 use mathlib.Core.List.{List}

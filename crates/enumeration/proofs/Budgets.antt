@@ -1,6 +1,5 @@
 -- From the fewest nodes that rows can have: where there are none, which covers are skipped, what a first node may cost, and that
--- whatever keeps this can be completed.
--- Assumes nothing.
+-- whatever keeps this can be completed. Assumes nothing.
 use Prim.Native.Nat.{ℕ, _+_, _-_, _≤_, _<_}
 use mathlib.Core.List.{List}
 use native.Mathlib.Omega.{arith}

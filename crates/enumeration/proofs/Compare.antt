@@ -1,7 +1,6 @@
 -- Codes of forests for the same places that begin at the same position of an input: they are equal only where the forests are, and else
 -- one is before the other, so none is the beginning of another. Codes put together of a first part and a rest are in order by the first
--- parts, and where these are the same by the rests.
--- Assumes nothing.
+-- parts, and where these are the same by the rests. Assumes nothing.
 use Prim.Native.Nat.{ℕ, _<_}
 use mathlib.Core.List.{List, [], _∷_, _++_, append-nil}
 use mathlib.Core.Logic.{_⊎_, inl, inr, _≢_}

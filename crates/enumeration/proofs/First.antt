@@ -1,5 +1,4 @@
--- The first code of a row and of a node, from the first codes of their parts; and where there is none.
--- Assumes nothing.
+-- The first code of a row and of a node, from the first codes of their parts; and where there is none. Assumes nothing.
 use Prim.Native.Nat.{ℕ, _+_, _-_, _*_, _≤_, _<_}
 use mathlib.Core.Bool.{true, false}
 use mathlib.Core.List.{List, [], _∷_, _++_}

@@ -1,6 +1,5 @@
 -- Superfluous recursion, and being free of a set, for a row from those of its parts and back: a leaf before a row, a node before a row, a
--- node and the row below it. No node covers more than the row that it stands in, so a narrow row is free of every set.
--- Assumes nothing.
+-- node and the row below it. No node covers more than the row that it stands in, so a narrow row is free of every set. Assumes nothing.
 use Prim.Native.Nat.{ℕ, _≤_, _<_}
 use mathlib.Core.Bool.{Bool, true, false, true≢false}
 use mathlib.Core.Path.{_≡_, refl, sym, ap, subst, _∙_}

@@ -1,6 +1,5 @@
 -- A set of forests whose codes are those of a first part followed by those of a rest, where the rest may depend on the nodes of the first
--- part: first, next and last from those of the parts.
--- Assumes nothing.
+-- part: first, next and last from those of the parts. Assumes nothing.
 use Prim.Native.Nat.{ℕ, _*_}
 use mathlib.Core.List.{List, _++_}
 use mathlib.Core.Logic.{_⊎_, inl, inr}

@@ -1,6 +1,5 @@
 -- A set of forests in layers by a number, the codes of a layer before those of all later ones: the first code is that of the first layer
--- that has one; the next one is in the same layer, or the first of the next layer that has one.
--- Assumes nothing.
+-- that has one; the next one is in the same layer, or the first of the next layer that has one. Assumes nothing.
 use Prim.Native.Nat.{ℕ, _<_}
 use mathlib.Core.List.{List}
 use mathlib.Core.Logic.{_⊎_, inl, inr, _≢_}

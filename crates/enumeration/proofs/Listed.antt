@@ -1,6 +1,5 @@
 -- A rising list that has exactly the codes of a set of forests: the first code of the set is its head, the code after d follows d, and
--- where there is none d stands at the end.
--- Assumes nothing.
+-- where there is none d stands at the end. Assumes nothing.
 use Prim.Native.Nat.{ℕ}
 use mathlib.Core.List.{List, [], _∷_, _++_, List·Memᴰ, List·Memᴰ·head, List·Memᴰ·tail, List·Memᴰ·not-nil, List·Memᴰ·cases-cons, Memᴰ·cast}
 use mathlib.Core.List.{Memᴰ·append-right}

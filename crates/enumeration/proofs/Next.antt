@@ -1,6 +1,5 @@
 -- The code after the one of a row or of a node that stands, from its parts: what stands further right moves first; and where there is
--- none.
--- Assumes nothing.
+-- none. Assumes nothing.
 use Prim.Native.Nat.{ℕ, _+_, _-_, _*_, _≤_, _<_}
 use mathlib.Core.Bool.{true, false}
 use mathlib.Core.List.{List, [], _∷_, _++_}

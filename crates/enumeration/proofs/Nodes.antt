@@ -1,6 +1,5 @@
 -- A node of the nonterminal k over c bytes and the row below it, which has one node less to spend and may not have k over the same bytes;
--- the nodes in layers by their rules.
--- Assumes nothing.
+-- the nodes in layers by their rules. Assumes nothing.
 use Prim.Native.Nat.{ℕ, _+_, _-_, _≤_, _<_}
 use mathlib.Core.Bool.{false}
 use mathlib.Core.List.{List, [], _∷_, append-nil}

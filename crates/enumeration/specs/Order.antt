@@ -1,5 +1,4 @@
--- The first code of a set of forests, the one after a given code, and that there is none after it.
--- Assumes nothing.
+-- The first code of a set of forests, the one after a given code, and that there is none after it. Assumes nothing.
 use Prim.Native.Nat.{ℕ, _≤_}
 use mathlib.Core.List.{List}
 use mathlib.Core.Path.{_≡_}

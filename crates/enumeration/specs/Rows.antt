@@ -1,6 +1,5 @@
 -- The forests among which the enumerator looks for the first and the next one. A span is the positions `from` to `to` of one input w; sets
--- of nonterminals are words of crate sets.
--- Assumes nothing.
+-- of nonterminals are words of crate sets. Assumes nothing.
 use Prim.Native.Nat.{ℕ, _+_, _-_, _≤_}
 use mathlib.Core.Bool.{true}
 use mathlib.Core.List.{List, [], _∷_}

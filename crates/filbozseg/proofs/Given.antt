@@ -1,5 +1,4 @@
--- What the exported functions return and leave, from what the functions that they call ensure.
--- Assumes nothing.
+-- What the exported functions return and leave, from what the functions that they call ensure. Assumes nothing.
 use Prim.Native.Nat.{ℕ, _<_}
 use native.Mathlib.Omega.{arith}
 use mathlib.Core.Bool.{Bool}

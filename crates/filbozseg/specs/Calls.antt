@@ -1,6 +1,5 @@
 -- What each exported function returns and leaves, in terms of the results of document 01. A grammar is a flat row (crate rows), a state of
--- the recognizer the row of a hand (crate hand).
--- Assumes nothing.
+-- the recognizer the row of a hand (crate hand). Assumes nothing.
 use Prim.Native.Nat.{ℕ}
 use mathlib.Core.Bool.{Bool}
 use mathlib.Core.List.{List}

@@ -1,5 +1,4 @@
--- What first answers, from the checks and what is answered over the filled chart.
--- Assumes nothing.
+-- What first answers, from the checks and what is answered over the filled chart. Assumes nothing.
 use Prim.Native.Nat.{ℕ, _≤_}
 use mathlib.Core.List.{List}
 use mathlib.Core.Path.{_≡_, sym, _∙_}

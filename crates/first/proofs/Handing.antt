@@ -1,5 +1,4 @@
--- What is handed out once the tables are made, by the tests that the code makes.
--- Assumes nothing.
+-- What is handed out once the tables are made, by the tests that the code makes. Assumes nothing.
 use Prim.Native.Nat.{ℕ, _≤_}
 use mathlib.Core.Bool.{Bool, true, false}
 use mathlib.Core.List.{List}

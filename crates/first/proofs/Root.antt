@@ -1,6 +1,5 @@
 -- What is handed out at the root, by the list L of the packed grammar: "no reading" where the chart is not complete, and 13 where each tree
--- has too many nodes.
--- Assumes nothing.
+-- has too many nodes. Assumes nothing.
 use Prim.Native.Nat.{ℕ, _≤_}
 use mathlib.Core.Bool.{Bool, true, false}
 use mathlib.Core.List.{List}

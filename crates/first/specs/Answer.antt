@@ -1,5 +1,4 @@
--- What the calls that hand out a derivation (first and next) give, in the words and numbers of document 01.
--- Assumes nothing.
+-- What the calls that hand out a derivation (first and next) give, in the words and numbers of document 01. Assumes nothing.
 use Prim.Native.Nat.{ℕ}
 use mathlib.Core.Bool.{cond}
 use mathlib.Core.List.{List}

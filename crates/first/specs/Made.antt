@@ -1,5 +1,4 @@
--- What is handed out once the tables are made.
--- Assumes nothing.
+-- What is handed out once the tables are made. Assumes nothing.
 use Prim.Native.Nat.{ℕ}
 use mathlib.Core.List.{List}
 use mathlib.Core.Path.{_≡_}

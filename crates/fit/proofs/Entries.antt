@@ -1,5 +1,4 @@
--- Entries of a fit table as they are written: one more place of one position, and what was written in two goes.
--- Assumes nothing.
+-- Entries of a fit table as they are written: one more place of one position, and what was written in two goes. Assumes nothing.
 use Prim.Native.Nat.{ℕ, _+_, _*_, _<_}
 use mathlib.Core.Bool.{Bool, true, false}
 use mathlib.Core.List.{List}

@@ -1,5 +1,4 @@
--- What a fit table tells.
--- Assumes nothing.
+-- What a fit table tells. Assumes nothing.
 use Prim.Native.Nat.{ℕ, _≤_}
 use mathlib.Core.Bool.{Bool}
 use mathlib.Core.List.{List}

@@ -1,5 +1,4 @@
--- The fit table, place by place and rule by rule: what the steps of the code give.
--- Assumes nothing.
+-- The fit table, place by place and rule by rule: what the steps of the code give. Assumes nothing.
 use Prim.Native.Nat.{ℕ, zero, suc, _+_, _*_, _≤_, _<_}
 use mathlib.Core.Bool.{Bool, true, false}
 use mathlib.Core.List.{List}

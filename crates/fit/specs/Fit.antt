@@ -1,6 +1,5 @@
 -- The fit table of a packed grammar and an input: for each position and rule one byte, whose bit q says whether place q of the rule is a
--- terminal that fits the byte at the position.
--- Assumes nothing.
+-- terminal that fits the byte at the position. Assumes nothing.
 use Prim.Native.Nat.{ℕ, _+_, _*_, _≤_, _<_}
 use mathlib.Core.Bool.{Bool, false}
 use mathlib.Core.List.{List}

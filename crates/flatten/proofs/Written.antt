@@ -1,5 +1,4 @@
--- Records written one after the other into a flat row, behind what stands there already.
--- Assumes nothing.
+-- Records written one after the other into a flat row, behind what stands there already. Assumes nothing.
 use Prim.Native.Nat.{ℕ, _+_, _*_, _≤_, _<_}
 use native.Mathlib.Omega.{arith}
 use mathlib.Core.List.{List, [], _∷_, _++_, flatMap, append-assoc, append-nil}

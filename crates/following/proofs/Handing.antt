@@ -1,5 +1,4 @@
--- What next hands out once the tables are made, by the tests that the code makes.
--- Assumes nothing.
+-- What next hands out once the tables are made, by the tests that the code makes. Assumes nothing.
 use Prim.Native.Nat.{ℕ, _*_, _/_, _≤_}
 use mathlib.Core.List.{List, _++_, List·Memᴰ}
 use mathlib.Core.Path.{_≡_, ap, _∙_}

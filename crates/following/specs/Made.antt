@@ -1,5 +1,4 @@
--- What next hands out once the tables are made.
--- Assumes nothing.
+-- What next hands out once the tables are made. Assumes nothing.
 use Prim.Native.Nat.{ℕ}
 use mathlib.Core.List.{List, List·Memᴰ}
 use mathlib.Core.Path.{_≡_}

@@ -1,5 +1,4 @@
--- Tests joined by `&&`, and the test `all` over the front of a list. A read past the end of the list gives d.
--- Assumes nothing.
+-- Tests joined by `&&`, and the test `all` over the front of a list. A read past the end of the list gives d. Assumes nothing.
 use Prim.Native.Nat.{ℕ, zero, suc, _+_, _<_}
 use native.Mathlib.Nat.{le-of-suc-le-suc, not-suc-le-zero}
 use native.Mathlib.Numerals.{add-one}

@@ -1,6 +1,5 @@
 -- What check 8 says of the abstract grammar: the start symbol, the left sides of its rules and the nonterminals in their places are below
--- 32; and of the declared one: it uses at most 128 rules, and each of these has at most 8 places.
--- Assumes nothing.
+-- 32; and of the declared one: it uses at most 128 rules, and each of these has at most 8 places. Assumes nothing.
 use Prim.Native.Nat.{ℕ, zero, suc, _≤_, _<_}
 use native.Mathlib.Omega.{arith}
 use mathlib.Core.Bool.{true}

@@ -1,5 +1,4 @@
--- The two laws of the fit test: a byte fits itself, and nothing else.
--- Assumes nothing.
+-- The two laws of the fit test: a byte fits itself, and nothing else. Assumes nothing.
 use Prim.Native.Nat.{ℕ}
 use mathlib.Core.Bool.{true}
 use mathlib.Core.Path.{_≡_, refl}

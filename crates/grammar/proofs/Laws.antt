@@ -1,6 +1,5 @@
 -- What the functions of the crate need, with premises as their code gives them: zeros made of a zero, and what a test of check 8 that fails
--- says of the whole, and the tests that pass together.
--- Assumes nothing.
+-- says of the whole, and the tests that pass together. Assumes nothing.
 use Prim.Native.Nat.{ℕ, _+_, _≤_, _<_}
 use native.Mathlib.Nat.{le-antisymm}
 use mathlib.Core.Bool.{Bool, true, false, not, and-false}

@@ -1,5 +1,4 @@
--- The numbers that document 01 gives its refusals.
--- Assumes nothing.
+-- The numbers that document 01 gives its refusals. Assumes nothing.
 use Prim.Native.Nat.{ℕ}
 use Rattle.grammar.specs.declared.Refusal.{Refusal}
 use Rattle.grammar.specs.declared.Refusal.the-variants as R

@@ -1,5 +1,4 @@
--- A symbol as two numbers: a tag that says what it is, and the number that it holds.
--- Assumes nothing.
+-- A symbol as two numbers: a tag that says what it is, and the number that it holds. Assumes nothing.
 use Prim.Native.Nat.{ℕ}
 use Rattle.grammar.specs.declared.Symbol.{Symbol}
 use Rattle.grammar.specs.declared.Symbol.the-variants.{Nonterminal, Terminal}

@@ -1,6 +1,5 @@
 -- Check 8: start or a used nonterminal (kind) over 31, more than 128 rules, or more than 8 places is refused. Only what the counts say
--- is used is looked at; the nullable depth, the lengths and unused records may hold anything.
--- Assumes nothing.
+-- is used is looked at; the nullable depth, the lengths and unused records may hold anything. Assumes nothing.
 use mathlib.Core.Bool.{Bool, true, _&&_}
 use mathlib.Core.List.{List, [], _∷_}
 use lib.Dec.{leb}

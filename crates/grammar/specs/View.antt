@@ -1,5 +1,4 @@
--- The abstract grammars that a declared one means, and its rule lengths by number.
--- Assumes nothing.
+-- The abstract grammars that a declared one means, and its rule lengths by number. Assumes nothing.
 use mathlib.Core.List.{map}
 use mathlib.Core.Option.{Option, some}
 use Prim.Native.Nat.{ℕ}

@@ -1,5 +1,4 @@
--- What is unused is handed back as zeros, a place as the nonterminal (kind) 0.
--- Assumes nothing.
+-- What is unused is handed back as zeros, a place as the nonterminal (kind) 0. Assumes nothing.
 use mathlib.Core.List.{[]}
 use lib.IntN.{pos}
 use lib.ListN.{replicate}

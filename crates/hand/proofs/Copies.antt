@@ -1,5 +1,4 @@
--- The bytes of a state, copied one after the other from a row and to a row.
--- Assumes nothing.
+-- The bytes of a state, copied one after the other from a row and to a row. Assumes nothing.
 use Prim.Native.Nat.{ℕ, suc, _+_, _≤_, _<_}
 use native.Mathlib.Numerals.{add-one}
 use native.Mathlib.Omega.{arith}

@@ -1,5 +1,4 @@
--- The facts on a fit table that the tables ask for, from what makes it.
--- Assumes nothing.
+-- The facts on a fit table that the tables ask for, from what makes it. Assumes nothing.
 use Prim.Native.Nat.{ℕ, _≤_}
 use mathlib.Core.List.{List}
 use lib.ListN.{length}

@@ -1,5 +1,4 @@
--- A list whose front is another one.
--- Assumes nothing.
+-- A list whose front is another one. Assumes nothing.
 use Prim.Native.Nat.{ℕ, _+_, _-_, _≤_, _<_}
 use mathlib.Core.List.{List, _++_}
 use mathlib.Core.Logic.{dite}

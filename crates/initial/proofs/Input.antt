@@ -1,6 +1,5 @@
 -- The bytes of one input, told by a test: trees over these are trees over the input's bytes, so that tables that are right for the test are
--- right for the input.
--- Assumes nothing.
+-- right for the input. Assumes nothing.
 use Prim.Native.Nat.{ℕ}
 use mathlib.Core.Bool.{Bool, _&&_, and-eq-true-iff}
 use mathlib.Core.List.{List}

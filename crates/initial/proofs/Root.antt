@@ -1,5 +1,4 @@
--- What is handed out at the root, by the list L of the packed grammar, where a tree has few enough nodes: the first tree.
--- Assumes nothing.
+-- What is handed out at the root, by the list L of the packed grammar, where a tree has few enough nodes: the first tree. Assumes nothing.
 use Prim.Native.Nat.{ℕ, _*_, _/_}
 use mathlib.Core.List.{List, _++_}
 use mathlib.Core.Path.{_≡_, refl, ap}

@@ -1,5 +1,4 @@
--- Writing the first derivation once the tables are made, and that the tables made are right for the input.
--- Assumes nothing.
+-- Writing the first derivation once the tables are made, and that the tables made are right for the input. Assumes nothing.
 use Prim.Native.Nat.{ℕ, _+_, _*_, _-_, _≤_, _<_}
 use mathlib.Core.List.{List}
 use mathlib.Core.Path.{_≡_, ap, _∙_}

@@ -1,5 +1,4 @@
--- The bounds that the lines are written for are those of lists of derivations and of their lengths.
--- Assumes nothing.
+-- The bounds that the lines are written for are those of lists of derivations and of their lengths. Assumes nothing.
 use Prim.Native.Nat.{ℕ, zero, suc, _+_, _/_, _≤_}
 use native.Mathlib.Omega.{arith}
 use mathlib.Core.Path.{_≡_, refl}

@@ -1,5 +1,4 @@
--- The pieces of the lines, one behind the other.
--- Assumes nothing.
+-- The pieces of the lines, one behind the other. Assumes nothing.
 use Prim.Native.Nat.{ℕ, zero, suc, _+_, _*_, _≤_, _<_}
 use native.Mathlib.Numerals.{add-one}
 use native.Mathlib.Omega.{arith}

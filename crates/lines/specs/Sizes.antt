@@ -1,5 +1,4 @@
--- The sizes of lines and of their pieces.
--- Assumes nothing.
+-- The sizes of lines and of their pieces. Assumes nothing.
 use Prim.Native.Nat.{ℕ, _+_}
 use Rattle.digits.specs.Put.{lengthSize}
 

@@ -1,5 +1,4 @@
--- The output buffer: its bytes, and how many of them may be in use for a further line to fit.
--- Assumes nothing.
+-- The output buffer: its bytes, and how many of them may be in use for a further line to fit. Assumes nothing.
 use Prim.Native.Nat.{ℕ, _-_}
 use Rattle.lines.specs.Sizes.{lineSize}
 

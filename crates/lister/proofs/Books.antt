@@ -1,5 +1,4 @@
--- What is printed first, by what loading the book gave.
--- Assumes nothing.
+-- What is printed first, by what loading the book gave. Assumes nothing.
 use Prim.Native.Nat.{ℕ, _≤_}
 use mathlib.Core.Bool.{true}
 use mathlib.Core.List.{List}

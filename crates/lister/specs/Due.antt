@@ -1,5 +1,4 @@
--- Which lines are still to be printed, by what is printed next and what the program holds.
--- Assumes nothing.
+-- Which lines are still to be printed, by what is printed next and what the program holds. Assumes nothing.
 use Prim.Native.Nat.{ℕ, suc, _*_, _≤_, _<_}
 use mathlib.Core.List.{List, [], _∷_, _++_}
 use mathlib.Core.Path.{_≡_}

@@ -1,6 +1,5 @@
 -- The function `derivations` lists exactly the derivations, in rising order; that list is the only one. No listed row is empty or the
--- beginning of another one, and a smaller budget keeps the rows that are short enough.
--- Assumes nothing.
+-- beginning of another one, and a smaller budget keeps the rows that are short enough. Assumes nothing.
 use Prim.Native.Nat.{ℕ, _≤_, _*_}
 use mathlib.Core.Bool.{true}
 use mathlib.Core.List.{List, [], _∷_, _++_, List·Memᴰ, Memᴰ·cast, cons≢nil}

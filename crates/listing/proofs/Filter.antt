@@ -1,5 +1,4 @@
--- The members of a filtered list, and that filtering keeps the order.
--- Assumes nothing.
+-- The members of a filtered list, and that filtering keeps the order. Assumes nothing.
 use Prim.Native.Nat.{ℕ, _≤_, _*_}
 use mathlib.Core.Bool.{Bool, true, false, false≢true}
 use mathlib.Core.List.{List, [], _∷_, List·Memᴰ, List·Memᴰ·head, List·Memᴰ·tail, List·Memᴰ·not-nil}

@@ -1,6 +1,5 @@
 -- Rows that fit places and in which no node has the span of a node above it, the nodes above the whole row included: `Fit`. With nothing
--- above these are the rows that fit and are without superfluous recursion.
--- Assumes nothing.
+-- above these are the rows that fit and are without superfluous recursion. Assumes nothing.
 use Prim.Native.Nat.{ℕ}
 use mathlib.Core.Bool.{Bool, true, false, _&&_, _||_, or-true, true≢false, false≢true}
 use mathlib.Core.List.{List, [], _∷_}

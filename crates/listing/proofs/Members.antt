@@ -1,5 +1,4 @@
--- Members of the lists that `over`, `when` and `map` give, and lists all of whose elements are related to all later ones.
--- Assumes nothing.
+-- Members of the lists that `over`, `when` and `map` give, and lists all of whose elements are related to all later ones. Assumes nothing.
 use Prim.Native.Nat.{ℕ}
 use mathlib.Core.Bool.{Bool, true, false, false≢true}
 use mathlib.Core.List.{List, [], _∷_, _++_, map, List·Memᴰ, List·Memᴰ·head, List·Memᴰ·tail, List·Memᴰ·not-nil, List·Memᴰ·append-cases}

@@ -1,6 +1,5 @@
 -- The order of rows of numbers: irreflexive, transitive, kept by what is put behind or before the rows, and never between a row and its
--- own beginning.
--- Assumes nothing.
+-- own beginning. Assumes nothing.
 use Prim.Native.Nat.{ℕ}
 use mathlib.Core.List.{List, [], _∷_, _++_, append-nil, head-eq-of-cons-eq, tail-eq-of-cons-eq}
 use mathlib.Core.Path.{_≡_, refl, sym, _∙_}

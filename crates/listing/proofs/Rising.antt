@@ -1,5 +1,4 @@
--- Rising lists: each element is before all later ones, and two rising lists with the same members are the same list.
--- Assumes nothing.
+-- Rising lists: each element is before all later ones, and two rising lists with the same members are the same list. Assumes nothing.
 use Prim.Native.Nat.{ℕ}
 use mathlib.Core.List.{List, [], _∷_, List·Memᴰ, List·Memᴰ·head, List·Memᴰ·tail, List·Memᴰ·not-nil, List·Memᴰ·cases-cons}
 use mathlib.Core.Logic.{_⊎_, inl, inr, _↔_}

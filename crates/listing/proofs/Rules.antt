@@ -1,5 +1,4 @@
--- The numbers that `from` gives and the rules that `rulesFrom` gives: exactly those that are meant, in rising order.
--- Assumes nothing.
+-- The numbers that `from` gives and the rules that `rulesFrom` gives: exactly those that are meant, in rising order. Assumes nothing.
 use Prim.Native.Nat.{ℕ, zero, suc, _+_, _≤_, _<_}
 use mathlib.Core.Bool.{Bool, true, false, false≢true}
 use mathlib.Core.List.{List, [], _∷_, List·Memᴰ, List·Memᴰ·head, List·Memᴰ·tail, List·Memᴰ·not-nil}

@@ -1,5 +1,4 @@
--- Every listing is in order: each member is before all later ones.
--- Assumes nothing.
+-- Every listing is in order: each member is before all later ones. Assumes nothing.
 use Prim.Native.Nat.{ℕ, zero, suc, _<_}
 use mathlib.Core.Bool.{not}
 use mathlib.Core.List.{List, [], _∷_, List·Memᴰ, List·Memᴰ·not-nil}

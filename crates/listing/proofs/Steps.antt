@@ -1,5 +1,4 @@
--- The list of rows item by item: what `listing` gives for each first item, for any budget, and what its members are.
--- Assumes nothing.
+-- The list of rows item by item: what `listing` gives for each first item, for any budget, and what its members are. Assumes nothing.
 use Prim.Native.Nat.{ℕ, zero, suc, _≤_}
 use mathlib.Core.Bool.{Bool, true, false, not, true≢false, false≢true}
 use mathlib.Core.List.{List, [], _∷_, _++_, map, List·Memᴰ, List·Memᴰ·not-nil, List·Memᴰ·eq-of-singleton, List·Memᴰ·head}

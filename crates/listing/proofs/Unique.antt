@@ -1,6 +1,5 @@
 -- The grammar, the input and the code determine the tree, and no code of a tree is the beginning of the code of another one over the same
--- input. A code has two numbers for each node.
--- Assumes nothing.
+-- input. A code has two numbers for each node. Assumes nothing.
 use Prim.Native.Nat.{ℕ, _*_}
 use mathlib.Core.List.{List, [], _++_, append-nil, append-assoc, head-eq-of-cons-eq, tail-eq-of-cons-eq}
 use mathlib.Core.Path.{_≡_, refl, sym, ap, ap₂, subst, _∙_}

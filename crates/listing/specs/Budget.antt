@@ -1,5 +1,4 @@
--- The elements of a list that pass a test, and the test of a row of numbers against a budget of nodes.
--- Assumes nothing.
+-- The elements of a list that pass a test, and the test of a row of numbers against a budget of nodes. Assumes nothing.
 use Prim.Native.Nat.{ℕ, _*_}
 use mathlib.Core.Bool.{Bool, true, false}
 use mathlib.Core.List.{List, [], _∷_}

@@ -1,5 +1,4 @@
--- The live starts of a rule, by the tests that the code makes, and rows of too many.
--- Assumes nothing.
+-- The live starts of a rule, by the tests that the code makes, and rows of too many. Assumes nothing.
 use Prim.Native.Nat.{ℕ, _+_, _*_, _-_, _≤_, _<_}
 use mathlib.Core.Bool.{Bool, true, false, not, true≢false}
 use mathlib.Core.List.{List}

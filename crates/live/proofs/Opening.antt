@@ -1,5 +1,4 @@
--- One rule from one start on, as the code does it: put, or passed over.
--- Assumes nothing.
+-- One rule from one start on, as the code does it: put, or passed over. Assumes nothing.
 use Prim.Native.Nat.{ℕ, _*_, _<_}
 use mathlib.Core.Bool.{Bool, true}
 use mathlib.Core.List.{List}

@@ -1,6 +1,5 @@
 -- A rule that is passed over has no suffix from i to j without a child over the whole span: an end whose bit is not set costs too many,
--- and so do the places behind from a start that is not live.
--- Assumes nothing.
+-- and so do the places behind from a start that is not live. Assumes nothing.
 use Prim.Native.Nat.{ℕ, zero, suc, _+_, _*_, _-_, _≤_, _<_}
 use mathlib.Core.Bool.{Bool, true, false}
 use mathlib.Core.List.{List, _∷_}

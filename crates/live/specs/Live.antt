@@ -1,5 +1,4 @@
--- The live starts of a rule up to one end, and its rows from one start on, made or passed over.
--- Assumes nothing.
+-- The live starts of a rule up to one end, and its rows from one start on, made or passed over. Assumes nothing.
 use Prim.Native.Nat.{ℕ, _+_, _*_, _≤_, _<_}
 use mathlib.Core.Bool.{Bool, true, false}
 use mathlib.Core.List.{List}

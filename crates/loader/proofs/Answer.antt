@@ -1,5 +1,4 @@
--- What the loader hands back after a book that was read to its end, and after a fault.
--- Assumes nothing.
+-- What the loader hands back after a book that was read to its end, and after a fault. Assumes nothing.
 use Prim.Native.Nat.{ℕ, zero-le}
 use native.Mathlib.Omega.{arith}
 use mathlib.Core.Option.{Option·some-ne-none}

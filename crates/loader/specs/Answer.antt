@@ -1,5 +1,4 @@
--- What the loader hands back, in the words of document 01: after a book that was read to its end, and after a fault.
--- Assumes nothing.
+-- What the loader hands back, in the words of document 01: after a book that was read to its end, and after a fault. Assumes nothing.
 use mathlib.Core.Path.{_≡_}
 use Rattle.cfg.specs.Nullable.{Depth}
 use Rattle.grammar.specs.declared.Grammar.{Grammar}

@@ -1,6 +1,5 @@
 -- On what of the cell's set a rule's flags depend: only on the nonterminals in places behind which all can be empty. And a rule without
--- inner cuts has no flags where the set has none of these.
--- Assumes nothing.
+-- inner cuts has no flags where the set has none of these. Assumes nothing.
 use Prim.Native.Nat.{ℕ, zero, suc, _+_, _-_, _^_, _≤_, _<_}
 use mathlib.Core.Bool.{true, false}
 use mathlib.Core.List.{List}

@@ -1,5 +1,4 @@
--- One rule, looked at or passed over: what the steps of the code give.
--- Assumes nothing.
+-- One rule, looked at or passed over: what the steps of the code give. Assumes nothing.
 use Prim.Native.Nat.{ℕ, _^_, _<_}
 use mathlib.Core.Bool.{Bool, true, false, cond, _&&_}
 use mathlib.Core.List.{List}

@@ -1,5 +1,4 @@
--- All rules at one cell, again and again until nothing is added: what the steps of the code give.
--- Assumes nothing.
+-- All rules at one cell, again and again until nothing is added: what the steps of the code give. Assumes nothing.
 use Prim.Native.Nat.{ℕ, _+_, _≤_, _<_}
 use mathlib.Core.Bool.{Bool, true, false, cond, _&&_}
 use mathlib.Core.List.{List}

@@ -1,6 +1,5 @@
 -- Looking at the rules at one cell (i, n), i < n, again only where a rule's flags can have changed: what the words given mean, and what is
--- promised of the set and of the flags. The promises hold for all cells and sets that the words are true of.
--- Assumes nothing.
+-- promised of the set and of the flags. The promises hold for all cells and sets that the words are true of. Assumes nothing.
 use Prim.Native.Nat.{ℕ, _^_, _≤_, _<_}
 use mathlib.Core.Bool.{true}
 use mathlib.Core.List.{List}

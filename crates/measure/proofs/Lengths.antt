@@ -1,5 +1,4 @@
--- The sum of the rule lengths, node by node, in signed numbers of 32 bits.
--- Assumes nothing.
+-- The sum of the rule lengths, node by node, in signed numbers of 32 bits. Assumes nothing.
 use Prim.Native.Nat.{ℕ, zero, suc, _+_, _*_, _/_, _≤_, _<_, min}
 use mathlib.Core.List.{List, [], _∷_, _++_, map}
 use mathlib.Core.Path.{_≡_, refl, sym, ap, ap₂, subst, _∙_}

@@ -1,5 +1,4 @@
--- Signed numbers of 32 bits: sizes of sums and quotients, and the rounding of hundredths to tenths.
--- Assumes nothing.
+-- Signed numbers of 32 bits: sizes of sums and quotients, and the rounding of hundredths to tenths. Assumes nothing.
 use Prim.Native.Nat.{ℕ, zero, suc, _+_, _-_, _/_, _≤_, _<_}
 use mathlib.Core.Bool.{Bool, true, false, cond, true≢false}
 use mathlib.Core.Path.{_≡_, refl, sym, ap, subst, _∙_}

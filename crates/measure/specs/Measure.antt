@@ -1,5 +1,4 @@
--- The rule lengths as a row, by number.
--- Assumes nothing.
+-- The rule lengths as a row, by number. Assumes nothing.
 use Prim.Native.Nat.{ℕ}
 use mathlib.Core.List.{List}
 use lib.IntN.{ℤ, pos}

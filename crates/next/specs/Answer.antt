@@ -1,5 +1,4 @@
--- What next gives over a chart that is filled.
--- Assumes nothing.
+-- What next gives over a chart that is filled. Assumes nothing.
 use Prim.Native.Nat.{ℕ}
 use mathlib.Core.List.{List, [], _∷_}
 use Rattle.cfg.specs.Grammar.{Cfg}

@@ -1,5 +1,4 @@
--- The two numbers of a node, set one after the other.
--- Assumes nothing.
+-- The two numbers of a node, set one after the other. Assumes nothing.
 use Prim.Native.Nat.{ℕ, _+_, _*_, _<_}
 use mathlib.Core.List.{List}
 use mathlib.Core.Path.{_∙_}

@@ -1,5 +1,4 @@
--- What writing the two numbers of a node leaves.
--- Assumes nothing.
+-- What writing the two numbers of a node leaves. Assumes nothing.
 use Prim.Native.Nat.{ℕ, _+_, _*_}
 use mathlib.Core.List.{List}
 use mathlib.Core.Logic.{_≢_}

@@ -1,6 +1,5 @@
 -- The number of nullable nonterminals is a nullable depth: a lowest empty tree has no nonterminal twice on a way down, and each of its
--- nodes is nullable.
--- Assumes nothing.
+-- nodes is nullable. Assumes nothing.
 use Prim.Native.Nat.{ℕ, zero, suc, _+_, _≤_, _<_}
 use native.Mathlib.Decide.{ℕ-discrete, decLt}
 use native.Mathlib.Nat.{not-suc-le-zero, le-antisymm}

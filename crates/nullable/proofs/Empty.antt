@@ -1,6 +1,5 @@
 -- The search for nullable nonterminals in trees: what a rule over nullable nonterminals adds is nullable, and a set to which no rule adds
--- anything has every nullable nonterminal.
--- Assumes nothing.
+-- anything has every nullable nonterminal. Assumes nothing.
 use Prim.Native.Nat.{ℕ, _<_}
 use native.Mathlib.Decide.{ℕ-discrete, decLt}
 use native.Mathlib.Omega.{arith}

@@ -1,6 +1,5 @@
 -- A set to which a pass adds nothing, and whose members are nullable, has exactly the nullable nonterminals: the steps of the loop of the
--- search, with premises as its code gives them.
--- Assumes nothing.
+-- search, with premises as its code gives them. Assumes nothing.
 use Prim.Native.Nat.{ℕ, zero, suc, _-_, _^_, _≤_, _<_}
 use native.Mathlib.Numerals.{add-one}
 use native.Mathlib.Omega.{arith}

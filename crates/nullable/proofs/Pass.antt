@@ -1,6 +1,5 @@
 -- The search for nullable nonterminals as numbers: a pass keeps the members and the width, a pass that adds nothing says that no rule adds
--- anything, and the steps of the loops, with premises as their code gives them.
--- Assumes nothing.
+-- anything, and the steps of the loops, with premises as their code gives them. Assumes nothing.
 use Prim.Native.Nat.{ℕ, zero, suc, _+_, _^_, _≤_, _<_}
 use native.Mathlib.Nat.{le-refl, le-trans, le-antisymm, le-of-suc-le-suc, not-suc-le-zero}
 use native.Mathlib.Numerals.{add-one}

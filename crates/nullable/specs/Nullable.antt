@@ -1,5 +1,4 @@
--- What the search for nullable nonterminals computes, and what its sets are.
--- Assumes nothing.
+-- What the search for nullable nonterminals computes, and what its sets are. Assumes nothing.
 use Prim.Native.Nat.{ℕ, _<_, _^_}
 use mathlib.Core.Bool.{Bool, true, false, cond}
 use mathlib.Core.List.{List, [], _∷_}

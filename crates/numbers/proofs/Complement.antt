@@ -1,5 +1,4 @@
--- The signed number of 16 bits, read and written: what the machine computes is what the specification says.
--- Assumes nothing.
+-- The signed number of 16 bits, read and written: what the machine computes is what the specification says. Assumes nothing.
 use Prim.Native.Nat.{ℕ, zero, suc, _-_, _%_, _≤_, _<_}
 use native.Mathlib.Nat.{zero-add}
 use native.Mathlib.Omega.{arith}

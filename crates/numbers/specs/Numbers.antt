@@ -1,6 +1,5 @@
 -- Numbers of one width as numbers of another. One that is too large for the narrow width becomes its largest, so that no test that
--- refuses large numbers is passed by cutting one.
--- Assumes nothing.
+-- refuses large numbers is passed by cutting one. Assumes nothing.
 use Prim.Native.Nat.{ℕ, _-_, _%_, min}
 use mathlib.Core.Bool.{cond}
 use lib.Dec.{ltb}

@@ -1,5 +1,4 @@
--- What a packed grammar means, rule by rule and place by place.
--- Assumes nothing.
+-- What a packed grammar means, rule by rule and place by place. Assumes nothing.
 use Prim.Native.Nat.{ℕ, zero, suc, _+_, _*_, _-_, _≤_, _<_, min}
 use mathlib.Core.Bool.{Bool, true, false, cond}
 use mathlib.Core.List.{List, [], _∷_}

@@ -1,5 +1,4 @@
--- One past the last number that has a rule.
--- Assumes nothing.
+-- One past the last number that has a rule. Assumes nothing.
 use Prim.Native.Nat.{ℕ, _-_, _≤_, _<_}
 use mathlib.Core.List.{List}
 use mathlib.Core.Logic.{_≢_}

@@ -1,6 +1,5 @@
 -- A packed grammar has as many bytes for each of 128 rules: the left side (32 or more: no rule of this number), the number of places,
--- and for each of 8 places a tag (0 a nonterminal, else a terminal) and a value. What such bytes mean.
--- Assumes nothing.
+-- and for each of 8 places a tag (0 a nonterminal, else a terminal) and a value. What such bytes mean. Assumes nothing.
 use Prim.Native.Nat.{ℕ, zero, suc, _+_, _*_, _<_, min}
 use mathlib.Core.Bool.{Bool, false, cond}
 use mathlib.Core.List.{List, [], _∷_}

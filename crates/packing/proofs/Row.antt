@@ -1,5 +1,4 @@
--- Writing a declared rule into row r of a packed grammar, place by place.
--- Assumes nothing.
+-- Writing a declared rule into row r of a packed grammar, place by place. Assumes nothing.
 use Prim.Native.Nat.{ℕ, zero, suc, _+_, _*_, _≤_, _<_, min}
 use mathlib.Core.Bool.{true, cond}
 use mathlib.Core.List.{List, _∷_, map}

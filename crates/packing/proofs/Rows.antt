@@ -1,5 +1,4 @@
--- Writing the rules of a declared grammar, one after the other, into bytes that are all 255.
--- Assumes nothing.
+-- Writing the rules of a declared grammar, one after the other, into bytes that are all 255. Assumes nothing.
 use Prim.Native.Nat.{ℕ, _+_, _*_, _≤_, _<_}
 use mathlib.Core.Bool.{true}
 use mathlib.Core.List.{List}

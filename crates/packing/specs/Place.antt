@@ -1,5 +1,4 @@
--- What writing a declared rule changes in a packed grammar.
--- Assumes nothing.
+-- What writing a declared rule changes in a packed grammar. Assumes nothing.
 use Prim.Native.Nat.{ℕ}
 use mathlib.Core.List.{List}
 use mathlib.Core.Logic.{_≢_}

@@ -1,6 +1,5 @@
 -- Places that hold only terminals: a row of them has no nodes and as many bytes, so what comes after a node before them, up to where it
--- ends, comes after the row.
--- Assumes nothing.
+-- ends, comes after the row. Assumes nothing.
 use Prim.Native.Nat.{ℕ, zero, suc, _+_, _-_, _≤_, _<_}
 use mathlib.Core.Bool.{Bool, true, false, true≢false}
 use mathlib.Core.List.{List, [], _∷_, _++_, append-nil}

@@ -1,5 +1,4 @@
--- Rows of the places of a rule as those of another list; and where nothing right stands in the buffer, no row stands.
--- Assumes nothing.
+-- Rows of the places of a rule as those of another list; and where nothing right stands in the buffer, no row stands. Assumes nothing.
 use Prim.Native.Nat.{ℕ, _+_, _≤_}
 use mathlib.Core.List.{List}
 use mathlib.Core.Path.{_≡_, refl, sym, subst}

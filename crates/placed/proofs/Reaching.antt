@@ -1,5 +1,4 @@
--- The steps to the last node of a row that stands, with premises as the code gives them.
--- Assumes nothing.
+-- The steps to the last node of a row that stands, with premises as the code gives them. Assumes nothing.
 use Prim.Native.Nat.{ℕ, _+_, _*_, _-_, _≤_, _<_}
 use mathlib.Core.List.{List, _++_}
 use mathlib.Core.Path.{_≡_, refl, sym, subst}

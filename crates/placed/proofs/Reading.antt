@@ -1,5 +1,4 @@
--- What stands at a place and at a node, by the tests that the code makes, and what a row that stands there says of it.
--- Assumes nothing.
+-- What stands at a place and at a node, by the tests that the code makes, and what a row that stands there says of it. Assumes nothing.
 use Prim.Native.Nat.{ℕ, _+_, _*_, _-_, _≤_, _<_}
 use mathlib.Core.Bool.{Bool, true, false}
 use mathlib.Core.List.{List, _∷_, _++_}

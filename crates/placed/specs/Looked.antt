@@ -1,5 +1,4 @@
--- What stands at a place of a rule, and at a node, as the buffer's numbers say.
--- Assumes nothing.
+-- What stands at a place of a rule, and at a node, as the buffer's numbers say. Assumes nothing.
 use Prim.Native.Nat.{ℕ, _+_, _*_, _≤_, _<_}
 use mathlib.Core.Bool.{Bool, true, false}
 use mathlib.Core.List.{List}

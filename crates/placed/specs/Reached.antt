@@ -1,6 +1,5 @@
 -- The last node of a row that stands in a buffer: the one with only terminals behind it. Nothing behind it moves, so what comes after it
--- comes after the row; and that it is last is what remains to be known where it does not move.
--- Assumes nothing.
+-- comes after the row; and that it is last is what remains to be known where it does not move. Assumes nothing.
 use Prim.Native.Nat.{ℕ, _+_, _*_, _-_, _≤_, _<_}
 use mathlib.Core.Bool.{true, false}
 use mathlib.Core.List.{List}

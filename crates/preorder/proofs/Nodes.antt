@@ -1,6 +1,5 @@
 -- A node before a row: a row that starts with a nonterminal is a node alone and a row after it; a node alone is its two numbers and the row
--- below it.
--- Assumes nothing.
+-- below it. Assumes nothing.
 use Prim.Native.Nat.{ℕ, suc, _+_, _*_, _-_, _≤_, _<_}
 use mathlib.Core.Bool.{false}
 use mathlib.Core.List.{List, [], _∷_, _++_, append-nil, append-assoc, head-eq-of-cons-eq, tail-eq-of-cons-eq}

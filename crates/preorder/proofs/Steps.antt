@@ -1,5 +1,4 @@
--- The steps of the checker of a node and of the walker of a row, with premises as their code gives them.
--- Assumes nothing.
+-- The steps of the checker of a node and of the walker of a row, with premises as their code gives them. Assumes nothing.
 use Prim.Native.Nat.{ℕ, suc, _+_, _-_, _≤_, _<_}
 use mathlib.Core.List.{List, [], _∷_}
 use mathlib.Core.Path.{_≡_, sym, ap, subst, _∙_}

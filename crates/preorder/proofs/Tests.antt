@@ -1,5 +1,4 @@
--- What the tests of the functions that do not call themselves say, with premises as their code gives them.
--- Assumes nothing.
+-- What the tests of the functions that do not call themselves say, with premises as their code gives them. Assumes nothing.
 use Prim.Native.Nat.{ℕ, _+_, _*_, _-_, _≤_, _<_}
 use mathlib.Core.Bool.{Bool, true, false, _&&_, true≢false}
 use mathlib.Core.List.{List}

@@ -1,5 +1,4 @@
--- How rows that are walked are made of their first place and the rest, and taken apart again; and there is only one.
--- Assumes nothing.
+-- How rows that are walked are made of their first place and the rest, and taken apart again; and there is only one. Assumes nothing.
 use Prim.Native.Nat.{ℕ, suc, _+_, _*_, _≤_, _<_}
 use mathlib.Core.Bool.{true}
 use mathlib.Core.List.{List, [], _∷_, _++_}

@@ -1,6 +1,5 @@
 -- What the checker of a node and the walker of a row of places find in an offered derivation e. Its node i is the two numbers at 2 * i (how
--- many bytes it covers) and 2 * i + 1 (its rule). The words of a set are those of crate sets.
--- Assumes nothing.
+-- many bytes it covers) and 2 * i + 1 (its rule). The words of a set are those of crate sets. Assumes nothing.
 use Prim.Native.Nat.{ℕ, _+_, _*_, _≤_, _<_}
 use mathlib.Core.Bool.{true, false}
 use mathlib.Core.List.{List, _++_}

@@ -1,5 +1,4 @@
--- What the checks of a call decide, by how they were judged: the refusal of the first that fails, or the call goes on.
--- Assumes nothing.
+-- What the checks of a call decide, by how they were judged: the refusal of the first that fails, or the call goes on. Assumes nothing.
 use Prim.Native.Nat.{ℕ}
 use mathlib.Core.Bool.{not}
 use mathlib.Core.List.{List, [], _∷_, _++_}

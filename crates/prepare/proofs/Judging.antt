@@ -1,5 +1,4 @@
--- Checks 8 to 11 by the tests of the code, and what filling asks of them.
--- Assumes nothing.
+-- Checks 8 to 11 by the tests of the code, and what filling asks of them. Assumes nothing.
 use Prim.Native.Nat.{ℕ, _≤_, _<_}
 use mathlib.Core.Bool.{Bool, true, false, not}
 use mathlib.Core.Path.{_≡_, refl, sym, subst, _∙_}

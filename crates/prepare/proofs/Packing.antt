@@ -1,5 +1,4 @@
--- The packed grammar has the rules of the grammar, so its charts and its list L are the same.
--- Assumes nothing.
+-- The packed grammar has the rules of the grammar, so its charts and its list L are the same. Assumes nothing.
 use Prim.Native.Nat.{ℕ, _≤_}
 use mathlib.Core.List.{List}
 use mathlib.Core.Path.{_≡_, refl, ap, _∙_}

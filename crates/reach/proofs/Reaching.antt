@@ -1,5 +1,4 @@
--- The ends from one start, cell by cell, and from all starts.
--- Assumes nothing.
+-- The ends from one start, cell by cell, and from all starts. Assumes nothing.
 use Prim.Native.Nat.{ℕ, _+_, _*_, _≤_, _<_}
 use mathlib.Core.Bool.{true, false, true≢false}
 use mathlib.Core.List.{List}

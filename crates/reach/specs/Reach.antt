@@ -1,5 +1,4 @@
--- The ends of nonterminals from each start, as sets: an end that is not in the set has an empty cell.
--- Assumes nothing.
+-- The ends of nonterminals from each start, as sets: an end that is not in the set has an empty cell. Assumes nothing.
 use Prim.Native.Nat.{ℕ, _<_}
 use mathlib.Core.Bool.{false}
 use mathlib.Core.List.{List}

@@ -1,5 +1,4 @@
--- What opening and taking give, by the checks that the code makes: one law for each way through the code.
--- Assumes nothing.
+-- What opening and taking give, by the checks that the code makes: one law for each way through the code. Assumes nothing.
 use Prim.Native.Nat.{ℕ, _+_, _-_, _≤_, _<_}
 use mathlib.Core.Bool.{Bool, true, false, not}
 use mathlib.Core.List.{List, [], _∷_, _++_}

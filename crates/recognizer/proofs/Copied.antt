@@ -1,5 +1,4 @@
--- The bytes of the state, copied one by one.
--- Assumes nothing.
+-- The bytes of the state, copied one by one. Assumes nothing.
 use Prim.Native.Nat.{ℕ, zero, suc, _+_, _-_, _≤_, _<_}
 use mathlib.Core.List.{List, [], _∷_, _++_}
 use mathlib.Core.Path.{_≡_, sym, ap, _∙_, subst}

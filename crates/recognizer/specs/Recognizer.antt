@@ -1,5 +1,4 @@
--- What the declared types of the recognizer mean: its state, and what opening and taking give.
--- Assumes nothing.
+-- What the declared types of the recognizer mean: its state, and what opening and taking give. Assumes nothing.
 use Prim.Native.Nat.{ℕ}
 use mathlib.Core.List.{List}
 use Rattle.results.specs.Recognize.{State, Recognition}

@@ -1,5 +1,4 @@
--- What a verdict answers: yes, no, or the number of its refusal. Opening, taking, check and same build answer by it.
--- Assumes nothing.
+-- What a verdict answers: yes, no, or the number of its refusal. Opening, taking, check and same build answer by it. Assumes nothing.
 use mathlib.Core.Bool.{Bool, true, false}
 use Rattle.grammar.specs.declared.Verdict.{Verdict}
 use Rattle.grammar.specs.declared.Verdict.the-variants.{Yes, No, Refused}

@@ -1,5 +1,4 @@
--- Answers told apart: what is refused is not answered, and what is handed out or counted is not "none" or "more".
--- Assumes nothing.
+-- Answers told apart: what is refused is not answered, and what is handed out or counted is not "none" or "more". Assumes nothing.
 use Prim.Native.Nat.{ℕ}
 use mathlib.Core.Path.{_≡_}
 use native.Mathlib.Omega.{arith}

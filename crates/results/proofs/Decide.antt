@@ -1,5 +1,4 @@
--- The law of `decide`: the first check that fails decides; where all are passed, the call goes on.
--- Assumes nothing.
+-- The law of `decide`: the first check that fails decides; where all are passed, the call goes on. Assumes nothing.
 use mathlib.Core.Bool.{Bool, true, false}
 use mathlib.Core.List.{List, [], _∷_, _++_}
 use mathlib.Core.Logic.{_⊎_, inl, inr}

@@ -1,5 +1,4 @@
--- Rows beyond document 01's own plates.
--- Assumes nothing.
+-- Rows beyond document 01's own plates. Assumes nothing.
 use Prim.Native.Nat.{ℕ, _-_}
 use mathlib.Core.Bool.{Bool, true, false}
 use mathlib.Core.List.{List, [], _∷_}

@@ -1,5 +1,4 @@
--- The rows of the table that say "no reading": these inputs have no parse tree of any size.
--- Assumes nothing.
+-- The rows of the table that say "no reading": these inputs have no parse tree of any size. Assumes nothing.
 use Prim.Native.Nat.{ℕ, _≤_}
 use mathlib.Core.Bool.{true, false, true≢false}
 use mathlib.Core.List.{List, [], _∷_}

@@ -1,5 +1,4 @@
--- The checks 8 to 11, 14 and 15: when each of them fails and when it is passed, in plain terms.
--- Assumes nothing.
+-- The checks 8 to 11, 14 and 15: when each of them fails and when it is passed, in plain terms. Assumes nothing.
 use Prim.Native.Nat.{ℕ, _≤_, _<_}
 use mathlib.Core.Bool.{Bool, true, false, _||_, not}
 use mathlib.Core.List.{List, [], _∷_, _++_}

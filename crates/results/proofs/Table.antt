@@ -1,6 +1,5 @@
 -- Rows of document 01's drawer beyond the starred table: what next answers, and the pair of 512 and 513 parts. Each is proved by computing
--- it.
--- Assumes nothing.
+-- it. Assumes nothing.
 use Prim.Native.Nat.{ℕ}
 use mathlib.Core.Bool.{Bool, true, false}
 use mathlib.Core.List.{List, [], _∷_}

@@ -1,5 +1,4 @@
--- The answers of document 01, and how the first check that fails decides a refusal.
--- Assumes nothing.
+-- The answers of document 01, and how the first check that fails decides a refusal. Assumes nothing.
 use Prim.Native.Nat.{ℕ}
 use mathlib.Core.Bool.{Bool, true, false}
 use mathlib.Core.List.{List, [], _∷_}

@@ -1,5 +1,4 @@
--- Checking an offered derivation: whether it is a derivation (reading) of the input.
--- Assumes nothing.
+-- Checking an offered derivation: whether it is a derivation (reading) of the input. Assumes nothing.
 use Prim.Native.Nat.{ℕ}
 use mathlib.Core.Bool.{Bool, true, false, _&&_, _||_}
 use mathlib.Core.List.{List, [], _∷_}

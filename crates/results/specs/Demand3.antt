@@ -1,5 +1,4 @@
--- Demand 3 of document 01: one claim about a whole list of calls. First, then next until none is left, is such a list.
--- Assumes nothing.
+-- Demand 3 of document 01: one claim about a whole list of calls. First, then next until none is left, is such a list. Assumes nothing.
 use Prim.Native.Nat.{ℕ, _+_, _<_, min}
 use mathlib.Core.List.{List, [], _∷_, _++_, map}
 use mathlib.Core.Logic.{_⊎_}

@@ -1,5 +1,4 @@
--- The books of document 01's drawer, as bytes, and inputs of `A`, which is the byte 41.
--- Assumes nothing.
+-- The books of document 01's drawer, as bytes, and inputs of `A`, which is the byte 41. Assumes nothing.
 use Prim.Native.Nat.{ℕ, zero, suc}
 use mathlib.Core.List.{List, [], _∷_}
 use lib.ListN.{replicate}

@@ -1,5 +1,4 @@
--- First, next and count: the answer, and what chart and output hold at the end.
--- Assumes nothing.
+-- First, next and count: the answer, and what chart and output hold at the end. Assumes nothing.
 use Prim.Native.Nat.{ℕ, _/_}
 use mathlib.Core.Bool.{Bool, true, false, cond}
 use mathlib.Core.List.{List, [], _∷_, _++_}

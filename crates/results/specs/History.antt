@@ -1,6 +1,5 @@
 -- The other side of demand 3: a list of calls as they are made, each with a chart and an output of its own, and what the decided
--- results of first, next and count say to the caller, who keeps a copy of the derivation handed out last.
--- Assumes nothing.
+-- results of first, next and count say to the caller, who keeps a copy of the derivation handed out last. Assumes nothing.
 use Prim.Native.Nat.{ℕ, _*_, _≤_}
 use mathlib.Core.List.{List, [], _∷_}
 use lib.ListN.{length, take}

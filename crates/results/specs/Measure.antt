@@ -1,5 +1,4 @@
--- The total length of a derivation (stack length of a reading), and whether two are the same build.
--- Assumes nothing.
+-- The total length of a derivation (stack length of a reading), and whether two are the same build. Assumes nothing.
 use Prim.Native.Nat.{ℕ, suc, _+_, _/_}
 use mathlib.Core.Bool.{Bool, true, false, cond, not}
 use mathlib.Core.List.{List, [], _∷_, _++_}

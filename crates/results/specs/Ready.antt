@@ -1,5 +1,4 @@
--- When the checks 8 to 11 of a call on an input are passed, in plain terms.
--- Assumes nothing.
+-- When the checks 8 to 11 of a call on an input are passed, in plain terms. Assumes nothing.
 use Prim.Native.Nat.{ℕ, _≤_}
 use mathlib.Core.Bool.{true}
 use mathlib.Core.List.{List}

@@ -1,6 +1,5 @@
 -- Opening and taking: the state of the recognizer (document 01: the plate in hand), the answer "complete", and what the chart (sheet)
--- holds at the end.
--- Assumes nothing.
+-- holds at the end. Assumes nothing.
 use Prim.Native.Nat.{ℕ, _+_, _-_}
 use mathlib.Core.Bool.{Bool, not}
 use mathlib.Core.List.{List, [], _∷_, _++_}

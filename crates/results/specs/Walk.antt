@@ -1,5 +1,4 @@
--- The walk of demand 3: a plain machine for one grammar and one input, fed only which of the four calls comes.
--- Assumes nothing.
+-- The walk of demand 3: a plain machine for one grammar and one input, fed only which of the four calls comes. Assumes nothing.
 use Prim.Native.Nat.{ℕ, zero, suc, _/_}
 use mathlib.Core.Bool.{true, false, cond}
 use mathlib.Core.List.{List, [], _∷_}

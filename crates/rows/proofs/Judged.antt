@@ -1,6 +1,5 @@
 -- A row is judged whole: check 8 lets the grammar of a row through exactly if the row's own numbers are valid. And it lets the row of a
--- grammar through exactly if it lets the grammar through.
--- Assumes nothing.
+-- grammar through exactly if it lets the grammar through. Assumes nothing.
 use Prim.Native.Nat.{ℕ, zero, suc, _+_, _*_, _≤_, _<_}
 use native.Mathlib.Decide.{decLe, ℕ-discrete}
 use native.Mathlib.Omega.{arith}

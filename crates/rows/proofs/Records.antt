@@ -1,5 +1,4 @@
--- Records of numbers one after the other: one more read, and one more written.
--- Assumes nothing.
+-- Records of numbers one after the other: one more read, and one more written. Assumes nothing.
 use Prim.Native.Nat.{ℕ, zero, suc, _+_, _*_, _≤_, _<_}
 use native.Mathlib.Numerals.{add-one}
 use native.Mathlib.Omega.{arith}

@@ -1,6 +1,5 @@
 -- A grammar that is written to a flat row is read back, with counts of at most 65535. So one that a flat row holds whole is read back as
--- it was written.
--- Assumes nothing.
+-- it was written. Assumes nothing.
 use Prim.Native.Nat.{ℕ, zero, suc, _+_, _*_, _<_}
 use native.Mathlib.Omega.{arith}
 use mathlib.Core.List.{List, [], _∷_, _++_, map, map-id, flatMap, append-assoc, append-nil}

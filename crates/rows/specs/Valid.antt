@@ -1,6 +1,5 @@
 -- Check 8, told of the numbers of a flat row, each whole, and of nothing else: start or a used nonterminal over 31, more than 128 rules,
--- more than 8 places, or a used place that is neither a nonterminal nor a terminal of one byte is refused.
--- Assumes nothing.
+-- more than 8 places, or a used place that is neither a nonterminal nor a terminal of one byte is refused. Assumes nothing.
 use Prim.Native.Nat.{ℕ, zero, suc, _+_, _*_}
 use mathlib.Core.Bool.{Bool, true, _&&_, _||_}
 use mathlib.Core.List.{List}

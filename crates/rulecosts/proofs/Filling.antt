@@ -1,5 +1,4 @@
--- The table of places that stand alone, written place by place and rule by rule.
--- Assumes nothing.
+-- The table of places that stand alone, written place by place and rule by rule. Assumes nothing.
 use Prim.Native.Nat.{ℕ, _+_, _*_, _≤_, _<_}
 use mathlib.Core.List.{List}
 use mathlib.Core.Path.{_≡_, refl, _∙_}

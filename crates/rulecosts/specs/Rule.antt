@@ -1,5 +1,4 @@
--- The cost of a rule over a span that is not empty, from its cost without a child over the whole span.
--- Assumes nothing.
+-- The cost of a rule over a span that is not empty, from its cost without a child over the whole span. Assumes nothing.
 use Prim.Native.Nat.{ℕ, _<_}
 use mathlib.Core.List.{List}
 use mathlib.Core.Logic.{_≢_}

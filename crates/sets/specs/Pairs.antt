@@ -1,5 +1,4 @@
--- Two sets: the set of their common members, and whether there is one. And a set of which one member is told.
--- Assumes nothing.
+-- Two sets: the set of their common members, and whether there is one. And a set of which one member is told. Assumes nothing.
 use Prim.Native.Nat.{ℕ, _<_}
 use mathlib.Core.Bool.{Bool, true, false, _&&_}
 use mathlib.Core.Path.{_≡_}

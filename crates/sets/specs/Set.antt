@@ -1,5 +1,4 @@
--- Sets of nonterminals 0..31, each a number of 32 bits: what membership, insertion and the number of members mean.
--- Assumes nothing.
+-- Sets of nonterminals 0..31, each a number of 32 bits: what membership, insertion and the number of members mean. Assumes nothing.
 use Prim.Native.Nat.{ℕ, zero, suc, _+_, _/_, _%_, _^_}
 use mathlib.Core.Bool.{Bool, cond}
 use lib.Dec.{eqb}

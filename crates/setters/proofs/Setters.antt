@@ -1,5 +1,4 @@
--- What each command of a book changes, as setters; a rule as it is opened, with the signed number of two bytes.
--- Assumes nothing.
+-- What each command of a book changes, as setters; a rule as it is opened, with the signed number of two bytes. Assumes nothing.
 use Prim.Native.Nat.{ℕ, _+_, _-_, _*_}
 use mathlib.Core.Path.{_≡_, refl, ap₂, _∙_}
 use lib.IntN.{ℤ}

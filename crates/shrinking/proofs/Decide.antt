@@ -1,6 +1,5 @@
 -- A known rule is of its left side; and whether a row has a node of a nonterminal over so many bytes, and whether it has superfluous
--- recursion, can be decided.
--- Assumes nothing.
+-- recursion, can be decided. Assumes nothing.
 use Prim.Native.Nat.{ℕ}
 use native.Mathlib.Decide.{ℕ-discrete, map-dec}
 use mathlib.Core.Logic.{_⊎_, inl, inr, ⊎-elim, Dec·and}

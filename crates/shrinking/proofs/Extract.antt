@@ -1,6 +1,5 @@
 -- A node that is somewhere in a row, taken out of it: what it covers is a part of what the row covers, and it has nothing that the row
--- has not.
--- Assumes nothing.
+-- has not. Assumes nothing.
 use Prim.Native.Nat.{ℕ, suc, _+_, _≤_}
 use native.Mathlib.Omega.{arith}
 use mathlib.Core.Path.{_≡_, refl, sym, ap, _∙_}

@@ -1,6 +1,5 @@
 -- Where every rule's left side is below 32, a nonterminal that has a parse tree over nothing has one of height at most 32: without
--- superfluous recursion no nonterminal stands twice on a way down.
--- Assumes nothing.
+-- superfluous recursion no nonterminal stands twice on a way down. Assumes nothing.
 use Prim.Native.Nat.{ℕ, zero, suc, _≤_, _<_}
 use native.Mathlib.Nat.{not-suc-le-zero}
 use native.Mathlib.Decide.{ℕ-discrete}

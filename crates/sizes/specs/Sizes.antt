@@ -1,5 +1,4 @@
--- The sizes of document 01, each said once.
--- Assumes nothing.
+-- The sizes of document 01, each said once. Assumes nothing.
 use Prim.Native.Nat.{ℕ, _+_, _*_}
 
 -- the rules of a grammar (book) at most

@@ -1,5 +1,4 @@
--- One rule at its left side's number: a lower cost is written, which is reached; else the number is settled for this rule.
--- Assumes nothing.
+-- One rule at its left side's number: a lower cost is written, which is reached; else the number is settled for this rule. Assumes nothing.
 use Prim.Native.Nat.{ℕ, _≤_, _<_}
 use mathlib.Core.Bool.{Bool, true, false, true≢false}
 use mathlib.Core.List.{List}

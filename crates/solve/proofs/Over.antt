@@ -1,5 +1,4 @@
--- The cost of a rule over a span, by the test that the code makes, and whether a number is looked for.
--- Assumes nothing.
+-- The cost of a rule over a span, by the test that the code makes, and whether a number is looked for. Assumes nothing.
 use Prim.Native.Nat.{ℕ, suc, _≤_, _<_, min}
 use mathlib.Core.Bool.{Bool, true, false, not, true≢false}
 use mathlib.Core.List.{List}

@@ -1,5 +1,4 @@
--- A pass over the rules, and passes until one changes nothing.
--- Assumes nothing.
+-- A pass over the rules, and passes until one changes nothing. Assumes nothing.
 use Prim.Native.Nat.{ℕ, _+_, _≤_, _<_}
 use mathlib.Core.Bool.{Bool, true, false, not, true≢false, Bool·not-not}
 use mathlib.Core.List.{List}

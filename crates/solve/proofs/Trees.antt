@@ -1,6 +1,5 @@
 -- What solved numbers say of trees, whatever bytes the fit tells of: each number is reached by a tree, no rule gives a lower one, so they
--- are the least numbers of nodes.
--- Assumes nothing.
+-- are the least numbers of nodes. Assumes nothing.
 use Prim.Native.Nat.{ℕ, _≤_, _<_}
 use mathlib.Core.Bool.{Bool, true, false}
 use mathlib.Core.List.{List}

@@ -1,5 +1,4 @@
--- One span done: from its numbers to the rows, and the empty span.
--- Assumes nothing.
+-- One span done: from its numbers to the rows, and the empty span. Assumes nothing.
 use Prim.Native.Nat.{ℕ, zero, suc, _+_, _*_, _-_, _≤_, _<_}
 use mathlib.Core.Bool.{Bool, true, false}
 use mathlib.Core.List.{List, List·Memᴰ, List·Memᴰ·head, List·Memᴰ·tail}

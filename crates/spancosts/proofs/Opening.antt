@@ -1,5 +1,4 @@
--- The costs over one span that need no numbers of the whole of it.
--- Assumes nothing.
+-- The costs over one span that need no numbers of the whole of it. Assumes nothing.
 use Prim.Native.Nat.{ℕ, _+_, _*_, _≤_, _<_}
 use mathlib.Core.Bool.{false}
 use mathlib.Core.List.{List}

@@ -1,6 +1,5 @@
 -- What is right in the tables and the rows when some spans are done: all that end before j, and of those that end at j all that start from
--- i on.
--- Assumes nothing.
+-- i on. Assumes nothing.
 use Prim.Native.Nat.{ℕ, _+_, _*_, _≤_, _<_}
 use mathlib.Core.Bool.{Bool, true, false}
 use mathlib.Core.List.{List}

@@ -1,6 +1,5 @@
 -- What the functions do that make the tables over one span: from what was right before to what is right after. The bytes that may stand at
--- a position are told by a test.
--- Assumes nothing.
+-- a position are told by a test. Assumes nothing.
 use Prim.Native.Nat.{ℕ, _+_}
 use mathlib.Core.Bool.{Bool}
 use mathlib.Core.List.{List}

@@ -1,5 +1,4 @@
--- Adding the flags of one start to the starts: what the steps of the code give.
--- Assumes nothing.
+-- Adding the flags of one start to the starts: what the steps of the code give. Assumes nothing.
 use Prim.Native.Nat.{ℕ, _+_, _*_, _≤_, _<_}
 use mathlib.Core.Bool.{Bool, true, cond}
 use mathlib.Core.List.{List}

@@ -1,5 +1,4 @@
--- Adding the ends of one cell and of one column: what the steps of the code give.
--- Assumes nothing.
+-- Adding the ends of one cell and of one column: what the steps of the code give. Assumes nothing.
 use Prim.Native.Nat.{ℕ, _+_, _*_, _^_, _<_}
 use mathlib.Core.Bool.{true}
 use mathlib.Core.List.{List}

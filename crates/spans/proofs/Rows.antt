@@ -1,5 +1,4 @@
--- A row of words of which one gets one member more, perhaps only if a test holds.
--- Assumes nothing.
+-- A row of words of which one gets one member more, perhaps only if a test holds. Assumes nothing.
 use Prim.Native.Nat.{ℕ, _<_}
 use mathlib.Core.Bool.{Bool, true, false, cond}
 use mathlib.Core.List.{List}

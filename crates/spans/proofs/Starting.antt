@@ -1,5 +1,4 @@
--- With the flags of a start added for one rule after the other, the starts from it on are told.
--- Assumes nothing.
+-- With the flags of a start added for one rule after the other, the starts from it on are told. Assumes nothing.
 use Prim.Native.Nat.{ℕ, _+_, _*_, _≤_, _<_}
 use mathlib.Core.Bool.{true}
 use mathlib.Core.List.{List}

@@ -1,5 +1,4 @@
--- The ends of the chart's spans, told cell by cell and column by column; and what they tell at one start.
--- Assumes nothing.
+-- The ends of the chart's spans, told cell by cell and column by column; and what they tell at one start. Assumes nothing.
 use Prim.Native.Nat.{ℕ, _+_, _*_, _≤_, _<_}
 use mathlib.Core.Bool.{true, false}
 use mathlib.Core.List.{List}

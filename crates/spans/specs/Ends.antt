@@ -1,5 +1,4 @@
--- The ends and the starts as they are written: what one cell, one column and the flags of one start add to the words.
--- Assumes nothing.
+-- The ends and the starts as they are written: what one cell, one column and the flags of one start add to the words. Assumes nothing.
 use Prim.Native.Nat.{ℕ, _+_, _*_, _≤_, _<_}
 use mathlib.Core.Bool.{true, false}
 use mathlib.Core.List.{List}

@@ -1,6 +1,5 @@
 -- Spans as bits: for a start and a nonterminal the set of its ends, and for a rule and a place the set of the starts from which on the
--- rule's places cut up to the column's end, each a set of 0..63. Where these words stand.
--- Assumes nothing.
+-- rule's places cut up to the column's end, each a set of 0..63. Where these words stand. Assumes nothing.
 use Prim.Native.Nat.{ℕ, _+_, _*_}
 use mathlib.Core.List.{List}
 use lib.ListN.{getD}

@@ -1,5 +1,4 @@
--- Counting the nonterminals of a rule, place by place.
--- Assumes nothing.
+-- Counting the nonterminals of a rule, place by place. Assumes nothing.
 use Prim.Native.Nat.{ℕ, _+_, _-_, _≤_, _<_}
 use mathlib.Core.Bool.{Bool, true, false}
 use mathlib.Core.List.{List}

@@ -1,5 +1,4 @@
--- Two forests one behind the other, as one.
--- Assumes nothing.
+-- Two forests one behind the other, as one. Assumes nothing.
 use Prim.Native.Nat.{ℕ, _+_}
 use mathlib.Core.List.{List, [], _∷_, _++_, append-assoc}
 use mathlib.Core.Path.{_≡_, refl, sym, ap, _∙_}

@@ -1,5 +1,4 @@
--- What stands in a buffer, taken apart.
--- Assumes nothing.
+-- What stands in a buffer, taken apart. Assumes nothing.
 use Prim.Native.Nat.{ℕ, _+_, _*_}
 use mathlib.Core.List.{List, [], _∷_, _++_}
 use mathlib.Core.Path.{_≡_, ap, _∙_}

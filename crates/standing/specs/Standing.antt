@@ -1,5 +1,4 @@
--- Where a forest stands in a buffer of numbers, by its code, and how many nodes a tree has that stands there.
--- Assumes nothing.
+-- Where a forest stands in a buffer of numbers, by its code, and how many nodes a tree has that stands there. Assumes nothing.
 use Prim.Native.Nat.{ℕ, _+_, _*_, _≤_, _<_}
 use mathlib.Core.List.{List, [], _∷_}
 use mathlib.Core.Path.{_≡_}

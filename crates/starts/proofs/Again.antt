@@ -1,5 +1,4 @@
--- The rows written again with the numbers of the whole span, for the rules that have a nonterminal of the cell in a place.
--- Assumes nothing.
+-- The rows written again with the numbers of the whole span, for the rules that have a nonterminal of the cell in a place. Assumes nothing.
 use Prim.Native.Nat.{ℕ, _+_, _*_, _≤_, _<_}
 use mathlib.Core.Bool.{Bool, true, false, true≢false}
 use mathlib.Core.List.{List}

@@ -1,5 +1,4 @@
--- The rows of all rules, written rule by rule from one start on.
--- Assumes nothing.
+-- The rows of all rules, written rule by rule from one start on. Assumes nothing.
 use Prim.Native.Nat.{ℕ, _+_, _*_, _≤_, _<_}
 use mathlib.Core.List.{List}
 use mathlib.Core.Bool.{false}

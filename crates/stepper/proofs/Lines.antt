@@ -1,5 +1,4 @@
--- The lines that are ahead: one line of a derivation and those behind it, or the last line, by what the advance found.
--- Assumes nothing.
+-- The lines that are ahead: one line of a derivation and those behind it, or the last line, by what the advance found. Assumes nothing.
 use Prim.Native.Nat.{ℕ, suc, _+_, _*_, _≤_, _<_, min}
 use mathlib.Core.List.{List, [], _∷_, _++_}
 use mathlib.Core.Option.{some}

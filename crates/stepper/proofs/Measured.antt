@@ -1,5 +1,4 @@
--- The length of the derivation at the front of the buffer, and its line.
--- Assumes nothing.
+-- The length of the derivation at the front of the buffer, and its line. Assumes nothing.
 use Prim.Native.Nat.{ℕ, _≤_, _<_}
 use mathlib.Core.List.{List}
 use mathlib.Core.Path.{_≡_, sym, ap, subst, _∙_}

@@ -1,5 +1,4 @@
--- The lines that the steps write, from the first one until nothing is due, are the text of book and plate.
--- Assumes nothing.
+-- The lines that the steps write, from the first one until nothing is due, are the text of book and plate. Assumes nothing.
 use Prim.Native.Nat.{ℕ, _≤_}
 use mathlib.Core.List.{List, [], _∷_}
 use mathlib.Core.Path.{_≡_, refl, sym, ap₂, subst, _∙_}

@@ -1,5 +1,4 @@
--- The listing program as a run: steps, one after the other, until nothing is due.
--- Assumes nothing.
+-- The listing program as a run: steps, one after the other, until nothing is due. Assumes nothing.
 use Prim.Native.Nat.{ℕ}
 use mathlib.Core.List.{List, [], _∷_}
 use mathlib.Core.Path.{_≡_}

@@ -1,5 +1,4 @@
--- One step of the listing program: the line that it writes, and what is still to be printed after it.
--- Assumes nothing.
+-- One step of the listing program: the line that it writes, and what is still to be printed after it. Assumes nothing.
 use Prim.Native.Nat.{ℕ, _+_, _*_, _≤_}
 use mathlib.Core.List.{List, [], _∷_}
 use mathlib.Core.Path.{_≡_}

@@ -1,5 +1,4 @@
--- What comes next at a place, by the tests that the code makes.
--- Assumes nothing.
+-- What comes next at a place, by the tests that the code makes. Assumes nothing.
 use Prim.Native.Nat.{ℕ, _+_, _*_, _-_, _≤_, _<_}
 use mathlib.Core.Bool.{Bool, true, false}
 use mathlib.Core.List.{List}

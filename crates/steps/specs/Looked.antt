@@ -1,5 +1,4 @@
--- What comes next at a place of a rule, by the costs that the tables have.
--- Assumes nothing.
+-- What comes next at a place of a rule, by the costs that the tables have. Assumes nothing.
 use Prim.Native.Nat.{ℕ, _+_, _*_, _-_, _≤_, _<_}
 use mathlib.Core.Bool.{true, false}
 use mathlib.Core.List.{List}

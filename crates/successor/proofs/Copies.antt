@@ -1,5 +1,4 @@
--- Numbers copied one after the other.
--- Assumes nothing.
+-- Numbers copied one after the other. Assumes nothing.
 use Prim.Native.Nat.{ℕ, _+_, _≤_, _<_}
 use mathlib.Core.List.{List}
 use mathlib.Core.Logic.{dite}

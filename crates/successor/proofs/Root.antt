@@ -1,5 +1,4 @@
--- From the tree after the one that stands at the root to the element of L after it.
--- Assumes nothing.
+-- From the tree after the one that stands at the root to the element of L after it. Assumes nothing.
 use Prim.Native.Nat.{ℕ, suc, _+_, _*_, _-_}
 use mathlib.Core.List.{List, [], List·Memᴰ}
 use mathlib.Core.Option.{none, some}

@@ -1,5 +1,4 @@
--- The element of L after one that stands in a buffer, once the tables are made, and numbers copied.
--- Assumes nothing.
+-- The element of L after one that stands in a buffer, once the tables are made, and numbers copied. Assumes nothing.
 use Prim.Native.Nat.{ℕ, _*_, _≤_, _<_}
 use mathlib.Core.List.{List, List·Memᴰ}
 use mathlib.Core.Option.{none, some}

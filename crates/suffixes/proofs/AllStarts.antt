@@ -1,5 +1,4 @@
--- The costs from one start by the word of the fit table, and from all starts, from the last to the first.
--- Assumes nothing.
+-- The costs from one start by the word of the fit table, and from all starts, from the last to the first. Assumes nothing.
 use Prim.Native.Nat.{ℕ, _+_, _-_, _≤_, _<_}
 use mathlib.Core.List.{List}
 use mathlib.Core.Path.{_≡_, sym, ap, subst, _∙_}

@@ -1,5 +1,4 @@
--- The least costs of a rule's places from one start on, written from the last place to the first.
--- Assumes nothing.
+-- The least costs of a rule's places from one start on, written from the last place to the first. Assumes nothing.
 use Prim.Native.Nat.{ℕ, suc, _+_, _*_, _-_, _≤_, _<_}
 use mathlib.Core.Bool.{Bool}
 use mathlib.Core.List.{List, []}

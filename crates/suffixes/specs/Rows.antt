@@ -1,6 +1,5 @@
 -- The least costs of the places of a rule, written from one start on and from all starts of a span, which places fit being told by the
--- fit table.
--- Assumes nothing.
+-- fit table. Assumes nothing.
 use Prim.Native.Nat.{ℕ, _≤_, _<_}
 use mathlib.Core.List.{List}
 use mathlib.Core.Logic.{_≢_}

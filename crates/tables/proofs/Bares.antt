@@ -1,6 +1,5 @@
 -- Where the costs of rules without a child over the whole span stand: by the test that the code makes, no two in one place, and none in
--- front of theirs.
--- Assumes nothing.
+-- front of theirs. Assumes nothing.
 use Prim.Native.Nat.{ℕ, _+_, _*_, _-_, _≤_, _<_}
 use mathlib.Core.List.{List}
 use mathlib.Core.Path.{_≡_, ap}

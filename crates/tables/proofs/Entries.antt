@@ -1,5 +1,4 @@
--- The number of a nonterminal in the least table and in the numbers of one span, by the test that the code makes.
--- Assumes nothing.
+-- The number of a nonterminal in the least table and in the numbers of one span, by the test that the code makes. Assumes nothing.
 use Prim.Native.Nat.{ℕ, _+_, _*_, _≤_, _<_}
 use mathlib.Core.List.{List}
 use mathlib.Core.Path.{_≡_}

@@ -1,6 +1,5 @@
 -- When the tables are right, for a packed grammar and the bytes that may stand at the positions before n. Nothing here reads an input: the
--- fit table and the chart stand for it.
--- Assumes nothing.
+-- fit table and the chart stand for it. Assumes nothing.
 use Prim.Native.Nat.{ℕ, _≤_, _<_}
 use mathlib.Core.Bool.{false}
 use mathlib.Core.List.{List}

@@ -1,5 +1,4 @@
--- Where numbers of nodes stand: in the tables, which are one list, and in the numbers of one span.
--- Assumes nothing.
+-- Where numbers of nodes stand: in the tables, which are one list, and in the numbers of one span. Assumes nothing.
 use Prim.Native.Nat.{ℕ, _+_, _*_, _-_, _/_}
 use mathlib.Core.Bool.{cond}
 use mathlib.Core.List.{List}

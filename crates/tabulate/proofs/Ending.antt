@@ -1,5 +1,4 @@
--- The spans of one end, from the last start to the first, and all ends.
--- Assumes nothing.
+-- The spans of one end, from the last start to the first, and all ends. Assumes nothing.
 use Prim.Native.Nat.{ℕ, _+_, _*_, _-_, _≤_, _<_}
 use mathlib.Core.Bool.{false}
 use mathlib.Core.List.{List}

@@ -1,5 +1,4 @@
--- No nullable depth changes the text.
--- Assumes nothing.
+-- No nullable depth changes the text. Assumes nothing.
 use Prim.Native.Nat.{ℕ, zero, suc}
 use mathlib.Core.List.{List}
 use mathlib.Core.Path.{_≡_, refl}

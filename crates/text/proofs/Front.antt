@@ -1,5 +1,4 @@
--- The text of a book and a plate is that of their fronts.
--- Assumes nothing.
+-- The text of a book and a plate is that of their fronts. Assumes nothing.
 use Prim.Native.Nat.{ℕ, zero, suc, _+_, _≤_, _<_}
 use native.Mathlib.Decide.{decLt}
 use native.Mathlib.Omega.{arith}

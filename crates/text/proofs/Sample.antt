@@ -1,5 +1,4 @@
--- The listing of T with the plate `A` is document 01's, byte for byte, by computing it.
--- Assumes nothing.
+-- The listing of T with the plate `A` is document 01's, byte for byte, by computing it. Assumes nothing.
 use mathlib.Core.Path.{_≡_, refl}
 use Rattle.results.specs.Drawer.{T, As}
 use Rattle.results.proofs.Computing.{computing}

@@ -1,5 +1,4 @@
--- The text has at least one line and at most 4,097.
--- Assumes nothing.
+-- The text has at least one line and at most 4,097. Assumes nothing.
 use Prim.Native.Nat.{ℕ, suc, _+_, _≤_, _<_, min}
 use native.Mathlib.Omega.{arith}
 use mathlib.Core.List.{List, [], _∷_}

@@ -1,5 +1,4 @@
--- How many of the first bytes of a book and of a plate decide the text (proofs/Front.antt).
--- Assumes nothing.
+-- How many of the first bytes of a book and of a plate decide the text (proofs/Front.antt). Assumes nothing.
 use Prim.Native.Nat.{ℕ}
 
 -- of a book: a start, 128 rules and 8 places for each take fewer bytes

@@ -1,5 +1,4 @@
--- The lines of the listing program, each with its newline.
--- Assumes nothing.
+-- The lines of the listing program, each with its newline. Assumes nothing.
 use Prim.Native.Nat.{ℕ}
 use mathlib.Core.List.{List, [], _∷_, _++_}
 use lib.IntN.{ℤ}

@@ -1,5 +1,4 @@
--- Numbers in decimal, in ASCII.
--- Assumes nothing.
+-- Numbers in decimal, in ASCII. Assumes nothing.
 use Prim.Native.Nat.{ℕ, zero, suc, _+_, _/_, _%_}
 use mathlib.Core.Bool.{true, false}
 use mathlib.Core.List.{List, [], _∷_, _++_}

@@ -1,5 +1,4 @@
--- The listing of document 01: the book T with the plate `A`, byte for byte.
--- Assumes nothing.
+-- The listing of document 01: the book T with the plate `A`, byte for byte. Assumes nothing.
 use Prim.Native.Nat.{ℕ}
 use mathlib.Core.List.{List, [], _∷_}
 

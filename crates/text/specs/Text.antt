@@ -1,5 +1,4 @@
--- What the listing program prints, from the bytes of the book and those of the plate, as a list of lines.
--- Assumes nothing.
+-- What the listing program prints, from the bytes of the book and those of the plate, as a list of lines. Assumes nothing.
 use Prim.Native.Nat.{ℕ, suc}
 use mathlib.Core.Bool.{cond}
 use mathlib.Core.List.{List, [], _∷_, _++_}

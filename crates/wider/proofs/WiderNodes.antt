@@ -1,5 +1,4 @@
--- A wider node at a place of a rule, and what follows a node that has moved, with premises as the code gives them.
--- Assumes nothing.
+-- A wider node at a place of a rule, and what follows a node that has moved, with premises as the code gives them. Assumes nothing.
 use Prim.Native.Nat.{ℕ, _+_, _*_, _-_, _≤_, _<_}
 use mathlib.Core.List.{List, _∷_, _++_}
 use mathlib.Core.Path.{_≡_, refl, ap, subst}

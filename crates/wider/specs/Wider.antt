@@ -1,6 +1,5 @@
 -- What is written after what stands in a buffer where that is a wider node, and what follows a node that has moved. What is promised of
--- the input is promised where the tables are right for it.
--- Assumes nothing.
+-- the input is promised where the tables are right for it. Assumes nothing.
 use Prim.Native.Nat.{ℕ, _+_, _*_, _-_, _≤_, _<_}
 use mathlib.Core.List.{List, _∷_}
 use mathlib.Core.Path.{_≡_}

@@ -1,5 +1,4 @@
--- The tables written number by number.
--- Assumes nothing.
+-- The tables written number by number. Assumes nothing.
 use Prim.Native.Nat.{ℕ, suc, _+_, _*_, _≤_, _<_, min}
 use mathlib.Core.List.{List}
 use mathlib.Core.Path.{_≡_, refl, sym, ap, _∙_}

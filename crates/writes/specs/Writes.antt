@@ -1,5 +1,4 @@
--- What is written into the tables, and what stays as found.
--- Assumes nothing.
+-- What is written into the tables, and what stays as found. Assumes nothing.
 use Prim.Native.Nat.{ℕ, suc, _*_, _≤_, _<_, min}
 use mathlib.Core.List.{List}
 use mathlib.Core.Path.{_≡_}

@@ -1,5 +1,4 @@
--- The proof of the cycle of calls {child, last, node, row, turned}.
--- Assumes nothing.
+-- The proof of the cycle of calls {child, last, node, row, turned}. Assumes nothing.
 use Prim.Native.Nat.{ℕ}
 use native.Mathlib.Omega.{arith}
 use borrow.Author.Needs.{needs}

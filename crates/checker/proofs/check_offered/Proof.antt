@@ -1,5 +1,4 @@
--- `checker::check_offered` meets its contract, by the answer of `is_derivation`.
--- Assumes nothing.
+-- `checker::check_offered` meets its contract, by the answer of `is_derivation`. Assumes nothing.
 use native.Mathlib.Omega.{arith}
 use Rattle.checker.proofs.Answers.{check-yes, check-no}
 use Rattle.checker.proofs.check_offered.Statement.{statement}

@@ -6,12 +6,9 @@ use Rattle.checker.proofs.Answers.{length-refused, length-answered}
 use Rattle.checker.proofs.length.Statement.{statement}
 use Rattle.checker.proofs.length.Tie as tie
 
-fill-requires : tie.Need-fill-requires
-fill-requires c κs = judged-ready _ _ _ _ (c .before .before .before .judge .ensures) (c .before .enum-told .given .1)
-
 pub length-spec : {M : Type 1} → statement M
-length-spec =
-    tie.close
-    (tie.spec
-    (λ c κs. omega arith) (λ c. omega arith) (λ c. omega arith) fill-requires (λ c κs. omega arith) (λ c. omega arith)
-    (λ c κs. omega arith) (λ c κs. omega arith) (λ c. search length-refused) (λ c. omega arith) (λ c. search length-answered))
+length-spec = tie.close (tie.spec
+    (λ c κs. omega arith) (λ c. omega arith) (λ c. omega arith)
+    (λ c κs. judged-ready _ _ _ _ (c .before .before .before .judge .ensures) (c .before .enum-told .given .1)) (λ c κs. omega arith)
+    (λ c. omega arith) (λ c κs. omega arith) (λ c κs. omega arith) (λ c. search length-refused) (λ c. omega arith)
+    (λ c. search length-answered))

@@ -1,18 +1,13 @@
 -- `checker::same_build` meets its contract: a check that fails refuses, and else the chart is filled and the offered derivations are
--- compared.
--- Assumes nothing.
+-- compared. Assumes nothing.
 use native.Mathlib.Omega.{arith}
 use Rattle.prepare.proofs.Judging.{judged-ready}
 use Rattle.checker.proofs.Answers.{build-refused, build-answered}
 use Rattle.checker.proofs.same_build.Statement.{statement}
 use Rattle.checker.proofs.same_build.Tie as tie
 
-fill-requires : tie.Need-fill-requires
-fill-requires c κs = judged-ready _ _ _ _ (c .before .before .before .judge .ensures) (c .before .enum-told .given .1)
-
 pub same-build-spec : {M : Type 1} → statement M
-same-build-spec =
-    tie.close
-    (tie.spec
-    (λ c κs. omega arith) (λ c. omega arith) (λ c. omega arith) fill-requires (λ c κs. omega arith) (λ c κs. omega arith)
-    (λ c. search build-refused) (λ c. omega arith) (λ c. search build-answered))
+same-build-spec = tie.close (tie.spec
+    (λ c κs. omega arith) (λ c. omega arith) (λ c. omega arith)
+    (λ c κs. judged-ready _ _ _ _ (c .before .before .before .judge .ensures) (c .before .enum-told .given .1)) (λ c κs. omega arith)
+    (λ c κs. omega arith) (λ c. search build-refused) (λ c. omega arith) (λ c. search build-answered))

@@ -16,29 +16,11 @@ Inv-loop chart₀ i₀ chart i = (i ≤ cells) × (length chart ≡ length chart
 abbrev μ-loop : tie.MeasureT-loop
 μ-loop chart₀ i₀ chart i = cells - i
 
-loop-holds : tie.Need-loop-holds Inv-loop μ-loop
-loop-holds c = (omega arith, refl, refl)
-
 loop-again : tie.Need-loop-again Inv-loop μ-loop
 loop-again c = (omega arith, simp length-set (c .before .loop .inv .1), clear-step _ _ _ (omega arith) (c .before .loop .inv .2))
 
-same-length : tie.Need-same-length Inv-loop μ-loop
-same-length c = c .before .loop .inv .1
-
-returns : tie.Need-returns Inv-loop μ-loop
-returns c = clear-done _ _ (c .before .loop .i) (omega arith) (omega arith) (c .before .loop .inv .2)
-
 pub clear-spec : {M : Type 1} → statement M
-clear-spec =
-    tie.close
-    (tie.spec
-    Inv-loop
-    μ-loop
-    loop-holds
-    (λ c. omega arith)
-    (λ c. omega arith)
-    (λ c. omega arith)
-    (λ c. omega arith)
-    loop-again
-    same-length
-    returns)
+clear-spec = tie.close (tie.spec
+    Inv-loop μ-loop (λ c. (omega arith, refl, refl)) (λ c. omega arith) (λ c. omega arith) (λ c. omega arith) (λ c. omega arith)
+    loop-again (λ c. c .before .loop .inv .1)
+    (λ c. clear-done _ _ (c .before .loop .i) (omega arith) (omega arith) (c .before .loop .inv .2)))

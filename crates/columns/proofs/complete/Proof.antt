@@ -1,5 +1,4 @@
--- `columns::complete` meets its contract.
--- Assumes nothing.
+-- `columns::complete` meets its contract. Assumes nothing.
 use native.Mathlib.Omega.{arith}
 use Rattle.columns.proofs.Writing.{cell-first-row}
 use Rattle.sets.specs.Set.{has}
@@ -13,5 +12,4 @@ returns c =
     c .contains .ensures ∙ ap (has (s .args .start)) (cell-first-row (s .args .chart .now) (s .args .n))
 
 pub complete-spec : {M : Type 1} → statement M
-complete-spec =
-    tie.close (tie.spec (λ c. omega arith) (λ c. omega arith) (λ c κs. omega arith) returns)
+complete-spec = tie.close (tie.spec (λ c. omega arith) (λ c. omega arith) (λ c κs. omega arith) returns)

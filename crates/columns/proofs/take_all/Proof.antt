@@ -13,32 +13,7 @@ Inv-loop p rules fits n own lasts kinds chart₀ ends₀ reach₀ m₀ chart end
 abbrev μ-loop : tie.MeasureT-loop
 μ-loop p rules fits n own lasts kinds chart₀ ends₀ reach₀ m₀ chart ends reach m = n - m
 
-loop-holds : tie.Need-loop-holds Inv-loop μ-loop
-loop-holds c = fill-zero _ _ _ _
-
-put-column-requires : tie.Need-put-column-requires Inv-loop μ-loop
-put-column-requires c κs = (omega arith, omega arith, search needs, search needs)
-
-loop-again : tie.Need-loop-again Inv-loop μ-loop
-loop-again c = search fill-go
-
-same-length : tie.Need-same-length Inv-loop μ-loop
-same-length c = c .before .loop .inv .long
-
-returns : tie.Need-returns Inv-loop μ-loop
-returns c = search fill-taken
-
 pub take-all-spec : {M : Type 1} → statement M
-take-all-spec =
-    tie.close
-    (tie.spec
-    Inv-loop
-    μ-loop
-    loop-holds
-    put-column-requires
-    (λ c. omega arith)
-    (λ c κs. search needs)
-    (λ c. omega arith)
-    loop-again
-    same-length
-    returns)
+take-all-spec = tie.close (tie.spec
+    Inv-loop μ-loop (λ c. fill-zero _ _ _ _) (λ c κs. (omega arith, omega arith, search needs, search needs)) (λ c. omega arith)
+    (λ c κs. search needs) (λ c. omega arith) (λ c. search fill-go) (λ c. c .before .loop .inv .long) (λ c. search fill-taken))

@@ -4,8 +4,6 @@ use Rattle.commands.proofs.classify.Statement.{statement}
 use Rattle.commands.proofs.classify.Tie as tie
 
 pub classify-spec : {M : Type 1} → statement M
-classify-spec =
-    tie.close
-    (tie.spec
+classify-spec = tie.close (tie.spec
     (λ c. search class-10) (λ c. search class-20) (λ c. search class-30) (λ c. search class-40) (λ c. search class-50)
     (λ c. search class-other))

@@ -6,9 +6,7 @@ use Rattle.commands.proofs.out_of_turn.Statement.{statement}
 use Rattle.commands.proofs.out_of_turn.Tie as tie
 
 pub out-of-turn-spec : {M : Type 1} → statement M
-out-of-turn-spec =
-    tie.close
-    (tie.spec
+out-of-turn-spec = tie.close (tie.spec
     (λ c. search late-start) (λ c. search (late-first, not-true))
     (λ c. ⊎-elim (λ w. search (late-30, eqb-true, not-false)) (λ w. search (late-40, eqb-true, not-false)) (c .before .if3 .came))
     (λ c. search (late-other, eqb-false, not-false)))

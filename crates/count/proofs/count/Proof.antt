@@ -6,9 +6,6 @@ use Rattle.count.proofs.Calls.{count-refused, filled-ready, count-answe
 use Rattle.count.proofs.count.Statement.{statement}
 use Rattle.count.proofs.count.Tie as tie
 
-fill-requires : tie.Need-fill-requires
-fill-requires c κs = judged-ready _ _ _ _ (c .before .before .before .judge .ensures) (c .before .enum-told .given .1)
-
 count-filled-requires : tie.Need-count-filled-requires
 count-filled-requires c κs =
     let after-fill = c .before .before .before .before .before in
@@ -16,8 +13,7 @@ count-filled-requires c κs =
     filled-ready _ _ _ _ (passed .before .before .judge .ensures) (passed .enum-told .given .1) _ _ (after-fill .fill .ensures)
 
 pub count-spec : {M : Type 1} → statement M
-count-spec =
-    tie.close
-    (tie.spec
-    (λ c κs. omega arith) (λ c. omega arith) (λ c. omega arith) fill-requires (λ c κs. omega arith) count-filled-requires
-    (λ c. search count-refused) (λ c. omega arith) (λ c. search count-answered))
+count-spec = tie.close (tie.spec
+    (λ c κs. omega arith) (λ c. omega arith) (λ c. omega arith)
+    (λ c κs. judged-ready _ _ _ _ (c .before .before .before .judge .ensures) (c .before .enum-told .given .1)) (λ c κs. omega arith)
+    count-filled-requires (λ c. search count-refused) (λ c. omega arith) (λ c. search count-answered))

@@ -1,5 +1,4 @@
--- `count::count_filled` meets its contract: 0 where the chart is not complete, and else what is counted over trees.
--- Assumes nothing.
+-- `count::count_filled` meets its contract: 0 where the chart is not complete, and else what is counted over trees. Assumes nothing.
 use native.Mathlib.Omega.{arith}
 use borrow.Author.Needs.{needs}
 use Rattle.count.proofs.Made.{count-none, count-complete}
@@ -7,7 +6,5 @@ use Rattle.count.proofs.count_filled.Statement.{statement}
 use Rattle.count.proofs.count_filled.Tie as tie
 
 pub count-filled-spec : {M : Type 1} → statement M
-count-filled-spec =
-    tie.close
-    (tie.spec
+count-filled-spec = tie.close (tie.spec
     (λ c κs. omega arith) (λ c κs. search needs) (λ c. search count-complete) (λ c. search count-none))

@@ -6,8 +6,6 @@ use Rattle.count.proofs.count_made.Statement.{statement}
 use Rattle.count.proofs.count_made.Tie as tie
 
 pub count-made-spec : {M : Type 1} → statement M
-count-made-spec =
-    tie.close
-    (tie.spec
+count-made-spec = tie.close (tie.spec
     (λ c κs. omega arith) (λ c. omega arith) (λ c κs. omega arith) (λ c. omega arith) (λ c κs. omega arith) (λ c. search made-counted)
     (λ c. search made-many))

@@ -9,8 +9,7 @@ use Rattle.count.proofs.Made.{made-tree}
 use Rattle.count.proofs.count_tree.Statement.{statement}
 use Rattle.count.proofs.count_tree.Tie as tie
 
-build-requires : tie.Need-build-requires
-build-requires c κs = (omega arith, omega arith, length-replicate {A = ℕ} tablesSize 0, search needs, search needs)
-
 pub count-tree-spec : {M : Type 1} → statement M
-count-tree-spec = tie.close (tie.spec (λ c κs. omega arith) build-requires (λ c κs. omega arith) (λ c. search (needs, made-tree)))
+count-tree-spec = tie.close (tie.spec
+    (λ c κs. omega arith) (λ c κs. (omega arith, omega arith, length-replicate {A = ℕ} tablesSize 0, search needs, search needs))
+    (λ c κs. omega arith) (λ c. search (needs, made-tree)))

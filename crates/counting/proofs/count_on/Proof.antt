@@ -12,24 +12,14 @@ Inv-loop p rules fits chart tables start n buf₀ i₀ buf i = (i ≤ 4096) × C
 abbrev μ-loop : tie.MeasureT-loop
 μ-loop p rules fits chart tables start n buf₀ i₀ buf i = 4096 - i
 
-loop-holds : tie.Need-loop-holds Inv-loop μ-loop
-loop-holds c = (omega arith, search counted-start)
-
 returns : tie.Need-returns Inv-loop μ-loop
 returns c =
     let after-call = c .before .before .before in
     counted-last _ _ _ _ _ _ _ _ _ _ _ _ (after-call .before .before .before .loop .inv .1) (after-call .advance-root .ensures)
     (omega arith) (omega arith)
 
-loop-again : tie.Need-loop-again Inv-loop μ-loop
-loop-again c = (omega arith, search counted-step)
-
-returns-2 : tie.Need-returns-2 Inv-loop μ-loop
-returns-2 c = counted-all _ _ _ _ _ _ _ _ _ (c .before .loop .i) (c .before .loop .inv .1) (omega arith)
-
 pub count-on-spec : {M : Type 1} → statement M
-count-on-spec =
-    tie.close
-    (tie.spec
-    Inv-loop μ-loop loop-holds (λ c κs. omega arith) (λ c. omega arith) (λ c. omega arith) returns (λ c. omega arith) (λ c. omega arith)
-    loop-again (λ c. omega arith) returns-2)
+count-on-spec = tie.close (tie.spec
+    Inv-loop μ-loop (λ c. (omega arith, search counted-start)) (λ c κs. omega arith) (λ c. omega arith) (λ c. omega arith) returns
+    (λ c. omega arith) (λ c. omega arith) (λ c. (omega arith, search counted-step)) (λ c. omega arith)
+    (λ c. counted-all _ _ _ _ _ _ _ _ _ (c .before .loop .i) (c .before .loop .inv .1) (omega arith)))

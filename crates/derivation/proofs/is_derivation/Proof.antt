@@ -5,8 +5,6 @@ use Rattle.derivation.proofs.Whole.{long-unlisted, odd-unlisted, whole-
 use Rattle.derivation.proofs.is_derivation.Statement.{statement}
 use Rattle.derivation.proofs.is_derivation.Tie as tie
 
-returns : tie.Need-returns
-returns c = long-unlisted _ _ _ (omega arith)
-
 pub is-derivation-spec : {M : Type 1} → statement M
-is-derivation-spec = tie.close (tie.spec returns (λ c. search odd-unlisted) (λ c κs. omega arith) (λ c. search whole-listed))
+is-derivation-spec = tie.close (tie.spec
+    (λ c. long-unlisted _ _ _ (omega arith)) (λ c. search odd-unlisted) (λ c κs. omega arith) (λ c. search whole-listed))

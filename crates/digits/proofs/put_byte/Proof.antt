@@ -1,5 +1,4 @@
--- `digits::put_byte` meets its contract.
--- Assumes nothing.
+-- `digits::put_byte` meets its contract. Assumes nothing.
 use native.Mathlib.Omega.{arith}
 use borrow.Author.Needs.{needs}
 use Rattle.digits.proofs.Writing.{put-one}

@@ -15,9 +15,6 @@ Inv-loop s at out₀ n i₀ out i = (i ≤ length s) × Put (take i s) at (at + 
 abbrev μ-loop : tie.MeasureT-loop
 μ-loop s at out₀ n i₀ out i = length s - i
 
-loop-holds : tie.Need-loop-holds Inv-loop μ-loop
-loop-holds c = (omega arith, put-none _ _ _ (omega arith))
-
 loop-again : tie.Need-loop-again Inv-loop μ-loop
 loop-again c =
     let p = c .before .before .loop .inv .1 in
@@ -25,8 +22,6 @@ loop-again c =
     (omega arith, bytes-step _ _ _ _ _ (omega arith) (omega arith) p)
 
 pub put-bytes-spec : {M : Type 1} → statement M
-put-bytes-spec =
-    tie.close
-    (tie.spec
-    Inv-loop μ-loop loop-holds (λ c. omega arith) (λ c. omega arith) (λ c. omega arith) (λ c. omega arith) (λ c. omega arith) loop-again
-    (λ c. omega arith) (λ c. omega arith) (λ c. search (bytes-done, needs)))
+put-bytes-spec = tie.close (tie.spec
+    Inv-loop μ-loop (λ c. (omega arith, put-none _ _ _ (omega arith))) (λ c. omega arith) (λ c. omega arith) (λ c. omega arith)
+    (λ c. omega arith) (λ c. omega arith) loop-again (λ c. omega arith) (λ c. omega arith) (λ c. search (bytes-done, needs)))

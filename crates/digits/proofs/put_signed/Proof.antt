@@ -1,5 +1,4 @@
--- `digits::put_signed` meets its contract, by the sign.
--- Assumes nothing.
+-- `digits::put_signed` meets its contract, by the sign. Assumes nothing.
 use native.Mathlib.Omega.{arith}
 use Rattle.digits.proofs.Signed.{negated-fits, negated-casts, room-negated, written-negative}
 use Rattle.digits.proofs.Signed.{natural-casts, room-natural, written-natural}
@@ -11,9 +10,6 @@ cast-put-decimal c =
     let t = c .before .before .before .before in
     let s = t .before .before in
     negated-casts (s .args .z) (s .pre .0) (t .if1 .taken)
-
-cast-put-decimal-2 : tie.Need-cast-put-decimal-2
-cast-put-decimal-2 c = natural-casts (c .before .before .args .z) (c .before .before .pre .0) (c .if1 .left)
 
 returns : tie.Need-returns
 returns c =
@@ -31,8 +27,7 @@ returns-2 c =
     written-natural (s .args .z) (s .pre .0) (t .if1 .left) _ _ _ _ (size .put-decimal2 .ensures)
 
 pub put-signed-spec : {M : Type 1} → statement M
-put-signed-spec =
-    tie.close
-    (tie.spec
-    (λ c κs. omega arith) (λ c. search negated-fits) cast-put-decimal (λ c κs. search room-negated) cast-put-decimal-2
-    (λ c κs. search room-natural) (λ c. omega arith) returns (λ c. omega arith) returns-2)
+put-signed-spec = tie.close (tie.spec
+    (λ c κs. omega arith) (λ c. search negated-fits) cast-put-decimal (λ c κs. search room-negated)
+    (λ c. natural-casts (c .before .before .args .z) (c .before .before .pre .0) (c .if1 .left)) (λ c κs. search room-natural)
+    (λ c. omega arith) returns (λ c. omega arith) returns-2)

@@ -1,6 +1,5 @@
 -- `encoding::of_refusal` meets its contract: 256 and the number of the refusal. The search would do; the file is
--- there so that a wrong code is refused at this need.
--- Assumes nothing.
+-- there so that a wrong code is refused at this need. Assumes nothing.
 use native.Mathlib.Omega.{arith}
 use Rattle.encoding.proofs.of_refusal.Statement.{statement}
 use Rattle.encoding.proofs.of_refusal.Tie as tie

@@ -1,22 +1,10 @@
--- `encoding::of_taking` meets its contract, one case for each answer.
--- Assumes nothing.
+-- `encoding::of_taking` meets its contract, one case for each answer. Assumes nothing.
 use native.Mathlib.Omega.{arith}
 use Rattle.codes.proofs.Codes.{verdict-refused, row-refused, row-yes, row-no, code-yes, code-no}
 use Rattle.encoding.proofs.of_taking.Statement.{statement}
 use Rattle.encoding.proofs.of_taking.Tie as tie
 
-returns : tie.Need-returns
-returns c = (search verdict-refused, search row-refused)
-
-returns-2 : tie.Need-returns-2
-returns-2 c = (search code-yes, search row-yes)
-
-returns-3 : tie.Need-returns-3
-returns-3 c = (search code-no, search row-no)
-
 pub of-taking-spec : {M : Type 1} → statement M
-of-taking-spec =
-    tie.close
-    (tie.spec
-    (λ c. omega arith) (λ c κs. omega arith) (λ c. omega arith) (λ c κs. omega arith) (λ c. omega arith) (λ c κs. omega arith) returns
-    returns-2 returns-3)
+of-taking-spec = tie.close (tie.spec
+    (λ c. omega arith) (λ c κs. omega arith) (λ c. omega arith) (λ c κs. omega arith) (λ c. omega arith) (λ c κs. omega arith)
+    (λ c. (search verdict-refused, search row-refused)) (λ c. (search code-yes, search row-yes)) (λ c. (search code-no, search row-no)))

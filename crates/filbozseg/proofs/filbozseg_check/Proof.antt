@@ -1,23 +1,10 @@
--- `filbozseg::filbozseg_check` meets its contract.
--- Assumes nothing.
+-- `filbozseg::filbozseg_check` meets its contract. Assumes nothing.
 use borrow.Author.Needs.{needs}
 use Rattle.grammar.specs.declared.Grammar.{Grammar}
 use Rattle.results.specs.Check.{checkOf}
 use Rattle.filbozseg.proofs.Given.{checks-of}
 use Rattle.filbozseg.proofs.filbozseg_check.Statement.{statement}
 use Rattle.filbozseg.proofs.filbozseg_check.Tie as tie
-
-read-requires : tie.Need-read-requires
-read-requires c κs = search needs
-
-check-requires : tie.Need-check-requires
-check-requires c κs = search needs
-
-of-verdict-requires : tie.Need-of-verdict-requires
-of-verdict-requires c κs = search needs
-
-same-length : tie.Need-same-length
-same-length c = search needs
 
 returns : tie.Need-returns
 returns c =
@@ -28,5 +15,5 @@ returns c =
     (after-check .check .ensures) (c .of-verdict .ensures)
 
 pub filbozseg-check-spec : {M : Type 1} → statement M
-filbozseg-check-spec =
-    tie.close (tie.spec read-requires check-requires of-verdict-requires same-length returns)
+filbozseg-check-spec = tie.close (tie.spec
+    (λ c κs. search needs) (λ c κs. search needs) (λ c κs. search needs) (λ c. search needs) returns)

@@ -1,5 +1,4 @@
--- `filbozseg::filbozseg_length` meets its contract.
--- Assumes nothing.
+-- `filbozseg::filbozseg_length` meets its contract. Assumes nothing.
 use borrow.Author.Needs.{needs}
 use Rattle.grammar.specs.declared.Grammar.{Grammar}
 use Rattle.results.specs.Measure.{lengthOf}
@@ -16,6 +15,5 @@ returns c =
     (after-length .length .ensures) (c .of-length .ensures .0) (c .of-length .ensures .1)
 
 pub filbozseg-length-spec : {M : Type 1} → statement M
-filbozseg-length-spec =
-    tie.close
-    (tie.spec (λ c κs. search needs) (λ c κs. search needs) (λ c κs. search needs) (λ c. search needs) returns)
+filbozseg-length-spec = tie.close (tie.spec
+    (λ c κs. search needs) (λ c κs. search needs) (λ c κs. search needs) (λ c. search needs) returns)

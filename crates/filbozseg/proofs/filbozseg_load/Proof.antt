@@ -1,5 +1,4 @@
--- `filbozseg::filbozseg_load` meets its contract.
--- Assumes nothing.
+-- `filbozseg::filbozseg_load` meets its contract. Assumes nothing.
 use native.Mathlib.Omega.{arith}
 use borrow.Author.Needs.{needs}
 use Rattle.filbozseg.proofs.Given.{loads-of}
@@ -15,6 +14,4 @@ returns c =
     (c .of-loading .ensures .0) (c .of-loading .ensures .1)
 
 pub filbozseg-load-spec : {M : Type 1} → statement M
-filbozseg-load-spec =
-    tie.close
-    (tie.spec (λ c κs. search needs) (λ c κs. search needs) (λ c κs. search needs) returns)
+filbozseg-load-spec = tie.close (tie.spec (λ c κs. search needs) (λ c κs. search needs) (λ c κs. search needs) returns)

@@ -1,26 +1,10 @@
--- `filbozseg::filbozseg_open` meets its contract.
--- Assumes nothing.
+-- `filbozseg::filbozseg_open` meets its contract. Assumes nothing.
 use Rattle.grammar.specs.declared.Grammar.{Grammar}
 use Rattle.results.specs.Recognize.{openOf}
 use Rattle.filbozseg.proofs.Given.{opens-of}
 use borrow.Author.Needs.{needs}
 use Rattle.filbozseg.proofs.filbozseg_open.Statement.{statement}
 use Rattle.filbozseg.proofs.filbozseg_open.Tie as tie
-
-read-requires : tie.Need-read-requires
-read-requires c κs = search needs
-
-open-requires : tie.Need-open-requires
-open-requires c κs = search needs
-
-write-requires : tie.Need-write-requires
-write-requires c κs = search needs
-
-of-verdict-requires : tie.Need-of-verdict-requires
-of-verdict-requires c κs = search needs
-
-same-length : tie.Need-same-length
-same-length c = search needs
 
 returns : tie.Need-returns
 returns c =
@@ -31,6 +15,5 @@ returns c =
     (after-open .«open» .ensures) _ (after-write .write .ensures) (c .of-verdict .ensures)
 
 pub filbozseg-open-spec : {M : Type 1} → statement M
-filbozseg-open-spec =
-    tie.close
-    (tie.spec read-requires open-requires write-requires of-verdict-requires same-length returns)
+filbozseg-open-spec = tie.close (tie.spec
+    (λ c κs. search needs) (λ c κs. search needs) (λ c κs. search needs) (λ c κs. search needs) (λ c. search needs) returns)

@@ -1,5 +1,4 @@
--- `filbozseg::filbozseg_take` meets its contract.
--- Assumes nothing.
+-- `filbozseg::filbozseg_take` meets its contract. Assumes nothing.
 use borrow.Author.Needs.{needs}
 use Rattle.grammar.specs.declared.Grammar.{Grammar}
 use Rattle.results.specs.Recognize.{State, takeOf}
@@ -17,6 +16,5 @@ returns c =
     (c .of-taking .ensures .1) (c .of-taking .ensures .0)
 
 pub filbozseg-take-spec : {M : Type 1} → statement M
-filbozseg-take-spec =
-    tie.close
-    (tie.spec (λ c κs. search needs) (λ c κs. search needs) (λ c κs. search needs) (λ c κs. search needs) (λ c. search needs) returns)
+filbozseg-take-spec = tie.close (tie.spec
+    (λ c κs. search needs) (λ c κs. search needs) (λ c κs. search needs) (λ c κs. search needs) (λ c. search needs) returns)

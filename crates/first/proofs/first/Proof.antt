@@ -6,9 +6,6 @@ use Rattle.first.proofs.Calls.{first-refused, filled-ready, first-answe
 use Rattle.first.proofs.first.Statement.{statement}
 use Rattle.first.proofs.first.Tie as tie
 
-fill-requires : tie.Need-fill-requires
-fill-requires c κs = output-ready _ _ _ _ _ (c .before .before .before .judge-output .ensures) (c .before .enum-told .given .1) .0
-
 first-filled-requires : tie.Need-first-filled-requires
 first-filled-requires c κs =
     let after-fill = c .before .before .before .before .before .before in
@@ -16,8 +13,8 @@ first-filled-requires c κs =
     filled-ready _ _ _ _ _ _ _ (passed .before .before .judge-output .ensures) (passed .enum-told .given .1) (after-fill .fill .ensures)
 
 pub first-spec : {M : Type 1} → statement M
-first-spec =
-    tie.close
-    (tie.spec
-    (λ c κs. omega arith) (λ c. omega arith) (λ c. omega arith) fill-requires (λ c κs. omega arith) first-filled-requires
-    (λ c. search first-refused) (λ c. omega arith) (λ c. omega arith) (λ c. search first-answered))
+first-spec = tie.close (tie.spec
+    (λ c κs. omega arith) (λ c. omega arith) (λ c. omega arith)
+    (λ c κs. output-ready _ _ _ _ _ (c .before .before .before .judge-output .ensures) (c .before .enum-told .given .1) .0)
+    (λ c κs. omega arith) first-filled-requires (λ c. search first-refused) (λ c. omega arith) (λ c. omega arith)
+    (λ c. search first-answered))

@@ -7,7 +7,5 @@ use Rattle.first.proofs.first_filled.Statement.{statement}
 use Rattle.first.proofs.first_filled.Tie as tie
 
 pub first-filled-spec : {M : Type 1} → statement M
-first-filled-spec =
-    tie.close
-    (tie.spec
+first-filled-spec = tie.close (tie.spec
     (λ c κs. omega arith) (λ c κs. search needs) (λ c. omega arith) (λ c. search first-complete) (λ c. search first-none))

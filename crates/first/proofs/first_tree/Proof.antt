@@ -9,11 +9,7 @@ use Rattle.first.proofs.Handing.{made-tree}
 use Rattle.first.proofs.first_tree.Statement.{statement}
 use Rattle.first.proofs.first_tree.Tie as tie
 
-build-requires : tie.Need-build-requires
-build-requires c κs = (omega arith, omega arith, length-replicate {A = ℕ} tablesSize 0, search needs, search needs)
-
 pub first-tree-spec : {M : Type 1} → statement M
-first-tree-spec =
-    tie.close
-    (tie.spec
-    (λ c κs. omega arith) build-requires (λ c κs. omega arith) (λ c. omega arith) (λ c. search (needs, made-tree)))
+first-tree-spec = tie.close (tie.spec
+    (λ c κs. omega arith) (λ c κs. (omega arith, omega arith, length-replicate {A = ℕ} tablesSize 0, search needs, search needs))
+    (λ c κs. omega arith) (λ c. omega arith) (λ c. search (needs, made-tree)))

@@ -14,29 +14,8 @@ Inv-loop p w n rules t₀ r₀ t r = (r ≤ rules) × TableTo p w n fitSize r t
 abbrev μ-loop : tie.MeasureT-loop
 μ-loop p w n rules t₀ r₀ t r = rules - r
 
-loop-holds : tie.Need-loop-holds Inv-loop μ-loop
-loop-holds c = (omega arith, table-start _ _ _)
-
-write-rule-requires : tie.Need-write-rule-requires Inv-loop μ-loop
-write-rule-requires c κs = (omega arith, search needs, c .before .before .loop .inv .1 .put .long)
-
-loop-again : tie.Need-loop-again Inv-loop μ-loop
-loop-again c = (omega arith, search table-step)
-
-returns : tie.Need-returns Inv-loop μ-loop
-returns c = search table-done
-
 pub table-spec : {M : Type 1} → statement M
-table-spec =
-    tie.close
-    (tie.spec
-    Inv-loop
-    μ-loop
-    (λ c κs. omega arith)
-    (λ c κs. omega arith)
-    loop-holds
-    write-rule-requires
-    (λ c. omega arith)
-    (λ c. omega arith)
-    loop-again
-    returns)
+table-spec = tie.close (tie.spec
+    Inv-loop μ-loop (λ c κs. omega arith) (λ c κs. omega arith) (λ c. (omega arith, table-start _ _ _))
+    (λ c κs. (omega arith, search needs, c .before .before .loop .inv .1 .put .long)) (λ c. omega arith) (λ c. omega arith)
+    (λ c. (omega arith, search table-step)) (λ c. search table-done))

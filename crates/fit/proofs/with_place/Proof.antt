@@ -1,16 +1,10 @@
--- `fit::with_place` meets its contract: a byte with one of 8 members is a byte.
--- Assumes nothing.
+-- `fit::with_place` meets its contract: a byte with one of 8 members is a byte. Assumes nothing.
 use borrow.Author.Needs.{needs}
 use native.Mathlib.Omega.{arith}
 use Rattle.fit.proofs.Entries.{byte-with, byte-small}
 use Rattle.fit.proofs.with_place.Statement.{statement}
 use Rattle.fit.proofs.with_place.Tie as tie
 
-cast-result : tie.Need-cast-result
-cast-result c = search (needs, byte-small)
-
-returns : tie.Need-returns
-returns c = search (needs, byte-with)
-
 pub with-place-spec : {M : Type 1} → statement M
-with-place-spec = tie.close (tie.spec (λ c κs. omega arith) (λ c κs. omega arith) cast-result returns)
+with-place-spec = tie.close (tie.spec
+    (λ c κs. omega arith) (λ c κs. omega arith) (λ c. search (needs, byte-small)) (λ c. search (needs, byte-with)))

@@ -13,18 +13,8 @@ Inv-loop p r q w n t₀ i₀ t i = (i ≤ n) × Put p w (AtPlace i r q) t₀ t
 abbrev μ-loop : tie.MeasureT-loop
 μ-loop p r q w n t₀ i₀ t i = n - i
 
-loop-holds : tie.Need-loop-holds Inv-loop μ-loop
-loop-holds c = (omega arith, search place-start)
-
-put-at-requires : tie.Need-put-at-requires Inv-loop μ-loop
-put-at-requires c κs = (omega arith, omega arith, omega arith, c .before .before .loop .inv .1 .long)
-
-loop-again : tie.Need-loop-again Inv-loop μ-loop
-loop-again c = (omega arith, search place-step)
-
-returns : tie.Need-returns Inv-loop μ-loop
-returns c = search place-done
-
 pub write-place-spec : {M : Type 1} → statement M
-write-place-spec =
-    tie.close (tie.spec Inv-loop μ-loop loop-holds put-at-requires (λ c. omega arith) (λ c. omega arith) loop-again returns)
+write-place-spec = tie.close (tie.spec
+    Inv-loop μ-loop (λ c. (omega arith, search place-start))
+    (λ c κs. (omega arith, omega arith, omega arith, c .before .before .loop .inv .1 .long)) (λ c. omega arith) (λ c. omega arith)
+    (λ c. (omega arith, search place-step)) (λ c. search place-done))

@@ -16,28 +16,8 @@ Inv-loop p r w n t₀ count q₀ t q = (q ≤ count) × (count ≡ countIn p r) 
 abbrev μ-loop : tie.MeasureT-loop
 μ-loop p r w n t₀ count q₀ t q = count - q
 
-loop-holds : tie.Need-loop-holds Inv-loop μ-loop
-loop-holds c = (omega arith, c .count .ensures .0, c .count .ensures .1, search rule-start)
-
-put-place-requires : tie.Need-put-place-requires Inv-loop μ-loop
-put-place-requires c κs = (omega arith, omega arith, omega arith, c .before .before .loop .inv .3 .long)
-
-loop-again : tie.Need-loop-again Inv-loop μ-loop
-loop-again c = (omega arith, search needs, omega arith, search rule-step)
-
-returns : tie.Need-returns Inv-loop μ-loop
-returns c = search rule-done
-
 pub write-rule-spec : {M : Type 1} → statement M
-write-rule-spec =
-    tie.close
-    (tie.spec
-    Inv-loop
-    μ-loop
-    (λ c κs. omega arith)
-    loop-holds
-    put-place-requires
-    (λ c. omega arith)
-    (λ c. omega arith)
-    loop-again
-    returns)
+write-rule-spec = tie.close (tie.spec
+    Inv-loop μ-loop (λ c κs. omega arith) (λ c. (omega arith, c .count .ensures .0, c .count .ensures .1, search rule-start))
+    (λ c κs. (omega arith, omega arith, omega arith, c .before .before .loop .inv .3 .long)) (λ c. omega arith) (λ c. omega arith)
+    (λ c. (omega arith, search needs, omega arith, search rule-step)) (λ c. search rule-done))

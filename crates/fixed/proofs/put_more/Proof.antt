@@ -1,5 +1,4 @@
--- `fixed::put_more` meets its contract.
--- Assumes nothing.
+-- `fixed::put_more` meets its contract. Assumes nothing.
 use native.Mathlib.Omega.{arith}
 use borrow.Author.Needs.{needs}
 use Rattle.text.specs.Line.{readingsLine}

@@ -1,13 +1,9 @@
--- `fixed::put_readings` meets its contract.
--- Assumes nothing.
+-- `fixed::put_readings` meets its contract. Assumes nothing.
 use native.Mathlib.Omega.{arith}
 use Rattle.digits.proofs.Decimal.{digits-16}
 use Rattle.lines.proofs.Lines.{readings-done}
 use Rattle.fixed.proofs.put_readings.Statement.{statement}
 use Rattle.fixed.proofs.put_readings.Tie as tie
-
-put-decimal-requires : tie.Need-put-decimal-requires
-put-decimal-requires c κs = omega (arith, digits-16 (c .before .before .before .before .before .before .before .args .n) (omega arith))
 
 put-byte-requires : tie.Need-put-byte-requires
 put-byte-requires c κs =
@@ -15,7 +11,7 @@ put-byte-requires c κs =
     omega (arith, digits-16 n (omega arith))
 
 pub put-readings-spec : {M : Type 1} → statement M
-put-readings-spec =
-    tie.close
-    (tie.spec
-    (λ c. omega arith) (λ c κs. omega arith) put-decimal-requires put-byte-requires (λ c. omega arith) (λ c. search readings-done))
+put-readings-spec = tie.close (tie.spec
+    (λ c. omega arith) (λ c κs. omega arith)
+    (λ c κs. omega (arith, digits-16 (c .before .before .before .before .before .before .before .args .n) (omega arith)))
+    put-byte-requires (λ c. omega arith) (λ c. search readings-done))

@@ -16,9 +16,6 @@ Inv-loop f₀ g r₀ f r = (r ≤ 128) × Written flatRule ruleNumbers 3 (g .rul
 abbrev μ-loop : tie.MeasureT-loop
 μ-loop f₀ g r₀ f r = 128 - r
 
-loop-holds : tie.Need-loop-holds Inv-loop μ-loop
-loop-holds c = (omega arith, written-start _ _ _ _ _ (simp (length-set, length-replicate) refl))
-
 loop-again : tie.Need-loop-again Inv-loop μ-loop
 loop-again c = (
   omega arith,
@@ -34,9 +31,7 @@ returns c =
     (c .before .before .count-of .ensures) (c .before .loop .inv .1)
 
 pub write-spec : {M : Type 1} → statement M
-write-spec =
-    tie.close
-    (tie.spec
+write-spec = tie.close (tie.spec
     Inv-loop μ-loop (λ c. omega arith) (λ c. omega arith) (λ c κs. omega arith) (λ c. omega arith) (λ c. omega arith) (λ c. omega arith)
-    loop-holds (λ c. omega arith) (λ c. omega arith) (λ c. omega arith) (λ c. omega arith) (λ c κs. omega arith) (λ c. omega arith)
-    (λ c. omega arith) loop-again returns)
+    (λ c. (omega arith, written-start _ _ _ _ _ (simp (length-set, length-replicate) refl))) (λ c. omega arith) (λ c. omega arith)
+    (λ c. omega arith) (λ c. omega arith) (λ c κs. omega arith) (λ c. omega arith) (λ c. omega arith) loop-again returns)

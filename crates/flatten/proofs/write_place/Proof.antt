@@ -6,8 +6,6 @@ use Rattle.flatten.proofs.write_place.Statement.{statement}
 use Rattle.flatten.proofs.write_place.Tie as tie
 
 pub write-place-spec : {M : Type 1} → statement M
-write-place-spec =
-    tie.close
-    (tie.spec
+write-place-spec = tie.close (tie.spec
     (λ c κs. omega arith) (λ c. omega arith) (λ c. omega arith) (λ c. omega arith) (λ c κs. omega arith) (λ c. omega arith)
     (λ c. omega arith) (λ c. omega arith) (λ c. omega arith) (λ c. (search place-done, simp length-set (c .before .before .pre .1))))

@@ -15,9 +15,6 @@ Inv-loop at f₀ rule z q₀ f q = (q ≤ 8) × Written flatPlace 2 (at + 3) (ru
 abbrev μ-loop : tie.MeasureT-loop
 μ-loop at f₀ rule z q₀ f q = 8 - q
 
-loop-holds : tie.Need-loop-holds Inv-loop μ-loop
-loop-holds c = (omega arith, written-start _ _ _ _ _ (simp length-set (c .before .before .before .pre .1)))
-
 loop-again : tie.Need-loop-again Inv-loop μ-loop
 loop-again c = (
   omega arith,
@@ -39,10 +36,9 @@ returns c = (
 )
 
 pub write-rule-spec : {M : Type 1} → statement M
-write-rule-spec =
-    tie.close
-    (tie.spec
+write-rule-spec = tie.close (tie.spec
     Inv-loop μ-loop (λ c. omega arith) (λ c. omega arith) (λ c. omega arith) (λ c κs. omega arith) (λ c. omega arith) (λ c. omega arith)
-    (λ c. omega arith) (λ c κs. omega arith) (λ c. omega arith) (λ c. omega arith) (λ c. omega arith) loop-holds (λ c. omega arith)
+    (λ c. omega arith) (λ c κs. omega arith) (λ c. omega arith) (λ c. omega arith) (λ c. omega arith)
+    (λ c. (omega arith, written-start _ _ _ _ _ (simp length-set (c .before .before .before .pre .1)))) (λ c. omega arith)
     (λ c. omega arith) (λ c. omega arith) (λ c. omega arith) (λ c. omega arith) (λ c κs. omega arith) (λ c. omega arith)
     (λ c. omega arith) loop-again returns)

@@ -1,6 +1,5 @@
 -- `following::next_made` meets its contract: the derivation after the offered one is written to the buffer and, if there is one, copied to
--- the output.
--- Assumes nothing.
+-- the output. Assumes nothing.
 use native.Mathlib.Omega.{arith}
 use borrow.Author.Needs.{needs}
 use Rattle.following.proofs.Handing.{made-none, made-next}
@@ -8,8 +7,6 @@ use Rattle.following.proofs.next_made.Statement.{statement}
 use Rattle.following.proofs.next_made.Tie as tie
 
 pub next-made-spec : {M : Type 1} → statement M
-next-made-spec =
-    tie.close
-    (tie.spec
+next-made-spec = tie.close (tie.spec
     (λ c. omega arith) (λ c κs. omega arith) (λ c. omega arith) (λ c κs. omega arith) (λ c. search made-none) (λ c. omega arith)
     (λ c. omega arith) (λ c κs. omega arith) (λ c. omega arith) (λ c. search (needs, made-next)))

@@ -19,19 +19,12 @@ Inv-loop g n i₀ i = (i ≤ n) × (n ≤ 128) × (g .start ≤ 31) × (all vali
 abbrev μ-loop : tie.MeasureT-loop
 μ-loop g n i₀ i = n - i
 
-returns : tie.Need-returns Inv-loop μ-loop
-returns c = ⊎-elim (λ w. search grammar-start) (λ w. grammar-count _ (omega (arith, ltb-true))) (c .if1 .came)
-
 loop-holds : tie.Need-loop-holds Inv-loop μ-loop
 unfolding all
 loop-holds c = (omega arith, search needs, omega arith, refl)
 
-loop-again : tie.Need-loop-again Inv-loop μ-loop
-loop-again c = (omega arith, omega arith, omega arith, search all-next)
-
 pub valid-spec : {M : Type 1} → statement M
-valid-spec =
-    tie.close
-    (tie.spec
-    Inv-loop μ-loop returns loop-holds (λ c. omega arith) (λ c. omega arith) (λ c κs. omega arith) (λ c. search grammar-rule)
-    (λ c. omega arith) (λ c. omega arith) loop-again (λ c. search grammar-passes))
+valid-spec = tie.close (tie.spec
+    Inv-loop μ-loop (λ c. ⊎-elim (λ w. search grammar-start) (λ w. grammar-count _ (omega (arith, ltb-true))) (c .if1 .came)) loop-holds
+    (λ c. omega arith) (λ c. omega arith) (λ c κs. omega arith) (λ c. search grammar-rule) (λ c. omega arith) (λ c. omega arith)
+    (λ c. (omega arith, omega arith, omega arith, search all-next)) (λ c. search grammar-passes))

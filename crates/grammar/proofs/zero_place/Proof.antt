@@ -1,11 +1,7 @@
--- `grammar::zero_place` meets its contract by computation.
--- Assumes nothing.
+-- `grammar::zero_place` meets its contract by computation. Assumes nothing.
 use mathlib.Core.Path.{refl}
 use Rattle.grammar.proofs.zero_place.Statement.{statement}
 use Rattle.grammar.proofs.zero_place.Tie as tie
 
-returns : tie.Need-returns
-returns c = refl
-
 pub zero-place-spec : {M : Type 1} → statement M
-zero-place-spec = tie.close (tie.spec returns)
+zero-place-spec = tie.close (tie.spec (λ c. refl))

@@ -1,5 +1,4 @@
--- `hand::read` meets its contract: the state of the parts that were read.
--- Assumes nothing.
+-- `hand::read` meets its contract: the state of the parts that were read. Assumes nothing.
 use native.Mathlib.Omega.{arith}
 use Rattle.hand.proofs.Copies.{read-of}
 use Rattle.hand.proofs.read.Statement.{statement}

@@ -16,20 +16,12 @@ Inv-loop h bytes₀ i₀ bytes i = Copied (map byteIn h) maxInput i bytes
 abbrev μ-loop : tie.MeasureT-loop
 μ-loop h bytes₀ i₀ bytes i = maxInput - i
 
-loop-holds : tie.Need-loop-holds Inv-loop μ-loop
-loop-holds c = copied-start _ _ _ refl
-
 loop-again : tie.Need-loop-again Inv-loop μ-loop
 loop-again c =
     let l = c .before .before in
     read-step (l .before .args .t1) _ _ _ (l .loop .inv) (l .before .good .0 .1 .0 .1) (omega arith) (c .byte .ensures)
 
-returns : tie.Need-returns Inv-loop μ-loop
-returns c = read-done _ _ _ (c .before .loop .inv) (omega arith)
-
 pub read-bytes-spec : {M : Type 1} → statement M
-read-bytes-spec =
-    tie.close
-    (tie.spec
-    Inv-loop μ-loop loop-holds (λ c. omega arith) (λ c. omega arith) (λ c κs. omega arith) (λ c. omega arith) (λ c. omega arith)
-    (λ c. omega arith) loop-again returns)
+read-bytes-spec = tie.close (tie.spec
+    Inv-loop μ-loop (λ c. copied-start _ _ _ refl) (λ c. omega arith) (λ c. omega arith) (λ c κs. omega arith) (λ c. omega arith)
+    (λ c. omega arith) (λ c. omega arith) loop-again (λ c. read-done _ _ _ (c .before .loop .inv) (omega arith)))

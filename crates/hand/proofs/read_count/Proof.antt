@@ -17,15 +17,8 @@ Inv-loop h n m i₀ i = (i ≤ m) × (all isByte (take i h) ≡ true)
 abbrev μ-loop : tie.MeasureT-loop
 μ-loop h n m i₀ i = m - i
 
-loop-holds : tie.Need-loop-holds Inv-loop μ-loop
-loop-holds c = (omega arith, search count-first)
-
-loop-again : tie.Need-loop-again Inv-loop μ-loop
-loop-again c = (omega arith, search count-next)
-
 pub read-count-spec : {M : Type 1} → statement M
-read-count-spec =
-    tie.close
-    (tie.spec
-    Inv-loop μ-loop (λ c. omega arith) (λ c κs. omega arith) (λ c κs. omega arith) loop-holds (λ c. omega arith) (λ c. omega arith)
-    (λ c. search count-refused) (λ c. omega arith) (λ c. omega arith) loop-again (λ c. search count-passed))
+read-count-spec = tie.close (tie.spec
+    Inv-loop μ-loop (λ c. omega arith) (λ c κs. omega arith) (λ c κs. omega arith) (λ c. (omega arith, search count-first))
+    (λ c. omega arith) (λ c. omega arith) (λ c. search count-refused) (λ c. omega arith) (λ c. omega arith)
+    (λ c. (omega arith, search count-next)) (λ c. search count-passed))

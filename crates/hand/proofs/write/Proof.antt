@@ -17,9 +17,6 @@ Inv-loop h₀ r k₀ h k = Copied (r .bytes) handSize k h
 abbrev μ-loop : tie.MeasureT-loop
 μ-loop h₀ r k₀ h k = maxInput - k
 
-loop-holds : tie.Need-loop-holds Inv-loop μ-loop
-loop-holds c = copied-start _ _ _ refl
-
 loop-again : tie.Need-loop-again Inv-loop μ-loop
 loop-again c =
     let l = c .before .before in
@@ -33,8 +30,6 @@ returns c =
     (c .count-of .ensures)
 
 pub write-spec : {M : Type 1} → statement M
-write-spec =
-    tie.close
-    (tie.spec
-    Inv-loop μ-loop loop-holds (λ c. omega arith) (λ c. search needs) (λ c. omega arith) (λ c. omega arith) (λ c. omega arith)
-    (λ c. omega arith) loop-again (λ c κs. omega arith) (λ c. omega arith) returns)
+write-spec = tie.close (tie.spec
+    Inv-loop μ-loop (λ c. copied-start _ _ _ refl) (λ c. omega arith) (λ c. search needs) (λ c. omega arith) (λ c. omega arith)
+    (λ c. omega arith) (λ c. omega arith) loop-again (λ c κs. omega arith) (λ c. omega arith) returns)

@@ -1,5 +1,4 @@
--- `initial::build` meets its contract: the tables are right for the input.
--- Assumes nothing.
+-- `initial::build` meets its contract: the tables are right for the input. Assumes nothing.
 use native.Mathlib.Omega.{arith}
 use Rattle.initial.proofs.Writing.{built}
 use Rattle.initial.proofs.build.Statement.{statement}

@@ -1,5 +1,4 @@
--- `initial::exists` meets its contract.
--- Assumes nothing.
+-- `initial::exists` meets its contract. Assumes nothing.
 use native.Mathlib.Omega.{arith}
 use Rattle.initial.proofs.Writing.{exists-told}
 use Rattle.initial.proofs.exists.Statement.{statement}

@@ -1,5 +1,4 @@
--- `initial::write_first` meets its contract: the first tree of the start symbol over all bytes.
--- Assumes nothing.
+-- `initial::write_first` meets its contract: the first tree of the start symbol over all bytes. Assumes nothing.
 use native.Mathlib.Omega.{arith}
 use borrow.Author.Needs.{needs}
 use Rattle.initial.proofs.Writing.{written-first}

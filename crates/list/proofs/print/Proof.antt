@@ -1,5 +1,4 @@
--- `list::print` meets its contract: what it lends is long enough, before and after the first step.
--- Assumes nothing.
+-- `list::print` meets its contract: what it lends is long enough, before and after the first step. Assumes nothing.
 use Prim.Native.Nat.{ℕ}
 use native.Mathlib.Omega.{arith}
 use lib.IntN.{ℤ, pos}
@@ -27,7 +26,5 @@ print-from-requires c κs =
     )
 
 pub print-spec : {M : Type 1} → statement M
-print-spec =
-    tie.close
-    (tie.spec
+print-spec = tie.close (tie.spec
     (λ c. omega arith) (λ c. omega arith) begin-requires (λ c. omega arith) (λ c. omega arith) print-from-requires (λ c. omega arith))

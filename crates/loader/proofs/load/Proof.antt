@@ -17,9 +17,7 @@ abbrev μ-loop : tie.MeasureT-loop
 μ-loop bytes g₀ turn₀ at₀ g turn at = length bytes - at
 
 pub load-spec : {M : Type 1} → statement M
-load-spec =
-    tie.close
-    (tie.spec
+load-spec = tie.close (tie.spec
     Inv-loop μ-loop (λ c κs. omega arith) (λ c. search progress-first) (λ c κs. omega arith) (λ c. omega arith) (λ c. omega arith)
     (λ c κs. omega arith) (λ c. omega arith) (λ c. search (moved-fits, start-room)) (λ c. search (moved-less, start-room, lit<))
     (λ c. search progress-start) (λ c. omega arith) (λ c κs. omega arith) (λ c. omega arith) (λ c. search rule-few) (λ c. omega arith)

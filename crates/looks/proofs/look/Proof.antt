@@ -1,22 +1,10 @@
--- `looks::look` meets its contract.
--- Assumes nothing.
+-- `looks::look` meets its contract. Assumes nothing.
 use native.Mathlib.Omega.{arith}
 use Rattle.looks.proofs.Looking.{looked}
 use Rattle.looks.proofs.look.Statement.{statement}
 use Rattle.looks.proofs.look.Tie as tie
 
-returns : tie.Need-returns
-returns c = search looked
-
 pub look-spec : {M : Type 1} → statement M
-look-spec =
-    tie.close
-    (tie.spec
-    (λ c κs. omega arith)
-    (λ c. omega arith)
-    (λ c. omega arith)
-    (λ c κs. omega arith)
-    (λ c. omega arith)
-    (λ c. omega arith)
-    (λ c κs. omega arith)
-    returns)
+look-spec = tie.close (tie.spec
+    (λ c κs. omega arith) (λ c. omega arith) (λ c. omega arith) (λ c κs. omega arith) (λ c. omega arith) (λ c. omega arith)
+    (λ c κs. omega arith) (λ c. search looked))

@@ -1,23 +1,11 @@
--- `looks::look_first` meets its contract.
--- Assumes nothing.
+-- `looks::look_first` meets its contract. Assumes nothing.
 use borrow.Author.Needs.{needs}
 use native.Mathlib.Omega.{arith}
 use Rattle.looks.proofs.Looking.{passed-over}
 use Rattle.looks.proofs.look_first.Statement.{statement}
 use Rattle.looks.proofs.look_first.Tie as tie
 
-returns : tie.Need-returns
-returns c = search passed-over
-
 pub look-first-spec : {M : Type 1} → statement M
-look-first-spec =
-    tie.close
-    (tie.spec
-    (λ c κs. omega arith)
-    (λ c. omega arith)
-    (λ c. omega arith)
-    (λ c. omega arith)
-    (λ c. omega arith)
-    returns
-    (λ c κs. omega arith)
-    (λ c. search needs))
+look-first-spec = tie.close (tie.spec
+    (λ c κs. omega arith) (λ c. omega arith) (λ c. omega arith) (λ c. omega arith) (λ c. omega arith) (λ c. search passed-over)
+    (λ c κs. omega arith) (λ c. search needs))

@@ -39,8 +39,6 @@ returns c =
     lengths-done (b .loop .l) (b .before .args .t1 .rules) (b .loop .r) (b .loop .inv .1) full (omega arith) (omega arith) (b .loop .inv .2)
 
 pub lengths-of-spec : {M : Type 1} → statement M
-lengths-of-spec =
-    tie.close
-    (tie.spec
+lengths-of-spec = tie.close (tie.spec
     Inv-loop μ-loop (λ c. search needs) (λ c. omega arith) (λ c. omega arith) (λ c κs. omega arith) (λ c. omega arith) (λ c. omega arith)
     (λ c. omega arith) (λ c. omega arith) loop-again returns)

@@ -1,5 +1,4 @@
--- `measure::tenths` meets its contract: the sum fits in 32 bits.
--- Assumes nothing.
+-- `measure::tenths` meets its contract: the sum fits in 32 bits. Assumes nothing.
 use mathlib.Core.Path.{ap, _∙_}
 use native.Mathlib.Omega.{arith}
 use borrow.Author.Needs.{needs}

@@ -1,6 +1,5 @@
 -- `measure::total` meets its contract. The loop's invariant: the sum so far and the sum of what is left make the whole sum, and
--- the sum so far is at most 32768 for each node passed. The measure is the number of nodes left.
--- Assumes nothing.
+-- the sum so far is at most 32768 for each node passed. The measure is the number of nodes left. Assumes nothing.
 use Prim.Native.Nat.{_*_, _-_, _/_, _≤_}
 use mathlib.Core.Logic.{⊎-elim}
 use mathlib.Core.Path.{_≡_, refl, _∙_}
@@ -24,9 +23,6 @@ Inv-loop l e n sum₀ i₀ sum i =
 
 abbrev μ-loop : tie.MeasureT-loop
 μ-loop l e n sum₀ i₀ sum i = n - i
-
-loop-holds : tie.Need-loop-holds Inv-loop μ-loop
-loop-holds c = (omega arith, refl, sum-start _ _, omega arith)
 
 loop-again : tie.Need-loop-again Inv-loop μ-loop
 loop-again c =
@@ -52,8 +48,6 @@ returns c =
     (sum-done (lengthsIn (a .l .now)) (a .e .now) (l .i) (l .sum) (omega arith) (l .inv .2), omega arith)
 
 pub total-spec : {M : Type 1} → statement M
-total-spec =
-    tie.close
-    (tie.spec
-    Inv-loop μ-loop loop-holds (λ c κs. omega arith) (λ c. omega arith) (λ c. omega arith) (λ c κs. omega arith) (λ c. search more-fits)
-    (λ c. omega arith) (λ c. omega arith) loop-again returns)
+total-spec = tie.close (tie.spec
+    Inv-loop μ-loop (λ c. (omega arith, refl, sum-start _ _, omega arith)) (λ c κs. omega arith) (λ c. omega arith) (λ c. omega arith)
+    (λ c κs. omega arith) (λ c. search more-fits) (λ c. omega arith) (λ c. omega arith) loop-again returns)

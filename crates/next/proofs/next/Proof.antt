@@ -7,9 +7,6 @@ use Rattle.next.proofs.Calls.{next-refused, next-answered}
 use Rattle.next.proofs.next.Statement.{statement}
 use Rattle.next.proofs.next.Tie as tie
 
-fill-requires : tie.Need-fill-requires
-fill-requires c κs = output-ready _ _ _ _ _ (c .before .before .before .judge-output .ensures) (c .before .enum-told .given .1) .0
-
 next-filled-requires : tie.Need-next-filled-requires
 next-filled-requires c κs =
     let after-fill = c .before .before .before .before .before .before in
@@ -17,8 +14,8 @@ next-filled-requires c κs =
     filled-ready _ _ _ _ _ _ _ (passed .before .before .judge-output .ensures) (passed .enum-told .given .1) (after-fill .fill .ensures)
 
 pub next-spec : {M : Type 1} → statement M
-next-spec =
-    tie.close
-    (tie.spec
-    (λ c κs. omega arith) (λ c. omega arith) (λ c. omega arith) fill-requires (λ c κs. omega arith) next-filled-requires
-    (λ c. search next-refused) (λ c. omega arith) (λ c. omega arith) (λ c. search next-answered))
+next-spec = tie.close (tie.spec
+    (λ c κs. omega arith) (λ c. omega arith) (λ c. omega arith)
+    (λ c κs. output-ready _ _ _ _ _ (c .before .before .before .judge-output .ensures) (c .before .enum-told .given .1) .0)
+    (λ c κs. omega arith) next-filled-requires (λ c. search next-refused) (λ c. omega arith) (λ c. omega arith)
+    (λ c. search next-answered))

@@ -9,14 +9,8 @@ use Rattle.next.proofs.Handing.{made-tree, offered-short}
 use Rattle.next.proofs.next_tree.Statement.{statement}
 use Rattle.next.proofs.next_tree.Tie as tie
 
-build-requires : tie.Need-build-requires
-build-requires c κs = (omega arith, omega arith, length-replicate {A = ℕ} tablesSize 0, search needs, search needs)
-
-next-made-requires : tie.Need-next-made-requires
-next-made-requires c κs = (omega arith, omega arith, omega arith, search offered-short, omega arith)
-
 pub next-tree-spec : {M : Type 1} → statement M
-next-tree-spec =
-    tie.close
-    (tie.spec
-    (λ c κs. omega arith) build-requires next-made-requires (λ c. omega arith) (λ c. search (needs, made-tree)))
+next-tree-spec = tie.close (tie.spec
+    (λ c κs. omega arith) (λ c κs. (omega arith, omega arith, length-replicate {A = ℕ} tablesSize 0, search needs, search needs))
+    (λ c κs. (omega arith, omega arith, omega arith, search offered-short, omega arith)) (λ c. omega arith)
+    (λ c. search (needs, made-tree)))

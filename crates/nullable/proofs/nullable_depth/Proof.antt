@@ -15,9 +15,6 @@ Inv-loop set n₀ k₀ n k = (k ≤ 32) × (n ≤ k) × (n ≡ countBelow k set)
 abbrev μ-loop : tie.MeasureT-loop
 μ-loop set n₀ k₀ n k = 32 - k
 
-loop-holds : tie.Need-loop-holds Inv-loop μ-loop
-loop-holds c = (omega arith, omega arith, search count-first)
-
 loop-again : tie.Need-loop-again Inv-loop μ-loop
 loop-again c = ⊎-elim
     (λ w. (omega arith, omega arith, search count-member))
@@ -25,8 +22,6 @@ loop-again c = ⊎-elim
     (c .if1 .came)
 
 pub nullable-depth-spec : {M : Type 1} → statement M
-nullable-depth-spec =
-    tie.close
-    (tie.spec
-    Inv-loop μ-loop loop-holds (λ c κs. omega arith) (λ c. omega arith) (λ c. omega arith) (λ c. omega arith) loop-again
-    (λ c. search count-last))
+nullable-depth-spec = tie.close (tie.spec
+    Inv-loop μ-loop (λ c. (omega arith, omega arith, search count-first)) (λ c κs. omega arith) (λ c. omega arith) (λ c. omega arith)
+    (λ c. omega arith) loop-again (λ c. search count-last))

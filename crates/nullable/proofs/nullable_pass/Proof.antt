@@ -19,12 +19,7 @@ abbrev μ-loop : tie.MeasureT-loop
 loop-holds : tie.Need-loop-holds Inv-loop μ-loop
 loop-holds c = (omega arith, valid-count _ (c .pre), simp length-map at (c .good .0 .1 .1 .1 .1 .1 .0 .1 .0 .1), search pass-first)
 
-loop-again : tie.Need-loop-again Inv-loop μ-loop
-loop-again c = (omega arith, omega arith, omega arith, search pass-again)
-
 pub nullable-pass-spec : {M : Type 1} → statement M
-nullable-pass-spec =
-    tie.close
-    (tie.spec
+nullable-pass-spec = tie.close (tie.spec
     Inv-loop μ-loop loop-holds (λ c. omega arith) (λ c. omega arith) (λ c κs. search valid-each) (λ c. omega arith) (λ c. omega arith)
-    loop-again (λ c. search pass-last))
+    (λ c. (omega arith, omega arith, omega arith, search pass-again)) (λ c. search pass-last))

@@ -15,15 +15,8 @@ Inv-loop g set₀ next₀ set next = (length (g .rules) ≡ 128) × Searched g s
 abbrev μ-loop : tie.MeasureT-loop
 μ-loop g set₀ next₀ set next = 2 ^ 32 - set
 
-loop-holds : tie.Need-loop-holds Inv-loop μ-loop
-loop-holds c = (simp length-map at (c .before .good .0 .1 .1 .1 .1 .1 .0 .1 .0 .1), search searched-first)
-
-loop-again : tie.Need-loop-again Inv-loop μ-loop
-loop-again c = (omega arith, search searched-next)
-
 pub nullable-set-spec : {M : Type 1} → statement M
-nullable-set-spec =
-    tie.close
-    (tie.spec
-    Inv-loop μ-loop (λ c κs. search needs) loop-holds (λ c κs. search needs) (λ c. search searched-falls) loop-again
-    (λ c. search searched-exact))
+nullable-set-spec = tie.close (tie.spec
+    Inv-loop μ-loop (λ c κs. search needs)
+    (λ c. (simp length-map at (c .before .good .0 .1 .1 .1 .1 .1 .0 .1 .0 .1), search searched-first)) (λ c κs. search needs)
+    (λ c. search searched-falls) (λ c. (omega arith, search searched-next)) (λ c. search searched-exact))

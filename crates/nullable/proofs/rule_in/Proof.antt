@@ -23,12 +23,7 @@ loop-holds : tie.Need-loop-holds Inv-loop μ-loop
 unfolding all
 loop-holds c = (omega arith, rule-parts _ (c .pre) .1, simp length-map at (c .good .0 .1 .1 .1 .1 .1 .0 .1 .0 .1), refl)
 
-loop-again : tie.Need-loop-again Inv-loop μ-loop
-loop-again c = (omega arith, omega arith, omega arith, search all-next)
-
 pub rule-in-spec : {M : Type 1} → statement M
-rule-in-spec =
-    tie.close
-    (tie.spec
+rule-in-spec = tie.close (tie.spec
     Inv-loop μ-loop loop-holds (λ c. omega arith) (λ c. omega arith) (λ c κs. search rule-place-valid) (λ c. search rule-stops)
-    (λ c. omega arith) (λ c. omega arith) loop-again (λ c. search rule-whole))
+    (λ c. omega arith) (λ c. omega arith) (λ c. (omega arith, omega arith, omega arith, search all-next)) (λ c. search rule-whole))

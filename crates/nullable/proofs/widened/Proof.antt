@@ -6,7 +6,5 @@ use Rattle.nullable.proofs.widened.Statement.{statement}
 use Rattle.nullable.proofs.widened.Tie as tie
 
 pub widened-spec : {M : Type 1} → statement M
-widened-spec =
-    tie.close
-    (tie.spec
+widened-spec = tie.close (tie.spec
     (λ c κs. search needs) (λ c. omega arith) (λ c κs. search rule-left-bound) (λ c. search widen-with) (λ c. search widen-out))

@@ -1,13 +1,9 @@
--- `packed::contains` meets its contract: from 32 on nothing is in a word of 32 bits.
--- Assumes nothing.
+-- `packed::contains` meets its contract: from 32 on nothing is in a word of 32 bits. Assumes nothing.
 use native.Mathlib.Omega.{arith}
 use borrow.Author.Needs.{needs}
 use Rattle.packed.proofs.Fitting.{contains-high}
 use Rattle.packed.proofs.contains.Statement.{statement}
 use Rattle.packed.proofs.contains.Tie as tie
 
-returns-2 : tie.Need-returns-2
-returns-2 c = contains-high _ _ (omega arith) (omega arith)
-
 pub contains-spec : {M : Type 1} → statement M
-contains-spec = tie.close (tie.spec (λ c κs. omega arith) (λ c. search needs) returns-2)
+contains-spec = tie.close (tie.spec (λ c κs. omega arith) (λ c. search needs) (λ c. contains-high _ _ (omega arith) (omega arith)))

@@ -1,5 +1,4 @@
--- `packed::is_nonterminal` meets its contract: the byte read is the tag.
--- Assumes nothing.
+-- `packed::is_nonterminal` meets its contract: the byte read is the tag. Assumes nothing.
 use native.Mathlib.Omega.{arith}
 use borrow.Author.Needs.{needs}
 use Rattle.packed.specs.Packed.{isNonterminalIn, tagIn}
@@ -11,7 +10,5 @@ unfolding isNonterminalIn tagIn
 returns c = search needs
 
 pub is-nonterminal-spec : {M : Type 1} → statement M
-is-nonterminal-spec =
-    tie.close
-    (tie.spec
+is-nonterminal-spec = tie.close (tie.spec
     (λ c. omega arith) (λ c. omega arith) (λ c. omega arith) (λ c. omega arith) (λ c. omega arith) returns)

@@ -1,5 +1,4 @@
--- `packed::left` meets its contract: the byte read is the left side.
--- Assumes nothing.
+-- `packed::left` meets its contract: the byte read is the left side. Assumes nothing.
 use native.Mathlib.Omega.{arith}
 use Rattle.packed.specs.Packed.{leftIn}
 use Rattle.packed.proofs.left.Statement.{statement}

@@ -14,15 +14,7 @@ Inv-loop p m₀ m = (m ≤ 128) × Used p m
 abbrev μ-loop : tie.MeasureT-loop
 μ-loop p m₀ m = m
 
-loop-holds : tie.Need-loop-holds Inv-loop μ-loop
-loop-holds c = (omega arith, used-all _)
-
-loop-again : tie.Need-loop-again Inv-loop μ-loop
-loop-again c = (omega arith, search used-fewer)
-
 pub rule-count-spec : {M : Type 1} → statement M
-rule-count-spec =
-    tie.close
-    (tie.spec
-    Inv-loop μ-loop loop-holds (λ c. omega arith) (λ c κs. omega arith) (λ c. search needs) (λ c. omega arith) (λ c. omega arith)
-    loop-again (λ c. search needs))
+rule-count-spec = tie.close (tie.spec
+    Inv-loop μ-loop (λ c. (omega arith, used-all _)) (λ c. omega arith) (λ c κs. omega arith) (λ c. search needs) (λ c. omega arith)
+    (λ c. omega arith) (λ c. (omega arith, search used-fewer)) (λ c. search needs))

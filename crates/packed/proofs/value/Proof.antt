@@ -1,5 +1,4 @@
--- `packed::value` meets its contract: the byte read is the value.
--- Assumes nothing.
+-- `packed::value` meets its contract: the byte read is the value. Assumes nothing.
 use native.Mathlib.Omega.{arith}
 use Rattle.packed.specs.Packed.{valueIn}
 use Rattle.packed.proofs.value.Statement.{statement}
@@ -10,7 +9,5 @@ unfolding valueIn
 returns c = omega arith
 
 pub value-spec : {M : Type 1} → statement M
-value-spec =
-    tie.close
-    (tie.spec
+value-spec = tie.close (tie.spec
     (λ c. omega arith) (λ c. omega arith) (λ c. omega arith) (λ c. omega arith) (λ c. omega arith) (λ c κs. omega arith) returns)

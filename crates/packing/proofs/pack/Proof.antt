@@ -14,9 +14,6 @@ Inv-loop g p₀ n r₀ p r = (r ≤ n) × (n ≤ 128) × Rows g r p
 abbrev μ-loop : tie.MeasureT-loop
 μ-loop g p₀ n r₀ p r = n - r
 
-loop-holds : tie.Need-loop-holds Inv-loop μ-loop
-loop-holds c = (omega arith, valid-count _ (c .pre), rows-start _)
-
 pack-rule-requires : tie.Need-pack-rule-requires Inv-loop μ-loop
 pack-rule-requires c κs = (
   omega arith,
@@ -37,8 +34,6 @@ returns c =
     (omega arith) (c .before .loop .inv .2)
 
 pub pack-spec : {M : Type 1} → statement M
-pack-spec =
-    tie.close
-    (tie.spec
-    Inv-loop μ-loop loop-holds (λ c. omega arith) (λ c. omega arith) pack-rule-requires (λ c. omega arith) (λ c. omega arith) loop-again
-    returns)
+pack-spec = tie.close (tie.spec
+    Inv-loop μ-loop (λ c. (omega arith, valid-count _ (c .pre), rows-start _)) (λ c. omega arith) (λ c. omega arith) pack-rule-requires
+    (λ c. omega arith) (λ c. omega arith) loop-again returns)

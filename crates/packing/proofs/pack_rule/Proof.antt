@@ -14,9 +14,6 @@ Inv-loop r p₀ rule n q₀ p q = (q ≤ n) × (n ≤ 8) × Row rule r q p₀ p
 abbrev μ-loop : tie.MeasureT-loop
 μ-loop r p₀ rule n q₀ p q = n - q
 
-loop-holds : tie.Need-loop-holds Inv-loop μ-loop
-loop-holds c = (omega arith, rule-parts _ (c .pre .1) .1, row-start _ _ (c .pre .0) (c .args .p .now) (c .pre .2))
-
 loop-again : tie.Need-loop-again Inv-loop μ-loop
 loop-again c = (
   omega arith,
@@ -31,10 +28,10 @@ returns c =
     (c .before .before .pre .1) (omega arith) (c .before .loop .inv .2)
 
 pub pack-rule-spec : {M : Type 1} → statement M
-pack-rule-spec =
-    tie.close
-    (tie.spec
+pack-rule-spec = tie.close (tie.spec
     Inv-loop μ-loop (λ c. omega arith) (λ c. omega arith) (λ c. omega (arith, rule-parts _ (c .pre .1) .1)) (λ c. omega arith)
-    (λ c. omega arith) (λ c. omega arith) loop-holds (λ c. omega arith) (λ c. omega arith) (λ c κs. omega arith) (λ c. omega arith)
-    (λ c. omega arith) (λ c. omega arith) (λ c. omega arith) (λ c. omega arith) (λ c κs. omega arith) (λ c. omega arith)
-    (λ c. omega arith) (λ c. omega arith) (λ c. omega arith) (λ c. omega arith) (λ c. omega arith) (λ c. omega arith) loop-again returns)
+    (λ c. omega arith) (λ c. omega arith)
+    (λ c. (omega arith, rule-parts _ (c .pre .1) .1, row-start _ _ (c .pre .0) (c .args .p .now) (c .pre .2))) (λ c. omega arith)
+    (λ c. omega arith) (λ c κs. omega arith) (λ c. omega arith) (λ c. omega arith) (λ c. omega arith) (λ c. omega arith)
+    (λ c. omega arith) (λ c κs. omega arith) (λ c. omega arith) (λ c. omega arith) (λ c. omega arith) (λ c. omega arith)
+    (λ c. omega arith) (λ c. omega arith) (λ c. omega arith) loop-again returns)

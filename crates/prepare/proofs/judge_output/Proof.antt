@@ -1,19 +1,10 @@
--- `prepare::judge_output` meets its contract: a check before 11 that fails refuses, and else the output is judged.
--- Assumes nothing.
+-- `prepare::judge_output` meets its contract: a check before 11 that fails refuses, and else the output is judged. Assumes nothing.
 use native.Mathlib.Omega.{arith}
 use Rattle.prepare.proofs.Judging.{judge-output-laws}
 use Rattle.prepare.proofs.judge_output.Statement.{statement}
 use Rattle.prepare.proofs.judge_output.Tie as tie
 
-returns : tie.Need-returns
-returns c = search judge-output-laws
-
-returns-2 : tie.Need-returns-2
-returns-2 c = search judge-output-laws
-
-returns-3 : tie.Need-returns-3
-returns-3 c = search judge-output-laws
-
 pub judge-output-spec : {M : Type 1} → statement M
-judge-output-spec =
-    tie.close (tie.spec (λ c κs. omega arith) (λ c. omega arith) (λ c. omega arith) returns returns-2 returns-3)
+judge-output-spec = tie.close (tie.spec
+    (λ c κs. omega arith) (λ c. omega arith) (λ c. omega arith) (λ c. search judge-output-laws) (λ c. search judge-output-laws)
+    (λ c. search judge-output-laws))

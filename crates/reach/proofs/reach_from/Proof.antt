@@ -19,16 +19,6 @@ loop-again : tie.Need-loop-again Inv-loop μ-loop
 loop-again c = ⊎-elim (λ w. (search needs, search (needs, from-put))) (λ w. (search needs, search (needs, from-none))) (c .if1 .came)
 
 pub reach-from-spec : {M : Type 1} → statement M
-reach-from-spec =
-    tie.close
-    (tie.spec
-    Inv-loop
-    μ-loop
-    (λ c. omega arith)
-    (λ c. search (needs, from-start))
-    (λ c. omega arith) (λ c. omega arith) (λ c. omega arith) (λ c. search needs)
-    (λ c κs. search needs)
-    (λ c. omega arith)
-    (λ c. omega arith)
-    loop-again
-    (λ c. search (needs, from-end)))
+reach-from-spec = tie.close (tie.spec
+    Inv-loop μ-loop (λ c. omega arith) (λ c. search (needs, from-start)) (λ c. omega arith) (λ c. omega arith) (λ c. omega arith)
+    (λ c. search needs) (λ c κs. search needs) (λ c. omega arith) (λ c. omega arith) loop-again (λ c. search (needs, from-end)))

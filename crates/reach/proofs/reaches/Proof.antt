@@ -14,19 +14,7 @@ Inv-loop chart n reach₀ i₀ reach i = (i ≤ n) × ReachesBefore chart n i re
 abbrev μ-loop : tie.MeasureT-loop
 μ-loop chart n reach₀ i₀ reach i = n - i
 
-loop-holds : tie.Need-loop-holds Inv-loop μ-loop
-loop-holds c = (search needs, reaches-start _ _ _ (search needs))
-
 pub reaches-spec : {M : Type 1} → statement M
-reaches-spec =
-    tie.close
-    (tie.spec
-    Inv-loop
-    μ-loop
-    loop-holds
-    (λ c κs. search needs)
-    (λ c. omega arith) (λ c. search needs)
-    (λ c. omega arith)
-    (λ c. omega arith)
-    (λ c. search (needs, reaches-step))
-    (λ c. search (needs, reaches-end)))
+reaches-spec = tie.close (tie.spec
+    Inv-loop μ-loop (λ c. (search needs, reaches-start _ _ _ (search needs))) (λ c κs. search needs) (λ c. omega arith)
+    (λ c. search needs) (λ c. omega arith) (λ c. omega arith) (λ c. search (needs, reaches-step)) (λ c. search (needs, reaches-end)))

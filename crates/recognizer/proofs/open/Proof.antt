@@ -1,5 +1,4 @@
--- `recognizer::open` meets its contract.
--- Assumes nothing.
+-- `recognizer::open` meets its contract. Assumes nothing.
 use borrow.Author.Needs.{needs}
 use native.Mathlib.Omega.{arith}
 use Rattle.recognizer.proofs.Calls.{was-invalid, was-valid}
@@ -26,16 +25,6 @@ opening-requires c κs =
     (was-valid _ _ (d .before .before .valid .ensures) (d .before .if1 .left), d .if2 .left)
 
 pub open-spec : {M : Type 1} → statement M
-open-spec =
-    tie.close
-    (tie.spec
-    (λ c κs. omega arith)
-    (λ c κs. omega arith)
-    (λ c κs. omega arith)
-    returns
-    (λ c κs. omega arith)
-    (λ c κs. omega arith)
-    returns-2
-    opening-requires
-    (λ c. omega arith)
-    (λ c. search needs))
+open-spec = tie.close (tie.spec
+    (λ c κs. omega arith) (λ c κs. omega arith) (λ c κs. omega arith) returns (λ c κs. omega arith) (λ c κs. omega arith) returns-2
+    opening-requires (λ c. omega arith) (λ c. search needs))

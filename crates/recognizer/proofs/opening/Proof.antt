@@ -1,5 +1,4 @@
--- `recognizer::opening` meets its contract.
--- Assumes nothing.
+-- `recognizer::opening` meets its contract. Assumes nothing.
 use borrow.Author.Needs.{needs}
 use native.Mathlib.Omega.{arith}
 use Rattle.recognizer.proofs.Calls.{open-right}
@@ -14,6 +13,5 @@ returns c =
     (c .before .before .before .before .before .open-chart .ensures) (c .before .says .ensures)
 
 pub opening-spec : {M : Type 1} → statement M
-opening-spec =
-    tie.close
-    (tie.spec (λ c κs. search needs) (λ c κs. omega arith) (λ c κs. omega arith) (λ c κs. omega arith) (λ c. omega arith) returns)
+opening-spec = tie.close (tie.spec
+    (λ c κs. search needs) (λ c κs. omega arith) (λ c κs. omega arith) (λ c κs. omega arith) (λ c. omega arith) returns)

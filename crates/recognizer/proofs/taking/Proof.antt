@@ -1,5 +1,4 @@
--- `recognizer::taking` meets its contract.
--- Assumes nothing.
+-- `recognizer::taking` meets its contract. Assumes nothing.
 use borrow.Author.Needs.{needs}
 use native.Mathlib.Omega.{arith}
 use Rattle.recognizer.proofs.Calls.{count-fits, count-part}
@@ -7,9 +6,6 @@ use Rattle.recognizer.specs.Recognizer.{stateIn}
 use Rattle.recognizer.proofs.Calls.{take-right}
 use Rattle.recognizer.proofs.taking.Statement.{statement}
 use Rattle.recognizer.proofs.taking.Tie as tie
-
-array-share-prefix-bytes : tie.Need-array-share-prefix-bytes
-array-share-prefix-bytes c = count-fits (stateIn (c .before .before .with-byte .result)) _ (c .before .before .with-byte .ensures .0)
 
 slice-aggregate-write-column : tie.Need-slice-aggregate-write-column
 slice-aggregate-write-column c =
@@ -24,14 +20,7 @@ returns c =
     (h .before .pack .ensures) (c .before .before .before .before .write-column .ensures) (c .says .ensures)
 
 pub taking-spec : {M : Type 1} → statement M
-taking-spec =
-    tie.close
-    (tie.spec
-    (λ c κs. search needs)
-    (λ c κs. omega arith)
-    array-share-prefix-bytes
-    slice-aggregate-write-column
-    (λ c κs. omega arith)
-    (λ c κs. omega arith)
-    (λ c. omega arith)
-    returns)
+taking-spec = tie.close (tie.spec
+    (λ c κs. search needs) (λ c κs. omega arith)
+    (λ c. count-fits (stateIn (c .before .before .with-byte .result)) _ (c .before .before .with-byte .ensures .0))
+    slice-aggregate-write-column (λ c κs. omega arith) (λ c κs. omega arith) (λ c. omega arith) returns)

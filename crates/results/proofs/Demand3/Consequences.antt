@@ -1,6 +1,5 @@
 -- What document 01 names of first, next and count, from the decided results: a first and enough nexts hand out L and end with "none"; count
--- is exact; "no reading" and refusal 13 mean what they say.
--- Assumes nothing.
+-- is exact; "no reading" and refusal 13 mean what they say. Assumes nothing.
 use Prim.Native.Nat.{ℕ, suc, _+_, _-_, _≤_, _<_, min}
 use native.Mathlib.Decide.{decLt, decLe}
 use native.Mathlib.Omega.{arith}

@@ -1,6 +1,5 @@
 -- What first, next and count give for a grammar whose nonterminals are below 32, an input of at most 64 bytes and a chart that is long
--- enough, by how many derivations L has; and whether the input has a tree, as the chart says it.
--- Assumes nothing.
+-- enough, by how many derivations L has; and whether the input has a tree, as the chart says it. Assumes nothing.
 use Prim.Native.Nat.{ℕ, _≤_, _<_, _/_}
 use native.Mathlib.Omega.{arith}
 use mathlib.Core.Bool.{Bool, true, false, cond, not, false≢true}

@@ -1,6 +1,5 @@
 -- What count says of N, by the decided results and by the machine: the figure up to `most`, "more" above; the rows on both sides of 4,096;
--- and the two agree.
--- Assumes nothing.
+-- and the two agree. Assumes nothing.
 use Prim.Native.Nat.{ℕ, _≤_, _<_}
 use mathlib.Core.Bool.{Bool, true, false, cond}
 use mathlib.Core.List.{List, _∷_}

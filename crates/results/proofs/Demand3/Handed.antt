@@ -1,6 +1,5 @@
 -- Demand 3 over the decided results, put together: each list of calls has no first or splits at its last one; what it says, where the walk
--- is, and what is handed out before any first and since the last one.
--- Assumes nothing.
+-- is, and what is handed out before any first and since the last one. Assumes nothing.
 use Prim.Native.Nat.{ℕ, _≤_}
 use mathlib.Core.Bool.{true}
 use mathlib.Core.List.{List, [], _∷_, _++_, map, map-append}

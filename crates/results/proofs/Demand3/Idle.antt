@@ -1,6 +1,5 @@
 -- The machine over lists of calls: what a list says after a front of it; the place never passes N; and which calls stay at their place and
--- hand nothing out.
--- Assumes nothing.
+-- hand nothing out. Assumes nothing.
 use Prim.Native.Nat.{ℕ, suc, _≤_}
 use native.Mathlib.Decide.{decLt}
 use native.Mathlib.Omega.{arith}

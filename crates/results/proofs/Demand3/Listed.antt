@@ -1,6 +1,5 @@
 -- The rows of L: none is empty, each has twice as many numbers as its tree has nodes, at most 1,024, and comes back whole from the front
--- of an output; and L is empty exactly if the input has no tree of at most 512 nodes.
--- Assumes nothing.
+-- of an output; and L is empty exactly if the input has no tree of at most 512 nodes. Assumes nothing.
 use Prim.Native.Nat.{ℕ, zero, suc, _≤_, _<_, _*_, _/_}
 use native.Mathlib.Omega.{arith}
 use mathlib.Core.List.{List, [], _∷_, _++_, List·Memᴰ, List·Memᴰ·head, List·Memᴰ·not-nil}

@@ -1,6 +1,5 @@
 -- The machine call by call: what each call says at a place and where it goes; the place never passes N, and the reading handed out last
--- is the reading of the place.
--- Assumes nothing.
+-- is the reading of the place. Assumes nothing.
 use Prim.Native.Nat.{ℕ, zero, suc, _≤_, _<_}
 use native.Mathlib.Decide.{decLt}
 use native.Mathlib.Omega.{arith}

@@ -1,7 +1,6 @@
 -- Demand 3, second half, over the machine. Before any first the place is 0 and nothing is handed out. After one, the derivations handed
 -- out since the last first, its own included, are the first p of L in their order, p being the place: the smaller of N and 1 plus how
--- often next was since offered the copy.
--- Assumes nothing.
+-- often next was since offered the copy. Assumes nothing.
 use Prim.Native.Nat.{ℕ, zero, suc, _+_, _≤_, _<_, min}
 use native.Mathlib.Decide.{decLt}
 use native.Mathlib.Omega.{arith}

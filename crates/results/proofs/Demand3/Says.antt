@@ -1,6 +1,5 @@
 -- What one call says for a grammar whose nonterminals are below 32 and an input of at most 64 bytes is what the machine says, the copy
--- being the reading of the place.
--- Assumes nothing.
+-- being the reading of the place. Assumes nothing.
 use Prim.Native.Nat.{_/_, ℕ, zero, suc, _≤_}
 use native.Mathlib.Decide.{decLt}
 use native.Mathlib.Omega.{arith}

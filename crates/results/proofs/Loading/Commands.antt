@@ -1,5 +1,4 @@
--- What every command of a book keeps of the grammar read so far, a step keeps; and what the last command of a book is.
--- Assumes nothing.
+-- What every command of a book keeps of the grammar read so far, a step keeps; and what the last command of a book is. Assumes nothing.
 use Prim.Native.Nat.{ℕ, _+_, _≤_, _<_}
 use native.Mathlib.Omega.{arith}
 use mathlib.Core.Bool.{Bool, true, false, cond, _&&_, _||_}

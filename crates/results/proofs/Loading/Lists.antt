@@ -1,5 +1,4 @@
--- Lists of which one element is set: what holds of each element, and what stands behind it.
--- Assumes nothing.
+-- Lists of which one element is set: what holds of each element, and what stands behind it. Assumes nothing.
 use Prim.Native.Nat.{ℕ, zero, suc, _+_, _-_, _<_}
 use native.Mathlib.Omega.{arith}
 use mathlib.Core.List.{List, [], _∷_}

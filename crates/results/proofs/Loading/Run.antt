@@ -1,5 +1,4 @@
--- One command of a run, and that a run is the same for every number of commands that is large enough.
--- Assumes nothing.
+-- One command of a run, and that a run is the same for every number of commands that is large enough. Assumes nothing.
 use Prim.Native.Nat.{ℕ, zero, suc, _+_, _-_, _≤_, _<_}
 use native.Mathlib.Omega.{arith}
 use mathlib.Core.Bool.{Bool, true, false, cond}

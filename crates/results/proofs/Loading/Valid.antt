@@ -1,5 +1,4 @@
--- Each command of a book keeps the grammar read so far valid, and its array of rules as long as it is.
--- Assumes nothing.
+-- Each command of a book keeps the grammar read so far valid, and its array of rules as long as it is. Assumes nothing.
 use Prim.Native.Nat.{ℕ, zero, suc, _+_, _-_, _≤_, _<_}
 use native.Mathlib.Numerals.{add-one}
 use native.Mathlib.Omega.{arith}

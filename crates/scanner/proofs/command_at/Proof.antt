@@ -6,9 +6,7 @@ use Rattle.scanner.proofs.command_at.Statement.{statement}
 use Rattle.scanner.proofs.command_at.Tie as tie
 
 pub command-at-spec : {M : Type 1} → statement M
-command-at-spec =
-    tie.close
-    (tie.spec
+command-at-spec = tie.close (tie.spec
     (λ c. search reads-ended) (λ c. omega arith) (λ c κs. omega arith) (λ c. omega arith) (λ c. omega arith)
     (λ c. search (reads-unknown, class-told)) (λ c κs. omega arith) (λ c. search reads-late) (λ c κs. search (needs, class-told))
     (λ c. search reads-rest))

@@ -5,8 +5,6 @@ use Rattle.scanner.proofs.operands_at.Statement.{statement}
 use Rattle.scanner.proofs.operands_at.Tie as tie
 
 pub operands-at-spec : {M : Type 1} → statement M
-operands-at-spec =
-    tie.close
-    (tie.spec
+operands-at-spec = tie.close (tie.spec
     (λ c. omega arith) (λ c. omega arith) (λ c κs. omega arith) (λ c κs. omega arith) (λ c. search operands-short)
     (λ c. search operands-large) (λ c κs. search whole) (λ c. search operands-read))

@@ -3,8 +3,5 @@ use Rattle.sets.proofs.Pairs.{has-and}
 use Rattle.sets.proofs.common.Statement.{statement}
 use Rattle.sets.proofs.common.Tie as tie
 
-returns : tie.Need-returns
-returns c = λ k. has-and k (c .args .v) (c .args .w)
-
 pub common-spec : {M : Type 1} → statement M
-common-spec = tie.close (tie.spec returns)
+common-spec = tie.close (tie.spec (λ c. λ k. has-and k (c .args .v) (c .args .w)))

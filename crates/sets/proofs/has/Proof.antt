@@ -4,8 +4,5 @@ use Rattle.sets.proofs.Machine.{mask-is-has}
 use Rattle.sets.proofs.has.Statement.{statement}
 use Rattle.sets.proofs.has.Tie as tie
 
-returns : tie.Need-returns
-returns c = mask-is-has (c .args .k) (c .args .w)
-
 pub has-spec : {M : Type 1} → statement M
-has-spec = tie.close (tie.spec (λ c. omega arith) (λ c. omega arith) returns)
+has-spec = tie.close (tie.spec (λ c. omega arith) (λ c. omega arith) (λ c. mask-is-has (c .args .k) (c .args .w)))

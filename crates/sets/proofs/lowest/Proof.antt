@@ -6,8 +6,6 @@ use Rattle.sets.proofs.Pairs.{lowest-is}
 use Rattle.sets.proofs.lowest.Statement.{statement}
 use Rattle.sets.proofs.lowest.Tie as tie
 
-returns : tie.Need-returns
-returns c = lowest-is 32 (c .args .w) _ (omega arith) (c .pre) refl
-
 pub lowest-spec : {M : Type 1} → statement M
-lowest-spec = tie.close (tie.spec (λ c. omega (arith, trailing-le 32 (c .args .w))) returns)
+lowest-spec = tie.close (tie.spec
+    (λ c. omega (arith, trailing-le 32 (c .args .w))) (λ c. lowest-is 32 (c .args .w) _ (omega arith) (c .pre) refl))

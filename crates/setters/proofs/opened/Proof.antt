@@ -6,7 +6,5 @@ use Rattle.setters.proofs.opened.Statement.{statement}
 use Rattle.setters.proofs.opened.Tie as tie
 
 pub opened-spec : {M : Type 1} → statement M
-opened-spec =
-    tie.close
-    (tie.spec
+opened-spec = tie.close (tie.spec
     (λ c. omega arith) (λ c. omega arith) (λ c κs. omega arith) (λ c κs. omega arith) (λ c. search (opened-rule, sfits-of)))

@@ -1,5 +1,4 @@
--- `solve::improve` meets its contract.
--- Assumes nothing.
+-- `solve::improve` meets its contract. Assumes nothing.
 use native.Mathlib.Omega.{arith}
 use borrow.Author.Needs.{needs}
 use Rattle.solve.proofs.Lowering.{improved-lower, improved-same, improved-not, improved-hole}
@@ -7,17 +6,7 @@ use Rattle.solve.proofs.improve.Statement.{statement}
 use Rattle.solve.proofs.improve.Tie as tie
 
 pub improve-spec : {M : Type 1} → statement M
-improve-spec =
-    tie.close
-    (tie.spec
-    (λ c κs. search needs)
-    (λ c κs. search needs)
-    (λ c κs. search needs)
-    (λ c. omega arith)
-    (λ c. omega arith)
-    (λ c. omega arith)
-    (λ c. omega arith)
-    (λ c. search (needs, improved-lower))
-    (λ c. search (needs, improved-same))
-    (λ c. search (needs, improved-not))
+improve-spec = tie.close (tie.spec
+    (λ c κs. search needs) (λ c κs. search needs) (λ c κs. search needs) (λ c. omega arith) (λ c. omega arith) (λ c. omega arith)
+    (λ c. omega arith) (λ c. search (needs, improved-lower)) (λ c. search (needs, improved-same)) (λ c. search (needs, improved-not))
     (λ c. search (needs, improved-hole)))

@@ -15,18 +15,8 @@ Inv-loop p rules cell mask tables i j full₀ changed₀ r₀ full changed r = (
 abbrev μ-loop : tie.MeasureT-loop
 μ-loop p rules cell mask tables i j full₀ changed₀ r₀ full changed r = rules - r
 
-loop-again : tie.Need-loop-again Inv-loop μ-loop
-loop-again c = ⊎-elim (λ w. search (needs, passed-changed)) (λ w. search (needs, passed-kept)) (c .if1 .came)
-
 pub pass-spec : {M : Type 1} → statement M
-pass-spec =
-    tie.close
-    (tie.spec
-    Inv-loop
-    μ-loop
-    (λ c. search (needs, passed-start))
-    (λ c κs. search needs)
-    (λ c. omega arith)
-    (λ c. omega arith)
-    loop-again
+pass-spec = tie.close (tie.spec
+    Inv-loop μ-loop (λ c. search (needs, passed-start)) (λ c κs. search needs) (λ c. omega arith) (λ c. omega arith)
+    (λ c. ⊎-elim (λ w. search (needs, passed-changed)) (λ w. search (needs, passed-kept)) (c .if1 .came))
     (λ c. search (needs, passed-end)))

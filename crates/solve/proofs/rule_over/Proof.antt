@@ -1,16 +1,10 @@
--- `solve::rule_over` meets its contract.
--- Assumes nothing.
+-- `solve::rule_over` meets its contract. Assumes nothing.
 use borrow.Author.Needs.{needs}
 use Rattle.solve.proofs.Over.{over-span, over-empty}
 use Rattle.solve.proofs.rule_over.Statement.{statement}
 use Rattle.solve.proofs.rule_over.Tie as tie
 
 pub rule-over-spec : {M : Type 1} → statement M
-rule-over-spec =
-    tie.close
-    (tie.spec
-    (λ c κs. search needs)
-    (λ c κs. search needs)
-    (λ c κs. search needs)
-    (λ c. search (needs, over-span))
+rule-over-spec = tie.close (tie.spec
+    (λ c κs. search needs) (λ c κs. search needs) (λ c κs. search needs) (λ c. search (needs, over-span))
     (λ c. search (needs, over-empty)))

@@ -13,14 +13,6 @@ abbrev μ-loop : tie.MeasureT-loop
 μ-loop p rules cell mask tables i j full₀ full = total full
 
 pub solve-spec : {M : Type 1} → statement M
-solve-spec =
-    tie.close
-    (tie.spec
-    Inv-loop
-    μ-loop
-    (λ c. search (needs, solved-nothing))
-    (λ c. (numbers-none, reached-none _ _ _ _ _))
-    (λ c κs. search needs)
-    (λ c. search (needs, solved-last))
-    (λ c. search (needs, reached-less))
-    (λ c. search (needs, reached-step)))
+solve-spec = tie.close (tie.spec
+    Inv-loop μ-loop (λ c. search (needs, solved-nothing)) (λ c. (numbers-none, reached-none _ _ _ _ _)) (λ c κs. search needs)
+    (λ c. search (needs, solved-last)) (λ c. search (needs, reached-less)) (λ c. search (needs, reached-step)))

@@ -1,5 +1,4 @@
--- `spancosts::open_span` meets its contract.
--- Assumes nothing.
+-- `spancosts::open_span` meets its contract. Assumes nothing.
 use borrow.Author.Needs.{needs}
 use Rattle.spancosts.proofs.Opening.{span-opened}
 use Rattle.spancosts.proofs.open_span.Statement.{statement}

@@ -1,5 +1,4 @@
--- `spancosts::put_empty` meets its contract.
--- Assumes nothing.
+-- `spancosts::put_empty` meets its contract. Assumes nothing.
 use borrow.Author.Needs.{needs}
 use Rattle.spancosts.proofs.Closing.{empty-put}
 use Rattle.spancosts.proofs.put_empty.Statement.{statement}

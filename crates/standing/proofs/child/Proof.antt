@@ -1,5 +1,4 @@
--- `standing::child` meets its contract.
--- Assumes nothing.
+-- `standing::child` meets its contract. Assumes nothing.
 use native.Mathlib.Omega.{arith}
 use borrow.Author.Needs.{needs}
 use Rattle.standing.proofs.Counts.{child-nonterminal, child-terminal}
@@ -7,7 +6,5 @@ use Rattle.standing.proofs.child.Statement.{statement}
 use Rattle.standing.proofs.child.Tie as tie
 
 pub child-spec : {M : Type 1} → statement M
-child-spec =
-    tie.close
-    (tie.spec
+child-spec = tie.close (tie.spec
     (λ c κs. omega arith) (λ c. (search (needs, child-nonterminal), omega arith)) (λ c. (search (needs, child-terminal), omega arith)))

@@ -14,8 +14,6 @@ abbrev μ-loop : tie.MeasureT-loop
 μ-loop p r count n₀ q₀ n q = count - q
 
 pub children-spec : {M : Type 1} → statement M
-children-spec =
-    tie.close
-    (tie.spec
+children-spec = tie.close (tie.spec
     Inv-loop μ-loop (λ c κs. omega arith) (λ c. search (needs, counted-start)) (λ c κs. omega arith) (λ c. omega arith) (λ c. omega arith)
     (λ c. omega arith) (λ c. search (needs, counted-step)) (λ c. search (needs, counted-end)))

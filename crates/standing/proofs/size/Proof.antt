@@ -15,9 +15,7 @@ abbrev μ-loop : tie.MeasureT-loop
 μ-loop p buf at todo₀ n₀ todo n = 512 - n
 
 pub size-spec : {M : Type 1} → statement M
-size-spec =
-    tie.close
-    (tie.spec
+size-spec = tie.close (tie.spec
     Inv-loop μ-loop (λ c. search (needs, walked-start)) (λ c. omega arith) (λ c. search (needs, sized-full)) (λ c. omega arith)
     (λ c. omega arith) (λ c. omega arith) (λ c. omega arith) (λ c. omega arith) (λ c κs. omega arith) (λ c. search (needs, sized-no-rule))
     (λ c. omega arith) (λ c κs. omega arith) (λ c. omega arith) (λ c. omega arith) (λ c. omega arith) (λ c. search (needs, walked-step))

@@ -16,14 +16,6 @@ abbrev μ-loop : tie.MeasureT-loop
 μ-loop p rules fits tables nothing reach i j rows₀ live₀ r₀ rows live r = rules - r
 
 pub open-starts-spec : {M : Type 1} → statement M
-open-starts-spec =
-    tie.close
-    (tie.spec
-    Inv-loop
-    μ-loop
-    (λ c. search (needs, opened-start))
-    (λ c κs. search needs)
-    (λ c. omega arith)
-    (λ c. omega arith)
-    (λ c. search (needs, opened-step))
-    (λ c. search (needs, opened-end)))
+open-starts-spec = tie.close (tie.spec
+    Inv-loop μ-loop (λ c. search (needs, opened-start)) (λ c κs. search needs) (λ c. omega arith) (λ c. omega arith)
+    (λ c. search (needs, opened-step)) (λ c. search (needs, opened-end)))

@@ -21,16 +21,6 @@ loop-again c =
     ⊎-elim (λ w. (search needs, search (needs, suffixes-take))) (λ w. (search needs, search (needs, suffixes-skip))) (c .if2 .came)
 
 pub put-suffixes-spec : {M : Type 1} → statement M
-put-suffixes-spec =
-    tie.close
-    (tie.spec
-    Inv-loop
-    μ-loop
-    (λ c. search (needs, suffixes-none))
-    (λ c. search (needs, suffixes-start))
-    (λ c κs. search needs)
-    (λ c κs. search needs)
-    (λ c. omega arith)
-    (λ c. omega arith)
-    loop-again
-    (λ c. search (needs, suffixes-end)))
+put-suffixes-spec = tie.close (tie.spec
+    Inv-loop μ-loop (λ c. search (needs, suffixes-none)) (λ c. search (needs, suffixes-start)) (λ c κs. search needs)
+    (λ c κs. search needs) (λ c. omega arith) (λ c. omega arith) loop-again (λ c. search (needs, suffixes-end)))

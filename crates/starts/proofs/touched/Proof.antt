@@ -15,25 +15,9 @@ Inv-loop p r cell count q₀ q = (q ≤ count) × Before p r cell q
 abbrev μ-loop : tie.MeasureT-loop
 μ-loop p r cell count q₀ q = count - q
 
-loop-again : tie.Need-loop-again Inv-loop μ-loop
-loop-again c = ⊎-elim (λ w. search (needs, before-other)) (λ w. search (needs, before-terminal)) (c .if1 .came)
-
-returns-2 : tie.Need-returns-2 Inv-loop μ-loop
-returns-2 c = search (needs, before-all)
-
 pub touched-spec : {M : Type 1} → statement M
-touched-spec =
-    tie.close
-    (tie.spec
-    Inv-loop
-    μ-loop
-    (λ c κs. search needs)
-    (λ c. search (needs, before-start))
-    (λ c κs. search needs)
-    (λ c κs. search needs)
-    (λ c κs. search needs)
-    (λ c e. absurd (true≢false e))
-    (λ c. omega arith)
-    (λ c. omega arith)
-    loop-again
-    returns-2)
+touched-spec = tie.close (tie.spec
+    Inv-loop μ-loop (λ c κs. search needs) (λ c. search (needs, before-start)) (λ c κs. search needs) (λ c κs. search needs)
+    (λ c κs. search needs) (λ c e. absurd (true≢false e)) (λ c. omega arith) (λ c. omega arith)
+    (λ c. ⊎-elim (λ w. search (needs, before-other)) (λ w. search (needs, before-terminal)) (c .if1 .came))
+    (λ c. search (needs, before-all)))

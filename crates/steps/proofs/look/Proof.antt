@@ -1,5 +1,4 @@
--- `steps::look` meets its contract, one case for each way out.
--- Assumes nothing.
+-- `steps::look` meets its contract, one case for each way out. Assumes nothing.
 use native.Mathlib.Omega.{arith}
 use borrow.Author.Needs.{needs}
 use Rattle.steps.proofs.Looking.{look-end, look-byte, look-short, look-node, look-none}
@@ -17,9 +16,7 @@ node c =
     (d .before .if2 .taken) (d .value .ensures .0) (c .before .before .before .choose-end .ensures) (omega arith) (c .wide .ensures)
 
 pub look-spec : {M : Type 1} → statement M
-look-spec =
-    tie.close
-    (tie.spec
+look-spec = tie.close (tie.spec
     (λ c κs. omega arith) (λ c. search (needs, look-end)) (λ c κs. omega arith) (λ c κs. omega arith) (λ c. omega arith)
     (λ c. omega arith) (λ c κs. omega arith) (λ c. omega arith) (λ c. omega arith) (λ c. omega arith) (λ c. omega arith)
     (λ c. omega arith) (λ c κs. omega arith) rest-within node (λ c. search (needs, look-none)) (λ c. search (needs, look-byte))

@@ -1,5 +1,4 @@
--- `successor::advance_root` meets its contract: the tree after the one that stands, at the root.
--- Assumes nothing.
+-- `successor::advance_root` meets its contract: the tree after the one that stands, at the root. Assumes nothing.
 use native.Mathlib.Omega.{arith}
 use Rattle.successor.proofs.Root.{root-next}
 use Rattle.successor.proofs.advance_root.Statement.{statement}

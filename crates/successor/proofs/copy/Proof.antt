@@ -16,15 +16,8 @@ abbrev μ-loop : tie.MeasureT-loop
 loop-again : tie.Need-loop-again Inv-loop μ-loop
 loop-again c = (omega arith, copied-step (omega (arith, c .before .before .loop .inv .1 .long)) (c .before .before .loop .inv .1))
 
-same-length : tie.Need-same-length Inv-loop μ-loop
-same-length c = c .before .loop .inv .1 .long
-
-returns : tie.Need-returns Inv-loop μ-loop
-returns c = copied-done (omega arith) (omega arith) (c .before .loop .inv .1)
-
 pub copy-spec : {M : Type 1} → statement M
-copy-spec =
-    tie.close
-    (tie.spec
+copy-spec = tie.close (tie.spec
     Inv-loop μ-loop (λ c. (omega arith, copied-start)) (λ c. omega arith) (λ c. omega arith) (λ c. omega arith)
-    (λ c. omega (arith, c .before .before .loop .inv .1 .long)) (λ c. omega arith) (λ c. omega arith) loop-again same-length returns)
+    (λ c. omega (arith, c .before .before .loop .inv .1 .long)) (λ c. omega arith) (λ c. omega arith) loop-again
+    (λ c. c .before .loop .inv .1 .long) (λ c. copied-done (omega arith) (omega arith) (c .before .loop .inv .1)))

@@ -1,5 +1,4 @@
--- `writes::nothing` meets its contract.
--- Assumes nothing.
+-- `writes::nothing` meets its contract. Assumes nothing.
 use Rattle.writes.proofs.Written.{nothing-start}
 use Rattle.writes.proofs.nothing.Statement.{statement}
 use Rattle.writes.proofs.nothing.Tie as tie

@@ -14,26 +14,8 @@ Inv-loop rules i j rows tables₀ r₀ tables r = (r ≤ rules) × BaresPut r i 
 abbrev μ-loop : tie.MeasureT-loop
 μ-loop rules i j rows tables₀ r₀ tables r = rules - r
 
-loop-again : tie.Need-loop-again Inv-loop μ-loop
-loop-again c = search (needs, bares-step)
-
 pub put-bares-spec : {M : Type 1} → statement M
-put-bares-spec =
-    tie.close
-    (tie.spec
-    Inv-loop
-    μ-loop
-    (λ c. search (needs, bares-start))
-    (λ c. omega arith)
-    (λ c. omega arith)
-    (λ c. omega arith)
-    (λ c. omega arith)
-    (λ c κs. search needs)
-    (λ c κs. search needs)
-    (λ c κs. search needs)
-    (λ c. omega arith)
-    (λ c. omega arith)
-    (λ c. omega arith)
-    (λ c. omega arith)
-    loop-again
-    (λ c. search (needs, bares-end)))
+put-bares-spec = tie.close (tie.spec
+    Inv-loop μ-loop (λ c. search (needs, bares-start)) (λ c. omega arith) (λ c. omega arith) (λ c. omega arith) (λ c. omega arith)
+    (λ c κs. search needs) (λ c κs. search needs) (λ c κs. search needs) (λ c. omega arith) (λ c. omega arith) (λ c. omega arith)
+    (λ c. omega arith) (λ c. search (needs, bares-step)) (λ c. search (needs, bares-end)))

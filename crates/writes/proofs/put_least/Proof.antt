@@ -14,28 +14,8 @@ Inv-loop full i j tables₀ k₀ tables k = (k ≤ 32) × LeastBefore full i j k
 abbrev μ-loop : tie.MeasureT-loop
 μ-loop full i j tables₀ k₀ tables k = 32 - k
 
-loop-again : tie.Need-loop-again Inv-loop μ-loop
-loop-again c = search (needs, least-step)
-
-returns : tie.Need-returns Inv-loop μ-loop
-returns c = search (needs, least-end)
-
 pub put-least-spec : {M : Type 1} → statement M
-put-least-spec =
-    tie.close
-    (tie.spec
-    Inv-loop
-    μ-loop
-    (λ c. search (needs, least-start))
-    (λ c. omega arith)
-    (λ c. omega arith)
-    (λ c. omega arith)
-    (λ c. omega arith)
-    (λ c. omega arith)
-    (λ c. omega arith)
-    (λ c. omega arith)
-    (λ c. omega arith)
-    (λ c. omega arith)
-    (λ c. omega arith)
-    loop-again
-    returns)
+put-least-spec = tie.close (tie.spec
+    Inv-loop μ-loop (λ c. search (needs, least-start)) (λ c. omega arith) (λ c. omega arith) (λ c. omega arith) (λ c. omega arith)
+    (λ c. omega arith) (λ c. omega arith) (λ c. omega arith) (λ c. omega arith) (λ c. omega arith) (λ c. omega arith)
+    (λ c. search (needs, least-step)) (λ c. search (needs, least-end)))

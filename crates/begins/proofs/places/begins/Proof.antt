@@ -16,9 +16,6 @@ Inv-loop p r fits i n ends starts last count v₀ q₀ v q =
 abbrev μ-loop : tie.MeasureT-loop
 μ-loop p r fits i n ends starts last count v₀ q₀ v q = count - q
 
-loop-holds : tie.Need-loop-holds Inv-loop μ-loop
-loop-holds c = (omega arith, c .count .ensures .0, c .count .ensures .1, begins-start _ _ _ _ _ _ _ _)
-
 loop-again : tie.Need-loop-again Inv-loop μ-loop
 loop-again c = (
   omega arith,
@@ -27,20 +24,8 @@ loop-again c = (
   begins-step _ _ _ _ _ _ _ _ _ _ _ _ (c .before .begins-at .ensures) (c .with-if .ensures) (c .before .before .before .loop .inv .3),
 )
 
-returns : tie.Need-returns Inv-loop μ-loop
-returns c = begins-done _ _ _ _ _ _ _ _ _ _ (omega arith) (c .before .loop .inv .3)
-
 pub begins-spec : {M : Type 1} → statement M
-begins-spec =
-    tie.close
-    (tie.spec
-    Inv-loop
-    μ-loop
-    (λ c κs. omega arith)
-    loop-holds
-    (λ c κs. omega arith)
-    (λ c κs. omega arith)
-    (λ c. omega arith)
-    (λ c. omega arith)
-    loop-again
-    returns)
+begins-spec = tie.close (tie.spec
+    Inv-loop μ-loop (λ c κs. omega arith) (λ c. (omega arith, c .count .ensures .0, c .count .ensures .1, begins-start _ _ _ _ _ _ _ _))
+    (λ c κs. omega arith) (λ c κs. omega arith) (λ c. omega arith) (λ c. omega arith) loop-again
+    (λ c. begins-done _ _ _ _ _ _ _ _ _ _ (omega arith) (c .before .loop .inv .3)))

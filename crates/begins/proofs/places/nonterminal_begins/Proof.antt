@@ -1,36 +1,12 @@
--- `begins::places::nonterminal_begins` meets its contract.
--- Assumes nothing.
+-- `begins::places::nonterminal_begins` meets its contract. Assumes nothing.
 use native.Mathlib.Omega.{arith}
 use Rattle.begins.proofs.Place.{node-meets, node-last, node-high}
 use Rattle.begins.proofs.places.nonterminal_begins.Statement.{statement}
 use Rattle.begins.proofs.places.nonterminal_begins.Tie as tie
 
-returns : tie.Need-returns
-returns c = λ n fits last. search node-meets
-
-returns-2 : tie.Need-returns-2
-returns-2 c = λ n fits last. search node-last
-
-returns-3 : tie.Need-returns-3
-returns-3 c = λ n fits last. search node-high
-
 pub nonterminal-begins-spec : {M : Type 1} → statement M
-nonterminal-begins-spec =
-    tie.close
-    (tie.spec
-    (λ c κs. omega arith)
-    (λ c. omega arith)
-    (λ c κs. omega arith)
-    (λ c. omega arith)
-    (λ c. omega arith)
-    (λ c. omega arith)
-    (λ c. omega arith)
-    (λ c. omega arith)
-    (λ c. omega arith)
-    (λ c. omega arith)
-    (λ c. omega arith)
-    (λ c. omega arith)
-    (λ c κs. omega arith)
-    returns
-    returns-2
-    returns-3)
+nonterminal-begins-spec = tie.close (tie.spec
+    (λ c κs. omega arith) (λ c. omega arith) (λ c κs. omega arith) (λ c. omega arith) (λ c. omega arith) (λ c. omega arith)
+    (λ c. omega arith) (λ c. omega arith) (λ c. omega arith) (λ c. omega arith) (λ c. omega arith) (λ c. omega arith)
+    (λ c κs. omega arith) (λ c. λ n fits last. search node-meets) (λ c. λ n fits last. search node-last)
+    (λ c. λ n fits last. search node-high))

@@ -1,23 +1,10 @@
--- `begins::places::terminal_begins` meets its contract.
--- Assumes nothing.
+-- `begins::places::terminal_begins` meets its contract. Assumes nothing.
 use native.Mathlib.Omega.{arith}
 use Rattle.begins.proofs.Place.{leaf-follows, leaf-misses}
 use Rattle.begins.proofs.places.terminal_begins.Statement.{statement}
 use Rattle.begins.proofs.places.terminal_begins.Tie as tie
 
-returns : tie.Need-returns
-returns c = λ ends. search leaf-follows
-
-returns-2 : tie.Need-returns-2
-returns-2 c = λ ends. search leaf-misses
-
 pub terminal-begins-spec : {M : Type 1} → statement M
-terminal-begins-spec =
-    tie.close
-    (tie.spec
-    (λ c κs. omega arith)
-    (λ c. omega arith)
-    (λ c. omega arith)
-    (λ c κs. omega arith)
-    returns
-    returns-2)
+terminal-begins-spec = tie.close (tie.spec
+    (λ c κs. omega arith) (λ c. omega arith) (λ c. omega arith) (λ c κs. omega arith) (λ c. λ ends. search leaf-follows)
+    (λ c. λ ends. search leaf-misses))

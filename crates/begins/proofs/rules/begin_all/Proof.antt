@@ -13,12 +13,6 @@ Inv-loop p rules fits i n ends starts reach live lasts insides₀ r₀ insides r
 abbrev μ-loop : tie.MeasureT-loop
 μ-loop p rules fits i n ends starts reach live lasts insides₀ r₀ insides r = rules - r
 
-loop-holds : tie.Need-loop-holds Inv-loop μ-loop
-loop-holds c = (omega arith, search all-start)
-
-begins-near-requires : tie.Need-begins-near-requires Inv-loop μ-loop
-begins-near-requires c κs = (omega arith, omega arith, omega arith)
-
 loop-again : tie.Need-loop-again Inv-loop μ-loop
 loop-again c = (
   omega arith,
@@ -26,28 +20,8 @@ loop-again c = (
       (c .before .before .before .before .before .before .loop .inv .1),
 )
 
-returns : tie.Need-returns Inv-loop μ-loop
-returns c = search all-done
-
 pub begin-all-spec : {M : Type 1} → statement M
-begin-all-spec =
-    tie.close
-    (tie.spec
-    Inv-loop
-    μ-loop
-    loop-holds
-    (λ c. omega arith)
-    (λ c. omega arith)
-    (λ c. omega arith)
-    (λ c κs. omega arith)
-    (λ c. omega arith)
-    (λ c. omega arith)
-    (λ c. omega arith)
-    (λ c. omega arith)
-    begins-near-requires
-    (λ c. omega arith)
-    (λ c. omega arith)
-    (λ c. omega arith)
-    (λ c. omega arith)
-    loop-again
-    returns)
+begin-all-spec = tie.close (tie.spec
+    Inv-loop μ-loop (λ c. (omega arith, search all-start)) (λ c. omega arith) (λ c. omega arith) (λ c. omega arith) (λ c κs. omega arith)
+    (λ c. omega arith) (λ c. omega arith) (λ c. omega arith) (λ c. omega arith) (λ c κs. (omega arith, omega arith, omega arith))
+    (λ c. omega arith) (λ c. omega arith) (λ c. omega arith) (λ c. omega arith) loop-again (λ c. search all-done))

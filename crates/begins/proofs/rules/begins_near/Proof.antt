@@ -1,15 +1,8 @@
--- `begins::rules::begins_near` meets its contract.
--- Assumes nothing.
+-- `begins::rules::begins_near` meets its contract. Assumes nothing.
 use native.Mathlib.Omega.{arith}
 use Rattle.begins.proofs.Rule.{near-looked, near-passed}
 use Rattle.begins.proofs.rules.begins_near.Statement.{statement}
 use Rattle.begins.proofs.rules.begins_near.Tie as tie
 
-returns : tie.Need-returns
-returns c = search near-looked
-
-returns-2 : tie.Need-returns-2
-returns-2 c = search near-passed
-
 pub begins-near-spec : {M : Type 1} → statement M
-begins-near-spec = tie.close (tie.spec (λ c κs. omega arith) (λ c κs. omega arith) returns returns-2)
+begins-near-spec = tie.close (tie.spec (λ c κs. omega arith) (λ c κs. omega arith) (λ c. search near-looked) (λ c. search near-passed))

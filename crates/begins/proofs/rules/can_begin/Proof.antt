@@ -1,23 +1,9 @@
--- `begins::rules::can_begin` meets its contract.
--- Assumes nothing.
+-- `begins::rules::can_begin` meets its contract. Assumes nothing.
 use native.Mathlib.Omega.{arith}
 use Rattle.begins.proofs.Rule.{can-meet, can-always}
 use Rattle.begins.proofs.rules.can_begin.Statement.{statement}
 use Rattle.begins.proofs.rules.can_begin.Tie as tie
 
-returns : tie.Need-returns
-returns c = search can-meet
-
-returns-2 : tie.Need-returns-2
-returns-2 c = search can-always
-
 pub can-begin-spec : {M : Type 1} → statement M
-can-begin-spec =
-    tie.close
-    (tie.spec
-    (λ c. omega arith)
-    (λ c. omega arith)
-    (λ c κs. omega arith)
-    (λ c κs. omega arith)
-    returns
-    returns-2)
+can-begin-spec = tie.close (tie.spec
+    (λ c. omega arith) (λ c. omega arith) (λ c κs. omega arith) (λ c κs. omega arith) (λ c. search can-meet) (λ c. search can-always))

@@ -1,5 +1,4 @@
--- `beyond::frame::make` meets its contract.
--- Assumes nothing.
+-- `beyond::frame::make` meets its contract. Assumes nothing.
 use native.Mathlib.Omega.{arith}
 use borrow.Author.Needs.{needs}
 use Rattle.beyond.proofs.Frames.{made-new, made-found}
@@ -7,8 +6,6 @@ use Rattle.beyond.proofs.frame.make.Statement.{statement}
 use Rattle.beyond.proofs.frame.make.Tie as tie
 
 pub make-spec : {M : Type 1} → statement M
-make-spec =
-    tie.close
-    (tie.spec
+make-spec = tie.close (tie.spec
     (λ c. omega arith) (λ c κs. omega arith) (λ c κs. search needs) (λ c κs. omega arith) (λ c. search (needs, made-new))
     (λ c. search (needs, made-found)))

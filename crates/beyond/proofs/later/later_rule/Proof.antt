@@ -1,13 +1,9 @@
--- `beyond::later::later_rule` meets its contract.
--- Assumes nothing.
+-- `beyond::later::later_rule` meets its contract. Assumes nothing.
 use native.Mathlib.Omega.{arith}
 use borrow.Author.Needs.{needs}
 use Rattle.beyond.proofs.LaterRules.{later-absent, later-none, later-some}
 use Rattle.beyond.proofs.later.later_rule.Statement.{statement}
 use Rattle.beyond.proofs.later.later_rule.Tie as tie
-
-returns-2 : tie.Need-returns-2
-returns-2 c = later-none (omega arith) (omega arith) (c .before .open-node .ensures) (omega arith)
 
 put-node-requires : tie.Need-put-node-requires
 put-node-requires c κs =
@@ -40,9 +36,7 @@ returns-3 c =
     (c .before .before .row .ensures)
 
 pub later-rule-spec : {M : Type 1} → statement M
-later-rule-spec =
-    tie.close
-    (tie.spec
+later-rule-spec = tie.close (tie.spec
     (λ c. omega arith) (λ c κs. omega arith) (λ c. later-absent (omega arith) (c .before .no-rule .ensures (search needs)))
-    (λ c. omega arith) (λ c κs. search needs) returns-2 (λ c. omega arith) put-node-requires sub-row (λ c. omega arith) row-requires
-    add-result (λ c. omega arith) returns-3)
+    (λ c. omega arith) (λ c κs. search needs) (λ c. later-none (omega arith) (omega arith) (c .before .open-node .ensures) (omega arith))
+    (λ c. omega arith) put-node-requires sub-row (λ c. omega arith) row-requires add-result (λ c. omega arith) returns-3)

@@ -20,8 +20,6 @@ loop-again c =
     none-more (d .before .args .p .now) (d .loop .inv) (c .before .left .ensures) (omega arith)
 
 pub no-rule-spec : {M : Type 1} → statement M
-no-rule-spec =
-    tie.close
-    (tie.spec
+no-rule-spec = tie.close (tie.spec
     Inv-loop μ-loop (λ c. none-yet _ _ _) (λ c κs. omega arith) (λ c e. absurd (false≢true e)) (λ c. omega arith) (λ c. omega arith)
     loop-again (λ c e. none-all (c .before .before .args .p .now) (c .before .loop .inv) (omega arith)))

@@ -13,9 +13,6 @@ Inv-loop p r ended empty own inner last q₀ v₀ q v = (q ≤ countIn p r) × (
 abbrev μ-loop : tie.MeasureT-loop
 μ-loop p r ended empty own inner last q₀ v₀ q v = q
 
-loop-holds : tie.Need-loop-holds Inv-loop μ-loop
-loop-holds c = (omega arith, omega arith, search mask-from-start)
-
 loop-again : tie.Need-loop-again Inv-loop μ-loop
 loop-again c = (
   omega arith,
@@ -24,21 +21,7 @@ loop-again c = (
       (c .before .place-cuts .ensures) (c .with-if2 .ensures) (c .before .before .before .loop .inv .2),
 )
 
-returns : tie.Need-returns Inv-loop μ-loop
-returns c = search mask-from-done
-
 pub rule-mask-spec : {M : Type 1} → statement M
-rule-mask-spec =
-    tie.close
-    (tie.spec
-    Inv-loop
-    μ-loop
-    (λ c κs. omega arith)
-    (λ c κs. omega arith)
-    loop-holds
-    (λ c. omega arith)
-    (λ c κs. omega arith)
-    (λ c κs. omega arith)
-    (λ c. omega arith)
-    loop-again
-    returns)
+rule-mask-spec = tie.close (tie.spec
+    Inv-loop μ-loop (λ c κs. omega arith) (λ c κs. omega arith) (λ c. (omega arith, omega arith, search mask-from-start))
+    (λ c. omega arith) (λ c κs. omega arith) (λ c κs. omega arith) (λ c. omega arith) loop-again (λ c. search mask-from-done))

@@ -15,18 +15,12 @@ Inv-loop a b x y r₀ r = (r ≤ 128) × ((k : ℕ) → k < r → getD x k 0 ≡
 abbrev μ-loop : tie.MeasureT-loop
 μ-loop a b x y r₀ r = 128 - r
 
-loop-holds : tie.Need-loop-holds Inv-loop μ-loop
-loop-holds c = (omega arith, λ k h. absurd (omega arith))
-
 returns : tie.Need-returns Inv-loop μ-loop
 returns c =
     let y = c .before .before .before in
     let x = y .before in
     tallies-differ _ _ (x .tally .result) (y .tally2 .result) (x .tally .ensures) (y .tally2 .ensures) (c .before .before .loop .r)
     (c .before .loop-test .taken) (c .if1 .taken)
-
-loop-again : tie.Need-loop-again Inv-loop μ-loop
-loop-again c = (omega arith, below-more _ _ (c .before .before .loop .inv .1) (c .if1 .left))
 
 returns-2 : tie.Need-returns-2 Inv-loop μ-loop
 returns-2 c =
@@ -38,8 +32,7 @@ returns-2 c =
     (c .before .loop .inv .1) (start .pre .2) (start .pre .3)
 
 pub same-rules-spec : {M : Type 1} → statement M
-same-rules-spec =
-    tie.close
-    (tie.spec
-    Inv-loop μ-loop (λ c κs. omega arith) (λ c κs. omega arith) loop-holds (λ c. omega arith) (λ c. omega arith) (λ c. omega arith)
-    (λ c. omega arith) returns (λ c. omega arith) (λ c. omega arith) loop-again returns-2)
+same-rules-spec = tie.close (tie.spec
+    Inv-loop μ-loop (λ c κs. omega arith) (λ c κs. omega arith) (λ c. (omega arith, λ k h. absurd (omega arith))) (λ c. omega arith)
+    (λ c. omega arith) (λ c. omega arith) (λ c. omega arith) returns (λ c. omega arith) (λ c. omega arith)
+    (λ c. (omega arith, below-more _ _ (c .before .before .loop .inv .1) (c .if1 .left))) returns-2)

@@ -1,6 +1,5 @@
 -- `checker::build::tally` meets its contract. The loop's invariant: the counts are those of the nodes passed. The measure is the number of
--- nodes left.
--- Assumes nothing.
+-- nodes left. Assumes nothing.
 use Prim.Native.Nat.{_-_, _/_, _≤_}
 use mathlib.Core.Path.{_≡_, refl}
 use native.Mathlib.Omega.{arith}
@@ -15,9 +14,6 @@ Inv-loop e n t₀ i₀ t i = (i ≤ n) × (n ≡ length e / 2) × Counted e i t
 abbrev μ-loop : tie.MeasureT-loop
 μ-loop e n t₀ i₀ t i = n - i
 
-loop-holds : tie.Need-loop-holds Inv-loop μ-loop
-loop-holds c = (omega arith, refl, counted-start _)
-
 loop-again : tie.Need-loop-again Inv-loop μ-loop
 loop-again c = (
   omega arith,
@@ -26,9 +22,7 @@ loop-again c = (
 )
 
 pub tally-spec : {M : Type 1} → statement M
-tally-spec =
-    tie.close
-    (tie.spec
-    Inv-loop μ-loop loop-holds (λ c κs. omega arith) (λ c. omega arith) (λ c. omega arith)
+tally-spec = tie.close (tie.spec
+    Inv-loop μ-loop (λ c. (omega arith, refl, counted-start _)) (λ c κs. omega arith) (λ c. omega arith) (λ c. omega arith)
     (λ c. omega (arith, c .before .before .loop .inv .2 .few (c .used .result))) (λ c. omega arith) (λ c. omega arith) (λ c. omega arith)
     (λ c. omega arith) loop-again (λ c. search counted-done))

@@ -1,6 +1,5 @@
 -- `choose::ends::choose_end` meets its contract. The loop's invariant: up to each end passed the costs are more than the budget. The
--- measure is what is left of the ends.
--- Assumes nothing.
+-- measure is what is left of the ends. Assumes nothing.
 use Prim.Native.Nat.{_+_, _-_, _≤_}
 use native.Mathlib.Omega.{arith}
 use borrow.Author.Needs.{needs}
@@ -30,8 +29,6 @@ returns c =
     (c .before .before .before .before .before .loop .inv .2)
 
 pub choose-end-spec : {M : Type 1} → statement M
-choose-end-spec =
-    tie.close
-    (tie.spec
+choose-end-spec = tie.close (tie.spec
     Inv-loop μ-loop (λ c. search (needs, ends-none)) (λ c κs. omega arith) (λ c. omega arith) (λ c. omega arith) (λ c. omega arith)
     (λ c κs. omega arith) returns (λ c. omega arith) (λ c. omega arith) loop-again (λ c. search (needs, end-none)))

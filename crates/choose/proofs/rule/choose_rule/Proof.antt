@@ -1,6 +1,5 @@
 -- `choose::rule::choose_rule` meets its contract. The loop's invariant: the rules passed cost more than the budget or are of other
--- nonterminals. The measure is what is left of the rules.
--- Assumes nothing.
+-- nonterminals. The measure is what is left of the rules. Assumes nothing.
 use Prim.Native.Nat.{_-_}
 use native.Mathlib.Omega.{arith}
 use borrow.Author.Needs.{needs}
@@ -15,12 +14,8 @@ Inv-loop p rules from k full tables i j budget r₀ r = RulesPassed p rules from
 abbrev μ-loop : tie.MeasureT-loop
 μ-loop p rules from k full tables i j budget r₀ r = rules - r
 
-loop-again : tie.Need-loop-again Inv-loop μ-loop
-loop-again c = passed-more (c .before .within-budget .ensures) (c .if1 .left) (c .before .before .before .loop .inv)
-
 pub choose-rule-spec : {M : Type 1} → statement M
-choose-rule-spec =
-    tie.close
-    (tie.spec
+choose-rule-spec = tie.close (tie.spec
     Inv-loop μ-loop (λ c. search (needs, passed-none)) (λ c κs. omega arith) (λ c. search (needs, rule-found)) (λ c. omega arith)
-    (λ c. omega arith) loop-again (λ c. search (needs, rule-none)))
+    (λ c. omega arith) (λ c. passed-more (c .before .within-budget .ensures) (c .if1 .left) (c .before .before .before .loop .inv))
+    (λ c. search (needs, rule-none)))

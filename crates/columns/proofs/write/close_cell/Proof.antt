@@ -1,30 +1,12 @@
--- `columns::write::close_cell` meets its contract.
--- Assumes nothing.
+-- `columns::write::close_cell` meets its contract. Assumes nothing.
 use borrow.Author.Needs.{needs}
 use native.Mathlib.Omega.{arith}
 use Rattle.columns.proofs.Writing.{cell-written}
 use Rattle.columns.proofs.write.close_cell.Statement.{statement}
 use Rattle.columns.proofs.write.close_cell.Tie as tie
 
-returns : tie.Need-returns
-returns c = (search cell-written, search needs, search needs, search needs)
-
 pub close-cell-spec : {M : Type 1} → statement M
-close-cell-spec =
-    tie.close
-    (tie.spec
-    (λ c. omega arith)
-    (λ c. omega arith)
-    (λ c κs. omega arith)
-    (λ c. omega arith)
-    (λ c. omega arith)
-    (λ c. omega arith)
-    (λ c. omega arith)
-    (λ c κs. omega arith)
-    (λ c κs. omega arith)
-    (λ c. omega arith)
-    (λ c. omega arith)
-    (λ c. omega arith)
-    (λ c. omega arith)
-    (λ c. search needs)
-    returns)
+close-cell-spec = tie.close (tie.spec
+    (λ c. omega arith) (λ c. omega arith) (λ c κs. omega arith) (λ c. omega arith) (λ c. omega arith) (λ c. omega arith)
+    (λ c. omega arith) (λ c κs. omega arith) (λ c κs. omega arith) (λ c. omega arith) (λ c. omega arith) (λ c. omega arith)
+    (λ c. omega arith) (λ c. search needs) (λ c. (search cell-written, search needs, search needs, search needs)))

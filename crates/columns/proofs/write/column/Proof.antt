@@ -1,22 +1,11 @@
--- `columns::write::column` meets its contract.
--- Assumes nothing.
+-- `columns::write::column` meets its contract. Assumes nothing.
 use borrow.Author.Needs.{needs}
 use native.Mathlib.Omega.{arith}
 use Rattle.columns.proofs.Writing.{column-written, column-length}
 use Rattle.columns.proofs.write.column.Statement.{statement}
 use Rattle.columns.proofs.write.column.Tie as tie
 
-returns : tie.Need-returns
-returns c = search column-written
-
 pub column-spec : {M : Type 1} → statement M
-column-spec =
-    tie.close
-    (tie.spec
-    (λ c. omega arith)
-    (λ c. omega arith)
-    (λ c. omega arith)
-    (λ c. omega arith)
-    (λ c κs. search needs)
-    (λ c. search column-length)
-    returns)
+column-spec = tie.close (tie.spec
+    (λ c. omega arith) (λ c. omega arith) (λ c. omega arith) (λ c. omega arith) (λ c κs. search needs) (λ c. search column-length)
+    (λ c. search column-written))

@@ -17,9 +17,6 @@ Inv-loop p rules fits n ends reach lasts kinds chart₀ starts₀ live₀ inside
 abbrev μ-loop : tie.MeasureT-loop
 μ-loop p rules fits n ends reach lasts kinds chart₀ starts₀ live₀ insides₀ flags₀ made₀ i₀ chart starts live insides flags made i = i
 
-loop-holds : tie.Need-loop-holds Inv-loop μ-loop
-loop-holds c = (omega arith, search needs, search needs, search needs, search lower-start)
-
 close-cell-requires : tie.Need-close-cell-requires Inv-loop μ-loop
 close-cell-requires c κs = (
   omega arith,
@@ -35,22 +32,8 @@ close-cell-requires c κs = (
   search needs,
 )
 
-loop-again : tie.Need-loop-again Inv-loop μ-loop
-loop-again c = (omega arith, search needs, search needs, search needs, search lower-step)
-
-returns : tie.Need-returns Inv-loop μ-loop
-returns c = search lower-done
-
 pub lower-cells-spec : {M : Type 1} → statement M
-lower-cells-spec =
-    tie.close
-    (tie.spec
-    Inv-loop
-    μ-loop
-    loop-holds
-    (λ c. omega arith)
-    close-cell-requires
-    (λ c. omega arith)
-    loop-again
-    (λ c. omega arith)
-    returns)
+lower-cells-spec = tie.close (tie.spec
+    Inv-loop μ-loop (λ c. (omega arith, search needs, search needs, search needs, search lower-start)) (λ c. omega arith)
+    close-cell-requires (λ c. omega arith) (λ c. (omega arith, search needs, search needs, search needs, search lower-step))
+    (λ c. omega arith) (λ c. search lower-done))

@@ -1,5 +1,4 @@
--- `cuts::suffix::at_end` meets its contract.
--- Assumes nothing.
+-- `cuts::suffix::at_end` meets its contract. Assumes nothing.
 use borrow.Author.Needs.{needs}
 use Rattle.cuts.proofs.Places.{end-short, end-there}
 use Rattle.cuts.proofs.suffix.at_end.Statement.{statement}

@@ -16,31 +16,9 @@ Inv-loop tables k a b last rests at best₀ c₀ best c =
 abbrev μ-loop : tie.MeasureT-loop
 μ-loop tables k a b last rests at best₀ c₀ best c = b - c
 
-loop-again : tie.Need-loop-again Inv-loop μ-loop
-loop-again c = search (needs, ends-step)
-
-returns : tie.Need-returns Inv-loop μ-loop
-returns c = search (needs, ends-last)
-
 pub over-ends-spec : {M : Type 1} → statement M
-over-ends-spec =
-    tie.close
-    (tie.spec
-    Inv-loop
-    μ-loop
-    (λ c. search (needs, ends-start))
-    (λ c κs. search needs)
-    (λ c. omega arith)
-    (λ c. omega arith)
-    (λ c. omega arith)
-    (λ c κs. search needs)
-    (λ c κs. search needs)
-    (λ c. omega arith)
-    (λ c. omega arith)
-    loop-again
-    (λ c. omega arith)
-    (λ c. omega arith)
-    (λ c. omega arith)
-    (λ c κs. search needs)
-    (λ c κs. search needs)
-    returns)
+over-ends-spec = tie.close (tie.spec
+    Inv-loop μ-loop (λ c. search (needs, ends-start)) (λ c κs. search needs) (λ c. omega arith) (λ c. omega arith) (λ c. omega arith)
+    (λ c κs. search needs) (λ c κs. search needs) (λ c. omega arith) (λ c. omega arith) (λ c. search (needs, ends-step))
+    (λ c. omega arith) (λ c. omega arith) (λ c. omega arith) (λ c κs. search needs) (λ c κs. search needs)
+    (λ c. search (needs, ends-last)))

@@ -1,5 +1,4 @@
--- `descend::open::make_costs` meets its contract.
--- Assumes nothing.
+-- `descend::open::make_costs` meets its contract. Assumes nothing.
 use native.Mathlib.Omega.{arith}
 use borrow.Author.Needs.{needs}
 use Rattle.descend.proofs.Opening.{maybe-made}
@@ -7,8 +6,6 @@ use Rattle.descend.proofs.open.make_costs.Statement.{statement}
 use Rattle.descend.proofs.open.make_costs.Tie as tie
 
 pub make-costs-spec : {M : Type 1} → statement M
-make-costs-spec =
-    tie.close
-    (tie.spec
+make-costs-spec = tie.close (tie.spec
     (λ c. omega arith) (λ c κs. omega arith) (λ c. omega arith) (λ c. omega arith) (λ c. omega arith) (λ c. omega arith)
     (λ c κs. omega arith) (λ c. search needs) (λ c. search (needs, maybe-made)))

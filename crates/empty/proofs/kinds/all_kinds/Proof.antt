@@ -12,28 +12,10 @@ Inv-loop p rules lasts kinds₀ r₀ kinds r = (r ≤ rules) × AllTo p rules la
 abbrev μ-loop : tie.MeasureT-loop
 μ-loop p rules lasts kinds₀ r₀ kinds r = rules - r
 
-loop-holds : tie.Need-loop-holds Inv-loop μ-loop
-loop-holds c = (omega arith, search all-start)
-
 loop-again : tie.Need-loop-again Inv-loop μ-loop
 loop-again c = (omega arith, all-step _ _ _ _ _ _ (omega arith) (c .kinds-of .ensures) (c .before .before .before .loop .inv .1))
 
-returns : tie.Need-returns Inv-loop μ-loop
-returns c = search all-done
-
 pub all-kinds-spec : {M : Type 1} → statement M
-all-kinds-spec =
-    tie.close
-    (tie.spec
-    Inv-loop
-    μ-loop
-    loop-holds
-    (λ c. omega arith)
-    (λ c. omega arith)
-    (λ c κs. omega arith)
-    (λ c. omega arith)
-    (λ c. omega arith)
-    (λ c. omega arith)
-    (λ c. omega arith)
-    loop-again
-    returns)
+all-kinds-spec = tie.close (tie.spec
+    Inv-loop μ-loop (λ c. (omega arith, search all-start)) (λ c. omega arith) (λ c. omega arith) (λ c κs. omega arith) (λ c. omega arith)
+    (λ c. omega arith) (λ c. omega arith) (λ c. omega arith) loop-again (λ c. search all-done))

@@ -15,28 +15,8 @@ Inv-loop p r last count v₀ q₀ v q = (q ≤ count) × (count ≡ countIn p r)
 abbrev μ-loop : tie.MeasureT-loop
 μ-loop p r last count v₀ q₀ v q = count - q
 
-loop-holds : tie.Need-loop-holds Inv-loop μ-loop
-loop-holds c = (omega arith, c .count .ensures .0, c .count .ensures .1, kinds-start _ _ _)
-
-kind-at-requires : tie.Need-kind-at-requires Inv-loop μ-loop
-kind-at-requires c κs = (omega arith, omega arith)
-
-loop-again : tie.Need-loop-again Inv-loop μ-loop
-loop-again c = (omega arith, search needs, omega arith, search kinds-step)
-
-returns : tie.Need-returns Inv-loop μ-loop
-returns c = kinds-done _ _ _ _ _ (omega arith) (c .before .loop .inv .3)
-
 pub kinds-of-spec : {M : Type 1} → statement M
-kinds-of-spec =
-    tie.close
-    (tie.spec
-    Inv-loop
-    μ-loop
-    (λ c κs. omega arith)
-    loop-holds
-    kind-at-requires
-    (λ c. omega arith)
-    (λ c. omega arith)
-    loop-again
-    returns)
+kinds-of-spec = tie.close (tie.spec
+    Inv-loop μ-loop (λ c κs. omega arith) (λ c. (omega arith, c .count .ensures .0, c .count .ensures .1, kinds-start _ _ _))
+    (λ c κs. (omega arith, omega arith)) (λ c. omega arith) (λ c. omega arith)
+    (λ c. (omega arith, search needs, omega arith, search kinds-step)) (λ c. kinds-done _ _ _ _ _ (omega arith) (c .before .loop .inv .3)))

@@ -12,14 +12,7 @@ Inv-loop p rules lasts₀ own₀ lasts own = (own < 2 ^ 32) × EmptyReached p ow
 abbrev μ-loop : tie.MeasureT-loop
 μ-loop p rules lasts₀ own₀ lasts own = 2 ^ 32 - own
 
-loop-holds : tie.Need-loop-holds Inv-loop μ-loop
-loop-holds c = (omega arith, search reached-start)
-
-returns : tie.Need-returns Inv-loop μ-loop
-returns c = search empty-closed
-
-loop-again : tie.Need-loop-again Inv-loop μ-loop
-loop-again c = (omega arith, search reached-step)
-
 pub closure-spec : {M : Type 1} → statement M
-closure-spec = tie.close (tie.spec Inv-loop μ-loop loop-holds (λ c κs. omega arith) returns (λ c. omega arith) loop-again)
+closure-spec = tie.close (tie.spec
+    Inv-loop μ-loop (λ c. (omega arith, search reached-start)) (λ c κs. omega arith) (λ c. search empty-closed) (λ c. omega arith)
+    (λ c. (omega arith, search reached-step)))

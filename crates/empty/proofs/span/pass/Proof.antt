@@ -13,27 +13,7 @@ Inv-loop p rules own lasts₀ v₀ r₀ lasts v r = (r ≤ rules) × EmptyPassed
 abbrev μ-loop : tie.MeasureT-loop
 μ-loop p rules own lasts₀ v₀ r₀ lasts v r = rules - r
 
-loop-holds : tie.Need-loop-holds Inv-loop μ-loop
-loop-holds c = (omega arith, search empty-start)
-
-loop-again : tie.Need-loop-again Inv-loop μ-loop
-loop-again c = (omega arith, search empty-step)
-
-returns : tie.Need-returns Inv-loop μ-loop
-returns c = search empty-done
-
 pub pass-spec : {M : Type 1} → statement M
-pass-spec =
-    tie.close
-    (tie.spec
-    Inv-loop
-    μ-loop
-    loop-holds
-    (λ c κs. omega arith)
-    (λ c. omega arith)
-    (λ c. omega arith)
-    (λ c κs. omega arith)
-    (λ c. omega arith)
-    (λ c. omega arith)
-    loop-again
-    returns)
+pass-spec = tie.close (tie.spec
+    Inv-loop μ-loop (λ c. (omega arith, search empty-start)) (λ c κs. omega arith) (λ c. omega arith) (λ c. omega arith)
+    (λ c κs. omega arith) (λ c. omega arith) (λ c. omega arith) (λ c. (omega arith, search empty-step)) (λ c. search empty-done))

@@ -1,5 +1,4 @@
--- `filbozseg::enumerate::filbozseg_count` meets its contract.
--- Assumes nothing.
+-- `filbozseg::enumerate::filbozseg_count` meets its contract. Assumes nothing.
 use borrow.Author.Needs.{needs}
 use Rattle.grammar.specs.declared.Grammar.{Grammar}
 use Rattle.results.specs.Enumerate.{countOf}
@@ -17,6 +16,5 @@ returns c =
     (after-count .count .ensures) (c .of-figure .ensures .0) (c .of-figure .ensures .1)
 
 pub filbozseg-count-spec : {M : Type 1} → statement M
-filbozseg-count-spec =
-    tie.close
-    (tie.spec (λ c κs. search needs) (λ c κs. search needs) (λ c κs. search needs) (λ c. search needs) returns)
+filbozseg-count-spec = tie.close (tie.spec
+    (λ c κs. search needs) (λ c κs. search needs) (λ c κs. search needs) (λ c. search needs) returns)

@@ -1,5 +1,4 @@
--- `filbozseg::enumerate::filbozseg_first` meets its contract.
--- Assumes nothing.
+-- `filbozseg::enumerate::filbozseg_first` meets its contract. Assumes nothing.
 use borrow.Author.Needs.{needs}
 use Rattle.grammar.specs.declared.Grammar.{Grammar}
 use Rattle.results.specs.Enumerate.{firstOf}
@@ -17,6 +16,5 @@ returns c =
     (after-first .first .ensures) (c .of-handing .ensures .0) (c .of-handing .ensures .1)
 
 pub filbozseg-first-spec : {M : Type 1} → statement M
-filbozseg-first-spec =
-    tie.close
-    (tie.spec (λ c κs. search needs) (λ c κs. search needs) (λ c κs. search needs) (λ c. search needs) (λ c. search needs) returns)
+filbozseg-first-spec = tie.close (tie.spec
+    (λ c κs. search needs) (λ c κs. search needs) (λ c κs. search needs) (λ c. search needs) (λ c. search needs) returns)

@@ -1,5 +1,4 @@
--- `filbozseg::enumerate::filbozseg_next` meets its contract.
--- Assumes nothing.
+-- `filbozseg::enumerate::filbozseg_next` meets its contract. Assumes nothing.
 use borrow.Author.Needs.{needs}
 use Rattle.grammar.specs.declared.Grammar.{Grammar}
 use Rattle.results.specs.Enumerate.{nextOf}
@@ -17,6 +16,5 @@ returns c =
     (after-next .next .ensures) (c .of-handing .ensures .0) (c .of-handing .ensures .1)
 
 pub filbozseg-next-spec : {M : Type 1} → statement M
-filbozseg-next-spec =
-    tie.close
-    (tie.spec (λ c κs. search needs) (λ c κs. search needs) (λ c κs. search needs) (λ c. search needs) (λ c. search needs) returns)
+filbozseg-next-spec = tie.close (tie.spec
+    (λ c κs. search needs) (λ c κs. search needs) (λ c κs. search needs) (λ c. search needs) (λ c. search needs) returns)

@@ -1,13 +1,10 @@
--- `flat::reading::read_place` meets its contract: the place of the symbol that was read.
--- Assumes nothing.
+-- `flat::reading::read_place` meets its contract: the place of the symbol that was read. Assumes nothing.
 use native.Mathlib.Omega.{arith}
 use Rattle.rows.proofs.Parts.{read-place-of}
 use Rattle.flat.proofs.reading.read_place.Statement.{statement}
 use Rattle.flat.proofs.reading.read_place.Tie as tie
 
 pub read-place-spec : {M : Type 1} → statement M
-read-place-spec =
-    tie.close
-    (tie.spec
+read-place-spec = tie.close (tie.spec
     (λ c. omega arith) (λ c. omega arith) (λ c. omega arith) (λ c. omega arith) (λ c. omega arith) (λ c κs. omega arith)
     (λ c. search read-place-of))

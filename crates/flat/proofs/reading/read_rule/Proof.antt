@@ -1,14 +1,11 @@
--- `flat::reading::read_rule` meets its contract: the rule of the parts that were read.
--- Assumes nothing.
+-- `flat::reading::read_rule` meets its contract: the rule of the parts that were read. Assumes nothing.
 use native.Mathlib.Omega.{arith}
 use Rattle.rows.proofs.Parts.{read-rule-of}
 use Rattle.flat.proofs.reading.read_rule.Statement.{statement}
 use Rattle.flat.proofs.reading.read_rule.Tie as tie
 
 pub read-rule-spec : {M : Type 1} → statement M
-read-rule-spec =
-    tie.close
-    (tie.spec
+read-rule-spec = tie.close (tie.spec
     (λ c. omega arith) (λ c. omega arith) (λ c κs. omega arith) (λ c. omega arith) (λ c. omega arith) (λ c. omega arith)
     (λ c κs. omega arith) (λ c. omega arith) (λ c. omega arith) (λ c. omega arith) (λ c κs. omega arith) (λ c. omega arith)
     (λ c κs. omega arith) (λ c. search read-rule-of))

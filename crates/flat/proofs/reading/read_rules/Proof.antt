@@ -31,8 +31,6 @@ unfolding rulesIn
 returns c = records-done _ _ _ _ _ _ (c .before .loop .inv .1) (omega arith) (omega arith) (c .before .loop .inv .2)
 
 pub read-rules-spec : {M : Type 1} → statement M
-read-rules-spec =
-    tie.close
-    (tie.spec
+read-rules-spec = tie.close (tie.spec
     Inv-loop μ-loop (λ c κs. omega arith) loop-holds (λ c. omega arith) (λ c. omega arith) (λ c κs. omega arith) (λ c. omega arith)
     (λ c. omega arith) (λ c. omega arith) (λ c. omega arith) loop-again returns)

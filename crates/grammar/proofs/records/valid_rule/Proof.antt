@@ -19,19 +19,12 @@ Inv-loop rule n q₀ q = (q ≤ n) × (n ≤ 8) × (rule .left ≤ 31) × (all v
 abbrev μ-loop : tie.MeasureT-loop
 μ-loop rule n q₀ q = n - q
 
-returns : tie.Need-returns Inv-loop μ-loop
-returns c = ⊎-elim (λ w. search rule-left) (λ w. rule-count _ (omega (arith, ltb-true))) (c .if1 .came)
-
 loop-holds : tie.Need-loop-holds Inv-loop μ-loop
 unfolding all
 loop-holds c = (omega arith, search needs, omega arith, refl)
 
-loop-again : tie.Need-loop-again Inv-loop μ-loop
-loop-again c = (omega arith, omega arith, omega arith, search all-next)
-
 pub valid-rule-spec : {M : Type 1} → statement M
-valid-rule-spec =
-    tie.close
-    (tie.spec
-    Inv-loop μ-loop returns loop-holds (λ c. omega arith) (λ c. omega arith) (λ c κs. omega arith) (λ c. search rule-place)
-    (λ c. omega arith) (λ c. omega arith) loop-again (λ c. search rule-passes))
+valid-rule-spec = tie.close (tie.spec
+    Inv-loop μ-loop (λ c. ⊎-elim (λ w. search rule-left) (λ w. rule-count _ (omega (arith, ltb-true))) (c .if1 .came)) loop-holds
+    (λ c. omega arith) (λ c. omega arith) (λ c κs. omega arith) (λ c. search rule-place) (λ c. omega arith) (λ c. omega arith)
+    (λ c. (omega arith, omega arith, omega arith, search all-next)) (λ c. search rule-passes))

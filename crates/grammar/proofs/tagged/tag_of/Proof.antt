@@ -1,6 +1,5 @@
 -- `grammar::tagged::tag_of` meets its contract. Its needs close by search: the file is here so that a wrong tag is refused at the need
--- that fails.
--- Assumes nothing.
+-- that fails. Assumes nothing.
 use native.Mathlib.Omega.{arith}
 use borrow.Author.Needs.{needs}
 use Rattle.grammar.proofs.tagged.tag_of.Statement.{statement}

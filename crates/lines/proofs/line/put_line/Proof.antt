@@ -1,5 +1,4 @@
--- `lines::line::put_line` meets its contract.
--- Assumes nothing.
+-- `lines::line::put_line` meets its contract. Assumes nothing.
 use Prim.Native.Nat.{_*_}
 use native.Mathlib.Omega.{arith}
 use lib.ListN.{take}
@@ -7,9 +6,6 @@ use Rattle.digits.proofs.Decimal.{digits-16}
 use Rattle.lines.proofs.Lines.{through-size, line-done}
 use Rattle.lines.proofs.line.put_line.Statement.{statement}
 use Rattle.lines.proofs.line.put_line.Tie as tie
-
-put-decimal-requires : tie.Need-put-decimal-requires
-put-decimal-requires c κs = omega (arith, digits-16 (c .before .before .before .args .place) (omega arith))
 
 put-byte-requires : tie.Need-put-byte-requires
 put-byte-requires c κs = omega (arith, digits-16 (c .before .before .before .before .before .before .before .args .place) (omega arith))
@@ -36,4 +32,6 @@ returns c =
     (colon .put-byte .ensures) (nodes .put-nodes .ensures .0) (last .put-end .ensures)
 
 pub put-line-spec : {M : Type 1} → statement M
-put-line-spec = tie.close (tie.spec put-decimal-requires put-byte-requires put-nodes-requires put-end-requires (λ c. omega arith) returns)
+put-line-spec = tie.close (tie.spec
+    (λ c κs. omega (arith, digits-16 (c .before .before .before .args .place) (omega arith))) put-byte-requires put-nodes-requires
+    put-end-requires (λ c. omega arith) returns)

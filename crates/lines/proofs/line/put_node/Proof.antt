@@ -1,5 +1,4 @@
--- `lines::line::put_node` meets its contract.
--- Assumes nothing.
+-- `lines::line::put_node` meets its contract. Assumes nothing.
 use native.Mathlib.Omega.{arith}
 use Rattle.digits.proofs.Decimal.{digits-16}
 use Rattle.lines.proofs.Lines.{node-done}
@@ -32,7 +31,5 @@ returns c =
     (point .put-byte2 .ensures) (rule .put-decimal2 .ensures)
 
 pub put-node-spec : {M : Type 1} → statement M
-put-node-spec =
-    tie.close
-    (tie.spec
+put-node-spec = tie.close (tie.spec
     (λ c κs. omega arith) put-decimal-requires put-byte-requires-2 put-decimal-requires-2 (λ c. omega arith) returns)

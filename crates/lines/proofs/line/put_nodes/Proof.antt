@@ -1,6 +1,5 @@
 -- `lines::line::put_nodes` meets its contract. The loop's invariant: the nodes passed are written, in at most 12 bytes each. The measure is
--- what is left of them.
--- Assumes nothing.
+-- what is left of them. Assumes nothing.
 use Prim.Native.Nat.{_≤_, _+_, _*_, _-_}
 use native.Mathlib.Omega.{arith}
 use lib.ListN.{take}
@@ -36,9 +35,7 @@ returns c =
     (nodes-done (a .e .now) (l .i) (a .m) _ _ _ _ (omega arith) (omega arith) (l .inv .1), omega arith)
 
 pub put-nodes-spec : {M : Type 1} → statement M
-put-nodes-spec =
-    tie.close
-    (tie.spec
+put-nodes-spec = tie.close (tie.spec
     Inv-loop μ-loop loop-holds (λ c. omega arith) (λ c. omega arith) (λ c. omega arith) (λ c. omega arith) (λ c. omega arith)
     (λ c. omega arith) (λ c. omega arith) (λ c κs. omega arith) (λ c. omega arith) (λ c. omega arith) loop-again (λ c. omega arith)
     returns)

@@ -1,5 +1,4 @@
--- `list::output::flush` meets its contract: the bytes in use are those of the buffer.
--- Assumes nothing.
+-- `list::output::flush` meets its contract: the bytes in use are those of the buffer. Assumes nothing.
 use native.Mathlib.Omega.{arith}
 use lib.ListN.{length-take}
 use borrow.Author.Needs.{needs}
@@ -12,7 +11,5 @@ slice-aggregate-write c =
     omega (arith, length-take (a .at) (a .out .now))
 
 pub flush-spec : {M : Type 1} → statement M
-flush-spec =
-    tie.close
-    (tie.spec
+flush-spec = tie.close (tie.spec
     (λ c κs. omega arith) (λ c. search needs) slice-aggregate-write (λ c κs. omega arith) (λ c. search needs) (λ c. omega arith))

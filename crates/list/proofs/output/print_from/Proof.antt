@@ -18,12 +18,6 @@ Inv-loop p lengths fits chart tables buf₀ out₀ then₀ at₀ turns₀ buf ou
 abbrev μ-loop : tie.MeasureT-loop
 μ-loop p lengths fits chart tables buf₀ out₀ then₀ at₀ turns₀ buf out then at turns = turns
 
-loop-holds : tie.Need-loop-holds Inv-loop μ-loop
-loop-holds c = (search needs, omega arith, length-replicate {A = ℕ} bufferSize 0, omega arith, omega arith)
-
-slice-aggregate-print-line : tie.Need-slice-aggregate-print-line Inv-loop μ-loop
-slice-aggregate-print-line c = sym (c .before .before .before .loop .inv .2)
-
 loop-again : tie.Need-loop-again Inv-loop μ-loop
 loop-again c =
     let P = c .before .before .before .before .before .print-line .ensures in
@@ -31,8 +25,7 @@ loop-again c =
     (P .1, P .0, P .3 ∙ I .2, omega (arith, P .2, I .3), P .2 ∙ I .4)
 
 pub print-from-spec : {M : Type 1} → statement M
-print-from-spec =
-    tie.close
-    (tie.spec
-    Inv-loop μ-loop loop-holds slice-aggregate-print-line (λ c κs. search needs) (λ c κs. omega arith) (λ c. omega arith)
+print-from-spec = tie.close (tie.spec
+    Inv-loop μ-loop (λ c. (search needs, omega arith, length-replicate {A = ℕ} bufferSize 0, omega arith, omega arith))
+    (λ c. sym (c .before .before .before .loop .inv .2)) (λ c κs. search needs) (λ c κs. omega arith) (λ c. omega arith)
     (λ c. omega arith) (λ c. omega arith) (λ c. omega arith) loop-again (λ c. omega arith) (λ c. omega arith))

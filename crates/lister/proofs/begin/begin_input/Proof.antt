@@ -1,5 +1,4 @@
--- `lister::begin::begin_input` meets its contract: of the checks only 9 can fail, and else the chart is filled.
--- Assumes nothing.
+-- `lister::begin::begin_input` meets its contract: of the checks only 9 can fail, and else the chart is filled. Assumes nothing.
 use native.Mathlib.Omega.{arith}
 use lib.ListN.{length-map}
 use borrow.Author.Needs.{needs}
@@ -7,9 +6,6 @@ use Rattle.prepare.proofs.Judging.{judged-ready}
 use Rattle.lister.proofs.Judged.{input-refused, judged-filled, input-begun}
 use Rattle.lister.proofs.begin.begin_input.Statement.{statement}
 use Rattle.lister.proofs.begin.begin_input.Tie as tie
-
-fill-requires : tie.Need-fill-requires
-fill-requires c κs = judged-ready _ _ _ _ (c .before .before .before .judge .ensures) (c .before .enum-told .given .1)
 
 begin-filled-requires : tie.Need-begin-filled-requires
 begin-filled-requires c κs =
@@ -31,9 +27,7 @@ returns-2 c =
     (after-lengths .lengths-of .ensures) full _ _ _ _ _ (c .before .before .begin-filled .ensures)
 
 pub begin-input-spec : {M : Type 1} → statement M
-begin-input-spec =
-    tie.close
-    (tie.spec
-    (λ c κs. omega arith) (λ c. omega arith) (λ c κs. omega arith) (λ c κs. omega arith) (λ c. omega arith) fill-requires
-    (λ c κs. omega arith) (λ c κs. omega arith) begin-filled-requires (λ c. search (needs, input-refused)) (λ c. omega arith)
-    (λ c. omega arith) returns-2)
+begin-input-spec = tie.close (tie.spec
+    (λ c κs. omega arith) (λ c. omega arith) (λ c κs. omega arith) (λ c κs. omega arith) (λ c. omega arith)
+    (λ c κs. judged-ready _ _ _ _ (c .before .before .before .judge .ensures) (c .before .enum-told .given .1)) (λ c κs. omega arith)
+    (λ c κs. omega arith) begin-filled-requires (λ c. search (needs, input-refused)) (λ c. omega arith) (λ c. omega arith) returns-2)

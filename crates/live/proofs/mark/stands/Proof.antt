@@ -15,23 +15,8 @@ Inv-loop p r i rows q₀ q = (q ≤ 8) × Above p r i rows q
 abbrev μ-loop : tie.MeasureT-loop
 μ-loop p r i rows q₀ q = q
 
-loop-holds : tie.Need-loop-holds Inv-loop μ-loop
-loop-holds c = (search (needs, count-le), search (needs, above-start))
-
-loop-again : tie.Need-loop-again Inv-loop μ-loop
-loop-again c = (search needs, search (needs, above-back))
-
 pub stands-spec : {M : Type 1} → statement M
-stands-spec =
-    tie.close
-    (tie.spec
-    Inv-loop
-    μ-loop
-    (λ c κs. search needs)
-    loop-holds
-    (λ c. omega arith) (λ c. omega arith) (λ c. omega arith) (λ c. omega arith) (λ c. omega arith) (λ c. search needs)
-    (λ c e. absurd (true≢false e))
-    (λ c. omega arith)
-    (λ c. omega arith)
-    loop-again
-    (λ c. search (needs, above-all)))
+stands-spec = tie.close (tie.spec
+    Inv-loop μ-loop (λ c κs. search needs) (λ c. (search (needs, count-le), search (needs, above-start))) (λ c. omega arith)
+    (λ c. omega arith) (λ c. omega arith) (λ c. omega arith) (λ c. omega arith) (λ c. search needs) (λ c e. absurd (true≢false e))
+    (λ c. omega arith) (λ c. omega arith) (λ c. (search needs, search (needs, above-back))) (λ c. search (needs, above-all)))

@@ -18,22 +18,8 @@ Inv-loop p r i rows₀ count q₀ rows q = (count ≤ 8) × (q ≤ count + 1) ×
 abbrev μ-loop : tie.MeasureT-loop
 μ-loop p r i rows₀ count q₀ rows q = count + 1 - q
 
-loop-holds : tie.Need-loop-holds Inv-loop μ-loop
-loop-holds c = (search (needs, count-le), search needs, search needs, search (needs, none-start))
-
-loop-again : tie.Need-loop-again Inv-loop μ-loop
-loop-again c = (search needs, search needs, search needs, search (needs, none-step))
-
 pub put-none-spec : {M : Type 1} → statement M
-put-none-spec =
-    tie.close
-    (tie.spec
-    Inv-loop
-    μ-loop
-    (λ c κs. search needs)
-    loop-holds
-    (λ c. omega arith) (λ c. omega arith) (λ c. omega arith) (λ c. omega arith) (λ c. omega arith) (λ c. search needs)
-    (λ c. omega arith)
-    (λ c. omega arith)
-    loop-again
-    (λ c. search (needs, none-end)))
+put-none-spec = tie.close (tie.spec
+    Inv-loop μ-loop (λ c κs. search needs) (λ c. (search (needs, count-le), search needs, search needs, search (needs, none-start)))
+    (λ c. omega arith) (λ c. omega arith) (λ c. omega arith) (λ c. omega arith) (λ c. omega arith) (λ c. search needs) (λ c. omega arith)
+    (λ c. omega arith) (λ c. (search needs, search needs, search needs, search (needs, none-step))) (λ c. search (needs, none-end)))

@@ -1,5 +1,4 @@
--- `live::open::put_rule` meets its contract.
--- Assumes nothing.
+-- `live::open::put_rule` meets its contract. Assumes nothing.
 use native.Mathlib.Omega.{arith}
 use borrow.Author.Needs.{needs}
 use Rattle.live.proofs.Opening.{rule-put}
@@ -7,10 +6,4 @@ use Rattle.live.proofs.open.put_rule.Statement.{statement}
 use Rattle.live.proofs.open.put_rule.Tie as tie
 
 pub put-rule-spec : {M : Type 1} → statement M
-put-rule-spec =
-    tie.close
-    (tie.spec
-    (λ c. omega arith)
-    (λ c κs. search needs)
-    (λ c κs. search needs)
-    (λ c. search (needs, rule-put)))
+put-rule-spec = tie.close (tie.spec (λ c. omega arith) (λ c κs. search needs) (λ c κs. search needs) (λ c. search (needs, rule-put)))

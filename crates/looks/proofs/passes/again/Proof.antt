@@ -15,33 +15,8 @@ Inv-loop p rules start insides lasts kinds own flags₀ made₀ v₀ r₀ flags 
 abbrev μ-loop : tie.MeasureT-loop
 μ-loop p rules start insides lasts kinds own flags₀ made₀ v₀ r₀ flags made v r = rules - r
 
-loop-holds : tie.Need-loop-holds Inv-loop μ-loop
-loop-holds c = (omega arith, search again-start)
-
-look-again-requires : tie.Need-look-again-requires Inv-loop μ-loop
-look-again-requires c κs = (omega arith, search needs, search needs)
-
-loop-again : tie.Need-loop-again Inv-loop μ-loop
-loop-again c = (omega arith, search again-step)
-
-returns : tie.Need-returns Inv-loop μ-loop
-returns c = search again-done
-
 pub again-spec : {M : Type 1} → statement M
-again-spec =
-    tie.close
-    (tie.spec
-    Inv-loop
-    μ-loop
-    loop-holds
-    (λ c. omega arith)
-    (λ c. omega arith)
-    (λ c. omega arith)
-    (λ c. omega arith)
-    (λ c. omega arith)
-    (λ c. omega arith)
-    look-again-requires
-    (λ c. omega arith)
-    (λ c. omega arith)
-    loop-again
-    returns)
+again-spec = tie.close (tie.spec
+    Inv-loop μ-loop (λ c. (omega arith, search again-start)) (λ c. omega arith) (λ c. omega arith) (λ c. omega arith) (λ c. omega arith)
+    (λ c. omega arith) (λ c. omega arith) (λ c κs. (omega arith, search needs, search needs)) (λ c. omega arith) (λ c. omega arith)
+    (λ c. (omega arith, search again-step)) (λ c. search again-done))

@@ -15,24 +15,7 @@ Inv-loop p rules start insides lasts kinds flags₀ made₀ own₀ flags made ow
 abbrev μ-loop : tie.MeasureT-loop
 μ-loop p rules start insides lasts kinds flags₀ made₀ own₀ flags made own = 2 ^ 32 - own
 
-loop-holds : tie.Need-loop-holds Inv-loop μ-loop
-loop-holds c = (omega arith, search needs)
-
-returns : tie.Need-returns Inv-loop μ-loop
-returns c = search closed-now
-
-loop-again : tie.Need-loop-again Inv-loop μ-loop
-loop-again c = (omega arith, search needs)
-
 pub closure-spec : {M : Type 1} → statement M
-closure-spec =
-    tie.close
-    (tie.spec
-    Inv-loop
-    μ-loop
-    (λ c κs. omega arith)
-    loop-holds
-    (λ c κs. search needs)
-    returns
-    (λ c. omega arith)
-    loop-again)
+closure-spec = tie.close (tie.spec
+    Inv-loop μ-loop (λ c κs. omega arith) (λ c. (omega arith, search needs)) (λ c κs. search needs) (λ c. search closed-now)
+    (λ c. omega arith) (λ c. (omega arith, search needs)))

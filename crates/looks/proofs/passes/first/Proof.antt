@@ -15,33 +15,8 @@ Inv-loop p rules start insides lasts kinds flags₀ made₀ own₀ r₀ flags ma
 abbrev μ-loop : tie.MeasureT-loop
 μ-loop p rules start insides lasts kinds flags₀ made₀ own₀ r₀ flags made own r = rules - r
 
-loop-holds : tie.Need-loop-holds Inv-loop μ-loop
-loop-holds c = (omega arith, search state-start)
-
-look-first-requires : tie.Need-look-first-requires Inv-loop μ-loop
-look-first-requires c κs = (omega arith, search needs, search needs)
-
-loop-again : tie.Need-loop-again Inv-loop μ-loop
-loop-again c = (omega arith, search first-step)
-
-returns : tie.Need-returns Inv-loop μ-loop
-returns c = search first-done
-
 pub first-spec : {M : Type 1} → statement M
-first-spec =
-    tie.close
-    (tie.spec
-    Inv-loop
-    μ-loop
-    loop-holds
-    (λ c. omega arith)
-    (λ c. omega arith)
-    (λ c. omega arith)
-    (λ c. omega arith)
-    (λ c. omega arith)
-    (λ c. omega arith)
-    look-first-requires
-    (λ c. omega arith)
-    (λ c. omega arith)
-    loop-again
-    returns)
+first-spec = tie.close (tie.spec
+    Inv-loop μ-loop (λ c. (omega arith, search state-start)) (λ c. omega arith) (λ c. omega arith) (λ c. omega arith) (λ c. omega arith)
+    (λ c. omega arith) (λ c. omega arith) (λ c κs. (omega arith, search needs, search needs)) (λ c. omega arith) (λ c. omega arith)
+    (λ c. (omega arith, search first-step)) (λ c. search first-done))

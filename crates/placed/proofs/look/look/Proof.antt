@@ -1,5 +1,4 @@
--- `placed::look::look` meets its contract.
--- Assumes nothing.
+-- `placed::look::look` meets its contract. Assumes nothing.
 use native.Mathlib.Omega.{arith}
 use borrow.Author.Needs.{needs}
 use Rattle.placed.proofs.Reading.{look-end, look-byte, look-short, look-no-room, look-beyond, look-last, look-node, look-large}
@@ -35,9 +34,7 @@ large c =
     (c .before .size .ensures) (omega arith)
 
 pub look-spec : {M : Type 1} → statement M
-look-spec =
-    tie.close
-    (tie.spec
+look-spec = tie.close (tie.spec
     (λ c κs. omega arith) (λ c. search (needs, look-end)) (λ c κs. omega arith) (λ c. search (needs, look-no-room)) (λ c. omega arith)
     (λ c. omega arith) (λ c. omega arith) (λ c κs. omega arith) (λ c. omega arith) beyond (λ c κs. omega arith) (λ c. omega arith)
     (λ c κs. omega arith) (λ c. omega arith) last (λ c κs. omega arith) (λ c. omega arith) node large (λ c. search (needs, look-byte))

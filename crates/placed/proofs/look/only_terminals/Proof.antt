@@ -36,8 +36,6 @@ loop-again c =
     (omega arith, L (search needs))
 
 pub only-terminals-spec : {M : Type 1} → statement M
-only-terminals-spec =
-    tie.close
-    (tie.spec
+only-terminals-spec = tie.close (tie.spec
     Inv-loop μ-loop (λ c. (omega arith, leaves-none _ _ _)) (λ c κs. omega arith) found (λ c. omega arith) (λ c. omega arith) loop-again
     none)

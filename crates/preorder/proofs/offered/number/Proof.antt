@@ -1,15 +1,10 @@
--- `preorder::offered::number` meets its contract: an element of a `&[u16]` is below 65536.
--- Assumes nothing.
+-- `preorder::offered::number` meets its contract: an element of a `&[u16]` is below 65536. Assumes nothing.
 use mathlib.Core.Path.{refl}
 use native.Mathlib.Omega.{arith}
 use Rattle.preorder.proofs.offered.number.Statement.{statement}
 use Rattle.preorder.proofs.offered.number.Tie as tie
 
-returns : tie.Need-returns
-returns c = (refl, omega (arith, c .shared-slice-known .given (c .before .args .i)))
-
 pub number-spec : {M : Type 1} → statement M
-number-spec =
-    tie.close
-    (tie.spec
-    (λ c. omega arith) (λ c. omega arith) (λ c. omega (arith, c .shared-slice-known .given (c .before .args .i))) returns)
+number-spec = tie.close (tie.spec
+    (λ c. omega arith) (λ c. omega arith) (λ c. omega (arith, c .shared-slice-known .given (c .before .args .i)))
+    (λ c. (refl, omega (arith, c .shared-slice-known .given (c .before .args .i)))))

@@ -1,5 +1,4 @@
--- `preorder::offered::rule_number` meets its contract, by the test of 128.
--- Assumes nothing.
+-- `preorder::offered::rule_number` meets its contract, by the test of 128. Assumes nothing.
 use native.Mathlib.Omega.{arith}
 use Rattle.preorder.proofs.offered.rule_number.Statement.{statement}
 use Rattle.preorder.proofs.offered.rule_number.Tie as tie

@@ -5,9 +5,6 @@ use Rattle.preorder.proofs.Tests.{rule-late, rule-cover, rule-number, r
 use Rattle.preorder.proofs.walk.rule_at.Statement.{statement}
 use Rattle.preorder.proofs.walk.rule_at.Tie as tie
 
-returns-3 : tie.Need-returns-3
-returns-3 c = rule-cover _ _ _ _ _ _ _ (c .before .number .result) (c .before .number .ensures .0) (omega arith)
-
 returns-7 : tie.Need-returns-7
 returns-7 c =
     let d = c .before .before .before .before .before in
@@ -15,9 +12,8 @@ returns-7 c =
     (d .before .before .number .ensures .0) (omega arith) (omega arith) (omega arith) (omega arith) (omega arith) (c .if6 .left)
 
 pub rule-at-spec : {M : Type 1} → statement M
-rule-at-spec =
-    tie.close
-    (tie.spec
-    (λ c. search rule-high) (λ c. search rule-late) (λ c. omega arith) (λ c κs. omega arith) returns-3 (λ c. omega arith)
+rule-at-spec = tie.close (tie.spec
+    (λ c. search rule-high) (λ c. search rule-late) (λ c. omega arith) (λ c κs. omega arith)
+    (λ c. rule-cover _ _ _ _ _ _ _ (c .before .number .result) (c .before .number .ensures .0) (omega arith)) (λ c. omega arith)
     (λ c. omega arith) (λ c κs. omega arith) (λ c. search rule-number) (λ c κs. omega arith) (λ c. search rule-left) (λ c κs. omega arith)
     (λ c. search rule-barred) returns-7)

@@ -1,5 +1,4 @@
--- `preorder::walk::same_span` meets its contract, by the test of the bytes.
--- Assumes nothing.
+-- `preorder::walk::same_span` meets its contract, by the test of the bytes. Assumes nothing.
 use native.Mathlib.Omega.{arith}
 use Rattle.preorder.proofs.walk.same_span.Statement.{statement}
 use Rattle.preorder.proofs.walk.same_span.Tie as tie

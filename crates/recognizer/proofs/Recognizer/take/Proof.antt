@@ -1,5 +1,4 @@
--- `recognizer::Recognizer::take` meets its contract.
--- Assumes nothing.
+-- `recognizer::Recognizer::take` meets its contract. Assumes nothing.
 use borrow.Author.Needs.{needs}
 use Rattle.recognizer.proofs.Calls.{was-invalid, was-valid}
 use Rattle.recognizer.specs.Recognizer.{stateIn}
@@ -39,18 +38,6 @@ taking-requires c κs =
     (was-valid _ _ (d .before .before .before .valid .ensures) (d .before .before .if1 .left), omega arith, d .if3 .left)
 
 pub take-spec : {M : Type 1} → statement M
-take-spec =
-    tie.close
-    (tie.spec
-    (λ c κs. omega arith)
-    (λ c κs. omega arith)
-    returns
-    (λ c κs. omega arith)
-    returns-2
-    (λ c κs. omega arith)
-    returns-3
-    (λ c κs. omega arith)
-    returns-4
-    taking-requires
-    (λ c. omega arith)
-    (λ c. search needs))
+take-spec = tie.close (tie.spec
+    (λ c κs. omega arith) (λ c κs. omega arith) returns (λ c κs. omega arith) returns-2 (λ c κs. omega arith) returns-3
+    (λ c κs. omega arith) returns-4 taking-requires (λ c. omega arith) (λ c. search needs))

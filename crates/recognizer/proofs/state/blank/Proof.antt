@@ -1,5 +1,4 @@
--- `recognizer::state::blank` meets its contract.
--- Assumes nothing.
+-- `recognizer::state::blank` meets its contract. Assumes nothing.
 use Rattle.results.specs.Recognize.{stateOf}
 use mathlib.Core.Path.{refl}
 use Rattle.recognizer.proofs.state.blank.Statement.{statement}

@@ -15,9 +15,6 @@ Inv-loop byte h n bytes₀ i₀ bytes i = (i ≤ n) × (bytes ≡ take i (h .byt
 abbrev μ-loop : tie.MeasureT-loop
 μ-loop byte h n bytes₀ i₀ bytes i = n - i
 
-loop-holds : tie.Need-loop-holds Inv-loop μ-loop
-loop-holds c = (omega arith, refl)
-
 loop-again : tie.Need-loop-again Inv-loop μ-loop
 loop-again c =
     let l = c .before .before in
@@ -32,17 +29,6 @@ returns c =
     )
 
 pub with-byte-spec : {M : Type 1} → statement M
-with-byte-spec =
-    tie.close
-    (tie.spec
-    Inv-loop
-    μ-loop
-    loop-holds
-    (λ c. omega arith)
-    (λ c. omega arith)
-    (λ c. omega arith)
-    (λ c. omega arith)
-    loop-again
-    (λ c. omega arith)
-    (λ c. omega arith)
-    returns)
+with-byte-spec = tie.close (tie.spec
+    Inv-loop μ-loop (λ c. (omega arith, refl)) (λ c. omega arith) (λ c. omega arith) (λ c. omega arith) (λ c. omega arith) loop-again
+    (λ c. omega arith) (λ c. omega arith) returns)

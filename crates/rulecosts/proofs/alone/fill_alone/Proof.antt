@@ -15,14 +15,6 @@ abbrev μ-loop : tie.MeasureT-loop
 μ-loop p empty tables₀ r₀ tables r = 128 - r
 
 pub fill-alone-spec : {M : Type 1} → statement M
-fill-alone-spec =
-    tie.close
-    (tie.spec
-    Inv-loop
-    μ-loop
-    (λ c. search (needs, filled-start))
-    (λ c κs. search needs)
-    (λ c. omega arith)
-    (λ c. omega arith)
-    (λ c. search (needs, filled-step))
-    (λ c. search (needs, filled-end)))
+fill-alone-spec = tie.close (tie.spec
+    Inv-loop μ-loop (λ c. search (needs, filled-start)) (λ c κs. search needs) (λ c. omega arith) (λ c. omega arith)
+    (λ c. search (needs, filled-step)) (λ c. search (needs, filled-end)))

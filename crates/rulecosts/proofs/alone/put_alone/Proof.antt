@@ -14,27 +14,8 @@ Inv-loop p r empty tables₀ sum q₀ tables q = (q ≤ 8) × AloneBefore p r em
 abbrev μ-loop : tie.MeasureT-loop
 μ-loop p r empty tables₀ sum q₀ tables q = 8 - q
 
-loop-again : tie.Need-loop-again Inv-loop μ-loop
-loop-again c = search (needs, alone-step)
-
-returns : tie.Need-returns Inv-loop μ-loop
-returns c = search (needs, alone-end)
-
 pub put-alone-spec : {M : Type 1} → statement M
-put-alone-spec =
-    tie.close
-    (tie.spec
-    Inv-loop
-    μ-loop
-    (λ c κs. search needs)
-    (λ c. search (needs, alone-start))
-    (λ c κs. search needs)
-    (λ c. omega arith)
-    (λ c. omega arith)
-    (λ c. omega arith)
-    (λ c. omega arith)
-    (λ c. omega arith)
-    (λ c. omega arith)
-    (λ c. omega arith)
-    loop-again
-    returns)
+put-alone-spec = tie.close (tie.spec
+    Inv-loop μ-loop (λ c κs. search needs) (λ c. search (needs, alone-start)) (λ c κs. search needs) (λ c. omega arith) (λ c. omega arith)
+    (λ c. omega arith) (λ c. omega arith) (λ c. omega arith) (λ c. omega arith) (λ c. omega arith) (λ c. search (needs, alone-step))
+    (λ c. search (needs, alone-end)))

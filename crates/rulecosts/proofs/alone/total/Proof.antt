@@ -15,16 +15,6 @@ abbrev μ-loop : tie.MeasureT-loop
 μ-loop p r full count sum₀ q₀ sum q = count - q
 
 pub total-spec : {M : Type 1} → statement M
-total-spec =
-    tie.close
-    (tie.spec
-    Inv-loop
-    μ-loop
-    (λ c κs. search needs)
-    (λ c. search (needs, summed-start))
-    (λ c κs. search needs)
-    (λ c. omega arith)
-    (λ c. omega arith)
-    (λ c. omega arith)
-    (λ c. search (needs, summed-step))
-    (λ c. search (needs, summed-end)))
+total-spec = tie.close (tie.spec
+    Inv-loop μ-loop (λ c κs. search needs) (λ c. search (needs, summed-start)) (λ c κs. search needs) (λ c. omega arith)
+    (λ c. omega arith) (λ c. omega arith) (λ c. search (needs, summed-step)) (λ c. search (needs, summed-end)))

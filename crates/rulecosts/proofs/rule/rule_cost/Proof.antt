@@ -14,28 +14,8 @@ Inv-loop p r full tables bare count best₀ q₀ best q = (q ≤ count) × Place
 abbrev μ-loop : tie.MeasureT-loop
 μ-loop p r full tables bare count best₀ q₀ best q = count - q
 
-loop-again : tie.Need-loop-again Inv-loop μ-loop
-loop-again c = search (needs, through-step)
-
-returns : tie.Need-returns Inv-loop μ-loop
-returns c = search (needs, through-end)
-
 pub rule-cost-spec : {M : Type 1} → statement M
-rule-cost-spec =
-    tie.close
-    (tie.spec
-    Inv-loop
-    μ-loop
-    (λ c κs. search needs)
-    (λ c. search (needs, through-start))
-    (λ c. omega arith)
-    (λ c. omega arith)
-    (λ c. omega arith)
-    (λ c. omega arith)
-    (λ c. omega arith)
-    (λ c κs. search needs)
-    (λ c κs. search needs)
-    (λ c. omega arith)
-    (λ c. omega arith)
-    loop-again
-    returns)
+rule-cost-spec = tie.close (tie.spec
+    Inv-loop μ-loop (λ c κs. search needs) (λ c. search (needs, through-start)) (λ c. omega arith) (λ c. omega arith) (λ c. omega arith)
+    (λ c. omega arith) (λ c. omega arith) (λ c κs. search needs) (λ c κs. search needs) (λ c. omega arith) (λ c. omega arith)
+    (λ c. search (needs, through-step)) (λ c. search (needs, through-end)))

@@ -1,5 +1,4 @@
--- `rulecosts::rule::through` meets its contract.
--- Assumes nothing.
+-- `rulecosts::rule::through` meets its contract. Assumes nothing.
 use borrow.Author.Needs.{needs}
 use native.Mathlib.Omega.{arith}
 use Rattle.rulecosts.proofs.Through.{through-read}
@@ -7,11 +6,5 @@ use Rattle.rulecosts.proofs.rule.through.Statement.{statement}
 use Rattle.rulecosts.proofs.rule.through.Tie as tie
 
 pub through-spec : {M : Type 1} → statement M
-through-spec =
-    tie.close
-    (tie.spec
-    (λ c κs. search needs)
-    (λ c κs. search needs)
-    (λ c κs. search needs)
-    (λ c. search (needs, through-read))
-    (λ c. omega arith))
+through-spec = tie.close (tie.spec
+    (λ c κs. search needs) (λ c κs. search needs) (λ c κs. search needs) (λ c. search (needs, through-read)) (λ c. omega arith))

@@ -5,8 +5,5 @@ use Rattle.sets.proofs.wide.meets.Statement.{statement}
 use Rattle.sets.proofs.wide.meets.Tie as tie
 use mathlib.Core.Path.{refl}
 
-returns : tie.Need-returns
-returns c = meeting 64 (c .args .v) (c .args .w) _ (omega arith) (omega arith) refl
-
 pub meets-spec : {M : Type 1} → statement M
-meets-spec = tie.close (tie.spec returns)
+meets-spec = tie.close (tie.spec (λ c. meeting 64 (c .args .v) (c .args .w) _ (omega arith) (omega arith) refl))

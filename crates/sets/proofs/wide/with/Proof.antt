@@ -4,8 +4,5 @@ use Rattle.sets.proofs.Machine.{shift-or-is-insert}
 use Rattle.sets.proofs.wide.with.Statement.{statement}
 use Rattle.sets.proofs.wide.with.Tie as tie
 
-returns : tie.Need-returns
-returns c = shift-or-is-insert 64 (c .args .k) (c .args .w) (c .pre)
-
 pub with-spec : {M : Type 1} → statement M
-with-spec = tie.close (tie.spec (λ c. omega arith) returns)
+with-spec = tie.close (tie.spec (λ c. omega arith) (λ c. shift-or-is-insert 64 (c .args .k) (c .args .w) (c .pre)))

@@ -1,5 +1,4 @@
--- `spans::ends::put` meets its contract.
--- Assumes nothing.
+-- `spans::ends::put` meets its contract. Assumes nothing.
 use borrow.Author.Needs.{needs}
 use native.Mathlib.Omega.{arith}
 use Rattle.spans.proofs.Putting.{cell-put, cell-empty}
@@ -9,18 +8,7 @@ use Rattle.spans.proofs.ends.put.Tie as tie
 returns : tie.Need-returns
 returns c = cell-put _ _ _ _ _ (search needs) _ _ (search needs) (search needs) (c .before .before .with .ensures) (c .put-members .ensures)
 
-returns-2 : tie.Need-returns-2
-returns-2 c = cell-empty _ _ _ _ _ (search needs) (search needs) (search needs) (search needs)
-
 pub put-spec : {M : Type 1} → statement M
-put-spec =
-    tie.close
-    (tie.spec
-    (λ c. omega arith)
-    (λ c. omega arith)
-    (λ c κs. omega arith)
-    (λ c. omega arith)
-    (λ c. omega arith)
-    (λ c κs. omega arith)
-    returns
-    returns-2)
+put-spec = tie.close (tie.spec
+    (λ c. omega arith) (λ c. omega arith) (λ c κs. omega arith) (λ c. omega arith) (λ c. omega arith) (λ c κs. omega arith) returns
+    (λ c. cell-empty _ _ _ _ _ (search needs) (search needs) (search needs) (search needs)))

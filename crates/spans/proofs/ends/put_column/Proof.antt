@@ -13,31 +13,8 @@ Inv-loop b chart ends₀ reach₀ i₀ ends reach i = (i ≤ b) × Steps chart b
 abbrev μ-loop : tie.MeasureT-loop
 μ-loop b chart ends₀ reach₀ i₀ ends reach i = b - i
 
-loop-holds : tie.Need-loop-holds Inv-loop μ-loop
-loop-holds c = (omega arith, search steps-start)
-
-put-requires : tie.Need-put-requires Inv-loop μ-loop
-put-requires c κs = (omega arith, omega arith, search needs, search needs)
-
-loop-again : tie.Need-loop-again Inv-loop μ-loop
-loop-again c = (omega arith, search steps-cell)
-
-returns : tie.Need-returns Inv-loop μ-loop
-returns c = search steps-put
-
 pub put-column-spec : {M : Type 1} → statement M
-put-column-spec =
-    tie.close
-    (tie.spec
-    Inv-loop
-    μ-loop
-    loop-holds
-    (λ c. omega arith)
-    (λ c. omega arith)
-    (λ c. omega arith)
-    (λ c. omega arith)
-    put-requires
-    (λ c. omega arith)
-    (λ c. omega arith)
-    loop-again
-    returns)
+put-column-spec = tie.close (tie.spec
+    Inv-loop μ-loop (λ c. (omega arith, search steps-start)) (λ c. omega arith) (λ c. omega arith) (λ c. omega arith) (λ c. omega arith)
+    (λ c κs. (omega arith, omega arith, search needs, search needs)) (λ c. omega arith) (λ c. omega arith)
+    (λ c. (omega arith, search steps-cell)) (λ c. search steps-put))

@@ -13,27 +13,7 @@ Inv-loop n chart ends₀ reach₀ b₀ ends reach b = (b ≤ n) × Steps chart 0
 abbrev μ-loop : tie.MeasureT-loop
 μ-loop n chart ends₀ reach₀ b₀ ends reach b = n - b
 
-loop-holds : tie.Need-loop-holds Inv-loop μ-loop
-loop-holds c = (omega arith, search steps-start)
-
-put-column-requires : tie.Need-put-column-requires Inv-loop μ-loop
-put-column-requires c κs = (omega arith, search needs, search needs, search needs)
-
-loop-again : tie.Need-loop-again Inv-loop μ-loop
-loop-again c = (omega arith, search steps-column)
-
-returns : tie.Need-returns Inv-loop μ-loop
-returns c = search steps-done
-
 pub put-columns-spec : {M : Type 1} → statement M
-put-columns-spec =
-    tie.close
-    (tie.spec
-    Inv-loop
-    μ-loop
-    loop-holds
-    put-column-requires
-    (λ c. omega arith)
-    (λ c. omega arith)
-    loop-again
-    returns)
+put-columns-spec = tie.close (tie.spec
+    Inv-loop μ-loop (λ c. (omega arith, search steps-start)) (λ c κs. (omega arith, search needs, search needs, search needs))
+    (λ c. omega arith) (λ c. omega arith) (λ c. (omega arith, search steps-column)) (λ c. search steps-done))

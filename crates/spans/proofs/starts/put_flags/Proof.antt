@@ -13,29 +13,8 @@ Inv-loop p rules i flags starts₀ live₀ r₀ starts live r = (r ≤ rules) ×
 abbrev μ-loop : tie.MeasureT-loop
 μ-loop p rules i flags starts₀ live₀ r₀ starts live r = rules - r
 
-loop-holds : tie.Need-loop-holds Inv-loop μ-loop
-loop-holds c = (omega arith, search flags-start)
-
-put-rule-requires : tie.Need-put-rule-requires Inv-loop μ-loop
-put-rule-requires c κs = (omega arith, omega arith, search needs, search needs)
-
-loop-again : tie.Need-loop-again Inv-loop μ-loop
-loop-again c = (omega arith, search flags-step)
-
-returns : tie.Need-returns Inv-loop μ-loop
-returns c = search flags-done
-
 pub put-flags-spec : {M : Type 1} → statement M
-put-flags-spec =
-    tie.close
-    (tie.spec
-    Inv-loop
-    μ-loop
-    loop-holds
-    (λ c. omega arith)
-    (λ c. omega arith)
-    put-rule-requires
-    (λ c. omega arith)
-    (λ c. omega arith)
-    loop-again
-    returns)
+put-flags-spec = tie.close (tie.spec
+    Inv-loop μ-loop (λ c. (omega arith, search flags-start)) (λ c. omega arith) (λ c. omega arith)
+    (λ c κs. (omega arith, omega arith, search needs, search needs)) (λ c. omega arith) (λ c. omega arith)
+    (λ c. (omega arith, search flags-step)) (λ c. search flags-done))

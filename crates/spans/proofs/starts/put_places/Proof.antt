@@ -17,9 +17,6 @@ Inv-loop p r i flags starts₀ live₀ count q₀ starts live q =
 abbrev μ-loop : tie.MeasureT-loop
 μ-loop p r i flags starts₀ live₀ count q₀ starts live q = count - q
 
-loop-holds : tie.Need-loop-holds Inv-loop μ-loop
-loop-holds c = (omega arith, c .count .ensures .0, c .count .ensures .1, inr refl, search places-start)
-
 loop-again : tie.Need-loop-again Inv-loop μ-loop
 loop-again c = (
   omega arith,
@@ -30,33 +27,9 @@ loop-again c = (
       (c .before .before .with-if .ensures) (c .with-if2 .ensures) (c .before .before .before .before .before .before .loop .inv .4),
 )
 
-returns : tie.Need-returns Inv-loop μ-loop
-returns c = search places-done
-
 pub put-places-spec : {M : Type 1} → statement M
-put-places-spec =
-    tie.close
-    (tie.spec
-    Inv-loop
-    μ-loop
-    (λ c κs. omega arith)
-    loop-holds
-    (λ c κs. omega arith)
-    (λ c. omega arith)
-    (λ c. omega arith)
-    (λ c. omega arith)
-    (λ c. omega arith)
-    (λ c κs. omega arith)
-    (λ c. omega arith)
-    (λ c. omega arith)
-    (λ c. omega arith)
-    (λ c. omega arith)
-    (λ c. omega arith)
-    (λ c. omega arith)
-    (λ c κs. omega arith)
-    (λ c. omega arith)
-    (λ c. omega arith)
-    (λ c. omega arith)
-    (λ c. omega arith)
-    loop-again
-    returns)
+put-places-spec = tie.close (tie.spec
+    Inv-loop μ-loop (λ c κs. omega arith) (λ c. (omega arith, c .count .ensures .0, c .count .ensures .1, inr refl, search places-start))
+    (λ c κs. omega arith) (λ c. omega arith) (λ c. omega arith) (λ c. omega arith) (λ c. omega arith) (λ c κs. omega arith)
+    (λ c. omega arith) (λ c. omega arith) (λ c. omega arith) (λ c. omega arith) (λ c. omega arith) (λ c. omega arith)
+    (λ c κs. omega arith) (λ c. omega arith) (λ c. omega arith) (λ c. omega arith) (λ c. omega arith) loop-again (λ c. search places-done))

@@ -1,13 +1,9 @@
--- `spans::starts::put_rule` meets its contract.
--- Assumes nothing.
+-- `spans::starts::put_rule` meets its contract. Assumes nothing.
 use borrow.Author.Needs.{needs}
 use native.Mathlib.Omega.{arith}
 use Rattle.spans.proofs.Adding.{places-none}
 use Rattle.spans.proofs.starts.put_rule.Statement.{statement}
 use Rattle.spans.proofs.starts.put_rule.Tie as tie
 
-returns-2 : tie.Need-returns-2
-returns-2 c = search places-none
-
 pub put-rule-spec : {M : Type 1} → statement M
-put-rule-spec = tie.close (tie.spec (λ c κs. omega arith) (λ c. search needs) returns-2)
+put-rule-spec = tie.close (tie.spec (λ c κs. omega arith) (λ c. search needs) (λ c. search places-none))

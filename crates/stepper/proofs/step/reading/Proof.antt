@@ -1,5 +1,4 @@
--- `stepper::step::reading` meets its contract: the line has the nodes at the front of the buffer and their length.
--- Assumes nothing.
+-- `stepper::step::reading` meets its contract: the line has the nodes at the front of the buffer and their length. Assumes nothing.
 use Prim.Native.Nat.{_*_}
 use native.Mathlib.Omega.{arith}
 use lib.ListN.{length-take}
@@ -17,9 +16,6 @@ total-requires c κs =
     let s = c .before .before .before .before in
     (omega (arith, length-take (2 * s .args .nodes) (s .args .buf .now)), s .pre .0)
 
-rounded-requires : tie.Need-rounded-requires
-rounded-requires c κs = kept-small (c .total .result) 16777216 (omega arith) (c .total .ensures .1)
-
 put-line-requires : tie.Need-put-line-requires
 put-line-requires c κs = (
   omega arith,
@@ -36,8 +32,7 @@ returns c =
     (c .before .before .put-line .ensures)
 
 pub reading-spec : {M : Type 1} → statement M
-reading-spec =
-    tie.close
-    (tie.spec
-    (λ c. omega arith) slice-aggregate-total total-requires rounded-requires (λ c. omega arith) put-line-requires (λ c. omega arith)
-    returns)
+reading-spec = tie.close (tie.spec
+    (λ c. omega arith) slice-aggregate-total total-requires
+    (λ c κs. kept-small (c .total .result) 16777216 (omega arith) (c .total .ensures .1)) (λ c. omega arith) put-line-requires
+    (λ c. omega arith) returns)

@@ -18,9 +18,6 @@ Inv-loop p r word tables full i a j rows₀ at count q₀ rows q =
 abbrev μ-loop : tie.MeasureT-loop
 μ-loop p r word tables full i a j rows₀ at count q₀ rows q = q
 
-loop-holds : tie.Need-loop-holds Inv-loop μ-loop
-loop-holds c = search (needs, column-start)
-
 loop-again : tie.Need-loop-again Inv-loop μ-loop
 loop-again c = (
   search needs,
@@ -30,35 +27,10 @@ loop-again c = (
       (search needs) (c .before .before .contains .ensures) (search needs) (c .suffix-at .ensures),
 )
 
-returns : tie.Need-returns Inv-loop μ-loop
-returns c = search (needs, column-end)
-
 pub put-column-spec : {M : Type 1} → statement M
-put-column-spec =
-    tie.close
-    (tie.spec
-    Inv-loop
-    μ-loop
-    (λ c κs. search needs)
-    (λ c κs. search needs)
-    (λ c. omega arith)
-    (λ c. omega arith)
-    (λ c. omega arith)
-    (λ c. omega arith)
-    (λ c. omega arith)
-    loop-holds
-    (λ c. omega arith)
-    (λ c κs. search needs)
-    (λ c. omega arith)
-    (λ c. omega arith)
-    (λ c. omega arith)
-    (λ c κs. search needs)
-    (λ c. omega arith)
-    (λ c. omega arith)
-    (λ c. omega arith)
-    (λ c. omega arith)
-    (λ c. omega arith)
-    (λ c. omega arith)
-    loop-again
-    (λ c. simp length-set at (c .before .loop .inv .1))
-    returns)
+put-column-spec = tie.close (tie.spec
+    Inv-loop μ-loop (λ c κs. search needs) (λ c κs. search needs) (λ c. omega arith) (λ c. omega arith) (λ c. omega arith)
+    (λ c. omega arith) (λ c. omega arith) (λ c. search (needs, column-start)) (λ c. omega arith) (λ c κs. search needs) (λ c. omega arith)
+    (λ c. omega arith) (λ c. omega arith) (λ c κs. search needs) (λ c. omega arith) (λ c. omega arith) (λ c. omega arith)
+    (λ c. omega arith) (λ c. omega arith) (λ c. omega arith) loop-again (λ c. simp length-set at (c .before .loop .inv .1))
+    (λ c. search (needs, column-end)))

@@ -15,15 +15,6 @@ abbrev μ-loop : tie.MeasureT-loop
 μ-loop p r fits tables full i j rows₀ a₀ rows a = a
 
 pub put-rows-spec : {M : Type 1} → statement M
-put-rows-spec =
-    tie.close
-    (tie.spec
-    Inv-loop
-    μ-loop
-    (λ c. omega arith)
-    (λ c. search (needs, rows-start))
-    (λ c. omega arith)
-    (λ c κs. search needs)
-    (λ c. omega arith)
-    (λ c. search (needs, rows-back))
-    (λ c. search (needs, rows-end)))
+put-rows-spec = tie.close (tie.spec
+    Inv-loop μ-loop (λ c. omega arith) (λ c. search (needs, rows-start)) (λ c. omega arith) (λ c κs. search needs) (λ c. omega arith)
+    (λ c. search (needs, rows-back)) (λ c. search (needs, rows-end)))

@@ -1,5 +1,4 @@
--- `tables::layout::full_of` meets its contract.
--- Assumes nothing.
+-- `tables::layout::full_of` meets its contract. Assumes nothing.
 use native.Mathlib.Omega.{arith}
 use borrow.Author.Needs.{needs}
 use Rattle.tables.proofs.Entries.{full-read, full-none}
@@ -7,10 +6,5 @@ use Rattle.tables.proofs.layout.full_of.Statement.{statement}
 use Rattle.tables.proofs.layout.full_of.Tie as tie
 
 pub full-of-spec : {M : Type 1} → statement M
-full-of-spec =
-    tie.close
-    (tie.spec
-    (λ c. omega arith)
-    (λ c. omega arith)
-    (λ c. search (needs, full-read))
-    (λ c. search (needs, full-none)))
+full-of-spec = tie.close (tie.spec
+    (λ c. omega arith) (λ c. omega arith) (λ c. search (needs, full-read)) (λ c. search (needs, full-none)))

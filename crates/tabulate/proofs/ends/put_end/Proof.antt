@@ -15,31 +15,8 @@ Inv-loop p rules fits chart empty nothing reach j tables₀ rows₀ live₀ i₀
 abbrev μ-loop : tie.MeasureT-loop
 μ-loop p rules fits chart empty nothing reach j tables₀ rows₀ live₀ i₀ tables rows live i = i
 
-loop-holds : tie.Need-loop-holds Inv-loop μ-loop
-loop-holds c = search (needs, end-start)
-
-loop-again : tie.Need-loop-again Inv-loop μ-loop
-loop-again c = search (needs, end-back)
-
-returns : tie.Need-returns Inv-loop μ-loop
-returns c = search (needs, end-put)
-
 pub put-end-spec : {M : Type 1} → statement M
-put-end-spec =
-    tie.close
-    (tie.spec
-    Inv-loop
-    μ-loop
-    (λ c κs. search needs)
-    loop-holds
-    (λ c. omega arith)
-    (λ c. omega arith)
-    (λ c. omega arith)
-    (λ c. omega arith)
-    (λ c. omega arith)
-    (λ c. omega arith)
-    (λ c. omega arith)
-    (λ c κs. search needs)
-    (λ c. omega arith)
-    loop-again
-    returns)
+put-end-spec = tie.close (tie.spec
+    Inv-loop μ-loop (λ c κs. search needs) (λ c. search (needs, end-start)) (λ c. omega arith) (λ c. omega arith) (λ c. omega arith)
+    (λ c. omega arith) (λ c. omega arith) (λ c. omega arith) (λ c. omega arith) (λ c κs. search needs) (λ c. omega arith)
+    (λ c. search (needs, end-back)) (λ c. search (needs, end-put)))

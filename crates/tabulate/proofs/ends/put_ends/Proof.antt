@@ -16,20 +16,8 @@ Inv-loop p rules fits chart empty n tables₀ none reach rows₀ j₀ tables row
 abbrev μ-loop : tie.MeasureT-loop
 μ-loop p rules fits chart empty n tables₀ none reach rows₀ j₀ tables rows j = n + 1 - j
 
-loop-holds : tie.Need-loop-holds Inv-loop μ-loop
-loop-holds c = (search needs, ends-start _ _ _ _ _ _ _ _ (search needs) (search needs))
-
 pub put-ends-spec : {M : Type 1} → statement M
-put-ends-spec =
-    tie.close
-    (tie.spec
-    Inv-loop
-    μ-loop
-    (λ c κs. search needs)
-    (λ c κs. search needs)
-    loop-holds
-    (λ c κs. search (needs, reaches-less))
-    (λ c. omega arith)
-    (λ c. omega arith)
-    (λ c. search (needs, ends-step))
-    (λ c. search (needs, ends-end)))
+put-ends-spec = tie.close (tie.spec
+    Inv-loop μ-loop (λ c κs. search needs) (λ c κs. search needs)
+    (λ c. (search needs, ends-start _ _ _ _ _ _ _ _ (search needs) (search needs))) (λ c κs. search (needs, reaches-less))
+    (λ c. omega arith) (λ c. omega arith) (λ c. search (needs, ends-step)) (λ c. search (needs, ends-end)))

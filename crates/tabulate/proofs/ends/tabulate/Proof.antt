@@ -1,20 +1,10 @@
--- `tabulate::ends::tabulate` meets its contract.
--- Assumes nothing.
+-- `tabulate::ends::tabulate` meets its contract. Assumes nothing.
 use native.Mathlib.Omega.{arith}
 use borrow.Author.Needs.{needs}
 use Rattle.tabulate.proofs.Ending.{tabulated}
 use Rattle.tabulate.proofs.ends.tabulate.Statement.{statement}
 use Rattle.tabulate.proofs.ends.tabulate.Tie as tie
 
-returns : tie.Need-returns
-returns c = search (needs, tabulated)
-
 pub tabulate-spec : {M : Type 1} → statement M
-tabulate-spec =
-    tie.close
-    (tie.spec
-    (λ c. omega arith)
-    (λ c κs. search needs)
-    (λ c κs. search needs)
-    (λ c κs. search needs)
-    returns)
+tabulate-spec = tie.close (tie.spec
+    (λ c. omega arith) (λ c κs. search needs) (λ c κs. search needs) (λ c κs. search needs) (λ c. search (needs, tabulated)))

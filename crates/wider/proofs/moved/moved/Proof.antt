@@ -1,5 +1,4 @@
--- `wider::moved::moved` meets its contract.
--- Assumes nothing.
+-- `wider::moved::moved` meets its contract. Assumes nothing.
 use native.Mathlib.Omega.{arith}
 use borrow.Author.Needs.{needs}
 use Rattle.wider.proofs.WiderNodes.{moved-rest, moved-wider}
@@ -7,8 +6,6 @@ use Rattle.wider.proofs.moved.moved.Statement.{statement}
 use Rattle.wider.proofs.moved.moved.Tie as tie
 
 pub moved-spec : {M : Type 1} → statement M
-moved-spec =
-    tie.close
-    (tie.spec
+moved-spec = tie.close (tie.spec
     (λ c. omega arith) (λ c. omega arith) (λ c. omega arith) (λ c κs. omega arith) (λ c. omega arith) (λ c. omega arith)
     (λ c. search (needs, moved-rest)) (λ c κs. omega arith) (λ c. omega arith) (λ c. search (needs, moved-wider)))

@@ -1,12 +1,8 @@
--- `wider::widen::widen` meets its contract.
--- Assumes nothing.
+-- `wider::widen::widen` meets its contract. Assumes nothing.
 use native.Mathlib.Omega.{arith}
 use Rattle.wider.proofs.WiderNodes.{widen-none, widen-some}
 use Rattle.wider.proofs.widen.widen.Statement.{statement}
 use Rattle.wider.proofs.widen.widen.Tie as tie
-
-returns : tie.Need-returns
-returns c = widen-none (omega arith) (omega arith) (omega arith) (c .before .choose-end .ensures) (omega arith)
 
 sub-share : tie.Need-sub-share
 sub-share c =
@@ -23,10 +19,9 @@ returns-2 c =
     (c .before .before .row .ensures)
 
 pub widen-spec : {M : Type 1} → statement M
-widen-spec =
-    tie.close
-    (tie.spec
-    (λ c. omega arith) (λ c. omega arith) (λ c. omega arith) (λ c κs. omega arith) returns (λ c. omega arith) (λ c. omega arith)
-    (λ c κs. omega arith) (λ c. omega arith) (λ c. omega arith) (λ c. omega arith) (λ c. omega arith) (λ c. omega arith)
-    (λ c κs. omega arith) sub-share (λ c κs. omega arith) (λ c. omega arith) (λ c. omega arith) (λ c. omega arith) (λ c κs. omega arith)
-    (λ c. omega arith) (λ c. omega arith) returns-2)
+widen-spec = tie.close (tie.spec
+    (λ c. omega arith) (λ c. omega arith) (λ c. omega arith) (λ c κs. omega arith)
+    (λ c. widen-none (omega arith) (omega arith) (omega arith) (c .before .choose-end .ensures) (omega arith)) (λ c. omega arith)
+    (λ c. omega arith) (λ c κs. omega arith) (λ c. omega arith) (λ c. omega arith) (λ c. omega arith) (λ c. omega arith)
+    (λ c. omega arith) (λ c κs. omega arith) sub-share (λ c κs. omega arith) (λ c. omega arith) (λ c. omega arith) (λ c. omega arith)
+    (λ c κs. omega arith) (λ c. omega arith) (λ c. omega arith) returns-2)
