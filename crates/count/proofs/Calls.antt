@@ -8,6 +8,7 @@ use Rattle.cfg.specs.Grammar.{rule}
 use Rattle.chart.specs.Column.{filled, complete}
 use Rattle.chart.proofs.Truth.{filled-length}
 use Rattle.costs.specs.Span.{bytesOf}
+use Rattle.fit.specs.Fit.{Told}
 use Rattle.grammar.specs.declared.Grammar.{Grammar}
 use Rattle.grammar.specs.declared.Refusal.{Refusal}
 use Rattle.grammar.specs.Number.{numberOf}
@@ -34,10 +35,11 @@ module _ (g : Grammar) (w chart : List ℕ) (j : Judged) (judging : Judging g (l
   module _ (is : j ≡ Passed) (p chart' : List ℕ) (filling : (chart' ≡ filled (grammarOf g) w chart)
       × ((r : ℕ) → rule (cfgIn (g .start) p) r ≡ rule (grammarOf g) r)) where
     -- what answering over the filled chart asks
-    pub filled-ready : (length w ≤ maxInput) × (cells ≤ length chart') × ChartTrue p (bytesOf w) chart' (length w)
-    filled-ready =
+    pub filled-ready : {fits : List ℕ} → Told p w fits
+        → (length w ≤ maxInput) × (cells ≤ length chart') × Told p w fits × ChartTrue p (bytesOf w) chart' (length w)
+    filled-ready told =
         let (v, a, b) = judged-ready g (length w) (length chart) j judging is in
-        (a, rw (filling .0, filled-length (grammarOf g) w chart b) b, chart-packed g p w chart chart' a b filling)
+        (a, rw (filling .0, filled-length (grammarOf g) w chart b) b, told, chart-packed g p w chart chart' a b filling)
 
     module _ (s : ℕ) (start : s ≡ g .start) where
       -- over the grammar that was packed

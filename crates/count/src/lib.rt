@@ -17,6 +17,7 @@ ghost use Prim.Native.Nat.{_<_, _≤_};
 ghost use lib.ListN.{length};
 ghost use Rattle.cfg.specs.Listing.{L};
 ghost use Rattle.costs.specs.Span.{bytesOf};
+ghost use Rattle.fit.specs.Fit.{Told};
 ghost use Rattle.packed.specs.Packed.{cfgIn};
 ghost use Rattle.prepare.specs.Given.{checkingOf};
 ghost use Rattle.results.specs.Enumerate.{countOf};
@@ -48,26 +49,25 @@ fn count_made(
     }
 }
 
-// Counts the derivations, where the chart is filled and trees exist. The tables are this function's own.
-fn count_tree(p: &Packed, start: usize, input: &[u8], chart: &[u32]) -> Counted
+// Counts the derivations, where the chart is filled, the fit table made and trees exist. The tables are this function's own.
+fn count_tree(p: &Packed, start: usize, input: &[u8], fits: &FitTable, chart: &[u32]) -> Counted
     requires { ⌜ (length (now input) ≤ maxInput) × (cells ≤ length (now chart))
-        × ChartTrue (now p) (bytesOf (now input)) (now chart) (length (now input)) ⌝ }
+        × Told (now p) (now input) (now fits) × ChartTrue (now p) (bytesOf (now input)) (now chart) (length (now input)) ⌝ }
     ensures { λ a. ⌜ countedOf a ≡ countTree (L (cfgIn start (now (p .entry))) (now (input .entry))) ⌝ }
 {
-    let fits = fit::table(p, input);
     let mut tables = [0u16; TABLES_SIZE];
-    let rules = build(p, input, &fits, chart, &mut tables);
-    count_made(p, rules, &fits, chart, &tables, start, input.len())
+    let rules = build(p, input, fits, chart, &mut tables);
+    count_made(p, rules, fits, chart, &tables, start, input.len())
 }
 
-// Counts the derivations, where the chart is filled.
-fn count_filled(p: &Packed, start: usize, input: &[u8], chart: &[u32]) -> Counted
+// Counts the derivations, where the chart is filled and the fit table made.
+fn count_filled(p: &Packed, start: usize, input: &[u8], fits: &FitTable, chart: &[u32]) -> Counted
     requires { ⌜ (length (now input) ≤ maxInput) × (cells ≤ length (now chart))
-        × ChartTrue (now p) (bytesOf (now input)) (now chart) (length (now input)) ⌝ }
+        × Told (now p) (now input) (now fits) × ChartTrue (now p) (bytesOf (now input)) (now chart) (length (now input)) ⌝ }
     ensures { λ a. ⌜ countedOf a ≡ countFilled (cfgIn start (now (p .entry))) (now (input .entry)) (now (chart .entry)) ⌝ }
 {
     if columns::complete(start, input.len(), chart) {
-        count_tree(p, start, input, chart)
+        count_tree(p, start, input, fits, chart)
     } else {
         Counted::Exactly(0)
     }
@@ -82,8 +82,9 @@ pub fn count(g: Grammar, input: &[u8], chart: &mut [u32]) -> Counted
     match prepare::judge(g, input.len(), chart.len()) {
         Judged::Refused(r) => Counted::Refused(r),
         Judged::Passed => {
-            let p = prepare::fill(g, input, chart);
-            count_filled(&p, wide_byte(g.start), input, chart)
+            let mut fits = [0u8; fit::FIT_SIZE];
+            let p = prepare::fill_fits(g, input, &mut fits, chart);
+            count_filled(&p, wide_byte(g.start), input, &fits, chart)
         }
     }
 }

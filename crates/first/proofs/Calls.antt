@@ -8,6 +8,7 @@ use Rattle.cfg.specs.Grammar.{rule}
 use Rattle.chart.specs.Column.{filled, complete}
 use Rattle.chart.proofs.Truth.{filled-length}
 use Rattle.costs.specs.Span.{bytesOf}
+use Rattle.fit.specs.Fit.{Told}
 use Rattle.grammar.specs.declared.Grammar.{Grammar}
 use Rattle.grammar.specs.declared.Refusal.{Refusal}
 use Rattle.grammar.specs.Number.{numberOf}
@@ -32,12 +33,12 @@ Filling g p w chart chart' =
     (chart' ≡ filled (grammarOf g) w chart) × ((r : ℕ) → rule (cfgIn (g .start) p) r ≡ rule (grammarOf g) r)
 
 -- what answering over the filled chart asks
-pub filled-ready : (g : Grammar) (p w chart chart' : List ℕ) (k : ℕ) (j : Judged) → JudgingOutput g (length w) (length chart) k j
-    → j ≡ Passed → Filling g p w chart chart'
-    → (length w ≤ 64) × (cells ≤ length chart') × (outputSize ≤ k) × ChartTrue p (bytesOf w) chart' (length w)
-filled-ready g p w chart chart' k j judging is filling =
+pub filled-ready : (g : Grammar) (p w fits chart chart' : List ℕ) (k : ℕ) (j : Judged) → JudgingOutput g (length w) (length chart) k j
+    → j ≡ Passed → Filling g p w chart chart' × Told p w fits
+    → (length w ≤ 64) × (cells ≤ length chart') × (outputSize ≤ k) × Told p w fits × ChartTrue p (bytesOf w) chart' (length w)
+filled-ready g p w fits chart chart' k j judging is (filling, told) =
     let ((v, a, b), c) = output-ready g (length w) (length chart) k j judging is in
-    (a, rw (filling .0, filled-length (grammarOf g) w chart b) b, c, chart-packed g p w chart chart' a b filling)
+    (a, rw (filling .0, filled-length (grammarOf g) w chart b) b, c, told, chart-packed g p w chart chart' a b filling)
 
 module _ (g : Grammar) (w chart out : List ℕ) (j : Judged) (judging : JudgingOutput g (length w) (length chart) (length out) j) where
   pub first-refused : (r : Refusal) → j ≡ Refused r → enumerationOf (refused (numberOf r)) chart out ≡ firstOf g w chart out

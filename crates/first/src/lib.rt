@@ -1,4 +1,5 @@
 // The first derivation (reading) of an input.
+use fit::FitTable;
 use grammar::Grammar;
 use grammar::Refusal;
 use numbers::wide_byte;
@@ -10,6 +11,7 @@ ghost use Prim.Native.Nat.{_≤_};
 ghost use lib.ListN.{length};
 ghost use Rattle.sizes.specs.Sizes.{cells, outputSize};
 ghost use Rattle.costs.specs.Span.{bytesOf};
+ghost use Rattle.fit.specs.Fit.{Told};
 ghost use Rattle.packed.specs.Packed.{cfgIn};
 ghost use Rattle.results.specs.Enumerate.{firstOf};
 ghost use Rattle.tables.specs.Exact.{ChartTrue};
@@ -25,28 +27,41 @@ pub enum Handed {
     Refused(Refusal),
 }
 
-// The first derivation, where the chart is filled and trees exist. The tables are this function's own.
-fn first_tree(p: &Packed, start: usize, input: &[u8], chart: &[u32], out: &mut [u16]) -> Handed
+// The first derivation, where the chart is filled, the fit table made and trees exist. The tables are this function's own.
+fn first_tree(
+    p: &Packed,
+    start: usize,
+    input: &[u8],
+    fits: &FitTable,
+    chart: &[u32],
+    out: &mut [u16],
+) -> Handed
     requires { ⌜ (length (now input) ≤ 64) × (cells ≤ length (now chart)) × (outputSize ≤ length (now out))
-        × ChartTrue (now p) (bytesOf (now input)) (now chart) (length (now input)) ⌝ }
+        × Told (now p) (now input) (now fits) × ChartTrue (now p) (bytesOf (now input)) (now chart) (length (now input)) ⌝ }
     ensures { λ a. ⌜ enumerationOf (handingOf a) (now (chart .entry)) (now (out .exit))
         ≡ firstTree (cfgIn start (now (p .entry))) (now (input .entry)) (now (chart .entry)) (now (out .entry)) ⌝ }
 {
-    let fits = fit::table(p, input);
     let mut tables = [0u16; TABLES_SIZE];
-    let rules = initial::build(p, input, &fits, chart, &mut tables);
-    made::first_made(p, rules, &fits, chart, &tables, start, input.len(), out)
+    let rules = initial::build(p, input, fits, chart, &mut tables);
+    made::first_made(p, rules, fits, chart, &tables, start, input.len(), out)
 }
 
-// The first derivation, where the chart is filled.
-fn first_filled(p: &Packed, start: usize, input: &[u8], chart: &[u32], out: &mut [u16]) -> Handed
+// The first derivation, where the chart is filled and the fit table made.
+fn first_filled(
+    p: &Packed,
+    start: usize,
+    input: &[u8],
+    fits: &FitTable,
+    chart: &[u32],
+    out: &mut [u16],
+) -> Handed
     requires { ⌜ (length (now input) ≤ 64) × (cells ≤ length (now chart)) × (outputSize ≤ length (now out))
-        × ChartTrue (now p) (bytesOf (now input)) (now chart) (length (now input)) ⌝ }
+        × Told (now p) (now input) (now fits) × ChartTrue (now p) (bytesOf (now input)) (now chart) (length (now input)) ⌝ }
     ensures { λ a. ⌜ enumerationOf (handingOf a) (now (chart .entry)) (now (out .exit))
         ≡ firstFilled (cfgIn start (now (p .entry))) (now (input .entry)) (now (chart .entry)) (now (out .entry)) ⌝ }
 {
     if columns::complete(start, input.len(), chart) {
-        first_tree(p, start, input, chart, out)
+        first_tree(p, start, input, fits, chart, out)
     } else {
         Handed::Nothing
     }
@@ -62,8 +77,9 @@ pub fn first(g: Grammar, input: &[u8], chart: &mut [u32], out: &mut [u16]) -> Ha
     match prepare::judge_output(g, input.len(), chart.len(), out.len()) {
         Judged::Refused(r) => Handed::Refused(r),
         Judged::Passed => {
-            let p = prepare::fill(g, input, chart);
-            first_filled(&p, wide_byte(g.start), input, chart, out)
+            let mut fits = [0u8; fit::FIT_SIZE];
+            let p = prepare::fill_fits(g, input, &mut fits, chart);
+            first_filled(&p, wide_byte(g.start), input, &fits, chart, out)
         }
     }
 }

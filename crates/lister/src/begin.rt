@@ -16,28 +16,30 @@ ghost use mathlib.Core.Path.{_≡_};
 ghost use Prim.Native.Nat.{_≤_};
 ghost use lib.ListN.{length};
 ghost use Rattle.costs.specs.Span.{bytesOf};
+ghost use Rattle.fit.specs.Fit.{Told};
 ghost use Rattle.grammar.specs.Valid.{validGrammar};
 ghost use Rattle.sizes.specs.Sizes.{maxRules, maxInput, cells, outputSize};
 ghost use Rattle.tables.specs.Exact.{ChartTrue};
 ghost use Rattle.tables.specs.Layout.{tablesSize};
 ghost use Rattle.lister.specs.Begun.{TreeBegun, FilledBegun, InputBegun, BookBegun};
 
-// What is printed first where the chart is filled and trees exist: the tables are made, and the first derivation stands in the buffer.
+// What is printed first where the chart is filled, the fit table made and trees exist: the tables are made, and the first derivation
+// stands in the buffer.
 fn begin_tree(
     p: &Packed,
     start: usize,
     input: &[u8],
     chart: &[u32],
-    fits: &mut FitTable,
+    fits: &FitTable,
     tables: &mut Tables,
     buf: &mut [u16],
 ) -> Due
     requires { ⌜ (length (now input) ≤ maxInput) × (cells ≤ length (now chart)) × (length (now tables) ≡ tablesSize)
-        × (outputSize ≤ length (now buf)) × ChartTrue (now p) (bytesOf (now input)) (now chart) (length (now input)) ⌝ }
-    ensures { λ d. ⌜ TreeBegun (now (p .entry)) start (now (input .entry)) (now (chart .entry)) (now (fits .exit)) (now (tables .exit))
+        × (outputSize ≤ length (now buf)) × Told (now p) (now input) (now fits)
+        × ChartTrue (now p) (bytesOf (now input)) (now chart) (length (now input)) ⌝ }
+    ensures { λ d. ⌜ TreeBegun (now (p .entry)) start (now (input .entry)) (now (chart .entry)) (now (fits .entry)) (now (tables .exit))
         (now (buf .entry)) (now (buf .exit)) d ⌝ }
 {
-    *fits = fit::table(p, input);
     let rules = build(p, input, fits, chart, tables);
     let n = input.len();
     if !exists(tables, start, n) {
@@ -53,19 +55,20 @@ fn begin_tree(
     }
 }
 
-// What is printed first where the chart is filled.
+// What is printed first where the chart is filled and the fit table made.
 fn begin_filled(
     p: &Packed,
     start: usize,
     input: &[u8],
     chart: &[u32],
-    fits: &mut FitTable,
+    fits: &FitTable,
     tables: &mut Tables,
     buf: &mut [u16],
 ) -> Due
     requires { ⌜ (length (now input) ≤ maxInput) × (cells ≤ length (now chart)) × (length (now tables) ≡ tablesSize)
-        × (outputSize ≤ length (now buf)) × ChartTrue (now p) (bytesOf (now input)) (now chart) (length (now input)) ⌝ }
-    ensures { λ d. ⌜ FilledBegun (now (p .entry)) start (now (input .entry)) (now (chart .entry)) (now (fits .exit)) (now (tables .exit))
+        × (outputSize ≤ length (now buf)) × Told (now p) (now input) (now fits)
+        × ChartTrue (now p) (bytesOf (now input)) (now chart) (length (now input)) ⌝ }
+    ensures { λ d. ⌜ FilledBegun (now (p .entry)) start (now (input .entry)) (now (chart .entry)) (now (fits .entry)) (now (tables .exit))
         (now (buf .entry)) (now (buf .exit)) d ⌝ }
 {
     if columns::complete(start, input.len(), chart) {
@@ -94,7 +97,7 @@ fn begin_input(
     match prepare::judge(g, input.len(), chart.len()) {
         Judged::Refused(r) => Due::Refusal(wide_byte(grammar::number(r))),
         Judged::Passed => {
-            *p = prepare::fill(g, input, chart);
+            *p = prepare::fill_fits(g, input, fits, chart);
             *lengths = measure::lengths_of(g);
             begin_filled(p, wide_byte(g.start), input, chart, fits, tables, buf)
         }

@@ -1,6 +1,7 @@
 // The derivation (reading) after one that is offered.
 use derivation::is_derivation;
 use first::Handed;
+use fit::FitTable;
 use following::next_made;
 use grammar::Grammar;
 use grammar::Refusal;
@@ -15,6 +16,7 @@ ghost use Prim.Native.Nat.{_≤_};
 ghost use lib.ListN.{length};
 ghost use Rattle.cfg.specs.Listing.{L};
 ghost use Rattle.costs.specs.Span.{bytesOf};
+ghost use Rattle.fit.specs.Fit.{Told};
 ghost use Rattle.initial.specs.Written.{enumerationOf};
 ghost use Rattle.first.specs.Answer.{handingOf};
 ghost use Rattle.packed.specs.Packed.{cfgIn};
@@ -25,28 +27,28 @@ ghost use Rattle.tables.specs.Exact.{ChartTrue};
 ghost use Rattle.following.specs.Made.{nextTree};
 ghost use Rattle.next.specs.Answer.{nextFilled};
 
-// The derivation after the offered one, where the chart is filled. The tables are this function's own.
+// The derivation after the offered one, where the chart is filled and the fit table made. The tables are this function's own.
 fn next_tree(
     p: &Packed,
     start: usize,
     input: &[u8],
     offered: &[u16],
+    fits: &FitTable,
     chart: &[u32],
     out: &mut [u16],
 ) -> Handed
     requires { ⌜ (length (now input) ≤ maxInput) × (cells ≤ length (now chart)) × (outputSize ≤ length (now out))
-        × ChartTrue (now p) (bytesOf (now input)) (now chart) (length (now input))
+        × Told (now p) (now input) (now fits) × ChartTrue (now p) (bytesOf (now input)) (now chart) (length (now input))
         × (listed (now offered) (L (cfgIn start (now p)) (now input)) ≡ true) ⌝ }
     ensures { λ a. ⌜ enumerationOf (handingOf a) (now (chart .entry)) (now (out .exit))
         ≡ nextTree (cfgIn start (now (p .entry))) (now (input .entry)) (now (offered .entry)) (now (chart .entry)) (now (out .entry)) ⌝ }
 {
-    let fits = fit::table(p, input);
     let mut tables = [0u16; TABLES_SIZE];
-    let rules = build(p, input, &fits, chart, &mut tables);
+    let rules = build(p, input, fits, chart, &mut tables);
     next_made(
         p,
         rules,
-        &fits,
+        fits,
         chart,
         &tables,
         start,
@@ -62,16 +64,17 @@ fn next_filled(
     start: usize,
     input: &[u8],
     offered: &[u16],
+    fits: &FitTable,
     chart: &[u32],
     out: &mut [u16],
 ) -> Handed
     requires { ⌜ (length (now input) ≤ maxInput) × (cells ≤ length (now chart)) × (outputSize ≤ length (now out))
-        × ChartTrue (now p) (bytesOf (now input)) (now chart) (length (now input)) ⌝ }
+        × Told (now p) (now input) (now fits) × ChartTrue (now p) (bytesOf (now input)) (now chart) (length (now input)) ⌝ }
     ensures { λ a. ⌜ enumerationOf (handingOf a) (now (chart .entry)) (now (out .exit))
         ≡ nextFilled (cfgIn start (now (p .entry))) (now (input .entry)) (now (offered .entry)) (now (chart .entry)) (now (out .entry)) ⌝ }
 {
     if is_derivation(p, start, input, offered) {
-        next_tree(p, start, input, offered, chart, out)
+        next_tree(p, start, input, offered, fits, chart, out)
     } else {
         Handed::Refused(Refusal::NotADerivation)
     }
@@ -87,8 +90,9 @@ pub fn next(g: Grammar, input: &[u8], offered: &[u16], chart: &mut [u32], out: &
     match prepare::judge_output(g, input.len(), chart.len(), out.len()) {
         Judged::Refused(r) => Handed::Refused(r),
         Judged::Passed => {
-            let p = prepare::fill(g, input, chart);
-            next_filled(&p, wide_byte(g.start), input, offered, chart, out)
+            let mut fits = [0u8; fit::FIT_SIZE];
+            let p = prepare::fill_fits(g, input, &mut fits, chart);
+            next_filled(&p, wide_byte(g.start), input, offered, &fits, chart, out)
         }
     }
 }

@@ -1,18 +1,17 @@
 // What every call on an input does before its own work: checks 8 to 11, and then the packing of the grammar and the filling of the chart.
+use fit::FitTable;
 use grammar::Grammar;
 use grammar::Refusal;
 use packed::Packed;
-ghost use mathlib.Core.Bool.{true};
 ghost use mathlib.Core.Path.{_≡_};
-ghost use Prim.Native.Nat.{ℕ, _≤_};
+ghost use Prim.Native.Nat.{ℕ};
 ghost use lib.ListN.{length};
 ghost use Rattle.cfg.specs.Grammar.{rule as ruleOfNumber};
 ghost use Rattle.chart.specs.Column.{filled};
-ghost use Rattle.grammar.specs.Valid.{validGrammar};
+ghost use Rattle.fit.specs.Fit.{Told};
 ghost use Rattle.grammar.specs.View.{grammarOf};
 ghost use Rattle.packed.specs.Packed.{cfgIn};
-ghost use Rattle.prepare.specs.Judging.{Judging, JudgingOutput};
-ghost use Rattle.sizes.specs.Sizes.{cells};
+ghost use Rattle.prepare.specs.Judging.{Judging, JudgingOutput, Ready};
 
 // Whether the checks are passed.
 pub enum Judged {
@@ -55,9 +54,23 @@ pub fn judge_output(g: Grammar, n: usize, m: usize, k: usize) -> Judged
     }
 }
 
-// The packed grammar, with the chart filled for the input.
+// The packed grammar, with the chart filled for the input and the fit table made, which the caller goes on with.
+pub fn fill_fits(g: Grammar, input: &[u8], fits: &mut FitTable, chart: &mut [u32]) -> Packed
+    requires { ⌜ Ready g (length (now input)) (length (now chart)) ⌝ }
+    ensures { λ p. ⌜ ((now (chart .exit) ≡ filled (grammarOf g) (now (input .entry)) (now (chart .entry)))
+        × ((r : ℕ) → ruleOfNumber (cfgIn (g .start) p) r ≡ ruleOfNumber (grammarOf g) r))
+        × Told p (now (input .entry)) (now (fits .exit)) ⌝ }
+{
+    let p = packing::pack(g);
+    *fits = fit::table(&p, input);
+    columns::fill(&p, fits, input.len(), chart);
+    p
+}
+
+// The same where the fit table is not needed any more. It has a body of its own, and does not call the function above: so short a function
+// would be compiled into the checker's calls, and the fit table would take 8 KB of stack beside the checker's recursion.
 pub fn fill(g: Grammar, input: &[u8], chart: &mut [u32]) -> Packed
-    requires { ⌜ (validGrammar g ≡ true) × (length (now input) ≤ 64) × (cells ≤ length (now chart)) ⌝ }
+    requires { ⌜ Ready g (length (now input)) (length (now chart)) ⌝ }
     ensures { λ p. ⌜ (now (chart .exit) ≡ filled (grammarOf g) (now (input .entry)) (now (chart .entry)))
         × ((r : ℕ) → ruleOfNumber (cfgIn (g .start) p) r ≡ ruleOfNumber (grammarOf g) r) ⌝ }
 {

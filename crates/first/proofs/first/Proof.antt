@@ -8,13 +8,14 @@ use Rattle.first.proofs.first.Tie as tie
 
 first-filled-requires : tie.Need-first-filled-requires
 first-filled-requires c κs =
-    let after-fill = c .before .before .before .before .before .before in
-    let passed = after-fill .before .before in
-    filled-ready _ _ _ _ _ _ _ (passed .before .before .judge-output .ensures) (passed .enum-told .given .1) (after-fill .fill .ensures)
+    let after-fill = c .before .before .before .before .before .before .before in
+    let passed = after-fill .before .before .before in
+    filled-ready _ _ _ _ _ _ _ _ (passed .before .before .judge-output .ensures) (passed .enum-told .given .1)
+    (after-fill .fill-fits .ensures)
 
 pub first-spec : {M : Type 1} → statement M
 first-spec = tie.close (tie.spec
     (λ c κs. omega arith) (λ c. omega arith) (λ c. omega arith)
-    (λ c κs. output-ready _ _ _ _ _ (c .before .before .before .judge-output .ensures) (c .before .enum-told .given .1) .0)
+    (λ c κs. output-ready _ _ _ _ _ (c .before .before .before .before .judge-output .ensures) (c .before .before .enum-told .given .1) .0)
     (λ c κs. omega arith) first-filled-requires (λ c. search first-refused) (λ c. omega arith) (λ c. omega arith)
     (λ c. search first-answered))

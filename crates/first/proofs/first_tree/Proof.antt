@@ -11,5 +11,5 @@ use Rattle.first.proofs.first_tree.Tie as tie
 
 pub first-tree-spec : {M : Type 1} → statement M
 first-tree-spec = tie.close (tie.spec
-    (λ c κs. omega arith) (λ c κs. (omega arith, omega arith, length-replicate {A = ℕ} tablesSize 0, search needs, search needs))
+    (λ c κs. (omega arith, omega arith, length-replicate {A = ℕ} tablesSize 0, search needs, search needs))
     (λ c κs. omega arith) (λ c. omega arith) (λ c. search (needs, made-tree)))

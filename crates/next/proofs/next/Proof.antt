@@ -9,13 +9,14 @@ use Rattle.next.proofs.next.Tie as tie
 
 next-filled-requires : tie.Need-next-filled-requires
 next-filled-requires c κs =
-    let after-fill = c .before .before .before .before .before .before in
-    let passed = after-fill .before .before in
-    filled-ready _ _ _ _ _ _ _ (passed .before .before .judge-output .ensures) (passed .enum-told .given .1) (after-fill .fill .ensures)
+    let after-fill = c .before .before .before .before .before .before .before in
+    let passed = after-fill .before .before .before in
+    filled-ready _ _ _ _ _ _ _ _ (passed .before .before .judge-output .ensures) (passed .enum-told .given .1)
+    (after-fill .fill-fits .ensures)
 
 pub next-spec : {M : Type 1} → statement M
 next-spec = tie.close (tie.spec
     (λ c κs. omega arith) (λ c. omega arith) (λ c. omega arith)
-    (λ c κs. output-ready _ _ _ _ _ (c .before .before .before .judge-output .ensures) (c .before .enum-told .given .1) .0)
+    (λ c κs. output-ready _ _ _ _ _ (c .before .before .before .before .judge-output .ensures) (c .before .before .enum-told .given .1) .0)
     (λ c κs. omega arith) next-filled-requires (λ c. search next-refused) (λ c. omega arith) (λ c. omega arith)
     (λ c. search next-answered))

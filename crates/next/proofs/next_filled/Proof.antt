@@ -7,5 +7,5 @@ use Rattle.next.proofs.next_filled.Tie as tie
 
 pub next-filled-spec : {M : Type 1} → statement M
 next-filled-spec = tie.close (tie.spec
-    (λ c κs. omega arith) (λ c κs. (omega arith, omega arith, omega arith, search needs, search is-listed)) (λ c. omega arith)
+    (λ c κs. omega arith) (λ c κs. (omega arith, omega arith, omega arith, search needs, search needs, search is-listed)) (λ c. omega arith)
     (λ c. search next-listed) (λ c. search next-other))

@@ -11,6 +11,6 @@ use Rattle.next.proofs.next_tree.Tie as tie
 
 pub next-tree-spec : {M : Type 1} → statement M
 next-tree-spec = tie.close (tie.spec
-    (λ c κs. omega arith) (λ c κs. (omega arith, omega arith, length-replicate {A = ℕ} tablesSize 0, search needs, search needs))
+    (λ c κs. (omega arith, omega arith, length-replicate {A = ℕ} tablesSize 0, search needs, search needs))
     (λ c κs. (omega arith, omega arith, omega arith, search offered-short, omega arith)) (λ c. omega arith)
     (λ c. search (needs, made-tree)))

@@ -10,5 +10,5 @@ returns c = tree-refused _ _ _ _ _ _ _ (c .before .before .before .build .ensure
 
 pub begin-tree-spec : {M : Type 1} → statement M
 begin-tree-spec = tie.close (tie.spec
-    (λ c κs. omega arith) (λ c κs. search needs) (λ c κs. omega arith) returns (λ c κs. omega arith) (λ c. omega arith)
+    (λ c κs. search needs) (λ c κs. omega arith) returns (λ c κs. omega arith) (λ c. omega arith)
     (λ c. search (needs, tree-begun)))
