@@ -2,7 +2,7 @@
 //! through its nodes.
 
 use super::packed::{contains, Packed};
-use super::recognizer::fill;
+use super::spans::fill;
 use super::{Grammar, Refusal, CHART, INPUT};
 
 /// What stays the same all through one check.
