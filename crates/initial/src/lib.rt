@@ -1,6 +1,8 @@
 // The tables of an input, and over tables that are made: whether there is a derivation, and the first one.
 use descend::first::node;
 use fit::FitTable;
+use nodes::Room;
+use nodes::Span;
 use numbers::wide;
 use packed::Packed;
 use tables::layout::Tables;
@@ -53,6 +55,8 @@ pub fn write_first(
     ensures { λ m. ⌜ FirstWritten (now (p .entry)) rules (now (fits .entry)) (now (chart .entry)) (now (tables .entry)) start n
         (now (out .entry)) (now (out .exit)) m ⌝ }
 {
+    let mask = 0;
+    let budget = sizes::MAX_NODES;
     node(
         p,
         rules,
@@ -60,11 +64,8 @@ pub fn write_first(
         chart,
         tables,
         start,
-        0,
-        n,
-        0,
-        sizes::MAX_NODES,
+        Span { i: 0, j: n, mask },
+        Room { at: 0, budget },
         out,
-        0,
     )
 }
