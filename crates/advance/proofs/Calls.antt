@@ -25,7 +25,7 @@ abbrev pub μ-node : Measures 5 node-kinds.ps ℕ
 μ-node κs a = 20 * a .1 .1 .1 .1 .1 .1 .1 .0 .budget + 2
 
 abbrev pub μ-row : Measures 7 row-kinds.ps ℕ
-μ-row κs a = 20 * a .1 .1 .1 .1 .1 .1 .1 .1 .1 .0 .budget + (12 - a .1 .1 .1 .1 .1 .1 .1 .0 .q)
+μ-row κs a = 20 * a .1 .1 .1 .1 .1 .1 .1 .1 .1 .0 + (12 - a .1 .1 .1 .1 .1 .1 .1 .0 .q)
 
 abbrev pub μ-turned : Measures 5 turned-kinds.ps ℕ
 μ-turned κs a = 20 * a .1 .1 .1 .1 .1 .1 .1 .1 .0 .budget + 1

@@ -29,18 +29,18 @@ pub fn row(
     rows: &mut Rows,
     tail: Tail,
     span: Span,
-    room: Room,
+    budget: usize,
     buf: &mut [u16],
+    at: usize,
 ) -> usize
     requires { ⌜ ((rules ≤ maxRules) × (tail .r < maxRules) × (tail .q ≤ maxPlaces) × (span .i ≤ tail .a) × (tail .a ≤ span .j)
-        × (span .j < side) × (cells ≤ length (now chart)) × (room .at + room .budget ≤ maxNodes) × (outputSize ≤ length (now buf)))
+        × (span .j < side) × (cells ≤ length (now chart)) × (at + budget ≤ maxNodes) × (outputSize ≤ length (now buf)))
         × Frame (now p) rules (now fits) (now chart) (now tables) (tail .r) (span .i) (span .j) (span .mask) (now full) (now rows) ⌝ }
     ensures { λ n. ⌜ RowNext (now (p .entry)) rules (now (fits .entry)) (now (chart .entry)) (now (tables .entry)) (tail .r) (tail .q)
-        (tail .a) (span .i) (span .j) (span .mask) (room .budget) (room .at)
+        (tail .a) (span .i) (span .j) (span .mask) budget at
         (now (buf .entry)) (now (full .exit)) (now (rows .exit)) (now (buf .exit)) n ⌝ }
 {
     let Tail { r, q, a } = tail;
-    let Room { at, budget } = room;
     let j = span.j;
     let step = look(p, r, q, buf, at, a, j, budget);
     match step {
@@ -58,14 +58,13 @@ pub fn row(
                 rows,
                 Tail { r, q: q + 1, a },
                 span,
-                room,
+                budget,
                 buf,
+                at,
             )
         }
         Step::Final(_, _) => 0,
         Step::Node(k, b, s) => {
-            let at = at + s;
-            let budget = budget - s;
             let n = row(
                 p,
                 rules,
@@ -76,8 +75,9 @@ pub fn row(
                 rows,
                 Tail { r, q: q + 1, a: b },
                 span,
-                Room { at, budget },
+                budget - s,
                 buf,
+                at + s,
             );
             if n > 0 {
                 return s + n;
@@ -92,7 +92,7 @@ pub fn row(
                 rows,
                 Child { r, q, k, a, b },
                 span,
-                room,
+                Room { at, budget },
                 buf,
             )
         }

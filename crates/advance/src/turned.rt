@@ -50,8 +50,9 @@ pub fn turned(
         &mut rows,
         Tail { r, q: 0, a: i },
         span,
-        Room { at, budget },
+        budget,
         buf,
+        at,
     );
     if n > 0 {
         return 1 + n;

@@ -88,7 +88,8 @@ pub fn later_rule(
             rows,
             Tail { r: s, q: 0, a: i },
             span,
-            Room { at, budget },
+            budget,
             buf,
+            at,
         )
 }

@@ -70,8 +70,9 @@ pub fn node(
             &rows,
             Tail { r, q: 0, a: i },
             own,
-            Room { at, budget },
+            budget,
             out,
+            at,
         )
 }
 
@@ -86,18 +87,18 @@ pub fn row(
     rows: &Rows,
     tail: Tail,
     span: Span,
-    room: Room,
+    budget: usize,
     out: &mut [u16],
+    at: usize,
 ) -> usize
     requires { ⌜ (rules ≤ maxRules) × (tail .r < maxRules) × (tail .q ≤ maxPlaces) × (span .i ≤ tail .a) × (tail .a ≤ span .j)
-        × (span .j < side) × (cells ≤ length (now chart)) × (room .at + room .budget ≤ maxNodes) × (outputSize ≤ length (now out)) ⌝ }
+        × (span .j < side) × (cells ≤ length (now chart)) × (at + budget ≤ maxNodes) × (outputSize ≤ length (now out)) ⌝ }
     ensures { λ n. ⌜ RowFirst (now (p .entry)) rules (now (fits .entry)) (now (chart .entry)) (now (tables .entry)) (now (full .entry))
-        (now (rows .entry)) (tail .r) (tail .q) (tail .a) (span .i) (span .j) (span .mask) (room .budget) (room .at)
+        (now (rows .entry)) (tail .r) (tail .q) (tail .a) (span .i) (span .j) (span .mask) budget at
         (now (out .entry)) (now (out .exit)) n ⌝ }
 {
     let Tail { r, q, a } = tail;
     let Span { i, j, mask } = span;
-    let Room { at, budget } = room;
     let step = look(p, r, q, tables, full, rows, i, a, j, budget);
     match step {
         Step::No => 0,
@@ -114,8 +115,9 @@ pub fn row(
                 rows,
                 Tail { r, q: q + 1, a },
                 span,
-                room,
+                budget,
                 out,
+                at,
             )
         }
         Step::Node(k, b, share) => {
@@ -144,8 +146,9 @@ pub fn row(
                     rows,
                     Tail { r, q: q + 1, a: b },
                     span,
-                    Room { at, budget },
+                    budget,
                     out,
+                    at,
                 )
         }
     }

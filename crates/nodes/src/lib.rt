@@ -16,8 +16,8 @@ pub struct Span {
 
 // Where a tree or a row is written, as a number of nodes, and how many nodes it may have.
 pub struct Room {
-    pub at: usize,
     pub budget: usize,
+    pub at: usize,
 }
 
 // The places of rule r from q on, from position a on.

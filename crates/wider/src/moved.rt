@@ -56,8 +56,9 @@ pub fn moved(
                 rows,
                 Tail { r, q: q + 1, a: b },
                 span,
-                Room { at, budget },
+                budget,
                 buf,
+                at,
             );
     }
     widen(

@@ -83,7 +83,8 @@ pub fn widen(
             rows,
             Tail { r, q: q + 1, a: c },
             span,
-            Room { at, budget },
+            budget,
             buf,
+            at,
         )
 }

@@ -219,9 +219,13 @@ pub +child·child+last·last+next·node+row·row+turned·turned-spec : {M : Type
     (λ t. row-lts.spec (row-calls t) (row-at t) row.Post
     (λ c κs. omega arith) (λ c. omega arith) (λ c. omega arith) (λ c. omega arith) (λ c. omega arith) (λ c. omega arith)
     (row-row-requires t) (λ c. omega arith) (λ c. omega arith)
-    (λ c. omega (arith, node-room (c .before .before .before .look .ensures) (c .before .step .given .1)))
-    (λ c. omega (arith, node-room (c .before .before .before .look .ensures) (c .before .step .given .1)))
-    (λ c. omega arith) (row-row-requires-2 t) (row-add-result t) (λ c. omega arith) (row-returns t)
+    (λ c. omega arith)
+    (λ c. omega (arith, node-room (c .before .before .before .before .before .look .ensures) (c .before .before .before .step .given .1)))
+    (λ c. omega (
+      arith,
+      node-room (c .before .before .before .before .before .before .look .ensures)
+          (c .before .before .before .before .step .given .1),
+    )) (row-row-requires-2 t) (row-add-result t) (λ c. omega arith) (row-returns t)
     (row-child-requires t) (λ c. omega arith)
     (λ c. row-none (omega arith) (omega arith) (c .before .before .before .before .before .before .pre .1 .1)
     (c .before .before .look .ensures) (c .enum-told .given .1)) (λ c. omega arith)

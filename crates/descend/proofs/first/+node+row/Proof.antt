@@ -26,7 +26,7 @@ abbrev μ-node : Measures 5 node-kinds.ps ℕ
 μ-node κs a = 20 * a .1 .1 .1 .1 .1 .1 .1 .0 .budget + 1
 
 abbrev μ-row : Measures 7 row-kinds.ps ℕ
-μ-row κs a = 20 * a .1 .1 .1 .1 .1 .1 .1 .1 .1 .0 .budget + (11 - a .1 .1 .1 .1 .1 .1 .1 .0 .q)
+μ-row κs a = 20 * a .1 .1 .1 .1 .1 .1 .1 .1 .1 .0 + (11 - a .1 .1 .1 .1 .1 .1 .1 .0 .q)
 
 -- what `node` is given at the measure t, and what a call of it asks below t
 abbrev node-at : ℕ → In 5 node-kinds.ps
