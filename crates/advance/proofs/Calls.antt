@@ -22,7 +22,7 @@ abbrev pub μ-last : Measures 5 last-kinds.ps ℕ
 μ-last κs a = 20 * a .1 .1 .1 .1 .1 .1 .1 .0 .budget + 3
 
 abbrev pub μ-node : Measures 5 node-kinds.ps ℕ
-μ-node κs a = 20 * a .1 .1 .1 .1 .1 .1 .1 .0 .budget + 2
+μ-node κs a = 20 * a .1 .1 .1 .1 .1 .1 .1 .0 + 2
 
 abbrev pub μ-row : Measures 7 row-kinds.ps ℕ
 μ-row κs a = 20 * a .1 .1 .1 .1 .1 .1 .1 .1 .1 .0 + (12 - a .1 .1 .1 .1 .1 .1 .1 .0 .q)

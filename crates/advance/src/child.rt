@@ -50,7 +50,6 @@ pub fn child(
         return 0;
     }
     let mask = child_set(j - i, mask, b - a);
-    let budget = budget - rest;
     let m = node(
         p,
         rules,
@@ -59,8 +58,9 @@ pub fn child(
         tables,
         k,
         Span { i: a, j: b, mask },
-        Room { at, budget },
+        budget - rest,
         buf,
+        at,
     );
     moved(
         p,

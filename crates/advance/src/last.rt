@@ -46,11 +46,9 @@ pub fn last(
                 tables,
                 k,
                 Span { i: a, j: b, mask },
-                Room {
-                    at: to,
-                    budget: share,
-                },
+                share,
                 buf,
+                to,
             );
             if n == 0 {
                 return 0;

@@ -24,37 +24,40 @@ pub fn node(
     tables: &Tables,
     k: usize,
     span: Span,
-    room: Room,
+    budget: usize,
     buf: &mut [u16],
+    at: usize,
 ) -> usize
     requires { ⌜ (rules ≤ maxRules) × (span .i ≤ span .j) × (span .j < side) × (cells ≤ length (now chart))
-        × (room .at + room .budget ≤ maxNodes) × (outputSize ≤ length (now buf)) ⌝ }
+        × (at + budget ≤ maxNodes) × (outputSize ≤ length (now buf)) ⌝ }
     ensures { λ n. ⌜ NodeNext (now (p .entry)) rules (now (fits .entry)) (now (chart .entry)) (now (tables .entry)) k (span .i) (span .j)
-        (span .mask) (room .budget) (room .at) (now (buf .entry)) (now (buf .exit)) n ⌝ }
+        (span .mask) budget at (now (buf .entry)) (now (buf .exit)) n ⌝ }
 {
     let Span { i, j, mask } = span;
-    let Room { at, budget } = room;
     let r = rule_at(buf, at, budget);
     if r >= sizes::NO_RULE {
         return 0;
     }
     let mask = own_set(mask, k);
     let own = Span { i, j, mask };
-    let at = at + 1;
-    let budget = budget - 1;
-    let n = last(
+    let below = Room {
+        at: at + 1,
+        budget: budget - 1,
+    };
+    let n = last(p, rules, fits, chart, tables, r, own, below, buf);
+    if n > 0 {
+        return 1 + n;
+    }
+    turned(
         p,
         rules,
         fits,
         chart,
         tables,
         r,
+        k,
         own,
         Room { at, budget },
         buf,
-    );
-    if n > 0 {
-        return 1 + n;
-    }
-    turned(p, rules, fits, chart, tables, r, k, own, room, buf)
+    )
 }

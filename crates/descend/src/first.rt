@@ -1,7 +1,6 @@
 // The first derivation below a node, written from the left: a node calls the row of its rule's places, which calls the nodes below it.
 use super::open;
 use fit::FitTable;
-use nodes::Room;
 use nodes::Span;
 use nodes::Tail;
 use packed::Packed;
@@ -26,16 +25,16 @@ pub fn node(
     tables: &Tables,
     k: usize,
     span: Span,
-    room: Room,
+    budget: usize,
     out: &mut [u16],
+    at: usize,
 ) -> usize
     requires { ⌜ (rules ≤ maxRules) × (span .i ≤ span .j) × (span .j < side) × (cells ≤ length (now chart))
-        × (room .at + room .budget ≤ maxNodes) × (outputSize ≤ length (now out)) ⌝ }
+        × (at + budget ≤ maxNodes) × (outputSize ≤ length (now out)) ⌝ }
     ensures { λ n. ⌜ NodeFirst (now (p .entry)) rules (now (fits .entry)) (now (chart .entry)) (now (tables .entry)) k (span .i) (span .j)
-        (span .mask) (room .budget) (room .at) (now (out .entry)) (now (out .exit)) n ⌝ }
+        (span .mask) budget at (now (out .entry)) (now (out .exit)) n ⌝ }
 {
     let Span { i, j, mask } = span;
-    let Room { at, budget } = room;
     let mask = nodes::own_set(mask, k);
     let own = Span { i, j, mask };
     let mut full = [open::UNMADE; sizes::NONTERMINALS];
@@ -130,8 +129,9 @@ pub fn row(
                 tables,
                 k,
                 Span { i: a, j: b, mask },
-                Room { at, budget: share },
+                share,
                 out,
+                at,
             );
             let at = at + m;
             let budget = budget - m;

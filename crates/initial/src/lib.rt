@@ -1,7 +1,6 @@
 // The tables of an input, and over tables that are made: whether there is a derivation, and the first one.
 use descend::first::node;
 use fit::FitTable;
-use nodes::Room;
 use nodes::Span;
 use numbers::wide;
 use packed::Packed;
@@ -56,7 +55,6 @@ pub fn write_first(
         (now (out .entry)) (now (out .exit)) m ⌝ }
 {
     let mask = 0;
-    let budget = sizes::MAX_NODES;
     node(
         p,
         rules,
@@ -65,7 +63,8 @@ pub fn write_first(
         tables,
         start,
         Span { i: 0, j: n, mask },
-        Room { at: 0, budget },
+        sizes::MAX_NODES,
         out,
+        0,
     )
 }

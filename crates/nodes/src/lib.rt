@@ -14,7 +14,7 @@ pub struct Span {
     pub mask: u32,
 }
 
-// Where a tree or a row is written, as a number of nodes, and how many nodes it may have.
+// How many nodes a tree or a row may have, and the node at which it is written.
 pub struct Room {
     pub budget: usize,
     pub at: usize,

@@ -1,7 +1,6 @@
 // The derivation after the one that stands in a buffer, over tables that are made, and numbers copied from one front to another.
 use advance::next::node;
 use fit::FitTable;
-use nodes::Room;
 use nodes::Span;
 use packed::Packed;
 use tables::layout::Tables;
@@ -39,7 +38,6 @@ pub fn advance_root(
         (now (buf .entry)) (now (buf .exit)) m ⌝ }
 {
     let mask = 0;
-    let budget = sizes::MAX_NODES;
     node(
         p,
         rules,
@@ -48,7 +46,8 @@ pub fn advance_root(
         tables,
         start,
         Span { i: 0, j: n, mask },
-        Room { at: 0, budget },
+        sizes::MAX_NODES,
         buf,
+        0,
     )
 }

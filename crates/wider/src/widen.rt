@@ -67,8 +67,9 @@ pub fn widen(
         tables,
         k,
         Span { i: a, j: c, mask },
-        Room { at, budget: share },
+        share,
         buf,
+        at,
     );
     let at = at + m;
     let budget = budget - m;

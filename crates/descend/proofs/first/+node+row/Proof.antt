@@ -23,7 +23,7 @@ use Rattle.descend.proofs.first.+node+row.{statement}
 use Rattle.descend.proofs.first.+node+row.Tie.{close}
 
 abbrev μ-node : Measures 5 node-kinds.ps ℕ
-μ-node κs a = 20 * a .1 .1 .1 .1 .1 .1 .1 .0 .budget + 1
+μ-node κs a = 20 * a .1 .1 .1 .1 .1 .1 .1 .0 + 1
 
 abbrev μ-row : Measures 7 row-kinds.ps ℕ
 μ-row κs a = 20 * a .1 .1 .1 .1 .1 .1 .1 .1 .1 .0 + (11 - a .1 .1 .1 .1 .1 .1 .1 .0 .q)
