@@ -69,8 +69,8 @@ pub fn open_node(
     requires { ⌜ (rules ≤ maxRules) × (from ≤ maxRules) × (span .i ≤ span .j) × (span .j < side) × (cells ≤ length (now chart))
         × (length (now full) ≡ nonterminals) × (length (now rows) ≡ rowsSize)
         × MaybeSolved (now p) rules (cell (now chart) (span .i) (span .j)) (span .mask) (now tables) (span .i) (span .j) (now full) ⌝ }
-    ensures { λ r. ⌜ Opened (now (p .entry)) rules (now (fits .entry)) (now (chart .entry)) (now (tables .entry)) from k (span .i) (span .j)
-        (span .mask) budget (now (full .exit)) (now (rows .exit)) r ⌝ }
+    ensures { λ r. ⌜ Opened (now (p .entry)) rules (now (fits .entry)) (now (chart .entry)) (now (tables .entry)) from k (span .i)
+        (span .j) (span .mask) budget (now (full .exit)) (now (rows .exit)) r ⌝ }
 {
     if budget == 0 {
         return sizes::NO_RULE;

@@ -38,4 +38,5 @@ later-rule-spec = tie.close (tie.spec
     (λ c. omega arith) (λ c κs. search needs)
     (λ c. later-none (omega arith) (omega arith) (c .before .open-node .ensures) (omega arith))
     (λ c. omega arith) put-node-requires (λ c. omega arith)
-    (λ c. omega (arith, c .before .before .before .before .before .open-node .ensures .room (omega arith))) row-requires add-result (λ c. omega arith) returns-3)
+    (λ c. omega (arith, c .before .before .before .before .before .open-node .ensures .room (omega arith)))
+    row-requires add-result (λ c. omega arith) returns-3)
