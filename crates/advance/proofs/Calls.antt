@@ -16,19 +16,19 @@ use Rattle.advance.proofs.turned.turned.Reads as turned
 use Rattle.advance.proofs.turned.turned.Kinds as turned-kinds
 
 abbrev pub μ-child : Measures 7 child-kinds.ps ℕ
-μ-child κs a = 20 * a .1 .1 .1 .1 .1 .1 .1 .1 .1 .1 .1 .1 .1 .1 .1 .0 + 3
+μ-child κs a = 20 * a .1 .1 .1 .1 .1 .1 .1 .1 .1 .0 .budget + 3
 
 abbrev pub μ-last : Measures 5 last-kinds.ps ℕ
-μ-last κs a = 20 * a .1 .1 .1 .1 .1 .1 .1 .1 .1 .0 + 3
+μ-last κs a = 20 * a .1 .1 .1 .1 .1 .1 .1 .0 .budget + 3
 
 abbrev pub μ-node : Measures 5 node-kinds.ps ℕ
-μ-node κs a = 20 * a .1 .1 .1 .1 .1 .1 .1 .1 .1 .0 + 2
+μ-node κs a = 20 * a .1 .1 .1 .1 .1 .1 .1 .0 + 2
 
 abbrev pub μ-row : Measures 7 row-kinds.ps ℕ
-μ-row κs a = 20 * a .1 .1 .1 .1 .1 .1 .1 .1 .1 .1 .1 .1 .1 .0 + (12 - a .1 .1 .1 .1 .1 .1 .1 .1 .0)
+μ-row κs a = 20 * a .1 .1 .1 .1 .1 .1 .1 .1 .1 .0 + (12 - a .1 .1 .1 .1 .1 .1 .1 .0 .q)
 
 abbrev pub μ-turned : Measures 5 turned-kinds.ps ℕ
-μ-turned κs a = 20 * a .1 .1 .1 .1 .1 .1 .1 .1 .1 .1 .0 + 1
+μ-turned κs a = 20 * a .1 .1 .1 .1 .1 .1 .1 .1 .0 .budget + 1
 
 -- what each is given at the measure t, and what a call of it asks below t
 abbrev pub child-at : ℕ → In 7 child-kinds.ps

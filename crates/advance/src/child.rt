@@ -2,6 +2,9 @@
 use super::next::node;
 use beyond::frame::rest_of;
 use fit::FitTable;
+use nodes::Child;
+use nodes::Room;
+use nodes::Span;
 use nodes::child_set;
 use packed::Packed;
 use suffixes::rows::Rows;
@@ -14,8 +17,8 @@ ghost use Rattle.sizes.specs.Sizes.{maxRules, maxPlaces, side, cells, maxNodes,
 ghost use Rattle.beyond.specs.Beyond.{Frame};
 ghost use Rattle.advance.specs.Advance.{ChildNext};
 
-// Writes the row of the places of rule r from q on, from a to j inside a span from i to j, after the one that stands at node `at`, where a
-// node of k up to b stands at place q and the places behind it are last.
+// Writes the row of the places of the child's rule from its place on, from a to the end of the span, after the one that stands at node
+// `at`, where the places behind the child are last.
 pub fn child(
     p: &Packed,
     rules: usize,
@@ -24,43 +27,29 @@ pub fn child(
     tables: &Tables,
     full: &mut Full,
     rows: &mut Rows,
-    r: usize,
-    q: usize,
-    k: usize,
-    a: usize,
-    b: usize,
-    i: usize,
-    j: usize,
-    mask: u32,
-    budget: usize,
+    child: Child,
+    span: Span,
+    room: Room,
     buf: &mut [u16],
-    at: usize,
 ) -> usize
-    requires { ⌜ ((rules ≤ maxRules) × (r < maxRules) × (q < maxPlaces) × (i ≤ a) × (a ≤ b) × (b ≤ j) × (j < side)
-        × (cells ≤ length (now chart)) × (at + budget ≤ maxNodes) × (outputSize ≤ length (now buf)))
-        × Frame (now p) rules (now fits) (now chart) (now tables) r i j mask (now full) (now rows) ⌝ }
-    ensures { λ n. ⌜ ChildNext (now (p .entry)) rules (now (fits .entry)) (now (chart .entry)) (now (tables .entry)) r q k a b i j mask
-        budget at (now (buf .entry)) (now (full .exit)) (now (rows .exit)) (now (buf .exit)) n ⌝ }
+    requires { ⌜ ((rules ≤ maxRules) × (child .r < maxRules) × (child .q < maxPlaces) × (span .i ≤ child .a) × (child .a ≤ child .b)
+        × (child .b ≤ span .j) × (span .j < side) × (cells ≤ length (now chart)) × (room .at + room .budget ≤ maxNodes)
+        × (outputSize ≤ length (now buf)))
+        × Frame (now p) rules (now fits) (now chart) (now tables) (child .r) (span .i) (span .j) (span .mask) (now full) (now rows) ⌝ }
+    ensures { λ n. ⌜ ChildNext (now (p .entry)) rules (now (fits .entry)) (now (chart .entry)) (now (tables .entry)) (child .r) (child .q)
+        (child .k) (child .a) (child .b) (span .i) (span .j) (span .mask) (room .budget) (room .at)
+        (now (buf .entry)) (now (full .exit)) (now (rows .exit)) (now (buf .exit)) n ⌝ }
 {
-    let rest = rest_of(
-        p,
-        rules,
-        fits,
-        chart,
-        tables,
-        r,
-        i,
-        j,
-        mask,
-        q,
-        b,
-        full,
-        rows,
-    );
+    let k = child.k;
+    let a = child.a;
+    let b = child.b;
+    let Span { i, j, mask } = span;
+    let Room { at, budget } = room;
+    let rest = rest_of(p, rules, fits, chart, tables, child, span, full, rows);
     if rest > budget {
         return 0;
     }
-    let set = child_set(j - i, mask, b - a);
+    let mask = child_set(j - i, mask, b - a);
     let m = node(
         p,
         rules,
@@ -68,9 +57,7 @@ pub fn child(
         chart,
         tables,
         k,
-        a,
-        b,
-        set,
+        Span { i: a, j: b, mask },
         budget - rest,
         buf,
         at,
@@ -83,17 +70,10 @@ pub fn child(
         tables,
         full,
         rows,
-        r,
-        q,
-        k,
-        a,
-        b,
-        i,
-        j,
-        mask,
-        budget,
+        child,
+        span,
+        room,
         m,
         buf,
-        at,
     )
 }

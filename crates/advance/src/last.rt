@@ -1,6 +1,8 @@
 // The row after the one that stands, where its last node moves: nothing behind that node moves, and no costs are asked for.
 use super::next::node;
 use fit::FitTable;
+use nodes::Room;
+use nodes::Span;
 use nodes::child_set;
 use packed::Packed;
 use placed::reach::Found;
@@ -11,8 +13,8 @@ ghost use lib.ListN.{length};
 ghost use Rattle.sizes.specs.Sizes.{maxRules, side, cells, maxNodes, outputSize};
 ghost use Rattle.advance.specs.Advance.{LastNext};
 
-// Writes the row of the places of rule r over the span from i to j after the one that stands at node `at`, if its last node moves. The
-// result is the number of its nodes; 0 if there is no such node or it is last.
+// Writes the row of the places of rule r over the span after the one that stands at node `at`, if its last node moves. The result is the
+// number of its nodes; 0 if there is no such node or it is last.
 pub fn last(
     p: &Packed,
     rules: usize,
@@ -20,24 +22,34 @@ pub fn last(
     chart: &[u32],
     tables: &Tables,
     r: usize,
-    i: usize,
-    j: usize,
-    mask: u32,
-    budget: usize,
+    span: Span,
+    room: Room,
     buf: &mut [u16],
-    at: usize,
 ) -> usize
-    requires { ⌜ (rules ≤ maxRules) × (r < maxRules) × (i ≤ j) × (j < side) × (cells ≤ length (now chart)) × (at + budget ≤ maxNodes)
-        × (outputSize ≤ length (now buf)) ⌝ }
-    ensures { λ n. ⌜ LastNext (now (p .entry)) rules (now (fits .entry)) (now (chart .entry)) (now (tables .entry)) r i j mask budget at
-        (now (buf .entry)) (now (buf .exit)) n ⌝ }
+    requires { ⌜ (rules ≤ maxRules) × (r < maxRules) × (span .i ≤ span .j) × (span .j < side) × (cells ≤ length (now chart))
+        × (room .at + room .budget ≤ maxNodes) × (outputSize ≤ length (now buf)) ⌝ }
+    ensures { λ n. ⌜ LastNext (now (p .entry)) rules (now (fits .entry)) (now (chart .entry)) (now (tables .entry)) r (span .i) (span .j)
+        (span .mask) (room .budget) (room .at) (now (buf .entry)) (now (buf .exit)) n ⌝ }
 {
+    let Span { i, j, mask } = span;
+    let Room { at, budget } = room;
     let there = reach(p, r, 0, buf, at, i, j, budget);
     match there {
         Found::Nowhere => 0,
         Found::There(k, a, b, to, share) => {
-            let set = child_set(j - i, mask, b - a);
-            let n = node(p, rules, fits, chart, tables, k, a, b, set, share, buf, to);
+            let mask = child_set(j - i, mask, b - a);
+            let n = node(
+                p,
+                rules,
+                fits,
+                chart,
+                tables,
+                k,
+                Span { i: a, j: b, mask },
+                share,
+                buf,
+                to,
+            );
             if n == 0 {
                 return 0;
             }

@@ -3,6 +3,8 @@
 use super::last::last;
 use super::turned::turned;
 use fit::FitTable;
+use nodes::Room;
+use nodes::Span;
 use nodes::own_set;
 use packed::Packed;
 use placed::look::rule_at;
@@ -12,8 +14,8 @@ ghost use lib.ListN.{length};
 ghost use Rattle.sizes.specs.Sizes.{maxRules, side, cells, maxNodes, outputSize};
 ghost use Rattle.advance.specs.Advance.{NodeNext};
 
-// Writes the tree of k over the span from i to j after the one that stands at node `at`. The result is the number of its nodes, 0 if there
-// is none: then the buffer is as found.
+// Writes the tree of k over the span after the one that stands at node `at`. The result is the number of its nodes, 0 if there is none:
+// then the buffer is as found.
 pub fn node(
     p: &Packed,
     rules: usize,
@@ -21,37 +23,28 @@ pub fn node(
     chart: &[u32],
     tables: &Tables,
     k: usize,
-    i: usize,
-    j: usize,
-    mask: u32,
+    span: Span,
     budget: usize,
     buf: &mut [u16],
     at: usize,
 ) -> usize
-    requires { ⌜ (rules ≤ maxRules) × (i ≤ j) × (j < side) × (cells ≤ length (now chart)) × (at + budget ≤ maxNodes)
-        × (outputSize ≤ length (now buf)) ⌝ }
-    ensures { λ n. ⌜ NodeNext (now (p .entry)) rules (now (fits .entry)) (now (chart .entry)) (now (tables .entry)) k i j mask budget at
-        (now (buf .entry)) (now (buf .exit)) n ⌝ }
+    requires { ⌜ (rules ≤ maxRules) × (span .i ≤ span .j) × (span .j < side) × (cells ≤ length (now chart))
+        × (at + budget ≤ maxNodes) × (outputSize ≤ length (now buf)) ⌝ }
+    ensures { λ n. ⌜ NodeNext (now (p .entry)) rules (now (fits .entry)) (now (chart .entry)) (now (tables .entry)) k (span .i) (span .j)
+        (span .mask) budget at (now (buf .entry)) (now (buf .exit)) n ⌝ }
 {
+    let Span { i, j, mask } = span;
     let r = rule_at(buf, at, budget);
     if r >= sizes::NO_RULE {
         return 0;
     }
-    let own = own_set(mask, k);
-    let n = last(
-        p,
-        rules,
-        fits,
-        chart,
-        tables,
-        r,
-        i,
-        j,
-        own,
-        budget - 1,
-        buf,
-        at + 1,
-    );
+    let mask = own_set(mask, k);
+    let own = Span { i, j, mask };
+    let below = Room {
+        at: at + 1,
+        budget: budget - 1,
+    };
+    let n = last(p, rules, fits, chart, tables, r, own, below, buf);
     if n > 0 {
         return 1 + n;
     }
@@ -63,11 +56,8 @@ pub fn node(
         tables,
         r,
         k,
-        i,
-        j,
         own,
-        budget,
+        Room { at, budget },
         buf,
-        at,
     )
 }

@@ -2,6 +2,10 @@
 // node's end.
 use super::child::child;
 use fit::FitTable;
+use nodes::Child;
+use nodes::Room;
+use nodes::Span;
+use nodes::Tail;
 use packed::Packed;
 use placed::look::Step;
 use placed::look::look;
@@ -14,8 +18,7 @@ ghost use Rattle.sizes.specs.Sizes.{maxRules, maxPlaces, side, cells, maxNodes,
 ghost use Rattle.beyond.specs.Beyond.{Frame};
 ghost use Rattle.advance.specs.Advance.{RowNext};
 
-// Writes the row of the places of rule r from q on, from a to j inside a span from i to j, after the one that stands at node `at`,
-// whose last node is last.
+// Writes the row of the tail, from a to j inside a span from i to j, after the one that stands at node `at`, whose last node is last.
 pub fn row(
     p: &Packed,
     rules: usize,
@@ -24,44 +27,42 @@ pub fn row(
     tables: &Tables,
     full: &mut Full,
     rows: &mut Rows,
-    r: usize,
-    q: usize,
-    a: usize,
-    i: usize,
-    j: usize,
-    mask: u32,
+    tail: Tail,
+    span: Span,
     budget: usize,
     buf: &mut [u16],
     at: usize,
 ) -> usize
-    requires { ⌜ ((rules ≤ maxRules) × (r < maxRules) × (q ≤ maxPlaces) × (i ≤ a) × (a ≤ j) × (j < side)
-        × (cells ≤ length (now chart)) × (at + budget ≤ maxNodes) × (outputSize ≤ length (now buf)))
-        × Frame (now p) rules (now fits) (now chart) (now tables) r i j mask (now full) (now rows) ⌝ }
-    ensures { λ n. ⌜ RowNext (now (p .entry)) rules (now (fits .entry)) (now (chart .entry)) (now (tables .entry)) r q a i j mask budget at
+    requires { ⌜ ((rules ≤ maxRules) × (tail .r < maxRules) × (tail .q ≤ maxPlaces) × (span .i ≤ tail .a) × (tail .a ≤ span .j)
+        × (span .j < side) × (cells ≤ length (now chart)) × (at + budget ≤ maxNodes) × (outputSize ≤ length (now buf)))
+        × Frame (now p) rules (now fits) (now chart) (now tables) (tail .r) (span .i) (span .j) (span .mask) (now full) (now rows) ⌝ }
+    ensures { λ n. ⌜ RowNext (now (p .entry)) rules (now (fits .entry)) (now (chart .entry)) (now (tables .entry)) (tail .r) (tail .q)
+        (tail .a) (span .i) (span .j) (span .mask) budget at
         (now (buf .entry)) (now (full .exit)) (now (rows .exit)) (now (buf .exit)) n ⌝ }
 {
+    let Tail { r, q, a } = tail;
+    let j = span.j;
     let step = look(p, r, q, buf, at, a, j, budget);
     match step {
         Step::No => 0,
         Step::End => 0,
-        Step::Byte => row(
-            p,
-            rules,
-            fits,
-            chart,
-            tables,
-            full,
-            rows,
-            r,
-            q + 1,
-            a + 1,
-            i,
-            j,
-            mask,
-            budget,
-            buf,
-            at,
-        ),
+        Step::Byte => {
+            let a = a + 1;
+            row(
+                p,
+                rules,
+                fits,
+                chart,
+                tables,
+                full,
+                rows,
+                Tail { r, q: q + 1, a },
+                span,
+                budget,
+                buf,
+                at,
+            )
+        }
         Step::Final(_, _) => 0,
         Step::Node(k, b, s) => {
             let n = row(
@@ -72,12 +73,8 @@ pub fn row(
                 tables,
                 full,
                 rows,
-                r,
-                q + 1,
-                b,
-                i,
-                j,
-                mask,
+                Tail { r, q: q + 1, a: b },
+                span,
                 budget - s,
                 buf,
                 at + s,
@@ -93,17 +90,10 @@ pub fn row(
                 tables,
                 full,
                 rows,
-                r,
-                q,
-                k,
-                a,
-                b,
-                i,
-                j,
-                mask,
-                budget,
+                Child { r, q, k, a, b },
+                span,
+                Room { at, budget },
                 buf,
-                at,
             )
         }
     }

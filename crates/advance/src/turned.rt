@@ -4,6 +4,9 @@ use super::row::row;
 use beyond::later::later_rule;
 use descend::open::UNMADE;
 use fit::FitTable;
+use nodes::Room;
+use nodes::Span;
+use nodes::Tail;
 use packed::Packed;
 use tables::layout::ROWS_SIZE;
 use tables::layout::Tables;
@@ -12,8 +15,8 @@ ghost use lib.ListN.{length};
 ghost use Rattle.sizes.specs.Sizes.{maxRules, side, cells, maxNodes, outputSize};
 ghost use Rattle.advance.specs.Advance.{Turned};
 
-// Writes the tree of k over the span from i to j after the one of rule r that stands at node `at`. The result is the number of its nodes, 0
-// if there is none.
+// Writes the tree of k over the span, under a mask that has k, after the one of rule r that stands at node `at`. The result is the number
+// of its nodes, 0 if there is none.
 pub fn turned(
     p: &Packed,
     rules: usize,
@@ -22,18 +25,19 @@ pub fn turned(
     tables: &Tables,
     r: usize,
     k: usize,
-    i: usize,
-    j: usize,
-    own: u32,
-    budget: usize,
+    span: Span,
+    room: Room,
     buf: &mut [u16],
-    at: usize,
 ) -> usize
-    requires { ⌜ (rules ≤ maxRules) × (r < maxRules) × (i ≤ j) × (j < side) × (cells ≤ length (now chart)) × (0 < budget)
-        × (at + budget ≤ maxNodes) × (outputSize ≤ length (now buf)) ⌝ }
-    ensures { λ n. ⌜ Turned (now (p .entry)) rules (now (fits .entry)) (now (chart .entry)) (now (tables .entry)) r k i j own budget at
-        (now (buf .entry)) (now (buf .exit)) n ⌝ }
+    requires { ⌜ (rules ≤ maxRules) × (r < maxRules) × (span .i ≤ span .j) × (span .j < side) × (cells ≤ length (now chart))
+        × (0 < room .budget) × (room .at + room .budget ≤ maxNodes) × (outputSize ≤ length (now buf)) ⌝ }
+    ensures { λ n. ⌜ Turned (now (p .entry)) rules (now (fits .entry)) (now (chart .entry)) (now (tables .entry)) r k (span .i) (span .j)
+        (span .mask) (room .budget) (room .at) (now (buf .entry)) (now (buf .exit)) n ⌝ }
 {
+    let i = span.i;
+    let Room { at, budget } = room;
+    let at = at + 1;
+    let budget = budget - 1;
     let mut full = [UNMADE; sizes::NONTERMINALS];
     let mut rows = [0u16; ROWS_SIZE];
     let n = row(
@@ -44,15 +48,11 @@ pub fn turned(
         tables,
         &mut full,
         &mut rows,
-        r,
-        0,
-        i,
-        i,
-        j,
-        own,
-        budget - 1,
+        Tail { r, q: 0, a: i },
+        span,
+        budget,
         buf,
-        at + 1,
+        at,
     );
     if n > 0 {
         return 1 + n;
@@ -67,11 +67,8 @@ pub fn turned(
         &mut rows,
         r,
         k,
-        i,
-        j,
-        own,
-        budget,
+        span,
+        room,
         buf,
-        at,
     )
 }

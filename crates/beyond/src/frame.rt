@@ -1,6 +1,8 @@
 // The frame of a node: the costs over its span, and those of the places of its rule. Made only where they are needed.
 use descend::open::make_costs;
 use fit::FitTable;
+use nodes::Child;
+use nodes::Span;
 use numbers::wide;
 use packed::Packed;
 use suffixes::rows::Rows;
@@ -20,44 +22,41 @@ pub fn make(
     chart: &[u32],
     tables: &Tables,
     r: usize,
-    i: usize,
-    j: usize,
-    mask: u32,
+    span: Span,
     full: &mut Full,
     rows: &mut Rows,
 )
-    requires { ⌜ (rules ≤ maxRules) × (r < maxRules) × (i ≤ j) × (j < side) × (cells ≤ length (now chart))
-        × Frame (now p) rules (now fits) (now chart) (now tables) r i j mask (now full) (now rows) ⌝ }
-    ensures { λ _. ⌜ Made (now (p .entry)) rules (now (fits .entry)) (now (chart .entry)) (now (tables .entry)) r i j mask
-        (now (full .exit)) (now (rows .exit)) ⌝ }
+    requires { ⌜ (rules ≤ maxRules) × (r < maxRules) × (span .i ≤ span .j) × (span .j < side) × (cells ≤ length (now chart))
+        × Frame (now p) rules (now fits) (now chart) (now tables) r (span .i) (span .j) (span .mask) (now full) (now rows) ⌝ }
+    ensures { λ _. ⌜ Made (now (p .entry)) rules (now (fits .entry)) (now (chart .entry)) (now (tables .entry)) r (span .i) (span .j)
+        (span .mask) (now (full .exit)) (now (rows .exit)) ⌝ }
 {
     if wide(full[0]) > sizes::TOO_MANY {
-        make_costs(p, rules, chart, mask, tables, i, j, full);
-        put_rows(p, r, fits, tables, full, i, j, rows);
+        make_costs(p, rules, chart, tables, span, full);
+        put_rows(p, r, fits, tables, full, span.i, span.j, rows);
     }
 }
 
-// Makes it, if it is not made. The result is the least cost of the places of rule r behind q, from b on.
+// Makes it, if it is not made. The result is the least cost of the places behind the child.
 pub fn rest_of(
     p: &Packed,
     rules: usize,
     fits: &FitTable,
     chart: &[u32],
     tables: &Tables,
-    r: usize,
-    i: usize,
-    j: usize,
-    mask: u32,
-    q: usize,
-    b: usize,
+    child: Child,
+    span: Span,
     full: &mut Full,
     rows: &mut Rows,
 ) -> usize
-    requires { ⌜ (rules ≤ maxRules) × (r < maxRules) × (i ≤ j) × (j < side) × (cells ≤ length (now chart)) × (q < maxPlaces) × (b < side)
-        × Frame (now p) rules (now fits) (now chart) (now tables) r i j mask (now full) (now rows) ⌝ }
-    ensures { λ rest. ⌜ RestMade (now (p .entry)) rules (now (fits .entry)) (now (chart .entry)) (now (tables .entry)) r i j mask q b
-        (now (full .exit)) (now (rows .exit)) rest ⌝ }
+    requires { ⌜ (rules ≤ maxRules) × (child .r < maxRules) × (span .i ≤ span .j) × (span .j < side) × (cells ≤ length (now chart))
+        × (child .q < maxPlaces) × (child .b < side)
+        × Frame (now p) rules (now fits) (now chart) (now tables) (child .r) (span .i) (span .j) (span .mask) (now full) (now rows) ⌝ }
+    ensures { λ rest. ⌜ RestMade (now (p .entry)) rules (now (fits .entry)) (now (chart .entry)) (now (tables .entry)) (child .r) (span .i)
+        (span .j) (span .mask) (child .q) (child .b) (now (full .exit)) (now (rows .exit)) rest ⌝ }
 {
-    make(p, rules, fits, chart, tables, r, i, j, mask, full, rows);
+    make(p, rules, fits, chart, tables, child.r, span, full, rows);
+    let q = child.q;
+    let b = child.b;
     wide(rows[sizes::SIDE * (q + 1) + b])
 }

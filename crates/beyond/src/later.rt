@@ -2,6 +2,9 @@
 use descend::first;
 use descend::open::open_node;
 use fit::FitTable;
+use nodes::Room;
+use nodes::Span;
+use nodes::Tail;
 use nodes::put_node;
 use packed::Packed;
 use suffixes::rows::Rows;
@@ -27,8 +30,8 @@ fn no_rule(p: &Packed, rules: usize, from: usize, k: usize) -> bool
     true
 }
 
-// Writes the first tree of k over the span from i to j whose rule is beyond r. The result is the number of its nodes, 0 if there is none
-// within the budget. The costs are made only where k has a later rule.
+// Writes the first tree of k over the span whose rule is beyond r, under a mask that has k. The result is the number of its nodes, 0 if
+// there is none within the budget. The costs are made only where k has a later rule.
 pub fn later_rule(
     p: &Packed,
     rules: usize,
@@ -39,18 +42,19 @@ pub fn later_rule(
     rows: &mut Rows,
     r: usize,
     k: usize,
-    i: usize,
-    j: usize,
-    own: u32,
-    budget: usize,
+    span: Span,
+    room: Room,
     buf: &mut [u16],
-    at: usize,
 ) -> usize
-    requires { ⌜ ((rules ≤ maxRules) × (r < maxRules) × (i ≤ j) × (j < side) × (cells ≤ length (now chart)) × (at + budget ≤ maxNodes)
-        × (outputSize ≤ length (now buf))) × Frame (now p) rules (now fits) (now chart) (now tables) r i j own (now full) (now rows) ⌝ }
-    ensures { λ n. ⌜ LaterRule (now (p .entry)) rules (now (fits .entry)) (now (chart .entry)) (now (tables .entry)) r k i j own budget at
-        (now (buf .entry)) (now (buf .exit)) n ⌝ }
+    requires { ⌜ ((rules ≤ maxRules) × (r < maxRules) × (span .i ≤ span .j) × (span .j < side) × (cells ≤ length (now chart))
+        × (room .at + room .budget ≤ maxNodes) × (outputSize ≤ length (now buf)))
+        × Frame (now p) rules (now fits) (now chart) (now tables) r (span .i) (span .j) (span .mask) (now full) (now rows) ⌝ }
+    ensures { λ n. ⌜ LaterRule (now (p .entry)) rules (now (fits .entry)) (now (chart .entry)) (now (tables .entry)) r k (span .i)
+        (span .j) (span .mask) (room .budget) (room .at) (now (buf .entry)) (now (buf .exit)) n ⌝ }
 {
+    let i = span.i;
+    let j = span.j;
+    let Room { at, budget } = room;
     if no_rule(p, rules, r + 1, k) {
         return 0;
     }
@@ -62,9 +66,7 @@ pub fn later_rule(
         tables,
         r + 1,
         k,
-        i,
-        j,
-        own,
+        span,
         budget,
         full,
         rows,
@@ -73,6 +75,8 @@ pub fn later_rule(
         return 0;
     }
     put_node(j - i, s, buf, at);
+    let at = at + 1;
+    let budget = budget - 1;
     1
         + first::row(
             p,
@@ -82,14 +86,10 @@ pub fn later_rule(
             tables,
             full,
             rows,
-            s,
-            0,
-            i,
-            i,
-            j,
-            own,
-            budget - 1,
+            Tail { r: s, q: 0, a: i },
+            span,
+            budget,
             buf,
-            at + 1,
+            at,
         )
 }

@@ -1,6 +1,8 @@
 // The first derivation below a node, written from the left: a node calls the row of its rule's places, which calls the nodes below it.
 use super::open;
 use fit::FitTable;
+use nodes::Span;
+use nodes::Tail;
 use packed::Packed;
 use steps::Step;
 use steps::look;
@@ -13,8 +15,8 @@ ghost use lib.ListN.{length};
 ghost use Rattle.sizes.specs.Sizes.{maxRules, maxPlaces, side, cells, maxNodes, outputSize};
 ghost use Rattle.descend.specs.Descend.{NodeFirst, RowFirst};
 
-// Writes the first tree of the nonterminal k over the span from i to j within the budget, in which no nonterminal of the mask stands over
-// the whole span. The result is the number of its nodes.
+// Writes the first tree of the nonterminal k over the span within the budget, in which no nonterminal of the mask stands over the whole
+// span. The result is the number of its nodes.
 pub fn node(
     p: &Packed,
     rules: usize,
@@ -22,19 +24,19 @@ pub fn node(
     chart: &[u32],
     tables: &Tables,
     k: usize,
-    i: usize,
-    j: usize,
-    mask: u32,
+    span: Span,
     budget: usize,
     out: &mut [u16],
     at: usize,
 ) -> usize
-    requires { ⌜ (rules ≤ maxRules) × (i ≤ j) × (j < side) × (cells ≤ length (now chart)) × (at + budget ≤ maxNodes)
-        × (outputSize ≤ length (now out)) ⌝ }
-    ensures { λ n. ⌜ NodeFirst (now (p .entry)) rules (now (fits .entry)) (now (chart .entry)) (now (tables .entry)) k i j mask budget at
-        (now (out .entry)) (now (out .exit)) n ⌝ }
+    requires { ⌜ (rules ≤ maxRules) × (span .i ≤ span .j) × (span .j < side) × (cells ≤ length (now chart))
+        × (at + budget ≤ maxNodes) × (outputSize ≤ length (now out)) ⌝ }
+    ensures { λ n. ⌜ NodeFirst (now (p .entry)) rules (now (fits .entry)) (now (chart .entry)) (now (tables .entry)) k (span .i) (span .j)
+        (span .mask) budget at (now (out .entry)) (now (out .exit)) n ⌝ }
 {
-    let own = nodes::own_set(mask, k);
+    let Span { i, j, mask } = span;
+    let mask = nodes::own_set(mask, k);
+    let own = Span { i, j, mask };
     let mut full = [open::UNMADE; sizes::NONTERMINALS];
     let mut rows = [0u16; ROWS_SIZE];
     let r = open::open_node(
@@ -45,8 +47,6 @@ pub fn node(
         tables,
         0,
         k,
-        i,
-        j,
         own,
         budget,
         &mut full,
@@ -56,6 +56,8 @@ pub fn node(
         return 0;
     }
     nodes::put_node(j - i, r, out, at);
+    let at = at + 1;
+    let budget = budget - 1;
     1
         + row(
             p,
@@ -65,19 +67,15 @@ pub fn node(
             tables,
             &full,
             &rows,
-            r,
-            0,
-            i,
-            i,
-            j,
+            Tail { r, q: 0, a: i },
             own,
-            budget - 1,
+            budget,
             out,
-            at + 1,
+            at,
         )
 }
 
-// Writes the first row of the places of rule r from q on, from a to j inside i to j, within the budget. The result is its number of nodes.
+// Writes the first row of the tail, from a to j inside i to j, within the budget. The result is its number of nodes.
 pub fn row(
     p: &Packed,
     rules: usize,
@@ -86,46 +84,57 @@ pub fn row(
     tables: &Tables,
     full: &Full,
     rows: &Rows,
-    r: usize,
-    q: usize,
-    a: usize,
-    i: usize,
-    j: usize,
-    mask: u32,
+    tail: Tail,
+    span: Span,
     budget: usize,
     out: &mut [u16],
     at: usize,
 ) -> usize
-    requires { ⌜ (rules ≤ maxRules) × (r < maxRules) × (q ≤ maxPlaces) × (i ≤ a) × (a ≤ j) × (j < side) × (cells ≤ length (now chart))
-        × (at + budget ≤ maxNodes) × (outputSize ≤ length (now out)) ⌝ }
+    requires { ⌜ (rules ≤ maxRules) × (tail .r < maxRules) × (tail .q ≤ maxPlaces) × (span .i ≤ tail .a) × (tail .a ≤ span .j)
+        × (span .j < side) × (cells ≤ length (now chart)) × (at + budget ≤ maxNodes) × (outputSize ≤ length (now out)) ⌝ }
     ensures { λ n. ⌜ RowFirst (now (p .entry)) rules (now (fits .entry)) (now (chart .entry)) (now (tables .entry)) (now (full .entry))
-        (now (rows .entry)) r q a i j mask budget at (now (out .entry)) (now (out .exit)) n ⌝ }
+        (now (rows .entry)) (tail .r) (tail .q) (tail .a) (span .i) (span .j) (span .mask) budget at
+        (now (out .entry)) (now (out .exit)) n ⌝ }
 {
+    let Tail { r, q, a } = tail;
+    let Span { i, j, mask } = span;
     let step = look(p, r, q, tables, full, rows, i, a, j, budget);
     match step {
         Step::No => 0,
         Step::End => 0,
-        Step::Byte => row(
-            p,
-            rules,
-            fits,
-            chart,
-            tables,
-            full,
-            rows,
-            r,
-            q + 1,
-            a + 1,
-            i,
-            j,
-            mask,
-            budget,
-            out,
-            at,
-        ),
+        Step::Byte => {
+            let a = a + 1;
+            row(
+                p,
+                rules,
+                fits,
+                chart,
+                tables,
+                full,
+                rows,
+                Tail { r, q: q + 1, a },
+                span,
+                budget,
+                out,
+                at,
+            )
+        }
         Step::Node(k, b, share) => {
-            let set = nodes::child_set(j - i, mask, b - a);
-            let m = node(p, rules, fits, chart, tables, k, a, b, set, share, out, at);
+            let mask = nodes::child_set(j - i, mask, b - a);
+            let m = node(
+                p,
+                rules,
+                fits,
+                chart,
+                tables,
+                k,
+                Span { i: a, j: b, mask },
+                share,
+                out,
+                at,
+            );
+            let at = at + m;
+            let budget = budget - m;
             m
                 + row(
                     p,
@@ -135,15 +144,11 @@ pub fn row(
                     tables,
                     full,
                     rows,
-                    r,
-                    q + 1,
-                    b,
-                    i,
-                    j,
-                    mask,
-                    budget - m,
+                    Tail { r, q: q + 1, a: b },
+                    span,
+                    budget,
                     out,
-                    at + m,
+                    at,
                 )
         }
     }

@@ -1,6 +1,7 @@
 // What a node needs before its row is written: the costs over its span, its rule, and the costs of the rule's places.
 use choose::rule::choose_rule;
 use fit::FitTable;
+use nodes::Span;
 use numbers::wide;
 use packed::Packed;
 use solve::solve;
@@ -20,29 +21,38 @@ ghost use Rattle.descend.specs.Descend.{MaybeSolved, Opened};
 // Stands in front of costs that are not made: no cost is as large.
 pub const UNMADE: u16 = 65535;
 
-// Makes the costs over the span from i to j under the mask, if they are not made.
+// Makes the costs over the span under its mask, if they are not made.
 pub fn make_costs(
     p: &Packed,
     rules: usize,
     chart: &[u32],
-    mask: u32,
     tables: &Tables,
-    i: usize,
-    j: usize,
+    span: Span,
     full: &mut Full,
 )
-    requires { ⌜ (rules ≤ maxRules) × (i ≤ j) × (j < side) × (cells ≤ length (now chart)) × (length (now full) ≡ nonterminals)
-        × MaybeSolved (now p) rules (cell (now chart) i j) mask (now tables) i j (now full) ⌝ }
-    ensures { λ _.
-        ⌜ Solved (now (p .entry)) rules (cell (now (chart .entry)) i j) mask (now (tables .entry)) i j (now (full .exit)) ⌝ }
+    requires { ⌜ (rules ≤ maxRules) × (span .i ≤ span .j) × (span .j < side) × (cells ≤ length (now chart))
+        × (length (now full) ≡ nonterminals)
+        × MaybeSolved (now p) rules (cell (now chart) (span .i) (span .j)) (span .mask) (now tables) (span .i) (span .j) (now full) ⌝ }
+    ensures { λ _. ⌜ Solved (now (p .entry)) rules (cell (now (chart .entry)) (span .i) (span .j)) (span .mask) (now (tables .entry))
+        (span .i) (span .j) (now (full .exit)) ⌝ }
 {
     if wide(full[0]) > sizes::TOO_MANY {
-        *full = solve(p, rules, chart[sizes::SIDE * i + j], mask, tables, i, j);
+        let i = span.i;
+        let j = span.j;
+        *full = solve(
+            p,
+            rules,
+            chart[sizes::SIDE * i + j],
+            span.mask,
+            tables,
+            i,
+            j,
+        );
     }
 }
 
-// Makes the costs over the span from i to j under the mask `own`, if they are not made, and those of the places of the first rule of k
-// from `from` on that they allow within the budget. The result is that rule, no rule if there is none.
+// Makes the costs over the span under its mask, if they are not made, and those of the places of the first rule of k from `from` on that
+// they allow within the budget. The result is that rule, no rule if there is none.
 pub fn open_node(
     p: &Packed,
     rules: usize,
@@ -51,27 +61,25 @@ pub fn open_node(
     tables: &Tables,
     from: usize,
     k: usize,
-    i: usize,
-    j: usize,
-    own: u32,
+    span: Span,
     budget: usize,
     full: &mut Full,
     rows: &mut Rows,
 ) -> usize
-    requires { ⌜ (rules ≤ maxRules) × (from ≤ maxRules) × (i ≤ j) × (j < side) × (cells ≤ length (now chart))
+    requires { ⌜ (rules ≤ maxRules) × (from ≤ maxRules) × (span .i ≤ span .j) × (span .j < side) × (cells ≤ length (now chart))
         × (length (now full) ≡ nonterminals) × (length (now rows) ≡ rowsSize)
-        × MaybeSolved (now p) rules (cell (now chart) i j) own (now tables) i j (now full) ⌝ }
-    ensures { λ r. ⌜ Opened (now (p .entry)) rules (now (fits .entry)) (now (chart .entry)) (now (tables .entry)) from k i j own budget
-        (now (full .exit)) (now (rows .exit)) r ⌝ }
+        × MaybeSolved (now p) rules (cell (now chart) (span .i) (span .j)) (span .mask) (now tables) (span .i) (span .j) (now full) ⌝ }
+    ensures { λ r. ⌜ Opened (now (p .entry)) rules (now (fits .entry)) (now (chart .entry)) (now (tables .entry)) from k (span .i)
+        (span .j) (span .mask) budget (now (full .exit)) (now (rows .exit)) r ⌝ }
 {
     if budget == 0 {
         return sizes::NO_RULE;
     }
-    make_costs(p, rules, chart, own, tables, i, j, full);
-    let r = choose_rule(p, rules, from, k, full, tables, i, j, budget);
+    make_costs(p, rules, chart, tables, span, full);
+    let r = choose_rule(p, rules, from, k, full, tables, span.i, span.j, budget);
     if r >= sizes::NO_RULE {
         return r;
     }
-    put_rows(p, r, fits, tables, full, i, j, rows);
+    put_rows(p, r, fits, tables, full, span.i, span.j, rows);
     r
 }

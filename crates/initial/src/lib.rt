@@ -1,6 +1,7 @@
 // The tables of an input, and over tables that are made: whether there is a derivation, and the first one.
 use descend::first::node;
 use fit::FitTable;
+use nodes::Span;
 use numbers::wide;
 use packed::Packed;
 use tables::layout::Tables;
@@ -53,6 +54,7 @@ pub fn write_first(
     ensures { λ m. ⌜ FirstWritten (now (p .entry)) rules (now (fits .entry)) (now (chart .entry)) (now (tables .entry)) start n
         (now (out .entry)) (now (out .exit)) m ⌝ }
 {
+    let mask = 0;
     node(
         p,
         rules,
@@ -60,9 +62,7 @@ pub fn write_first(
         chart,
         tables,
         start,
-        0,
-        n,
-        0,
+        Span { i: 0, j: n, mask },
         sizes::MAX_NODES,
         out,
         0,

@@ -1,4 +1,4 @@
-// One node of a derivation: the masks for it and below it, and its two numbers.
+// One node of a derivation: the numbers by which it is sought, the masks for it and below it, and its two numbers.
 ghost use mathlib.Core.Path.{_≡_};
 ghost use Prim.Native.Nat.{_<_, _≤_};
 ghost use lib.ListN.{length};
@@ -6,6 +6,35 @@ ghost use Rattle.sizes.specs.Sizes.{maxRules, nonterminals, side, maxNodes, out
 ghost use Rattle.sets.specs.Set.{insert};
 ghost use Rattle.enumeration.specs.Rows.{SameSpan};
 ghost use Rattle.nodes.specs.Numbers.{NodePut};
+
+// The span of a node, from i to j, and the nonterminals that may not stand over the whole of it.
+pub struct Span {
+    pub i: usize,
+    pub j: usize,
+    pub mask: u32,
+}
+
+// How many nodes a tree or a row may have, and the node at which it is written.
+pub struct Room {
+    pub budget: usize,
+    pub at: usize,
+}
+
+// The places of rule r from q on, from position a on.
+pub struct Tail {
+    pub r: usize,
+    pub q: usize,
+    pub a: usize,
+}
+
+// The node of k from a to b that stands at place q of rule r.
+pub struct Child {
+    pub r: usize,
+    pub q: usize,
+    pub k: usize,
+    pub a: usize,
+    pub b: usize,
+}
 
 // The mask with the nonterminal k in it.
 pub fn own_set(mask: u32, k: usize) -> u32

@@ -1,6 +1,7 @@
 // The derivation after the one that stands in a buffer, over tables that are made, and numbers copied from one front to another.
 use advance::next::node;
 use fit::FitTable;
+use nodes::Span;
 use packed::Packed;
 use tables::layout::Tables;
 ghost use Prim.Native.Nat.{_<_, _≤_};
@@ -36,6 +37,7 @@ pub fn advance_root(
     ensures { λ m. ⌜ RootNext (now (p .entry)) rules (now (fits .entry)) (now (chart .entry)) (now (tables .entry)) start n
         (now (buf .entry)) (now (buf .exit)) m ⌝ }
 {
+    let mask = 0;
     node(
         p,
         rules,
@@ -43,9 +45,7 @@ pub fn advance_root(
         chart,
         tables,
         start,
-        0,
-        n,
-        0,
+        Span { i: 0, j: n, mask },
         sizes::MAX_NODES,
         buf,
         0,

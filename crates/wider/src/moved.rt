@@ -2,6 +2,10 @@
 use super::widen::widen;
 use descend::first;
 use fit::FitTable;
+use nodes::Child;
+use nodes::Room;
+use nodes::Span;
+use nodes::Tail;
 use packed::Packed;
 use suffixes::rows::Rows;
 use tables::layout::Full;
@@ -11,8 +15,8 @@ ghost use lib.ListN.{length};
 ghost use Rattle.sizes.specs.Sizes.{maxRules, maxPlaces, side, cells, maxNodes, outputSize};
 ghost use Rattle.wider.specs.Wider.{Moved};
 
-// What follows the node of k from a to b at place q, which has moved and has m nodes: the first row of the places behind it. Where m is 0
-// it is as found and last, and a wider one is written.
+// What follows the child, which has moved and has m nodes: the first row of the places behind it. Where m is 0 it is as found and last,
+// and a wider one is written.
 pub fn moved(
     p: &Packed,
     rules: usize,
@@ -21,25 +25,26 @@ pub fn moved(
     tables: &Tables,
     full: &Full,
     rows: &Rows,
-    r: usize,
-    q: usize,
-    k: usize,
-    a: usize,
-    b: usize,
-    i: usize,
-    j: usize,
-    mask: u32,
-    budget: usize,
+    child: Child,
+    span: Span,
+    room: Room,
     m: usize,
     buf: &mut [u16],
-    at: usize,
 ) -> usize
-    requires { ⌜ (rules ≤ maxRules) × (r < maxRules) × (q < maxPlaces) × (i ≤ a) × (a ≤ b) × (b ≤ j) × (j < side)
-        × (cells ≤ length (now chart)) × (at + budget ≤ maxNodes) × (m ≤ budget) × (outputSize ≤ length (now buf)) ⌝ }
+    requires { ⌜ (rules ≤ maxRules) × (child .r < maxRules) × (child .q < maxPlaces) × (span .i ≤ child .a) × (child .a ≤ child .b)
+        × (child .b ≤ span .j) × (span .j < side) × (cells ≤ length (now chart)) × (room .at + room .budget ≤ maxNodes)
+        × (m ≤ room .budget) × (outputSize ≤ length (now buf)) ⌝ }
     ensures { λ n. ⌜ Moved (now (p .entry)) rules (now (fits .entry)) (now (chart .entry)) (now (tables .entry)) (now (full .entry))
-        (now (rows .entry)) r q k a b i j mask budget at m (now (buf .entry)) (now (buf .exit)) n ⌝ }
+        (now (rows .entry)) (child .r) (child .q) (child .k) (child .a) (child .b) (span .i) (span .j) (span .mask) (room .budget)
+        (room .at) m (now (buf .entry)) (now (buf .exit)) n ⌝ }
 {
+    let r = child.r;
+    let q = child.q;
+    let b = child.b;
+    let Room { at, budget } = room;
     if m > 0 {
+        let at = at + m;
+        let budget = budget - m;
         return m
             + first::row(
                 p,
@@ -49,15 +54,11 @@ pub fn moved(
                 tables,
                 full,
                 rows,
-                r,
-                q + 1,
-                b,
-                i,
-                j,
-                mask,
-                budget - m,
+                Tail { r, q: q + 1, a: b },
+                span,
+                budget,
                 buf,
-                at + m,
+                at,
             );
     }
     widen(
@@ -68,16 +69,9 @@ pub fn moved(
         tables,
         full,
         rows,
-        r,
-        q,
-        k,
-        a,
-        b,
-        i,
-        j,
-        mask,
-        budget,
+        child,
+        span,
+        room,
         buf,
-        at,
     )
 }

@@ -2,6 +2,10 @@
 use choose::ends::choose_end;
 use descend::first;
 use fit::FitTable;
+use nodes::Child;
+use nodes::Room;
+use nodes::Span;
+use nodes::Tail;
 use nodes::child_set;
 use numbers::wide;
 use packed::Packed;
@@ -13,8 +17,8 @@ ghost use lib.ListN.{length};
 ghost use Rattle.sizes.specs.Sizes.{maxRules, maxPlaces, side, cells, maxNodes, outputSize};
 ghost use Rattle.wider.specs.Wider.{Widened};
 
-// Writes the first row of the places of rule r from q on, from a to j inside a span from i to j, whose node of k ends beyond b. The
-// result is the number of its nodes, 0 if there is none within the budget.
+// Writes the first row of the places of the child's rule from its place on, from a to the end of the span, whose node of k ends beyond b.
+// The result is the number of its nodes, 0 if there is none within the budget.
 pub fn widen(
     p: &Packed,
     rules: usize,
@@ -23,23 +27,21 @@ pub fn widen(
     tables: &Tables,
     full: &Full,
     rows: &Rows,
-    r: usize,
-    q: usize,
-    k: usize,
-    a: usize,
-    b: usize,
-    i: usize,
-    j: usize,
-    mask: u32,
-    budget: usize,
+    child: Child,
+    span: Span,
+    room: Room,
     buf: &mut [u16],
-    at: usize,
 ) -> usize
-    requires { ⌜ (rules ≤ maxRules) × (r < maxRules) × (q < maxPlaces) × (i ≤ a) × (a ≤ b) × (b ≤ j) × (j < side)
-        × (cells ≤ length (now chart)) × (at + budget ≤ maxNodes) × (outputSize ≤ length (now buf)) ⌝ }
+    requires { ⌜ (rules ≤ maxRules) × (child .r < maxRules) × (child .q < maxPlaces) × (span .i ≤ child .a) × (child .a ≤ child .b)
+        × (child .b ≤ span .j) × (span .j < side) × (cells ≤ length (now chart)) × (room .at + room .budget ≤ maxNodes)
+        × (outputSize ≤ length (now buf)) ⌝ }
     ensures { λ n. ⌜ Widened (now (p .entry)) rules (now (fits .entry)) (now (chart .entry)) (now (tables .entry)) (now (full .entry))
-        (now (rows .entry)) r q k a b i j mask budget at (now (buf .entry)) (now (buf .exit)) n ⌝ }
+        (now (rows .entry)) (child .r) (child .q) (child .k) (child .a) (child .b) (span .i) (span .j) (span .mask) (room .budget)
+        (room .at) (now (buf .entry)) (now (buf .exit)) n ⌝ }
 {
+    let Child { r, q, k, a, b } = child;
+    let Span { i, j, mask } = span;
+    let Room { at, budget } = room;
     let c = choose_end(
         tables,
         full,
@@ -55,9 +57,22 @@ pub fn widen(
     if c > j {
         return 0;
     }
-    let set = child_set(j - i, mask, c - a);
+    let mask = child_set(j - i, mask, c - a);
     let share = budget - wide(rows[sizes::SIDE * (q + 1) + c]);
-    let m = first::node(p, rules, fits, chart, tables, k, a, c, set, share, buf, at);
+    let m = first::node(
+        p,
+        rules,
+        fits,
+        chart,
+        tables,
+        k,
+        Span { i: a, j: c, mask },
+        share,
+        buf,
+        at,
+    );
+    let at = at + m;
+    let budget = budget - m;
     m
         + first::row(
             p,
@@ -67,14 +82,10 @@ pub fn widen(
             tables,
             full,
             rows,
-            r,
-            q + 1,
-            c,
-            i,
-            j,
-            mask,
-            budget - m,
+            Tail { r, q: q + 1, a: c },
+            span,
+            budget,
             buf,
-            at + m,
+            at,
         )
 }

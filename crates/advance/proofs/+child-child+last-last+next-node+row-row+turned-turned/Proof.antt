@@ -80,8 +80,7 @@ last-returns : (t : ℕ) → last-lts.Need-returns (last-calls t) (last-at t) la
 last-returns t c =
     let d = c .before .before .before .before .before .before .before in
     last-still (d .before .before .reach .ensures) (d .there .given .1) (c .before .before .before .before .before .child-set .ensures)
-    (c .before .before .before .node .ensures)
-    (omega arith)
+    (c .before .before .before .node .ensures) (omega arith)
 
 last-add-result : (t : ℕ) → last-lts.Need-add-result (last-calls t) (last-at t) last.Post
 last-add-result t c =
@@ -94,8 +93,7 @@ last-returns-3 : (t : ℕ) → last-lts.Need-returns-3 (last-calls t) (last-at t
 last-returns-3 t c =
     let d = c .before .before .before .before .before .before .before in
     last-moves (d .before .before .reach .ensures) (d .there .given .1) (c .before .before .before .before .before .child-set .ensures)
-    (c .before .before .before .node .ensures)
-    (omega arith)
+    (c .before .before .before .node .ensures) (omega arith)
 
 -- ---- node
 
@@ -123,8 +121,7 @@ node-returns-3 t c =
     let y = d .before .if1 .left in
     let z = c .before .before .before .before .if2 .left in
     node-turned (omega arith) (d .before .before .rule-at .ensures) (d .own-set .ensures) (omega arith)
-    (c .before .before .before .before .before .before .before .last .ensures)
-    (omega arith) (c .before .before .turned .ensures)
+    (c .before .before .before .before .before .before .before .last .ensures) (omega arith) (c .before .before .turned .ensures)
 
 -- ---- row
 
@@ -198,7 +195,8 @@ turned-returns-2 t c =
 pub +child·child+last·last+next·node+row·row+turned·turned-spec : {M : Type 1} → statement M
 +child·child+last·last+next·node+row·row+turned·turned-spec = close μ-child μ-last μ-node μ-row μ-turned
     (λ t. child-lts.spec (child-calls t) (child-at t) child.Post
-    (λ c κs. search needs) (λ c. child-dear (omega arith) (omega arith) (omega arith) (c .before .rest-of .ensures) (omega arith))
+    (λ c κs. search needs)
+    (λ c. child-dear (omega arith) (omega arith) (omega arith) (c .before .rest-of .ensures) (omega arith))
     (λ c. omega arith) (λ c. omega arith) (λ c κs. omega arith) (λ c κs. omega arith) (child-moved-requires t) (λ c. omega arith)
     (child-returns-2 t))
     (λ t. last-lts.spec (last-calls t) (last-at t) last.Post
@@ -214,13 +212,14 @@ pub +child·child+last·last+next·node+row·row+turned·turned-spec : {M : Type
     (λ c. omega arith) (last-returns-3 t))
     (λ t. node-lts.spec (node-calls t) (node-at t) node.Post
     (λ c κs. omega arith) (λ c. omega arith) (λ c. node-none (omega arith) (c .before .rule-at .ensures) (omega arith))
-    (λ c κs. omega arith) (λ c. c .before .before .rule-at .ensures .room (omega arith)) (λ c. omega arith)
+    (λ c κs. omega arith) (λ c. omega arith) (λ c. c .before .before .rule-at .ensures .room (omega arith))
     (λ c κs. omega (arith, c .before .before .before .rule-at .ensures .room (omega arith)))
     (λ c. omega (arith, c .before .before .before .last .ensures .kept .few)) (λ c. omega arith) (node-returns-2 t)
     (node-turned-requires t) (λ c. omega arith) (node-returns-3 t))
     (λ t. row-lts.spec (row-calls t) (row-at t) row.Post
     (λ c κs. omega arith) (λ c. omega arith) (λ c. omega arith) (λ c. omega arith) (λ c. omega arith) (λ c. omega arith)
-    (row-row-requires t) (λ c. omega arith) (λ c. omega arith) (λ c. omega arith)
+    (row-row-requires t) (λ c. omega arith) (λ c. omega arith)
+    (λ c. omega arith)
     (λ c. omega (arith, node-room (c .before .before .before .before .before .look .ensures) (c .before .before .before .step .given .1)))
     (λ c. omega (
       arith,

@@ -10,9 +10,6 @@ put-node-requires c κs =
     let o = c .before .before .open-node .ensures .room (omega arith) in
     omega arith
 
-sub-row : tie.Need-sub-row
-sub-row c = omega (arith, c .before .before .before .before .before .before .before .open-node .ensures .room (omega arith))
-
 row-requires : tie.Need-row-requires
 row-requires c κs =
     let d = c .before .before .before .before .before in
@@ -38,5 +35,8 @@ returns-3 c =
 pub later-rule-spec : {M : Type 1} → statement M
 later-rule-spec = tie.close (tie.spec
     (λ c. omega arith) (λ c κs. omega arith) (λ c. later-absent (omega arith) (c .before .no-rule .ensures (search needs)))
-    (λ c. omega arith) (λ c κs. search needs) (λ c. later-none (omega arith) (omega arith) (c .before .open-node .ensures) (omega arith))
-    (λ c. omega arith) put-node-requires sub-row (λ c. omega arith) row-requires add-result (λ c. omega arith) returns-3)
+    (λ c. omega arith) (λ c κs. search needs)
+    (λ c. later-none (omega arith) (omega arith) (c .before .open-node .ensures) (omega arith))
+    (λ c. omega arith) put-node-requires (λ c. omega arith)
+    (λ c. omega (arith, c .before .before .before .before .before .open-node .ensures .room (omega arith)))
+    row-requires add-result (λ c. omega arith) returns-3)

@@ -23,10 +23,10 @@ use Rattle.descend.proofs.first.+node+row.{statement}
 use Rattle.descend.proofs.first.+node+row.Tie.{close}
 
 abbrev μ-node : Measures 5 node-kinds.ps ℕ
-μ-node κs a = 20 * a .1 .1 .1 .1 .1 .1 .1 .1 .1 .0 + 1
+μ-node κs a = 20 * a .1 .1 .1 .1 .1 .1 .1 .0 + 1
 
 abbrev μ-row : Measures 7 row-kinds.ps ℕ
-μ-row κs a = 20 * a .1 .1 .1 .1 .1 .1 .1 .1 .1 .1 .1 .1 .1 .0 + (11 - a .1 .1 .1 .1 .1 .1 .1 .1 .0)
+μ-row κs a = 20 * a .1 .1 .1 .1 .1 .1 .1 .1 .1 .0 + (11 - a .1 .1 .1 .1 .1 .1 .1 .0 .q)
 
 -- what `node` is given at the measure t, and what a call of it asks below t
 abbrev node-at : ℕ → In 5 node-kinds.ps
@@ -75,13 +75,14 @@ node-returns t c =
 node-put-node-requires : (t : ℕ) → node-lts.Need-put-node-requires (node-calls t) (node-at t) node.Post
 node-put-node-requires t c κs = let o = c .before .before .open-node .ensures .room (omega arith) in omega arith
 
-node-sub-row : (t : ℕ) → node-lts.Need-sub-row (node-calls t) (node-at t) node.Post
-node-sub-row t c = omega (arith, c .before .before .before .before .before .before .before .open-node .ensures .room (omega arith))
+node-sub-budget : (t : ℕ) → node-lts.Need-sub-budget (node-calls t) (node-at t) node.Post
+node-sub-budget t c = omega (arith, c .before .before .before .before .before .open-node .ensures .room (omega arith))
 
 node-row-requires : (t : ℕ) → node-lts.Need-row-requires (node-calls t) (node-at t) node.Post
 node-row-requires t c κs =
-    let o = c .before .before .before .before .before .before .before .before .open-node .ensures .room (omega arith) in
-    let l = c .before .before .before .before .before .put-node .ensures .long in
+    let d = c .before .before .before .before .before in
+    let o = d .before .before .before .open-node .ensures .room (omega arith) in
+    let l = d .put-node .ensures .long in
     omega arith
 
 node-add-result : (t : ℕ) → node-lts.Need-add-result (node-calls t) (node-at t) node.Post
@@ -110,18 +111,18 @@ row-node-requires t c κs =
     let x = node-room (c .before .before .before .before .before .look .ensures) (c .before .before .before .step .given .1) in
     omega arith
 
-row-sub-row : (t : ℕ) → row-lts.Need-sub-row (row-calls t) (row-at t) row.Post
-row-sub-row t c =
+row-add-at : (t : ℕ) → row-lts.Need-add-at (row-calls t) (row-at t) row.Post
+row-add-at t c =
     let d = c .before .before .before .before .before .before in
     let x = node-room (d .before .before .look .ensures) (d .step .given .1) in
     let y = c .before .before .node .ensures .kept .few in
     omega arith
 
-row-add-row-4 : (t : ℕ) → row-lts.Need-add-row-4 (row-calls t) (row-at t) row.Post
-row-add-row-4 t c =
-    let d = c .before .before .before .before .before .before .before in
+row-sub-budget : (t : ℕ) → row-lts.Need-sub-budget (row-calls t) (row-at t) row.Post
+row-sub-budget t c =
+    let d = c .before .before .before .before .before .before in
     let x = node-room (d .before .before .look .ensures) (d .step .given .1) in
-    let y = c .before .before .before .node .ensures .kept .few in
+    let y = c .before .before .node .ensures .kept .few in
     omega arith
 
 row-row-requires-2 : (t : ℕ) → row-lts.Need-row-requires-2 (row-calls t) (row-at t) row.Post
@@ -142,12 +143,10 @@ row-add-result t c =
     omega arith
 
 row-returns : (t : ℕ) → row-lts.Need-returns (row-calls t) (row-at t) row.Post
-row-returns t c =
-    row-none _ _ _ (omega arith) (omega arith) (omega arith) (c .before .before .look .ensures) (c .enum-told .given .1)
+row-returns t c = row-none _ _ _ (omega arith) (omega arith) (omega arith) (c .before .before .look .ensures) (c .enum-told .given .1)
 
 row-returns-2 : (t : ℕ) → row-lts.Need-returns-2 (row-calls t) (row-at t) row.Post
-row-returns-2 t c =
-    row-end _ _ _ (omega arith) (omega arith) (omega arith) (c .before .before .look .ensures) (c .enum-told2 .given .1)
+row-returns-2 t c = row-end _ _ _ (omega arith) (omega arith) (omega arith) (c .before .before .look .ensures) (c .enum-told2 .given .1)
 
 row-returns-3 : (t : ℕ) → row-lts.Need-returns-3 (row-calls t) (row-at t) row.Post
 row-returns-3 t c =
@@ -157,19 +156,19 @@ row-returns-3 t c =
 
 row-returns-4 : (t : ℕ) → row-lts.Need-returns-4 (row-calls t) (row-at t) row.Post
 row-returns-4 t c =
-    let d = c .before .before .before .before .before .before .before .before .before .before in
-    let x = d .before .before .before .before .before .pre in
     let e = c .before .before .before .before .before .before in
+    let d = e .before .before .before .before in
+    let x = d .before .before .before .before .before .pre in
     row-node _ _ _ (omega arith) (omega arith) (omega arith) (e .before .before .child-set .ensures) (e .node .ensures)
     (c .before .before .row2 .ensures) (d .before .before .look .ensures) (d .step .given .1)
 
 pub +node+row-spec : {M : Type 1} → statement M
 +node+row-spec = close μ-node μ-row (λ t. node-lts.spec (node-calls t)
     (node-at t) node.Post (λ c κs. omega arith) (λ c κs. search (needs, maybe-unmade)) (node-returns t) (λ c. omega arith)
-    (node-put-node-requires t) (node-sub-row t) (λ c. omega arith) (node-row-requires t) (node-add-result t) (λ c. omega arith)
+    (node-put-node-requires t) (λ c. omega arith) (node-sub-budget t) (node-row-requires t) (node-add-result t) (λ c. omega arith)
     (node-returns-2 t))
     λ t. row-lts.spec
     (row-calls t) (row-at t) row.Post (λ c κs. omega arith) (λ c. omega arith) (λ c. omega arith) (λ c. omega arith) (λ c. omega arith)
     (λ c. omega arith) (row-row-requires t) (λ c. omega arith) (λ c. omega arith) (row-sub-child-set-2 t) (λ c κs. omega arith)
-    (row-node-requires t) (λ c. omega arith) (row-sub-row t) (row-add-row-4 t) (row-row-requires-2 t) (row-add-result t) (row-returns t)
+    (row-node-requires t) (row-add-at t) (row-sub-budget t) (λ c. omega arith) (row-row-requires-2 t) (row-add-result t) (row-returns t)
     (row-returns-2 t) (λ c. omega arith) (row-returns-3 t) (λ c. omega arith) (row-returns-4 t)
