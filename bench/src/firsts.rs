@@ -77,7 +77,8 @@ pub fn firsts(sweep: usize) {
     }
 }
 
-/// The tables alone, in plain Rust: every rule looked at from every start ("before"), and rules passed over.
+/// The tables alone, in plain Rust: every rule looked at from every start up to every end ("before"), and rules and
+/// ends passed over.
 fn tables() {
     println!("\nTABLES alone, in plain Rust; wall clock, the least");
     println!("  {:50} {:>10} {:>10} {:>6}", "case", "before", "now", "times");

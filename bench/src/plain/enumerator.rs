@@ -52,7 +52,7 @@ impl Enumerator<'_> {
     fn frame(&self, node: Node, full: Full) -> Frame {
         let mut rows: Rows = [[NONE; SIDE]; PLACES + 1];
         for a in (node.i..=node.j).rev() {
-            self.given.put_column(node.r, self.tables, &full, node.i, a, node.j, &mut rows);
+            self.given.put_column(node.r, self.tables, &full, node.i, a, a + 1, node.j, &mut rows);
         }
         Frame { full, rows }
     }

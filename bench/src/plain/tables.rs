@@ -75,9 +75,20 @@ impl Given<'_> {
     }
 
     /// Writes the suffixes of rule r from a to j, those from later starts standing. A child over the whole of i..j
-    /// costs `full`, any other what the least table says.
+    /// costs `full`, any other what the least table says. The ends behind a and before `from` cost NONE, or what is
+    /// behind them does, and are not looked at.
     #[allow(clippy::too_many_arguments)]
-    pub fn put_column(&self, r: usize, t: &Tables, full: &Full, i: usize, a: usize, j: usize, rows: &mut Rows) {
+    pub fn put_column(
+        &self,
+        r: usize,
+        t: &Tables,
+        full: &Full,
+        i: usize,
+        a: usize,
+        from: usize,
+        j: usize,
+        rows: &mut Rows,
+    ) {
         let places = self.rules[r].places();
         rows[places.len()][a] = if a == j { 0 } else { NONE };
         for (q, place) in places.iter().enumerate().rev() {
@@ -86,8 +97,10 @@ impl Given<'_> {
                 let k = place.value as usize;
                 let costs = costs(t, k, a);
                 let last = if a == i { full[k] } else { costs[j] };
-                let inner = costs[a..j].iter().zip(&rests[a..j]).map(|(x, y)| x + y).min();
-                inner.unwrap_or(NONE).min(last + rests[j]).min(NONE)
+                let none = if a < j { costs[a] + rests[a] } else { NONE };
+                let from = from.min(j);
+                let inner = costs[from..j].iter().zip(&rests[from..j]).map(|(x, y)| x + y).min();
+                inner.unwrap_or(NONE).min(none).min(last + rests[j]).min(NONE)
             } else if a < j && self.fit[a][r] >> q & 1 == 1 {
                 rests[a + 1]
             } else {
@@ -133,7 +146,8 @@ impl Given<'_> {
     }
 
     /// Makes the tables of an input of n marks, all NONE before: for each end the starts from the last to the first. A rule
-    /// is passed over where no piece ends at one of its live starts, those from which places behind its first have a cost.
+    /// is passed over where no piece ends at one of its live starts, those from which places behind its first have a cost; the sums of
+    /// the others begin at the first end that is set and live.
     pub fn make(&self, n: usize, t: &mut Tables) {
         let mut rows: [Rows; RULES] = [[[NONE; SIDE]; PLACES + 1]; RULES];
         let rows = &mut rows[..self.rules.len()];
@@ -148,7 +162,7 @@ impl Given<'_> {
                         let count = self.rules[r].places().len();
                         rows[..=count].iter_mut().for_each(|row| row[i] = NONE);
                     } else {
-                        *live |= self.put_start(r, t, &[NONE; KINDS], i, j, rows);
+                        *live |= self.put_start(r, t, &[NONE; KINDS], *live & reach[i], i, j, rows);
                     }
                     t[bare(r, i, j)] = (rows[0][i] + 1).min(NONE);
                 }
@@ -156,16 +170,19 @@ impl Given<'_> {
                 put_least(t, &full, i, j);
                 for ((r, rows), live) in rows.iter_mut().enumerate().zip(&mut live) {
                     if kinds[r] & self.cell(i, j) != 0 {
-                        *live |= self.put_start(r, t, &full, i, j, rows);
+                        *live |= self.put_start(r, t, &full, *live & reach[i], i, j, rows);
                     }
                 }
             }
         }
     }
 
-    /// The column of start i, and the set of i if it is a live start.
-    fn put_start(&self, r: usize, t: &Tables, full: &Full, i: usize, j: usize, rows: &mut Rows) -> u64 {
-        self.put_column(r, t, full, i, i, j, rows);
+    /// The column of start i, and the set of i if it is a live start; `ends` has the ends from i on that are live.
+    #[allow(clippy::too_many_arguments)]
+    fn put_start(&self, r: usize, t: &Tables, full: &Full, ends: u64, i: usize, j: usize, rows: &mut Rows) -> u64 {
+        let first = ends.trailing_zeros() as usize;
+        let from = if i < first { first } else { i + 1 };
+        self.put_column(r, t, full, i, i, from, j, rows);
         let count = self.rules[r].places().len();
         u64::from(rows[1..].iter().take(count).any(|row| row[i] < NONE)) << i
     }
@@ -184,7 +201,7 @@ impl Given<'_> {
             self.put_alone(t, &empty);
         }
         for (r, rows) in rows.iter_mut().enumerate() {
-            self.put_column(r, t, &empty, j, j, j, rows);
+            self.put_column(r, t, &empty, j, j, j + 1, j, rows);
         }
     }
 

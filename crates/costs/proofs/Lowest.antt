@@ -66,6 +66,23 @@ pub seen-later : {B : ℕ → Type 0} {P : ℕ → ℕ → Type 0} {a m u : ℕ}
 seen-later (seen-first p) = seen-first p
 seen-later (seen-at c l h p) = seen-at c l (omega arith) p
 
+-- indices at which every number is too many may be passed over
+pub seen-pass : {B : ℕ → Type 0} {P : ℕ → ℕ → Type 0} {a m n v : ℕ} → m ≤ n → ((c u : ℕ) → m ≤ c → c < n → P c u → tooMany ≤ u)
+    → Lowest (Seen B P a m) v → Lowest (Seen B P a n) v
+seen-pass {B} {P} {a} {m} {n} h f = lowest-same (λ u _ s. wider s) (λ u l s. (u, omega arith, narrower l s))
+  where
+    wider : {u : ℕ} → Seen B P a m u → Seen B P a n u
+    wider (seen-first p) = seen-first p
+    wider (seen-at c x y p) = seen-at c x (omega arith) p
+
+    narrower : {u : ℕ} → u < tooMany → Seen B P a n u → Seen B P a m u
+    narrower l (seen-first p) = seen-first p
+    narrower {u} l (seen-at c x y p) = go (decLt c m)
+      where
+        go : Dec (c < m) → Seen B P a m u
+        go (yes z) = seen-at c x z p
+        go (no z) = let w = f c u (omega arith) y p in absurd (omega arith)
+
 module _ {B : ℕ → Type 0} {P : ℕ → ℕ → Type 0} {a m v x : ℕ} (h : a ≤ m) (L : Lowest (Seen B P a m) v)
     (reached : x < tooMany → P m x) (below : (u : ℕ) → P m u → x ≤ u) where
   -- the next number is lower

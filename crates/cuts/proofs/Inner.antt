@@ -23,34 +23,36 @@ module _ (tables full : List ℕ) (k i a j : ℕ) where
   pub last-part : {v : ℕ} → i ≤ a → a ≤ j → a ≢ i → v ≡ costIn tables k a j → v ≡ within i j (fullIn full) (costIn tables) k a j
   last-part h l n f = let d : ¬ (a ≡ i) = n in f ∙ sym (within-part i j (fullIn full) (costIn tables) k a j (omega arith))
 
-  pub nonterminal-inside : {rests : List ℕ} {at last v : ℕ} → i ≤ a → a ≤ j → last ≡ within i j (fullIn full) (costIn tables) k a j
-      → AtNonterminal tables k a j last rests at v → NonterminalAt tables full k i a j rests at v
+  pub nonterminal-inside : {from : ℕ} {rests : List ℕ} {at last v : ℕ} → i ≤ a → a ≤ j
+      → last ≡ within i j (fullIn full) (costIn tables) k a j
+      → AtNonterminal tables k a from j last rests at v → NonterminalAt tables full k i a from j rests at v
   nonterminal-inside h l e S = record {
-    exact = λ fit places R.
+    exact = λ fit places P R.
         S .exact fit (within i j (fullIn full) (costIn tables)) places
         (record {
           first = λ c m o. sym (within-part i j (fullIn full) (costIn tables) k a c (omega arith));
           whole = e;
           later = R;
+          passed = P;
         });
   }
 
-module _ (p : List ℕ) (r q : ℕ) (fits : Bool) (tables full : List ℕ) (i a j : ℕ) (rests : List ℕ) (at : ℕ) {b : Bool}
+module _ (p : List ℕ) (r q : ℕ) (fits : Bool) (tables full : List ℕ) (i a from j : ℕ) (rests : List ℕ) (at : ℕ) {b : Bool}
     (h : q < countIn p r) (e : b ≡ isNonterminalIn p r q) where
-  pub suffix-nonterminal : {k v : ℕ} → b ≡ true → k ≡ valueIn p r q → NonterminalAt tables full k i a j rests at v
-      → SuffixAt p r q fits tables full i a j rests at v
+  pub suffix-nonterminal : {k v : ℕ} → b ≡ true → k ≡ valueIn p r q → NonterminalAt tables full k i a from j rests at v
+      → SuffixAt p r q fits tables full i a from j rests at v
   suffix-nonterminal {k} {v} t f S = record {
-    exact = λ fit _ R.
+    exact = λ fit _ P R.
         let s : symbolIn p r q ≡ nonterminal k = symbol-nonterminal p r q (sym e ∙ t) ∙ ap (λ (x : ℕ). nonterminal x) (sym f) in
         let d : tailIn p r q ≡ nonterminal k ∷ tailIn p r (suc q) =
         places-step p r q h ∙ ap (λ (x : Symbol). x ∷ tailIn p r (suc q)) s
         in
-        subst (λ (l : List Symbol). Inside fit tables full i j l a v) (sym d) (S .exact fit (tailIn p r (suc q)) R);
+        subst (λ (l : List Symbol). Inside fit tables full i j l a v) (sym d) (S .exact fit (tailIn p r (suc q)) P R);
   }
 
-  pub suffix-terminal : {v : ℕ} → b ≡ false → AtTerminal fits a j rests at v → SuffixAt p r q fits tables full i a j rests at v
+  pub suffix-terminal : {v : ℕ} → b ≡ false → AtTerminal fits a j rests at v → SuffixAt p r q fits tables full i a from j rests at v
   suffix-terminal {v} t S = record {
-    exact = λ fit f R.
+    exact = λ fit f P R.
         let n : isNonterminalIn p r q ≡ false = sym e ∙ t in
         let d : tailIn p r q ≡ terminal (terminalIn p r q) ∷ tailIn p r (suc q) =
         places-step p r q h ∙ ap (λ (x : Symbol). x ∷ tailIn p r (suc q)) (symbol-terminal p r q n)

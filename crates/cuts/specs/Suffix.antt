@@ -1,31 +1,43 @@
 -- The least cost of the places of a rule from one place on, over a span, from that of the places behind it. Assumes nothing.
-use Prim.Native.Nat.{ℕ, suc, _+_, _≤_, _<_}
+use Prim.Native.Nat.{ℕ, suc, _+_, _≤_, _<_, min}
 use mathlib.Core.Bool.{Bool}
 use mathlib.Core.List.{List, [], _∷_}
 use mathlib.Core.Path.{_≡_}
 use lib.ListN.{getD}
+use Rattle.sizes.specs.Sizes.{tooMany}
 use Rattle.cfg.specs.Grammar.{Symbol, nonterminal, terminal, Terminal}
 use Rattle.costs.specs.Lowest.{Lowest, Seen, None}
 use Rattle.costs.specs.Cut.{Fit, Cost, LeastCut, First}
 use Rattle.tables.specs.Layout.{costIn}
 
--- what is known when a nonterminal k is looked at from a to b: its cost up to each end, `last` for the end b, and the costs of the places
--- behind it, which stand in `rests` from `at` on
-pub record Behind (fit : Fit) (cost : Cost) (k : ℕ) (places : List Symbol) (a b : ℕ) (tables : List ℕ) (last : ℕ) (rests : List ℕ) (at : ℕ)
-    : Type 0 where
+-- each end behind a and before both `from` and b costs too many: itself, or the places behind it, whose costs stand in `rests`
+abbrev pub Passed : List ℕ → ℕ → ℕ → ℕ → List ℕ → ℕ → Type 0
+Passed tables a from b rests at = (k c : ℕ) → a < c → c < from → c < b → tooMany ≤ costIn tables k a c + getD rests (at + c) 0
+
+-- what is known when a nonterminal k is looked at from a to b: its cost up to each end, `last` for the end b, the costs of the places
+-- behind it, which stand in `rests` from `at` on, and that the ends not looked at cost too many
+pub record Behind (fit : Fit) (cost : Cost) (k : ℕ) (places : List Symbol) (a from b : ℕ) (tables : List ℕ) (last : ℕ) (rests : List ℕ)
+    (at : ℕ) : Type 0 where
   pub first : (c : ℕ) → a ≤ c → c < b → costIn tables k a c ≡ cost k a c
   pub whole : last ≡ cost k a b
   pub later : (c : ℕ) → a ≤ c → c ≤ b → LeastCut fit cost places c b (getD rests (at + c) 0)
+  pub passed : Passed tables a from b rests at
 
 -- v is the least cost of the nonterminal k and any places behind it, whose costs are those given
-pub record AtNonterminal (tables : List ℕ) (k a b last : ℕ) (rests : List ℕ) (at v : ℕ) : Type 0 where
-  pub exact : (fit : Fit) (cost : Cost) (places : List Symbol) → Behind fit cost k places a b tables last rests at
+pub record AtNonterminal (tables : List ℕ) (k a from b last : ℕ) (rests : List ℕ) (at v : ℕ) : Type 0 where
+  pub exact : (fit : Fit) (cost : Cost) (places : List Symbol) → Behind fit cost k places a from b tables last rests at
       → LeastCut fit cost (nonterminal k ∷ places) a b v
 
--- v is the least cost over the ends before c
-pub record EndsBefore (tables : List ℕ) (k a b last : ℕ) (rests : List ℕ) (at c v : ℕ) : Type 0 where
-  pub lowest : (fit : Fit) (cost : Cost) (places : List Symbol) → Behind fit cost k places a b tables last rests at
-      → Lowest (Seen None (First fit cost k places a b) a c) v
+-- v is the cost at the end a, where that is before b
+pub record AtStart (tables : List ℕ) (k a b : ℕ) (rests : List ℕ) (at v : ℕ) : Type 0 where
+  pub capped : v ≤ tooMany
+  pub before : a < b → v ≡ min (costIn tables k a a + getD rests (at + a) 0) tooMany
+  pub none : b ≤ a → v ≡ tooMany
+
+-- v is the least cost over the ends before c and before b
+pub record EndsBefore (tables : List ℕ) (k a from b last : ℕ) (rests : List ℕ) (at c v : ℕ) : Type 0 where
+  pub lowest : (fit : Fit) (cost : Cost) (places : List Symbol) → Behind fit cost k places a from b tables last rests at
+      → Lowest (Seen None (First fit cost k places a b) a (min c b)) v
 
 -- v is the least cost of a terminal, of which `fits` says whether it fits the byte at a, and any places behind it, whose cost is given
 pub record AtTerminal (fits : Bool) (a b : ℕ) (rests : List ℕ) (at v : ℕ) : Type 0 where

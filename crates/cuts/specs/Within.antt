@@ -9,6 +9,7 @@ use Rattle.cfg.specs.Grammar.{Symbol, nonterminal}
 use Rattle.costs.specs.Cut.{Fit, LeastCut, within}
 use Rattle.packed.specs.Packed.{countIn, isNonterminalIn, terminalIn, placesFrom}
 use Rattle.tables.specs.Layout.{costIn, fullIn}
+use Rattle.cuts.specs.Suffix.{Passed}
 
 -- the symbols of the places of rule r from q on
 abbrev pub tailIn : List ℕ → ℕ → ℕ → List Symbol
@@ -23,11 +24,12 @@ abbrev pub Rests : Fit → List ℕ → List ℕ → ℕ → ℕ → List Symbol
 Rests fit tables full i j places a rests at = (c : ℕ) → a ≤ c → c ≤ j → Inside fit tables full i j places c (getD rests (at + c) 0)
 
 -- v is that cost of the nonterminal k and any places behind it, whose costs are those given
-pub record NonterminalAt (tables full : List ℕ) (k i a j : ℕ) (rests : List ℕ) (at v : ℕ) : Type 0 where
-  pub exact : (fit : Fit) (places : List Symbol) → Rests fit tables full i j places a rests at
+pub record NonterminalAt (tables full : List ℕ) (k i a from j : ℕ) (rests : List ℕ) (at v : ℕ) : Type 0 where
+  pub exact : (fit : Fit) (places : List Symbol) → Passed tables a from j rests at → Rests fit tables full i j places a rests at
       → Inside fit tables full i j (nonterminal k ∷ places) a v
 
 -- v is that cost of the places of rule r from q on; `fits` says of a terminal in place q whether it fits the byte at a
-pub record SuffixAt (p : List ℕ) (r q : ℕ) (fits : Bool) (tables full : List ℕ) (i a j : ℕ) (rests : List ℕ) (at v : ℕ) : Type 0 where
+pub record SuffixAt (p : List ℕ) (r q : ℕ) (fits : Bool) (tables full : List ℕ) (i a from j : ℕ) (rests : List ℕ) (at v : ℕ) : Type 0 where
   pub exact : (fit : Fit) → (isNonterminalIn p r q ≡ false → a < j → fits ≡ fit a (terminalIn p r q))
-      → Rests fit tables full i j (tailIn p r (suc q)) a rests at → Inside fit tables full i j (tailIn p r q) a v
+      → Passed tables a from j rests at → Rests fit tables full i j (tailIn p r (suc q)) a rests at
+      → Inside fit tables full i j (tailIn p r q) a v

@@ -1,5 +1,6 @@
 // The least cost of the places q.. of a rule from a to j, inside a span from i to j: a child over the whole of it costs `full`, any other
-// what the least table says. The costs of the places behind q stand in `rests` from `at` on.
+// what the least table says. The costs of the places behind q stand in `rests` from `at` on. The ends behind a and before `from`
+// are not looked at.
 use super::suffix::at_terminal;
 use super::suffix::over_ends;
 use packed::Packed;
@@ -35,15 +36,16 @@ fn nonterminal_at(
     k: usize,
     i: usize,
     a: usize,
+    from: usize,
     j: usize,
     rests: &[u16],
     at: usize,
 ) -> u16
-    requires { ⌜ (i ≤ a) × (a ≤ j) × (j < side) × (at + side ≤ length (now rests)) ⌝ }
-    ensures { λ v. ⌜ NonterminalAt (now (tables .entry)) (now (full .entry)) k i a j (now (rests .entry)) at v ⌝ }
+    requires { ⌜ (i ≤ a) × (a < from) × (a ≤ j) × (j < side) × (at + side ≤ length (now rests)) ⌝ }
+    ensures { λ v. ⌜ NonterminalAt (now (tables .entry)) (now (full .entry)) k i a from j (now (rests .entry)) at v ⌝ }
 {
     let last = last_cost(tables, full, k, i, a, j);
-    over_ends(tables, k, a, j, last, rests, at)
+    over_ends(tables, k, a, from, j, last, rests, at)
 }
 
 // At place q of rule r; `fits` says of a terminal there whether it fits the byte at a.
@@ -56,16 +58,27 @@ pub fn suffix_at(
     full: &Full,
     i: usize,
     a: usize,
+    from: usize,
     j: usize,
     rests: &[u16],
     at: usize,
 ) -> u16
     requires { ⌜ (r < maxRules) × (q < maxPlaces) × (q < countIn (now p) r)
-        × (i ≤ a) × (a ≤ j) × (j < side) × (at + side ≤ length (now rests)) ⌝ }
-    ensures { λ v. ⌜ SuffixAt (now (p .entry)) r q fits (now (tables .entry)) (now (full .entry)) i a j (now (rests .entry)) at v ⌝ }
+        × (i ≤ a) × (a < from) × (a ≤ j) × (j < side) × (at + side ≤ length (now rests)) ⌝ }
+    ensures { λ v. ⌜ SuffixAt (now (p .entry)) r q fits (now (tables .entry)) (now (full .entry)) i a from j (now (rests .entry)) at v ⌝ }
 {
     if packed::is_nonterminal(p, r, q) {
-        return nonterminal_at(tables, full, packed::value(p, r, q), i, a, j, rests, at);
+        return nonterminal_at(
+            tables,
+            full,
+            packed::value(p, r, q),
+            i,
+            a,
+            from,
+            j,
+            rests,
+            at,
+        );
     }
     at_terminal(fits, a, j, rests, at)
 }

@@ -1,6 +1,6 @@
--- The live starts of a rule, by the tests that the code makes, and rows of too many. Assumes nothing.
+-- The live starts of a rule and the first end that is one, by the tests that the code makes, and rows of too many. Assumes nothing.
 use Prim.Native.Nat.{ℕ, _+_, _*_, _-_, _≤_, _<_}
-use mathlib.Core.Bool.{Bool, true, false, not, true≢false}
+use mathlib.Core.Bool.{Bool, true, false, _&&_, not, true≢false}
 use mathlib.Core.List.{List}
 use mathlib.Core.Path.{_≡_, refl, sym, ap, subst, _∙_}
 use native.Mathlib.Decide.{ℕ-discrete}
@@ -9,11 +9,11 @@ use lib.ListN.{length, set, getD, length-set}
 use lib.Seq.{getD-set-same, getD-set-other}
 use Rattle.sizes.specs.Sizes.{tooMany}
 use Rattle.sets.specs.Set.{has, insert}
-use Rattle.sets.specs.Pairs.{Meeting}
+use Rattle.sets.specs.Pairs.{Common, FirstMember, Meeting}
 use Rattle.sets.proofs.Laws.{has-insert, has-insert-same}
 use Rattle.packed.specs.Packed.{countIn}
 use Rattle.writes.specs.Writes.{allRows, placeAt}
-use Rattle.live.specs.Live.{Silent, liveIn, Marked, Passing, NoneBefore, NonePut}
+use Rattle.live.specs.Live.{Silent, liveIn, Marked, Passing, FirstEnd, NoneBefore, NonePut}
 
 -- ---- whether a start is live
 
@@ -105,3 +105,15 @@ module _ (i j reach live : ℕ) where
 
     pub passing-apart : Passing i j reach live (not m)
     passing-apart = record { inside = λ e. l; near = λ e. sym n ∙ f; apart = λ e c g. apart e c g (has c reach) refl }
+
+-- ---- the first end that is in both sets
+
+module _ (i reach live : ℕ) {x k : ℕ} (C : Common reach live x) (F : FirstMember 64 x k) where
+  none : (c : ℕ) → c < k → has c reach ≡ true → has c live ≡ false
+  none c l e = ap (λ (b : Bool). b && has c live) (sym e) ∙ sym (C c) ∙ F .before c l
+
+  pub end-there : i < k → FirstEnd i reach live k
+  end-there h = record { behind = h; none = λ c x. none c }
+
+  pub end-next : k ≤ i → FirstEnd i reach live (i + 1)
+  end-next h = record { behind = omega arith; none = λ c x y. absurd (omega arith) }

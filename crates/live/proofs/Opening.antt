@@ -1,33 +1,43 @@
 -- One rule from one start on, as the code does it: put, or passed over. Assumes nothing.
-use Prim.Native.Nat.{ℕ, _*_, _<_}
-use mathlib.Core.Bool.{Bool, true}
+use Prim.Native.Nat.{ℕ, _+_, _*_, _≤_, _<_}
+use mathlib.Core.Bool.{Bool, true, false}
 use mathlib.Core.List.{List}
-use mathlib.Core.Path.{_≡_}
+use mathlib.Core.Path.{_≡_, refl}
 use native.Mathlib.Omega.{arith}
 use lib.ListN.{length, getD}
 use Rattle.sizes.specs.Sizes.{tooMany}
+use Rattle.sets.specs.Set.{has}
+use Rattle.tables.specs.Layout.{costIn}
+use Rattle.suffixes.specs.Within.{EndsPassed}
 use Rattle.suffixes.specs.Rows.{StartPut}
 use Rattle.writes.specs.Writes.{placeAt, Nothing}
-use Rattle.live.specs.Live.{Marked, Passing, NonePut, RulePut, RuleOpened}
+use Rattle.live.specs.Live.{LiveTold, Reached, Marked, Passing, FirstEnd, NonePut, RulePut}
 use Rattle.live.proofs.Passed.{passed-over}
 
-module _ (p : List ℕ) (r : ℕ) (fits tables full : List ℕ) (i j : ℕ) (rows₀ live₀ : List ℕ) {rows : List ℕ} where
-  pub rule-put : {live : List ℕ} → StartPut p r fits tables full i i j (585 * r) rows₀ rows → Marked p r i rows live₀ live
-      → RulePut p r fits tables full i j rows₀ live₀ rows live
-  rule-put S M = record { put = S; marked = M }
+module _ (p : List ℕ) (r : ℕ) (fits tables full : List ℕ) (i j : ℕ) (rows₀ live₀ : List ℕ) where
+  -- the ends behind i and before the first that is in both sets cost too many, or the places behind from there on
+  passed : {reach from : ℕ} → FirstEnd i reach (getD live₀ r 0) from → Reached tables reach i j → LiveTold p r i j rows₀ live₀
+      → EndsPassed p r tables i from j rows₀ (585 * r)
+  passed {reach} E R L q z h k c x y w = go (has c reach) refl
+    where
+      go : (b : Bool) → has c reach ≡ b → tooMany ≤ costIn tables k i c + getD rows₀ (placeAt r q c) 0
+      go true e = let n = L c x w (E .none c x y e) q z h in omega arith
+      go false e = let n = R k c x w e in omega arith
 
-  pub rule-made : (reach : ℕ) {live : List ℕ} → RulePut p r fits tables full i j rows₀ live₀ rows live
-      → RuleOpened p r fits tables full reach i j rows₀ live₀ rows live
-  rule-made reach S = record {
-    long = S .put .long;
-    other = S .put .other;
-    exact = λ fit F R L X. S .put .exact fit F X;
-    marked = S .marked;
+  pub rule-put : {reach from : ℕ} {rows live : List ℕ} → FirstEnd i reach (getD live₀ r 0) from
+      → StartPut p r fits tables full i i from j (585 * r) rows₀ rows → Marked p r i rows live₀ live
+      → RulePut p r fits tables full reach i j rows₀ live₀ rows live
+  rule-put E S M = record {
+    long = S .long;
+    other = S .other;
+    exact = λ fit F R L X. S .exact fit F (passed E R L) X;
+    marked = M;
   }
 
-  pub rule-passed : (reach : ℕ) {b : Bool} → i < j → length live₀ ≡ 128 → Nothing full → Passing i j reach (getD live₀ r 0) b → b ≡ true
-      → NonePut p r i rows₀ rows → RuleOpened p r fits tables full reach i j rows₀ live₀ rows live₀
-  rule-passed reach l h N P t S = record {
+  pub rule-passed : (reach : ℕ) {b : Bool} {rows : List ℕ} → i < j → length live₀ ≡ 128 → Nothing full
+      → Passing i j reach (getD live₀ r 0) b → b ≡ true → NonePut p r i rows₀ rows
+      → RulePut p r fits tables full reach i j rows₀ live₀ rows live₀
+  rule-passed reach {rows = rows} l h N P t S = record {
     long = S .long;
     other = S .other;
     exact = λ fit F R L X s m. passed-over p r tables full reach i j rows₀ live₀ l fit P t N R L X s m (S .here s (omega arith));

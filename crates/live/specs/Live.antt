@@ -12,7 +12,6 @@ use Rattle.packed.specs.Packed.{countIn}
 use Rattle.tables.specs.Layout.{rowsSize, costIn}
 use Rattle.tables.specs.Exact.{FitTold}
 use Rattle.suffixes.specs.Within.{tailIn, Inside, LaterStarts}
-use Rattle.suffixes.specs.Rows.{StartPut}
 use Rattle.writes.specs.Writes.{placeAt}
 
 -- from c on the places of rule r behind its first cost too many
@@ -47,6 +46,11 @@ pub record Passing (i j reach live : ℕ) (b : Bool) : Type 0 where
   pub near : b ≡ true → has (i + 1) live ≡ false
   pub apart : b ≡ true → (c : ℕ) → has c live ≡ true → has c reach ≡ false
 
+-- v is behind i, and no end behind i and before v is in both sets
+pub record FirstEnd (i reach live v : ℕ) : Type 0 where
+  pub behind : i < v
+  pub none : (c : ℕ) → i < c → c < v → has c reach ≡ true → has c live ≡ false
+
 -- the rows are as found but for the costs of rule r from i on
 abbrev pub OneRule : List ℕ → ℕ → ℕ → List ℕ → List ℕ → Type 0
 OneRule p r i rows₀ rows = (n : ℕ) → ((s : ℕ) → s ≤ countIn p r → n ≢ placeAt r s i) → getD rows n 0 ≡ getD rows₀ n 0
@@ -61,13 +65,9 @@ pub record NoneBefore (p : List ℕ) (r i q : ℕ) (rows₀ rows : List ℕ) : T
 abbrev pub NonePut : List ℕ → ℕ → ℕ → List ℕ → List ℕ → Type 0
 NonePut p r i rows₀ rows = NoneBefore p r i (countIn p r + 1) rows₀ rows
 
--- the rows of rule r with the costs from i on written, and its live starts
-pub record RulePut (p : List ℕ) (r : ℕ) (fits tables full : List ℕ) (i j : ℕ) (rows₀ live₀ rows live : List ℕ) : Type 0 where
-  pub put : StartPut p r fits tables full i i j (rowsSize * r) rows₀ rows
-  pub marked : Marked p r i rows live₀ live
-
--- the same, right where the ends not in `reach` cost too many and the live starts are told
-pub record RuleOpened (p : List ℕ) (r : ℕ) (fits tables full : List ℕ) (reach i j : ℕ) (rows₀ live₀ rows live : List ℕ) : Type 0 where
+-- the rows of rule r with the costs from i on written, right where the ends not in `reach` cost too many and the live starts are told;
+-- and its live starts
+pub record RulePut (p : List ℕ) (r : ℕ) (fits tables full : List ℕ) (reach i j : ℕ) (rows₀ live₀ rows live : List ℕ) : Type 0 where
   pub long : length rows ≡ length rows₀
   pub other : OneRule p r i rows₀ rows
   pub exact : (fit : Fit) → FitTold fit p fits j → Reached tables reach i j → LiveTold p r i j rows₀ live₀

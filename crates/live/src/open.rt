@@ -15,7 +15,7 @@ ghost use Prim.Native.Nat.{_<_};
 ghost use lib.ListN.{length};
 ghost use Rattle.sizes.specs.Sizes.{maxRules, side};
 ghost use Rattle.writes.specs.Writes.{allRows, Nothing};
-ghost use Rattle.live.specs.Live.{NonePut, Passing, RulePut, RuleOpened};
+ghost use Rattle.live.specs.Live.{NonePut, Passing, FirstEnd, RulePut};
 
 // Whether rule r is passed over: the byte at i ends inside the span and not at a live start, and no nonterminal from i ends at one.
 fn passed_over(i: usize, j: usize, reach: u64, live: u64) -> bool
@@ -44,13 +44,24 @@ fn put_none(p: &Packed, r: usize, i: usize, rows: &mut AllRows)
     }
 }
 
-// Writes the costs of rule r from i to j, those of the later starts being written, and adds i to its live starts if it is one.
+// The first end behind i that is in both sets, or some later one: no end behind i and before it is in both.
+fn first_end(reach: u64, live: u64, i: usize) -> usize
+    requires { ⌜ i < side ⌝ }
+    ensures { λ v. ⌜ FirstEnd i reach live v ⌝ }
+{
+    let first = sets::wide::first(sets::wide::common(reach, live));
+    if i < first { first } else { i + 1 }
+}
+
+// Writes the costs of rule r from i to j, those of the later starts being written, and adds i to its live starts if it is one. `reach` has
+// the ends of nonterminals from i on: the sums begin at the first of them that is a live start, since those before cost too many.
 pub fn put_rule(
     p: &Packed,
     r: usize,
     fits: &FitTable,
     tables: &Tables,
     full: &Full,
+    reach: u64,
     i: usize,
     j: usize,
     rows: &mut AllRows,
@@ -58,15 +69,15 @@ pub fn put_rule(
 )
     requires { ⌜ (r < maxRules) × (i < j) × (j < side) × (length (now rows) ≡ allRows) × (length (now live) ≡ maxRules) ⌝ }
     ensures { λ _.
-        ⌜ RulePut (now (p .entry)) r (now (fits .entry)) (now (tables .entry)) (now (full .entry)) i j
+        ⌜ RulePut (now (p .entry)) r (now (fits .entry)) (now (tables .entry)) (now (full .entry)) reach i j
         (now (rows .entry)) (now (live .entry)) (now (rows .exit)) (now (live .exit)) ⌝ }
 {
-    put_start(p, r, fits, tables, full, i, i, j, rows, ROWS_SIZE * r);
+    let from = first_end(reach, live[r], i);
+    put_start(p, r, fits, tables, full, i, i, from, j, rows, ROWS_SIZE * r);
     mark(p, r, i, rows, live);
 }
 
-// The same where nothing covers the whole span, a rule that is passed over having too many everywhere. `reach` has the ends of
-// nonterminals from i on.
+// The same where nothing covers the whole span, a rule that is passed over having too many everywhere.
 pub fn open_rule(
     p: &Packed,
     r: usize,
@@ -82,12 +93,12 @@ pub fn open_rule(
     requires { ⌜ (r < maxRules) × (i < j) × (j < side) × Nothing (now nothing) × (length (now rows) ≡ allRows)
         × (length (now live) ≡ maxRules) ⌝ }
     ensures { λ _.
-        ⌜ RuleOpened (now (p .entry)) r (now (fits .entry)) (now (tables .entry)) (now (nothing .entry)) reach i j
+        ⌜ RulePut (now (p .entry)) r (now (fits .entry)) (now (tables .entry)) (now (nothing .entry)) reach i j
         (now (rows .entry)) (now (live .entry)) (now (rows .exit)) (now (live .exit)) ⌝ }
 {
     if passed_over(i, j, reach, live[r]) {
         put_none(p, r, i, rows);
     } else {
-        put_rule(p, r, fits, tables, nothing, i, j, rows, live);
+        put_rule(p, r, fits, tables, nothing, reach, i, j, rows, live);
     }
 }

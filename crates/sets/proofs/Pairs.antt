@@ -1,17 +1,18 @@
--- The common members of two sets, a member of a set that is not empty, and a set without one of its members.
+-- The common members of two sets, the least member of a set, and a set without one of its members.
 -- Those that speak of the width are proved for every width n. Assumes nothing.
 use Prim.Native.Nat.{ℕ, zero, suc, _-_, _/_, _%_, _^_, _≤_, _<_}
 use mathlib.Core.Bool.{Bool, true, false, _&&_, not}
 use mathlib.Core.Logic.{_≢_}
 use mathlib.Core.Path.{_≡_, refl, sym, ap, ap₂, _∙_}
 use native.Mathlib.Nat.{pow-suc}
+use native.Mathlib.Decide.{decLt}
 use native.Mathlib.Omega.{arith}
 use lib.Bits.{bitAnd, and-step, and-lt}
 use lib.Count.{under, trailingZeros}
 use lib.Dec.{eqb}
 use borrow.Author.Tests.{eq-eqb, ne-eqb}
 use Rattle.sets.specs.Set.{has}
-use Rattle.sets.specs.Pairs.{Meeting, Lowest, Without}
+use Rattle.sets.specs.Pairs.{Meeting, Lowest, FirstMember, Without}
 use Rattle.sets.proofs.Halving.{has-zero, has-suc, has-zero-true, has-zero-false, insert-fresh}
 use Rattle.sets.proofs.Laws.{has-empty}
 
@@ -82,28 +83,34 @@ under-even : (d t : ℕ) → d ≡ 0 → under d t ≡ suc t
 under-even d t e = ap (λ (x : ℕ). under x t) e
 
 -- the least member is told by the zeros below it
-pub lowest-is : (n w k : ℕ) → w < 2 ^ n → w ≢ 0 → k ≡ trailingZeros n w → Lowest n w k
+pub first-is : (n w k : ℕ) → w < 2 ^ n → k ≡ trailingZeros n w → FirstMember n w k
 unfolding trailingZeros
-lowest-is zero w k l d e = absurd (omega arith)
-lowest-is (suc n) w k l d e = go (λ f. lowest-is n (w / 2) (trailingZeros n (w / 2)) (omega (arith, pow-suc 2 n)) f refl) (has 0 w) refl
+first-is zero w k l e = record { within = omega arith; member = λ m. absurd (omega arith); before = λ j m. absurd (omega arith) }
+first-is (suc n) w k l e = go (first-is n (w / 2) (trailingZeros n (w / 2)) (omega (arith, pow-suc 2 n)) refl) (has 0 w) refl
   where
-    go : (w / 2 ≢ 0 → Lowest n (w / 2) (trailingZeros n (w / 2))) → (b : Bool) → has 0 w ≡ b → Lowest (suc n) w k
+    go : FirstMember n (w / 2) (trailingZeros n (w / 2)) → (b : Bool) → has 0 w ≡ b → FirstMember (suc n) w k
     go half true h =
         let z : k ≡ 0 = e ∙ under-odd (w % 2) (trailingZeros n (w / 2)) (has-zero-true w h) in
-        record { below = omega arith; member = ap (λ (x : ℕ). has x w) z ∙ h; least = λ j m. absurd (omega arith) }
+        record { within = omega arith; member = λ m. ap (λ (x : ℕ). has x w) z ∙ h; before = λ j m. absurd (omega arith) }
     go half false h =
-        let f : w / 2 ≢ 0 = λ z. d (omega (arith, has-zero-false w h)) in
         let s : k ≡ suc (trailingZeros n (w / 2)) = e ∙ under-even (w % 2) (trailingZeros n (w / 2)) (has-zero-false w h) in
-        let low = half f in
         record {
-          below = omega (arith, low .below);
-          member = ap (λ (x : ℕ). has x w) s ∙ has-suc (trailingZeros n (w / 2)) w ∙ low .member;
-          least = λ j m. under-least (trailingZeros n (w / 2)) (low .least) j (omega arith);
+          within = omega (arith, half .within);
+          member = λ m. ap (λ (x : ℕ). has x w) s ∙ has-suc (trailingZeros n (w / 2)) w ∙ half .member (omega arith);
+          before = λ j m. none-under (trailingZeros n (w / 2)) (half .before) j (omega arith);
         }
       where
-        under-least : (t : ℕ) → ((j : ℕ) → j < t → has j (w / 2) ≡ false) → (j : ℕ) → j < suc t → has j w ≡ false
-        under-least t g zero m = h
-        under-least t g (suc j) m = has-suc j w ∙ g j (omega arith)
+        none-under : (t : ℕ) → ((j : ℕ) → j < t → has j (w / 2) ≡ false) → (j : ℕ) → j < suc t → has j w ≡ false
+        none-under t g zero m = h
+        none-under t g (suc j) m = has-suc j w ∙ g j (omega arith)
+
+-- a set that is not empty has one
+pub lowest-is : (n w k : ℕ) → w < 2 ^ n → w ≢ 0 → k ≡ trailingZeros n w → Lowest n w k
+lowest-is n w k l d e = go (first-is n w k l e) (decLt k n)
+  where
+    go : FirstMember n w k → Dec (k < n) → Lowest n w k
+    go F (yes m) = record { below = m; member = F .member m; least = F .before }
+    go F (no m) = let (j, h, f) = member n w l d in true-false (sym f ∙ F .before j (omega arith))
 
 -- a member's power of two can be taken away, and then it is none
 pub taken-away : (k w : ℕ) → has k w ≡ true → (2 ^ k ≤ w) × (has k (w - 2 ^ k) ≡ false)

@@ -1,5 +1,5 @@
 -- Two sets: the set of their common members, and whether there is one. And a set of which one member is told. Assumes nothing.
-use Prim.Native.Nat.{ℕ, _<_}
+use Prim.Native.Nat.{ℕ, _≤_, _<_}
 use mathlib.Core.Bool.{Bool, true, false, _&&_}
 use mathlib.Core.Path.{_≡_}
 use Rattle.sets.specs.Set.{has, insert}
@@ -18,6 +18,12 @@ pub record Lowest (n w k : ℕ) : Type 0 where
   pub below : k < n
   pub member : has k w ≡ true
   pub least : (j : ℕ) → j < k → has j w ≡ false
+
+-- k is the least member of w, or n if the set of n bits is empty
+pub record FirstMember (n w k : ℕ) : Type 0 where
+  pub within : k ≤ n
+  pub member : k < n → has k w ≡ true
+  pub before : (j : ℕ) → j < k → has j w ≡ false
 
 -- v is w without its member k
 pub record Without (k w v : ℕ) : Type 0 where

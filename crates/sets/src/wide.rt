@@ -2,7 +2,7 @@
 ghost use mathlib.Core.Path.{_≡_};
 ghost use Prim.Native.Nat.{_<_};
 ghost use Rattle.sets.specs.Set.{has as inSet, insert};
-ghost use Rattle.sets.specs.Pairs.{Meeting};
+ghost use Rattle.sets.specs.Pairs.{Common, FirstMember, Meeting};
 
 // Whether k is in the set w.
 pub fn has(w: u64, k: usize) -> bool
@@ -25,4 +25,18 @@ pub fn meets(v: u64, w: u64) -> bool
     ensures { λ f. ⌜ Meeting 64 v w f ⌝ }
 {
     v & w != 0
+}
+
+// What is in both sets.
+pub fn common(v: u64, w: u64) -> u64
+    ensures { λ x. ⌜ Common v w x ⌝ }
+{
+    v & w
+}
+
+// The least member of a set, or 64 if it has none.
+pub fn first(w: u64) -> usize
+    ensures { λ k. ⌜ FirstMember 64 w k ⌝ }
+{
+    u64::trailing_zeros(w) as usize
 }

@@ -28,7 +28,7 @@ use Rattle.tables.proofs.Bares.{bare-behind}
 use Rattle.solve.specs.Solve.{Solved}
 use Rattle.solve.proofs.Trees.{solved-full}
 use Rattle.writes.specs.Writes.{LeastPut}
-use Rattle.live.specs.Live.{Silent, liveIn}
+use Rattle.live.specs.Live.{Silent, liveIn, Reached}
 use Rattle.starts.proofs.Columns.{silent-kept}
 use Rattle.starts.specs.Starts.{Untouched, OtherStarts, StartRight, StartsPut, SuffixesPut}
 use Rattle.spancosts.specs.Sofar.{Standing, Given, Sofar, Opened, LiveFrom}
@@ -74,11 +74,12 @@ module _ {i j : ℕ} {full tables₀ tables : List ℕ} (l : j < 65) (L : LeastP
 
 -- ---- a span that is not empty
 
-module _ {fit : Fit} {bytes : ℕ → ℕ → Type 0} {p : List ℕ} {rules : ℕ} {fits : List ℕ} {set i j : ℕ}
+module _ {fit : Fit} {bytes : ℕ → ℕ → Type 0} {p : List ℕ} {rules : ℕ} {fits : List ℕ} {set reach i j : ℕ}
     {full tables₀ rows₀ live₀ tables rows live : List ℕ} (o : rules ≤ 128) (h : i < j) (l : j < 65)
     (X : Solved p rules set 0 tables₀ i j full) (L : LeastPut full i j tables₀ tables)
-    (P : SuffixesPut p rules fits tables full set i j rows₀ live₀ rows live)
-    (G : Given fit bytes p rules fits j) (C : CellTrue p bytes i j set) (O : Opened fit bytes p rules i j tables₀ rows₀) where
+    (P : SuffixesPut p rules fits tables full set reach i j rows₀ live₀ rows live)
+    (G : Given fit bytes p rules fits j) (C : CellTrue p bytes i j set) (O : Opened fit bytes p rules i j tables₀ rows₀)
+    (R : Reached tables₀ reach i j) (T : LiveFrom p rules i j rows₀ live₀) where
   numbers : (k : ℕ) → Least (Tree (Packing p) bytes k i j) (fullIn full k)
   numbers k =
       let R = ready-by (O .sofar) (G .past) i j (omega arith) l (omega arith) (omega arith) (O .bare) in
@@ -108,6 +109,9 @@ module _ {fit : Fit} {bytes : ℕ → ℕ → Type 0} {p : List ℕ} {rules : �
       (λ k a b u v w. within-least (λ _. tooMany) (costIn tables₀) (costIn tables) i j k a b u v w (part-same l L k a b v w))
       (O .column r q x y))
 
+  ends : Reached tables reach i j
+  ends k c x y f = let e = part-same l L k i c (omega arith) (omega arith) (omega arith) in let m = R k c x y f in omega arith
+
   pub span-done : Sofar fit bytes p rules i j tables rows
   span-done = sofar-more (omega arith) l behind
       (λ k. subst (λ (v : ℕ). Least (Tree (Packing p) bytes k i j) v) (sym (L .here k)) (numbers k))
@@ -115,11 +119,11 @@ module _ {fit : Fit} {bytes : ℕ → ℕ → Type 0} {p : List ℕ} {rules : �
       (sym (L .rest (bareAt i j r) (let u = bare-behind i j r in omega arith)))
       (node-same (λ k a b u v w s. part-same l L k a b v w s) (O .bare r x)))
       (λ r q x y. leastcut-same i j (λ k a b u v w. within-even (fullIn full) (costIn tables) i j k a b u v w (L .here k))
-      (P .exact fit (G .told) r x (later r x) (untouched r x) q y))
+      (P .exact fit (G .told) ends r x (λ c u v f. T .told r c x (omega arith) v f) (later r x) (untouched r x) q y))
 
 -- what is told of the live starts is told still
-module _ {p : List ℕ} {rules : ℕ} {fits tables full : List ℕ} {set i j : ℕ} {rows₀ live₀ rows live : List ℕ} (o : rules ≤ 128) (l : j < 65)
-    (P : SuffixesPut p rules fits tables full set i j rows₀ live₀ rows live) where
+module _ {p : List ℕ} {rules : ℕ} {fits tables full : List ℕ} {set reach i j : ℕ} {rows₀ live₀ rows live : List ℕ}
+    (o : rules ≤ 128) (l : j < 65) (P : SuffixesPut p rules fits tables full set reach i j rows₀ live₀ rows live) where
   told-again : LiveFrom p rules i j rows₀ live₀ → LiveFrom p rules i j rows live
   told-again L = record { told = λ r c x y z f. go r c x y z f (ℕ-discrete c i) }
     where
@@ -134,14 +138,14 @@ module _ {p : List ℕ} {rules : ℕ} {fits tables full : List ℕ} {set i j : �
 pub span-put : (p : List ℕ) (rules : ℕ) (fits : List ℕ) (set reach i j : ℕ)
     {full tables₀ rows₀ live₀ tables₁ rows₁ live₁ tables rows live : List ℕ} → rules ≤ 128 → i < j → j < 65
     → SpanOpened p rules fits reach i j tables₀ rows₀ live₀ tables₁ rows₁ live₁ → Solved p rules set 0 tables₁ i j full
-    → LeastPut full i j tables₁ tables → SuffixesPut p rules fits tables full set i j rows₁ live₁ rows live
+    → LeastPut full i j tables₁ tables → SuffixesPut p rules fits tables full set reach i j rows₁ live₁ rows live
     → SpanPut p rules fits set reach i j tables₀ rows₀ live₀ tables rows live
 span-put p rules fits set reach i j {rows₁ = rows₁} {live₁} {rows = rows} {live} o h l S X L P = record {
   long = L .long;
   wide = P .long;
   size = P .size;
   told = λ A. told-again o l P (S .told A);
-  exact = λ fit can G C R A D. span-done o h l X L P G C (S .exact fit can (G .told) R A D);
+  exact = λ fit can G C R A D. span-done o h l X L P G C (S .exact fit can (G .told) R A D) (S .ends R) (S .told A);
 }
 
 -- ---- the empty span

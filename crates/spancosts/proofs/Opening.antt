@@ -46,6 +46,9 @@ module _ (p : List ℕ) (rules : ℕ) (fits nothing : List ℕ) (reach i j : ℕ
           silent-kept p r c rows₀ rows (λ q w. A .other r q c (omega arith) w (omega arith) e)
           (L .told r c x (omega arith) z (A .grown r c f))
 
+  ends : Reached tables₀ reach i j → Reached tables reach i j
+  ends R k c x y f = let e = costs k i c (omega arith) (omega arith) in let m = R k c x y f in omega arith
+
   module _ (fit : Fit) (bytes : ℕ → ℕ → Type 0) (F : FitTold fit p fits j) (R : Reached tables₀ reach i j)
       (L : LiveFrom p rules (i + 1) j rows₀ live₀) (S : Sofar fit bytes p rules (i + 1) j tables₀ rows₀) where
     later : (r : ℕ) → r < rules → LaterStarts fit p r tables₀ nothing i i j rows₀ (585 * r)
@@ -78,4 +81,11 @@ module _ (p : List ℕ) (rules : ℕ) (fits nothing : List ℕ) (reach i j : ℕ
     opened = record { sofar = behind; bare = bare; column = column }
 
   pub span-opened : SpanOpened p rules fits reach i j tables₀ rows₀ live₀ tables rows live
-  span-opened = record { long = B .long; wide = A .long; size = A .size; told = told; exact = λ fit can. opened fit (Standing can) }
+  span-opened = record {
+    long = B .long;
+    wide = A .long;
+    size = A .size;
+    told = told;
+    ends = ends;
+    exact = λ fit can. opened fit (Standing can);
+  }

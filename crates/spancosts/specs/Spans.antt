@@ -20,6 +20,7 @@ pub record SpanOpened (p : List ℕ) (rules : ℕ) (fits : List ℕ) (reach i j 
   pub wide : length rows ≡ allRows
   pub size : length live ≡ maxRules
   pub told : LiveFrom p rules (i + 1) j rows₀ live₀ → LiveFrom p rules i j rows live
+  pub ends : Reached tables₀ reach i j → Reached tables reach i j
   pub exact : (fit : Fit) (can : ℕ → ℕ → Bool) → FitTold fit p fits j → Reached tables₀ reach i j → LiveFrom p rules (i + 1) j rows₀ live₀
       → Sofar fit (Standing can) p rules (i + 1) j tables₀ rows₀ → Opened fit (Standing can) p rules i j tables rows
 

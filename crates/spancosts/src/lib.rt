@@ -65,7 +65,7 @@ pub fn put_span(
     open_span(p, rules, fits, nothing, reach, i, j, tables, rows, live);
     let full = solve(p, rules, cell, 0, tables, i, j);
     put_least(&full, i, j, tables);
-    put_suffixes(p, rules, fits, tables, &full, cell, i, j, rows, live);
+    put_suffixes(p, rules, fits, tables, &full, cell, reach, i, j, rows, live);
 }
 
 // The empty span at j; `empty` has its numbers.

@@ -14,50 +14,50 @@ use Rattle.packed.proofs.Laws.{count-le}
 use Rattle.suffixes.specs.Within.{tailIn, Inside, LaterStarts}
 use Rattle.tables.specs.Exact.{FitTold}
 use Rattle.writes.specs.Writes.{allRows, placeAt}
-use Rattle.live.specs.Live.{Silent, liveIn, RulePut}
+use Rattle.live.specs.Live.{Silent, liveIn, LiveTold, Reached, RulePut}
 use Rattle.starts.specs.Starts.{Untouched, StartRight, SuffixesPut}
-use Rattle.starts.proofs.Columns.{other-starts, other-rules, right-kept, silent-kept, later-kept}
+use Rattle.starts.proofs.Columns.{other-starts, other-rules, right-kept, silent-kept, live-kept, later-kept}
 
-module _ (p fits tables full : List ℕ) (cell i j : ℕ) where
+module _ (p fits tables full : List ℕ) (cell reach i j : ℕ) where
   pub suffixes-start : (rows live : List ℕ) → length rows ≡ allRows → length live ≡ 128
-      → SuffixesPut p 0 fits tables full cell i j rows live rows live
+      → SuffixesPut p 0 fits tables full cell reach i j rows live rows live
   suffixes-start rows live e f = record {
     long = e;
     size = f;
     other = λ r q c x y z d. refl;
     later = λ r q x y z. refl;
-    exact = λ fit F r h L U. absurd (omega arith);
+    exact = λ fit F R r h T L U. absurd (omega arith);
     grown = λ r c g. g;
     told = λ r h g. g;
   }
 
   -- the empty set has none
   pub suffixes-none : (m : ℕ) (rows live : List ℕ) → length rows ≡ allRows → length live ≡ 128 → cell ≡ 0
-      → SuffixesPut p m fits tables full cell i j rows live rows live
+      → SuffixesPut p m fits tables full cell reach i j rows live rows live
   suffixes-none m rows live e f z = record {
     long = e;
     size = f;
     other = λ r q c x y z d. refl;
     later = λ r q x y z. refl;
-    exact = λ fit F r h L U. U (record { none = λ q x t. rw z (has-empty (valueIn p r q)) });
+    exact = λ fit F R r h T L U. U (record { none = λ q x t. rw z (has-empty (valueIn p r q)) });
     grown = λ r c g. g;
     told = λ r h g. g;
   }
 
   module _ (m rules : ℕ) {rows₀ live₀ rows live : List ℕ} (b : i < j) (l : j < 65) (h : m < rules) (o : rules ≤ 128)
-      (S : SuffixesPut p m fits tables full cell i j rows₀ live₀ rows live) where
+      (S : SuffixesPut p m fits tables full cell reach i j rows₀ live₀ rows live) where
     -- one that has none
     module _ {t : Bool} (N : t ≡ false → Untouched p m cell) (n : t ≡ false) where
-      stay : (fit : Fit) → FitTold fit p fits j → (r : ℕ) → r < m + 1 → Dec (r ≡ m)
-          → LaterStarts fit p r tables full i i j rows₀ (585 * r)
+      stay : (fit : Fit) → FitTold fit p fits j → Reached tables reach i j → (r : ℕ) → r < m + 1 → Dec (r ≡ m)
+          → LiveTold p r i j rows₀ live₀ → LaterStarts fit p r tables full i i j rows₀ (585 * r)
           → (Untouched p r cell → StartRight fit p r tables full i j rows₀) → StartRight fit p r tables full i j rows
-      stay fit F r x (yes e) L U q y =
+      stay fit F R r x (yes e) T L U q y =
           let c = count-le p r in
           let g : getD rows₀ (placeAt r q i) 0 ≡ getD rows (placeAt r q i) 0 =
           sym (S .later r q (omega arith) (omega arith) (omega arith))
           in
           subst (λ (v : ℕ). Inside fit tables full i j (tailIn p r q) i v) g (U (rw e (N n)) q y)
-      stay fit F r x (no e) L U q y = let d : ¬ (r ≡ m) = e in S .exact fit F r (omega arith) L U q y
+      stay fit F R r x (no e) T L U q y = let d : ¬ (r ≡ m) = e in S .exact fit F R r (omega arith) T L U q y
 
       told-stay : (r : ℕ) → r < m + 1 → Dec (r ≡ m) → (liveIn live₀ r i ≡ false → Silent p r i rows₀) → liveIn live r i ≡ false
           → Silent p r i rows
@@ -66,53 +66,56 @@ module _ (p fits tables full : List ℕ) (cell i j : ℕ) where
       told-stay r x (no e) g f = let d : ¬ (r ≡ m) = e in S .told r (omega arith) g f
 
       pub suffixes-skip : {new now : List ℕ} → new ≡ rows → now ≡ live
-          → SuffixesPut p (m + 1) fits tables full cell i j rows₀ live₀ new now
+          → SuffixesPut p (m + 1) fits tables full cell reach i j rows₀ live₀ new now
       suffixes-skip e f = rw (e, f) (record {
         long = S .long;
         size = S .size;
         other = S .other;
         later = λ r q x y z. S .later r q (omega arith) y z;
-        exact = λ fit F r x L U. stay fit F r x (ℕ-discrete r m) L U;
+        exact = λ fit F R r x T L U. stay fit F R r x (ℕ-discrete r m) T L U;
         grown = S .grown;
         told = λ r x g f. told-stay r x (ℕ-discrete r m) g f;
       })
 
     -- one that has some
-    module _ {rows' live' : List ℕ} (P : RulePut p m fits tables full i j rows live rows' live') where
-      redo : (fit : Fit) → FitTold fit p fits j → (r : ℕ) → r < m + 1 → Dec (r ≡ m)
-          → LaterStarts fit p r tables full i i j rows₀ (585 * r)
+    module _ {rows' live' : List ℕ} (P : RulePut p m fits tables full reach i j rows live rows' live') where
+      redo : (fit : Fit) → FitTold fit p fits j → Reached tables reach i j → (r : ℕ) → r < m + 1 → Dec (r ≡ m)
+          → LiveTold p r i j rows₀ live₀ → LaterStarts fit p r tables full i i j rows₀ (585 * r)
           → (Untouched p r cell → StartRight fit p r tables full i j rows₀) → StartRight fit p r tables full i j rows'
-      redo fit F r x (yes e) L U q y =
-          rw e (P .put .exact fit F (later-kept p fits tables full i j fit m rows₀ rows (omega arith) l (S .other)
+      redo fit F R r x (yes e) T L U q y =
+          rw e (P .exact fit F R
+          (live-kept p m i j rows₀ live₀ rows live (omega arith) l (S .other) (S .grown)
+          (subst (λ (v : ℕ). LiveTold p v i j rows₀ live₀) e T))
+          (later-kept p fits tables full i j fit m rows₀ rows (omega arith) l (S .other)
           (subst (λ (v : ℕ). LaterStarts fit p v tables full i i j rows₀ (585 * v)) e L)) q (rw e at y))
-      redo fit F r x (no e) L U q y =
+      redo fit F R r x (no e) T L U q y =
           let d : ¬ (r ≡ m) = e in
-          right-kept p i m rows rows' (omega arith) (P .put .other) fit tables full j r e (S .exact fit F r (omega arith) L U) q y
+          right-kept p i m rows rows' (omega arith) (P .other) fit tables full j r e (S .exact fit F R r (omega arith) T L U) q y
 
       told-redo : (r : ℕ) → r < m + 1 → Dec (r ≡ m) → (liveIn live₀ r i ≡ false → Silent p r i rows₀) → liveIn live' r i ≡ false
           → Silent p r i rows'
       told-redo r x (yes e) g f = rw e (P .marked .here (rw e at f))
       told-redo r x (no e) g f =
           let d : ¬ (r ≡ m) = e in
-          silent-kept p r i rows rows' (λ q z. other-rules p i m rows rows' (omega arith) (P .put .other) r q e z)
+          silent-kept p r i rows rows' (λ q z. other-rules p i m rows rows' (omega arith) (P .other) r q e z)
           (S .told r (omega arith) g (P .marked .grown r i f))
 
       pub suffixes-take : {new now : List ℕ} → new ≡ rows' → now ≡ live'
-          → SuffixesPut p (m + 1) fits tables full cell i j rows₀ live₀ new now
+          → SuffixesPut p (m + 1) fits tables full cell reach i j rows₀ live₀ new now
       suffixes-take e f = rw (e, f) (record {
-        long = P .put .long ∙ S .long;
+        long = P .long ∙ S .long;
         size = P .marked .size;
-        other = λ r q c x y z d. other-starts p i m rows rows' (omega arith) (P .put .other) r q c x y z d ∙ S .other r q c x y z d;
+        other = λ r q c x y z d. other-starts p i m rows rows' (omega arith) (P .other) r q c x y z d ∙ S .other r q c x y z d;
         later = λ r q x y z.
-            other-rules p i m rows rows' (omega arith) (P .put .other) r q (λ e. omega arith) z ∙ S .later r q (omega arith) y z;
-        exact = λ fit F r x L U. redo fit F r x (ℕ-discrete r m) L U;
+            other-rules p i m rows rows' (omega arith) (P .other) r q (λ e. omega arith) z ∙ S .later r q (omega arith) y z;
+        exact = λ fit F R r x T L U. redo fit F R r x (ℕ-discrete r m) T L U;
         grown = λ r c f. S .grown r c (P .marked .grown r c f);
         told = λ r x g f. told-redo r x (ℕ-discrete r m) g f;
       })
 
   pub suffixes-end : {m rules : ℕ} {rows₀ live₀ rows live : List ℕ} → m ≤ rules → rules ≤ m
-      → SuffixesPut p m fits tables full cell i j rows₀ live₀ rows live
-      → SuffixesPut p rules fits tables full cell i j rows₀ live₀ rows live
+      → SuffixesPut p m fits tables full cell reach i j rows₀ live₀ rows live
+      → SuffixesPut p rules fits tables full cell reach i j rows₀ live₀ rows live
   suffixes-end {m} {rules} x y S = let e : m ≡ rules = omega arith in rw e at S
 
 -- ---- whether a rule has such a nonterminal

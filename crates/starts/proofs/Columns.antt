@@ -12,7 +12,7 @@ use Rattle.suffixes.specs.Within.{tailIn, Inside, LaterStarts}
 use Rattle.suffixes.specs.Rows.{StartPut}
 use Rattle.tables.specs.Exact.{FitTold}
 use Rattle.writes.specs.Writes.{allRows, placeAt}
-use Rattle.live.specs.Live.{Silent, liveIn, LiveTold, Reached, OneRule, RuleOpened}
+use Rattle.live.specs.Live.{Silent, liveIn, LiveTold, Reached, OneRule, Grown, RulePut}
 use Rattle.starts.specs.Starts.{OtherStarts, StartRight, StartsPut, StartsOpened}
 
 -- ---- what writing one rule from i on leaves as found
@@ -35,6 +35,13 @@ pub silent-kept : (p : List ℕ) (r c : ℕ) (rows rows' : List ℕ)
     → ((q : ℕ) → q ≤ 8 → getD rows' (placeAt r q c) 0 ≡ getD rows (placeAt r q c) 0) → Silent p r c rows → Silent p r c rows'
 silent-kept p r c rows rows' f S q z y = let b = count-le p r in let e = f q (omega arith) in let x = S q z y in omega arith
 
+-- what is told of the later starts is told still
+pub live-kept : (p : List ℕ) (r i j : ℕ) (rows₀ live₀ rows live : List ℕ) → r < 128 → j < 65 → OtherStarts i rows₀ rows
+    → Grown live₀ live → LiveTold p r i j rows₀ live₀ → LiveTold p r i j rows live
+live-kept p r i j rows₀ live₀ rows live h l O G L c x y f =
+    let d : ¬ (c ≡ i) = λ e. omega arith in
+    silent-kept p r c rows₀ rows (λ q z. O r q c h z (omega arith) d) (L c x y (G r c f))
+
 module _ (p fits tables full : List ℕ) (i j : ℕ) where
   -- the costs from later starts stay right
   pub later-kept : (fit : Fit) (r : ℕ) (rows₀ rows : List ℕ) → r < 128 → j < 65 → OtherStarts i rows₀ rows
@@ -50,11 +57,11 @@ module _ (p fits tables full : List ℕ) (i j : ℕ) where
   starts-start rows e = record { long = e; other = λ r q c x y z d. refl; exact = λ fit F r h L. absurd (omega arith) }
 
   module _ (m rules : ℕ) (rows₀ rows rows' : List ℕ) (b : i ≤ j) (l : j < 65) (h : m < rules) (o : rules ≤ 128)
-      (S : StartsPut p m fits tables full i j rows₀ rows) (P : StartPut p m fits tables full i i j (585 * m) rows rows') where
+      (S : StartsPut p m fits tables full i j rows₀ rows) (P : StartPut p m fits tables full i i (i + 1) j (585 * m) rows rows') where
     right : (fit : Fit) → FitTold fit p fits j → (r : ℕ) → r < m + 1 → Dec (r ≡ m)
         → LaterStarts fit p r tables full i i j rows₀ (585 * r) → StartRight fit p r tables full i j rows'
     right fit F r x (yes e) L q y =
-        rw e (P .exact fit F (later-kept fit m rows₀ rows (omega arith) l (S .other)
+        rw e (P .exact fit F (λ s x y z u v w. absurd (omega arith)) (later-kept fit m rows₀ rows (omega arith) l (S .other)
         (subst (λ (v : ℕ). LaterStarts fit p v tables full i i j rows₀ (585 * v)) e L)) q (rw e at y))
     right fit F r x (no e) L q y =
         let d : ¬ (r ≡ m) = e in
@@ -87,18 +94,14 @@ module _ (p fits tables full : List ℕ) (i j : ℕ) where
 
     module _ (m rules : ℕ) {rows₀ live₀ rows live rows' live' : List ℕ} (b : i < j) (l : j < 65) (h : m < rules) (o : rules ≤ 128)
         (S : StartsOpened p m fits tables full reach i j rows₀ live₀ rows live)
-        (P : RuleOpened p m fits tables full reach i j rows live rows' live') where
-      -- what is told of the later starts is told still
-      live-kept : LiveTold p m i j rows₀ live₀ → LiveTold p m i j rows live
-      live-kept L c x y f =
-          let d : ¬ (c ≡ i) = λ e. omega arith in
-          silent-kept p m c rows₀ rows (λ q z. S .other m q c (omega arith) z (omega arith) d) (L c x y (S .grown m c f))
-
+        (P : RulePut p m fits tables full reach i j rows live rows' live') where
       right-opened : (fit : Fit) → FitTold fit p fits j → Reached tables reach i j → (r : ℕ) → r < m + 1 → Dec (r ≡ m)
           → LiveTold p r i j rows₀ live₀ → LaterStarts fit p r tables full i i j rows₀ (585 * r)
           → StartRight fit p r tables full i j rows'
       right-opened fit F R r x (yes e) L X q y =
-          rw e (P .exact fit F R (live-kept (subst (λ (v : ℕ). LiveTold p v i j rows₀ live₀) e L))
+          rw e (P .exact fit F R
+          (live-kept p m i j rows₀ live₀ rows live (omega arith) l (S .other) (S .grown)
+          (subst (λ (v : ℕ). LiveTold p v i j rows₀ live₀) e L))
           (later-kept fit m rows₀ rows (omega arith) l (S .other)
           (subst (λ (v : ℕ). LaterStarts fit p v tables full i i j rows₀ (585 * v)) e X)) q (rw e at y))
       right-opened fit F R r x (no e) L X q y =

@@ -47,14 +47,16 @@ pub record StartsOpened (p : List ℕ) (m : ℕ) (fits tables full : List ℕ) (
   pub grown : Grown live₀ live
   pub told : (r : ℕ) → r < m → liveIn live r i ≡ false → Silent p r i rows
 
--- the rows with the costs from i to j written for the rules below m that have a nonterminal of the set in their places; those of the
--- others were right already, and so was what is told of i
-pub record SuffixesPut (p : List ℕ) (m : ℕ) (fits tables full : List ℕ) (cell i j : ℕ) (rows₀ live₀ rows live : List ℕ) : Type 0 where
+-- the rows with the costs from i to j written for the rules below m that have a nonterminal of the set in their places, right where the
+-- ends not in `reach` cost too many and the live starts are told; those of the others were right already, and so was what is told of i
+pub record SuffixesPut (p : List ℕ) (m : ℕ) (fits tables full : List ℕ) (cell reach i j : ℕ) (rows₀ live₀ rows live : List ℕ)
+    : Type 0 where
   pub long : length rows ≡ allRows
   pub size : length live ≡ maxRules
   pub other : OtherStarts i rows₀ rows
   pub later : (r q : ℕ) → m ≤ r → r < maxRules → q ≤ maxPlaces → getD rows (placeAt r q i) 0 ≡ getD rows₀ (placeAt r q i) 0
-  pub exact : (fit : Fit) → FitTold fit p fits j → (r : ℕ) → r < m → LaterStarts fit p r tables full i i j rows₀ (rowsSize * r)
-      → (Untouched p r cell → StartRight fit p r tables full i j rows₀) → StartRight fit p r tables full i j rows
+  pub exact : (fit : Fit) → FitTold fit p fits j → Reached tables reach i j → (r : ℕ) → r < m → LiveTold p r i j rows₀ live₀
+      → LaterStarts fit p r tables full i i j rows₀ (rowsSize * r) → (Untouched p r cell → StartRight fit p r tables full i j rows₀)
+      → StartRight fit p r tables full i j rows
   pub grown : Grown live₀ live
   pub told : (r : ℕ) → r < m → (liveIn live₀ r i ≡ false → Silent p r i rows₀) → liveIn live r i ≡ false → Silent p r i rows

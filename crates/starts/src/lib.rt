@@ -35,7 +35,19 @@ pub fn put_starts(
 {
     let mut r = 0;
     while r < rules {
-        put_start(p, r, fits, tables, full, i, i, j, rows, ROWS_SIZE * r);
+        put_start(
+            p,
+            r,
+            fits,
+            tables,
+            full,
+            i,
+            i,
+            i + 1,
+            j,
+            rows,
+            ROWS_SIZE * r,
+        );
         r += 1;
     }
 }
@@ -85,7 +97,7 @@ fn touched(p: &Packed, r: usize, cell: u32) -> bool
     false
 }
 
-// Writes them for those rules that have a nonterminal of the set in a place.
+// Writes them for those rules that have a nonterminal of the set in a place; `reach` has the ends of nonterminals from i on.
 pub fn put_suffixes(
     p: &Packed,
     rules: usize,
@@ -93,6 +105,7 @@ pub fn put_suffixes(
     tables: &Tables,
     full: &Full,
     cell: u32,
+    reach: u64,
     i: usize,
     j: usize,
     rows: &mut AllRows,
@@ -100,7 +113,7 @@ pub fn put_suffixes(
 )
     requires { ⌜ (rules ≤ maxRules) × (i < j) × (j < side) × (length (now rows) ≡ allRows) × (length (now live) ≡ maxRules) ⌝ }
     ensures { λ _.
-        ⌜ SuffixesPut (now (p .entry)) rules (now (fits .entry)) (now (tables .entry)) (now (full .entry)) cell i j
+        ⌜ SuffixesPut (now (p .entry)) rules (now (fits .entry)) (now (tables .entry)) (now (full .entry)) cell reach i j
         (now (rows .entry)) (now (live .entry)) (now (rows .exit)) (now (live .exit)) ⌝ }
 {
     if cell == 0 {
@@ -109,7 +122,7 @@ pub fn put_suffixes(
     let mut r = 0;
     while r < rules {
         if touched(p, r, cell) {
-            put_rule(p, r, fits, tables, full, i, j, rows, live);
+            put_rule(p, r, fits, tables, full, reach, i, j, rows, live);
         }
         r += 1;
     }

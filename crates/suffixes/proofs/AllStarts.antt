@@ -19,8 +19,8 @@ module _ (p : List ℕ) (r : ℕ) (fits : List ℕ) where
   pub word-fits : {a j word : ℕ} (fit : Fit) → r < 128 → WordAt fits r a j word → FitTold fit p fits j → Word fit p r a j word
   word-fits {a} fit h W F q l n m = ap (has q) (W .told m) ∙ F a r q m h l n
 
-  pub start-put : {word : ℕ} {tables full : List ℕ} {i a j at : ℕ} {rows₀ rows : List ℕ} → r < 128 → WordAt fits r a j word
-      → ColumnPut p r word tables full i a j at rows₀ rows → StartPut p r fits tables full i a j at rows₀ rows
+  pub start-put : {word : ℕ} {tables full : List ℕ} {i a from j at : ℕ} {rows₀ rows : List ℕ} → r < 128 → WordAt fits r a j word
+      → ColumnPut p r word tables full i a from j at rows₀ rows → StartPut p r fits tables full i a from j at rows₀ rows
   start-put h W C = record {
     long = C .long;
     other = C .other;
@@ -34,10 +34,11 @@ module _ (p : List ℕ) (r : ℕ) (fits tables full : List ℕ) (i j : ℕ) wher
   rows-start rows e = record { long = e; exact = λ fit F q c h l m. absurd (omega arith) }
 
   module _ (rows₀ rows : List ℕ) (n : ℕ) (k : i < n) (l : n ≤ j + 1) (b : j < 65) (S : RowsFrom p r fits tables full i n j rows₀)
-      (P : StartPut p r fits tables full i (n - 1) j 0 rows₀ rows) where
+      (P : StartPut p r fits tables full i (n - 1) (n - 1 + 1) j 0 rows₀ rows) where
     at-start : (fit : Fit) → FitTold fit p fits j → (q c : ℕ) → q ≤ countIn p r → n - 1 ≤ c → c ≤ j → Dec (c ≡ n - 1)
         → Inside fit tables full i j (tailIn p r q) c (getD rows (rowAt 0 q c) 0)
-    at-start fit F q c h m o (yes d) = rw d (P .exact fit F (λ s x y z w. S .exact fit F s x y (omega arith) w) q h)
+    at-start fit F q c h m o (yes d) =
+        rw d (P .exact fit F (λ s x y z u v w. absurd (omega arith)) (λ s x y z w. S .exact fit F s x y (omega arith) w) q h)
     at-start fit F q c h m o (no d) =
         let x : ¬ (c ≡ n - 1) = d in
         subst (λ (z : ℕ). Inside fit tables full i j (tailIn p r q) c z) (sym (P .other (rowAt 0 q c) (λ s y z. x (omega arith))))

@@ -10,17 +10,18 @@ use Rattle.packed.specs.Packed.{countIn}
 use Rattle.fit.specs.Fit.{entryIn}
 use Rattle.tables.specs.Layout.{rowsSize}
 use Rattle.tables.specs.Exact.{FitTold}
-use Rattle.suffixes.specs.Within.{tailIn, Inside, rowAt, LaterStarts}
+use Rattle.suffixes.specs.Within.{tailIn, Inside, rowAt, LaterStarts, EndsPassed}
 
 -- v has the places of rule r that fit position a, if that is before j
 pub record WordAt (fits : List ℕ) (r a j v : ℕ) : Type 0 where
   pub told : a < j → v ≡ entryIn fits a r
 
 -- the rows of rule r with all costs from the start a written; all others are as found
-pub record StartPut (p : List ℕ) (r : ℕ) (fits tables full : List ℕ) (i a j at : ℕ) (rows₀ rows : List ℕ) : Type 0 where
+pub record StartPut (p : List ℕ) (r : ℕ) (fits tables full : List ℕ) (i a from j at : ℕ) (rows₀ rows : List ℕ) : Type 0 where
   pub long : length rows ≡ length rows₀
   pub other : (n : ℕ) → ((s : ℕ) → s ≤ countIn p r → n ≢ rowAt at s a) → getD rows n 0 ≡ getD rows₀ n 0
-  pub exact : (fit : Fit) → FitTold fit p fits j → LaterStarts fit p r tables full i a j rows₀ at
+  pub exact : (fit : Fit) → FitTold fit p fits j → EndsPassed p r tables a from j rows₀ at
+      → LaterStarts fit p r tables full i a j rows₀ at
       → (s : ℕ) → s ≤ countIn p r → Inside fit tables full i j (tailIn p r s) a (getD rows (rowAt at s a) 0)
 
 -- the rows of rule r, which begin at 0, hold the costs from the starts from a on

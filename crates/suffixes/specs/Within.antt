@@ -10,6 +10,7 @@ use Rattle.sizes.specs.Sizes.{side}
 use Rattle.sets.specs.Set.{has}
 use Rattle.costs.specs.Cut.{Fit}
 use Rattle.packed.specs.Packed.{countIn, isNonterminalIn, terminalIn}
+use Rattle.cuts.specs.Suffix.{Passed}
 pub use Rattle.cuts.specs.Within.{tailIn, Inside}
 
 -- where the cost of the places from q on and from a on stands, in the rows of one rule that begin at `at`
@@ -25,17 +26,21 @@ abbrev pub LaterStarts : Fit → List ℕ → ℕ → List ℕ → List ℕ → 
 LaterStarts fit p r tables full i a j rows at = (q c : ℕ) → q ≤ countIn p r → a < c → c ≤ j
     → Inside fit tables full i j (tailIn p r q) c (getD rows (rowAt at q c) 0)
 
+-- each end behind a and before both `from` and j costs too many: itself, or each suffix of rule r behind its first place from there on
+abbrev pub EndsPassed : List ℕ → ℕ → List ℕ → ℕ → ℕ → ℕ → List ℕ → ℕ → Type 0
+EndsPassed p r tables a from j rows at = (q : ℕ) → 0 < q → q ≤ countIn p r → Passed tables a from j rows (at + side * q)
+
 -- the rows of rule r with the costs from the start a written, those of the places from q on and before the end; all others are as found
-pub record ColumnFrom (p : List ℕ) (r word : ℕ) (tables full : List ℕ) (i a j at q : ℕ) (rows₀ rows : List ℕ) : Type 0 where
+pub record ColumnFrom (p : List ℕ) (r word : ℕ) (tables full : List ℕ) (i a from j at q : ℕ) (rows₀ rows : List ℕ) : Type 0 where
   pub long : length rows ≡ length rows₀
   pub other : (n : ℕ) → ((s : ℕ) → s < countIn p r → n ≢ rowAt at s a) → getD rows n 0 ≡ getD rows₀ n 0
-  pub exact : (fit : Fit) → Word fit p r a j word → LaterStarts fit p r tables full i a j rows₀ at
+  pub exact : (fit : Fit) → Word fit p r a j word → EndsPassed p r tables a from j rows₀ at → LaterStarts fit p r tables full i a j rows₀ at
       → Inside fit tables full i j [] a (getD rows₀ (rowAt at (countIn p r) a) 0)
       → (s : ℕ) → q ≤ s → s ≤ countIn p r → Inside fit tables full i j (tailIn p r s) a (getD rows (rowAt at s a) 0)
 
 -- the rows of rule r with all costs from the start a written; all others are as found
-pub record ColumnPut (p : List ℕ) (r word : ℕ) (tables full : List ℕ) (i a j at : ℕ) (rows₀ rows : List ℕ) : Type 0 where
+pub record ColumnPut (p : List ℕ) (r word : ℕ) (tables full : List ℕ) (i a from j at : ℕ) (rows₀ rows : List ℕ) : Type 0 where
   pub long : length rows ≡ length rows₀
   pub other : (n : ℕ) → ((s : ℕ) → s ≤ countIn p r → n ≢ rowAt at s a) → getD rows n 0 ≡ getD rows₀ n 0
-  pub exact : (fit : Fit) → Word fit p r a j word → LaterStarts fit p r tables full i a j rows₀ at
+  pub exact : (fit : Fit) → Word fit p r a j word → EndsPassed p r tables a from j rows₀ at → LaterStarts fit p r tables full i a j rows₀ at
       → (s : ℕ) → s ≤ countIn p r → Inside fit tables full i j (tailIn p r s) a (getD rows (rowAt at s a) 0)

@@ -11,7 +11,7 @@ ghost use Rattle.tables.specs.Layout.{rowsSize};
 ghost use Rattle.suffixes.specs.Within.{ColumnPut};
 
 // Writes the costs from a to j inside i to j into the rows that begin at `at`, those of the later starts being written. The word tells
-// which places of rule r hold a terminal that fits the byte at a.
+// which places of rule r hold a terminal that fits the byte at a. The ends behind a and before `from` are not looked at.
 pub fn put_column(
     p: &Packed,
     r: usize,
@@ -20,13 +20,14 @@ pub fn put_column(
     full: &Full,
     i: usize,
     a: usize,
+    from: usize,
     j: usize,
     rows: &mut [u16],
     at: usize,
 )
-    requires { ⌜ (r < maxRules) × (i ≤ a) × (a ≤ j) × (j < side) × (at + rowsSize ≤ length (now rows)) ⌝ }
+    requires { ⌜ (r < maxRules) × (i ≤ a) × (a < from) × (a ≤ j) × (j < side) × (at + rowsSize ≤ length (now rows)) ⌝ }
     ensures { λ _.
-        ⌜ ColumnPut (now (p .entry)) r word (now (tables .entry)) (now (full .entry)) i a j at
+        ⌜ ColumnPut (now (p .entry)) r word (now (tables .entry)) (now (full .entry)) i a from j at
         (now (rows .entry)) (now (rows .exit)) ⌝ }
 {
     let count = packed::count(p, r);
@@ -43,6 +44,7 @@ pub fn put_column(
             full,
             i,
             a,
+            from,
             j,
             rows,
             at + sizes::SIDE * (q + 1),

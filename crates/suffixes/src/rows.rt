@@ -26,7 +26,8 @@ fn word_at(fits: &FitTable, r: usize, a: usize, j: usize) -> u32
     0
 }
 
-// Writes the costs from a to j inside i to j into the rows that begin at `at`, those of the later starts being written.
+// Writes the costs from a to j inside i to j into the rows that begin at `at`, those of the later starts being written. The
+// ends behind a and before `from` are not looked at.
 pub fn put_start(
     p: &Packed,
     r: usize,
@@ -35,13 +36,14 @@ pub fn put_start(
     full: &Full,
     i: usize,
     a: usize,
+    from: usize,
     j: usize,
     rows: &mut [u16],
     at: usize,
 )
-    requires { ⌜ (r < maxRules) × (i ≤ a) × (a ≤ j) × (j < side) × (at + rowsSize ≤ length (now rows)) ⌝ }
+    requires { ⌜ (r < maxRules) × (i ≤ a) × (a < from) × (a ≤ j) × (j < side) × (at + rowsSize ≤ length (now rows)) ⌝ }
     ensures { λ _.
-        ⌜ StartPut (now (p .entry)) r (now (fits .entry)) (now (tables .entry)) (now (full .entry)) i a j at
+        ⌜ StartPut (now (p .entry)) r (now (fits .entry)) (now (tables .entry)) (now (full .entry)) i a from j at
         (now (rows .entry)) (now (rows .exit)) ⌝ }
 {
     put_column(
@@ -52,13 +54,14 @@ pub fn put_start(
         full,
         i,
         a,
+        from,
         j,
         rows,
         at,
     );
 }
 
-// Writes the costs from all starts, from j down to i.
+// Writes the costs from all starts, from j down to i, each by looking at all ends.
 pub fn put_rows(
     p: &Packed,
     r: usize,
@@ -76,6 +79,6 @@ pub fn put_rows(
     let mut a = j + 1;
     while a > i {
         a -= 1;
-        put_start(p, r, fits, tables, full, i, a, j, rows, 0);
+        put_start(p, r, fits, tables, full, i, a, a + 1, j, rows, 0);
     }
 }

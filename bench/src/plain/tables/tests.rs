@@ -1,5 +1,5 @@
-//! The tables with rules passed over against those made before: the same numbers, on random grammars and on the books of
-//! the benchmark.
+//! The tables with rules and ends passed over against those made before: the same numbers, on random grammars and on
+//! the books of the benchmark.
 
 use super::super::{loader, packed::Packed, recognizer, Grammar, Rule, Symbol, CHART};
 use super::{fit_table, Given, Tables, NONE, TABLES};
@@ -43,7 +43,7 @@ fn grammar(random: &mut Random) -> Grammar {
 }
 
 #[test]
-fn rules_passed_over_change_no_number() {
+fn what_is_passed_over_changes_no_number() {
     let mut random = Random::new(11);
     let mut numbers = 0;
     for round in 0..600 {

@@ -16,5 +16,5 @@ abbrev μ-loop : tie.MeasureT-loop
 
 pub put-starts-spec : {M : Type 1} → statement M
 put-starts-spec = tie.close (tie.spec
-    Inv-loop μ-loop (λ c. search (needs, starts-start)) (λ c. omega arith) (λ c κs. search needs) (λ c. omega arith) (λ c. omega arith)
-    (λ c. search (needs, starts-step)) (λ c. search (needs, starts-end)))
+    Inv-loop μ-loop (λ c. search (needs, starts-start)) (λ c. omega arith) (λ c. omega arith) (λ c κs. search needs)
+    (λ c. omega arith) (λ c. omega arith) (λ c. search (needs, starts-step)) (λ c. search (needs, starts-end)))

@@ -10,15 +10,15 @@ use Rattle.cuts.proofs.suffix.over_ends.Statement.{statement}
 use Rattle.cuts.proofs.suffix.over_ends.Tie as tie
 
 abbrev Inv-loop : tie.InvT-loop
-Inv-loop tables k a b last rests at best₀ c₀ best c =
-    (a ≤ c) × (c ≤ b) × (best ≤ tooMany) × EndsBefore tables k a b last rests at c best
+Inv-loop tables k a from b last rests at best₀ c₀ best c =
+    (a ≤ c) × (best ≤ tooMany) × EndsBefore tables k a from b last rests at c best
 
 abbrev μ-loop : tie.MeasureT-loop
-μ-loop tables k a b last rests at best₀ c₀ best c = b - c
+μ-loop tables k a from b last rests at best₀ c₀ best c = b - c
 
 pub over-ends-spec : {M : Type 1} → statement M
 over-ends-spec = tie.close (tie.spec
-    Inv-loop μ-loop (λ c. search (needs, ends-start)) (λ c κs. search needs) (λ c. omega arith) (λ c. omega arith) (λ c. omega arith)
-    (λ c κs. search needs) (λ c κs. search needs) (λ c. omega arith) (λ c. omega arith) (λ c. search (needs, ends-step))
+    Inv-loop μ-loop (λ c κs. search needs) (λ c. search (needs, ends-start)) (λ c κs. search needs) (λ c. omega arith) (λ c. omega arith)
+    (λ c. omega arith) (λ c κs. search needs) (λ c κs. search needs) (λ c. omega arith) (λ c. omega arith) (λ c. search (needs, ends-step))
     (λ c. omega arith) (λ c. omega arith) (λ c. omega arith) (λ c κs. search needs) (λ c κs. search needs)
     (λ c. search (needs, ends-last)))

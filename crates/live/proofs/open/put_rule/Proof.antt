@@ -6,4 +6,6 @@ use Rattle.live.proofs.open.put_rule.Statement.{statement}
 use Rattle.live.proofs.open.put_rule.Tie as tie
 
 pub put-rule-spec : {M : Type 1} → statement M
-put-rule-spec = tie.close (tie.spec (λ c. omega arith) (λ c κs. search needs) (λ c κs. search needs) (λ c. search (needs, rule-put)))
+put-rule-spec = tie.close (tie.spec
+    (λ c. omega arith) (λ c. search needs) (λ c κs. search needs) (λ c. omega arith) (λ c κs. search needs) (λ c κs. search needs)
+    (λ c. search (needs, rule-put)))

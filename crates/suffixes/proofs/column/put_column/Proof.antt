@@ -12,18 +12,18 @@ use Rattle.suffixes.proofs.column.put_column.Statement.{statement}
 use Rattle.suffixes.proofs.column.put_column.Tie as tie
 
 abbrev Inv-loop : tie.InvT-loop
-Inv-loop p r word tables full i a j rows₀ at count q₀ rows q =
-    (q ≤ count) × (length rows ≡ length rows₀) × (at + rowsSize ≤ length rows) × ColumnFrom p r word tables full i a j at q rows₀ rows
+Inv-loop p r word tables full i a from j rows₀ at count q₀ rows q =
+    (q ≤ count) × (length rows ≡ length rows₀) × (at + rowsSize ≤ length rows) × ColumnFrom p r word tables full i a from j at q rows₀ rows
 
 abbrev μ-loop : tie.MeasureT-loop
-μ-loop p r word tables full i a j rows₀ at count q₀ rows q = q
+μ-loop p r word tables full i a from j rows₀ at count q₀ rows q = q
 
 loop-again : tie.Need-loop-again Inv-loop μ-loop
 loop-again c = (
   search needs,
   search needs,
   search needs,
-  column-back _ _ _ _ _ _ _ _ _ _ _ _ _ (omega arith) (omega arith) (omega arith) (omega arith) (omega arith)
+  column-back _ _ _ _ _ _ _ _ _ _ _ _ _ _ (omega arith) (omega arith) (omega arith) (omega arith) (omega arith)
       (search needs) (c .before .before .contains .ensures) (search needs) (c .suffix-at .ensures),
 )
 

@@ -16,5 +16,5 @@ abbrev μ-loop : tie.MeasureT-loop
 
 pub put-rows-spec : {M : Type 1} → statement M
 put-rows-spec = tie.close (tie.spec
-    Inv-loop μ-loop (λ c. omega arith) (λ c. search (needs, rows-start)) (λ c. omega arith) (λ c κs. search needs) (λ c. omega arith)
-    (λ c. search (needs, rows-back)) (λ c. search (needs, rows-end)))
+    Inv-loop μ-loop (λ c. omega arith) (λ c. search (needs, rows-start)) (λ c. omega arith) (λ c. omega arith) (λ c κs. search needs)
+    (λ c. omega arith) (λ c. search (needs, rows-back)) (λ c. search (needs, rows-end)))
