@@ -4,8 +4,7 @@ use mathlib.Core.List.{List, [], _∷_, _++_}
 use mathlib.Core.Path.{_≡_, sym, ap, _∙_}
 use native.Mathlib.Omega.{arith}
 use lib.ListN.{length, getD, take, drop, length-append, take-append-drop}
-use lib.Seq.{slice, slice-cons, length-slice, length-take-le, take-take}
-use lib.Seq.{take-append-le, drop-append-le, take-append-seam, drop-append-seam}
+use lib.Seq.{slice, slice-cons, length-slice, length-take-le, take-take, take-append-le, drop-append-le, take-append-seam, drop-append-seam}
 
 pub slice-append : (a b n : ℕ) (w : List ℕ) → a ≤ b → b ≤ n → n ≤ length w → slice a b w ++ slice b n w ≡ slice a n w
 slice-append a b n w h l m =

@@ -13,8 +13,7 @@ use Rattle.cfg.specs.Derivation.{limit}
 use Rattle.cfg.specs.Listing.{L}
 use Rattle.chart.proofs.SameRules.{SameRules, same-sym}
 use Rattle.chart.proofs.SameTrees.{fits-same-rules, has-same-rules, superfluous-same-rules}
-use Rattle.costs.specs.Span.{bytesOf, FreeRow, Least}
-use Rattle.costs.specs.Span.{Tree as SpanTree}
+use Rattle.costs.specs.Span.{bytesOf, FreeRow, Least, Tree as SpanTree}
 use Rattle.costs.proofs.Span.{least-below}
 use Rattle.enumeration.specs.Rows.{Row, Tree, Root}
 use Rattle.enumeration.specs.Order.{Min}

@@ -1,5 +1,5 @@
 -- The rule and the end that are chosen, by the tests that the code makes. Assumes nothing.
-use Prim.Native.Nat.{ℕ, _+_, _*_, _-_, _≤_, _<_}
+use Prim.Native.Nat.{ℕ, _+_, _≤_, _<_}
 use mathlib.Core.Bool.{Bool, true, false}
 use mathlib.Core.List.{List}
 use mathlib.Core.Logic.{_≢_}
@@ -9,10 +9,10 @@ use native.Mathlib.Omega.{arith}
 use borrow.Author.Tests.{leb-true, leb-false}
 use lib.Dec.{leb}
 use lib.ListN.{getD}
-use Rattle.sizes.specs.Sizes.{maxRules, side}
+use Rattle.sizes.specs.Sizes.{maxRules}
 use Rattle.costs.specs.Cut.{within}
 use Rattle.costs.proofs.Within.{within-whole, within-part}
-use Rattle.packed.specs.Packed.{leftIn, countIn, isNonterminalIn, valueIn}
+use Rattle.packed.specs.Packed.{leftIn}
 use Rattle.tables.specs.Layout.{costIn, fullIn}
 use Rattle.solve.specs.Solve.{RuleOver}
 use Rattle.choose.specs.Chosen.{RuleBeyond, RuleTested, RulesPassed, RuleChosen, EndsPassed, EndChosen, sumAt}

@@ -1,12 +1,12 @@
 -- Which rule and which end are chosen, by the costs that the tables have: numbers only, no trees. Assumes nothing.
-use Prim.Native.Nat.{ℕ, _+_, _*_, _-_, _≤_, _<_}
+use Prim.Native.Nat.{ℕ, _+_, _≤_, _<_}
 use mathlib.Core.Bool.{Bool, true, false}
 use mathlib.Core.List.{List}
 use mathlib.Core.Path.{_≡_}
 use lib.ListN.{getD}
-use Rattle.sizes.specs.Sizes.{maxRules, side}
+use Rattle.sizes.specs.Sizes.{maxRules}
 use Rattle.costs.specs.Cut.{within}
-use Rattle.packed.specs.Packed.{leftIn, countIn, isNonterminalIn, valueIn}
+use Rattle.packed.specs.Packed.{leftIn}
 use Rattle.tables.specs.Layout.{costIn, fullIn}
 use Rattle.solve.specs.Solve.{RuleOver}
 

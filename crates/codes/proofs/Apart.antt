@@ -4,8 +4,7 @@ use native.Mathlib.Omega.{arith}
 use mathlib.Core.Bool.{Bool, true, false}
 use mathlib.Core.Path.{_≡_, refl, ap}
 use lib.IntN.{ℤ}
-use Rattle.results.specs.Answer.{Answer, refused, answered, Handing, handed, nothing, Figure, counted, more}
-use Rattle.results.specs.Answer.{LoadAnswer, refusedAt, loaded}
+use Rattle.results.specs.Answer.{Answer, refused, answered, Handing, handed, nothing, Figure, counted, more, LoadAnswer, refusedAt, loaded}
 use Rattle.codes.specs.Code.{verdictCode, loadCode, offsetLeft, lengthCode, tenthsLeft, handingCode, nodesLeft}
 use Rattle.codes.specs.Code.{figureCode, figureLeft}
 

@@ -6,8 +6,7 @@ use mathlib.Core.Bool.{Bool, true, false}
 use mathlib.Core.List.{List}
 use lib.IntN.{ℤ}
 use Rattle.hand.specs.Hand.{rowOf}
-use Rattle.results.specs.Answer.{Answer, refused, answered, Handing, handed, nothing, Figure, counted, more}
-use Rattle.results.specs.Answer.{LoadAnswer, refusedAt, loaded}
+use Rattle.results.specs.Answer.{Answer, refused, answered, Handing, handed, nothing, Figure, counted, more, LoadAnswer, refusedAt, loaded}
 use Rattle.results.specs.Recognize.{State}
 
 -- opening, taking, check and same build

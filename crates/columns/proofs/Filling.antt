@@ -1,5 +1,5 @@
 -- Clearing the chart, opening it, and taking the bytes of an input one after the other. Assumes nothing.
-use Prim.Native.Nat.{ℕ, suc, _+_, _-_, _^_, _≤_, _<_}
+use Prim.Native.Nat.{ℕ, suc, _+_, _^_, _≤_, _<_}
 use mathlib.Core.List.{List, [], _∷_, _++_}
 use mathlib.Core.Path.{_≡_, refl, sym, ap, _∙_, subst}
 use native.Mathlib.Numerals.{add-one}
@@ -10,7 +10,7 @@ use borrow.Author.Tests.{lt-ltb}
 use Rattle.sizes.specs.Sizes.{cells}
 use Rattle.cfg.specs.Grammar.{Terminal}
 use Rattle.chart.specs.Cell.{fitsAt}
-use Rattle.chart.specs.Column.{written, opened, extended, extendedBy, filled}
+use Rattle.chart.specs.Column.{opened, extended, extendedBy, filled}
 use Rattle.chart.proofs.Filled.{extendedBy-append}
 use Rattle.packed.specs.Packed.{cfgIn, Used, terminalIn}
 use Rattle.fit.specs.Fit.{Told, Tells}

@@ -14,8 +14,7 @@ use Rattle.sets.specs.Set.{has, insert}
 use Rattle.sets.proofs.Laws.{has-insert, has-insert-same, has-insert-other}
 use Rattle.cfg.specs.Grammar.{Cfg, Symbol, nonterminal, Terminal, Of, Rule}
 use Rattle.cfg.specs.Tree.{Forest, end, node, yield, nodes, Fits, fits-end, fits-node}
-use Rattle.cfg.specs.Derivation.{Has, has-below}
-use Rattle.cfg.specs.Derivation.{Superfluous, super-here, super-below, super-beside}
+use Rattle.cfg.specs.Derivation.{Has, has-below, Superfluous, super-here, super-below, super-beside}
 use Rattle.cfg.proofs.Of.{of-same-left}
 use Rattle.costs.specs.Lowest.{Lowest}
 use Rattle.costs.specs.Span.{Tells, Reads, Free, FreeTree, Least, Inside, Full}

@@ -1,6 +1,6 @@
 -- Least numbers of nodes are those of trees without superfluous recursion; below a node of such a tree its own nonterminal joins the mask.
 -- Assumes nothing.
-use Prim.Native.Nat.{ℕ, _-_, _≤_}
+use Prim.Native.Nat.{ℕ, _≤_}
 use mathlib.Core.Bool.{true≢false}
 use mathlib.Core.List.{List}
 use mathlib.Core.Path.{sym, _∙_, subst}

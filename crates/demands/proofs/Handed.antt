@@ -1,8 +1,7 @@
 -- What first and next hand out is in the list. Assumes nothing.
 use Prim.Native.Nat.{ℕ}
 use mathlib.Core.Bool.{Bool, true, false}
-use mathlib.Core.List.{List, [], _∷_, List·Memᴰ}
-use mathlib.Core.List.{List·Memᴰ·head, List·Memᴰ·tail}
+use mathlib.Core.List.{List, [], _∷_, List·Memᴰ, List·Memᴰ·head, List·Memᴰ·tail}
 use mathlib.Core.Option.{some, Option·some-injective}
 use mathlib.Core.Path.{_≡_, sym}
 use native.Mathlib.Omega.{arith}

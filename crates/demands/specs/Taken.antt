@@ -1,6 +1,6 @@
 -- Taking a byte over ANY chart and any state, rubbish in them or not: what is left, and what "complete" says. The chart need not come from
 -- an opening, and the byte need not follow the bytes that the chart was made for. Assumes nothing.
-use Prim.Native.Nat.{ℕ, _+_, _≤_}
+use Prim.Native.Nat.{ℕ, _≤_}
 use mathlib.Core.Bool.{true}
 use mathlib.Core.List.{List, [], _∷_, _++_}
 use mathlib.Core.Logic.{_≢_}

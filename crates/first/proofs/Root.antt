@@ -11,8 +11,7 @@ use Rattle.sets.specs.Set.{has}
 use Rattle.chart.specs.Cell.{cell}
 use Rattle.chart.specs.Column.{complete}
 use Rattle.choices.proofs.Root.{root-barren, root-exceeds}
-use Rattle.costs.specs.Span.{bytesOf, Least}
-use Rattle.costs.specs.Span.{Tree as SpanTree}
+use Rattle.costs.specs.Span.{bytesOf, Least, Tree as SpanTree}
 use Rattle.packed.specs.Packed.{cfgIn}
 use Rattle.results.specs.Answer.{refused, answered, nothing}
 use Rattle.results.specs.Enumerate.{Enumeration, headOf, handingOut}

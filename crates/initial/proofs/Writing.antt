@@ -7,8 +7,7 @@ use lib.Dec.{leb}
 use lib.ListN.{length, getD}
 use Rattle.sizes.specs.Sizes.{maxRules, maxNodes, outputSize}
 use Rattle.sets.specs.Set.{empty}
-use Rattle.costs.specs.Span.{bytesOf, Least}
-use Rattle.costs.specs.Span.{Tree as SpanTree}
+use Rattle.costs.specs.Span.{bytesOf, Least, Tree as SpanTree}
 use Rattle.costs.proofs.Plain.{unmasked-least}
 use Rattle.descend.specs.Descend.{Given, FirstAt, NodeFirst}
 use Rattle.enumeration.specs.Rows.{Tree}

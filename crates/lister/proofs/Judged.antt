@@ -1,7 +1,7 @@
 -- What is printed first of an input, by how the checks of a valid grammar are judged and what is printed over the filled chart.
 -- Assumes nothing.
 use Prim.Native.Nat.{ℕ, suc, _≤_}
-use mathlib.Core.Bool.{true, false, true≢false, cond}
+use mathlib.Core.Bool.{true, true≢false, cond}
 use mathlib.Core.List.{List, [], _∷_, _++_, map}
 use mathlib.Core.Logic.{inl, inr}
 use mathlib.Core.Path.{_≡_, refl, sym, ap, ap₂, subst, _∙_}

@@ -11,8 +11,7 @@ use Rattle.packed.proofs.Laws.{count-le, places-step, places-end, places-start,
 use Rattle.preorder.specs.declared.walk.Step.{Step}
 use Rattle.preorder.specs.declared.walk.Step.the-variants.{No, End, Byte, Node}
 use Rattle.enumeration.specs.Rows.{SameSpan}
-use Rattle.preorder.specs.Walk.{Walked, Answers, Room, Opens, Looked, at-end, not-end, at-byte, not-byte, at-node}
-use Rattle.preorder.specs.Walk.{not-node}
+use Rattle.preorder.specs.Walk.{Walked, Answers, Room, Opens, Looked, at-end, not-end, at-byte, not-byte, at-node, not-node}
 use Rattle.preorder.proofs.Walks.{walk-unique, walk-end, end-walk, walk-leaf, leaf-walk}
 use Rattle.preorder.proofs.Nodes.{walk-node, Parted, node-walk, Opened, walk-open, open-walk}
 

@@ -10,8 +10,7 @@ use mathlib.Core.List.{List, [], _∷_, _++_, List·Memᴰ, List·Memᴰ·head, 
 use lib.ListN.{length}
 use Rattle.cfg.specs.Grammar.{Cfg, Symbol, Of}
 use Rattle.cfg.specs.Tree.{Forest, yield, height, Fits, fits-end, fits-leaf, fits-node, Parse}
-use Rattle.cfg.specs.Derivation.{Has, has-here, has-below, has-beside, has-after}
-use Rattle.cfg.specs.Derivation.{Superfluous, super-here, super-below, super-beside}
+use Rattle.cfg.specs.Derivation.{Has, has-here, has-below, has-beside, has-after, Superfluous, super-here, super-below, super-beside}
 use Rattle.shrinking.proofs.Decide.{of-same}
 use Rattle.shrinking.proofs.Shrink.{shrink}
 

@@ -1,10 +1,9 @@
 -- `recognizer::open` meets its contract. Assumes nothing.
 use borrow.Author.Needs.{needs}
 use native.Mathlib.Omega.{arith}
-use Rattle.recognizer.proofs.Calls.{was-invalid, was-valid}
+use Rattle.recognizer.proofs.Calls.{was-invalid, was-valid, open-invalid, open-short}
 use Rattle.recognizer.specs.Recognizer.{stateIn}
 use mathlib.Core.Path.{ap, _∙_}
-use Rattle.recognizer.proofs.Calls.{open-invalid, open-short}
 use Rattle.recognizer.proofs.open.Statement.{statement}
 use Rattle.recognizer.proofs.open.Tie as tie
 

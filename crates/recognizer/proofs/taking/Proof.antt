@@ -1,9 +1,8 @@
 -- `recognizer::taking` meets its contract. Assumes nothing.
 use borrow.Author.Needs.{needs}
 use native.Mathlib.Omega.{arith}
-use Rattle.recognizer.proofs.Calls.{count-fits, count-part}
+use Rattle.recognizer.proofs.Calls.{count-fits, count-part, take-right}
 use Rattle.recognizer.specs.Recognizer.{stateIn}
-use Rattle.recognizer.proofs.Calls.{take-right}
 use Rattle.recognizer.proofs.taking.Statement.{statement}
 use Rattle.recognizer.proofs.taking.Tie as tie
 

@@ -12,8 +12,7 @@ use Rattle.cfg.specs.Grammar.{Cfg}
 use Rattle.cfg.specs.Tree.{HasTree}
 use Rattle.results.specs.Walk.{Call, first, nextCopy, nextOther, count, Said, hands, noDerivation, refuses, counts}
 use Rattle.results.specs.Walk.{Move, move, N, walk, walked, placeAfter, handedOut}
-use Rattle.results.proofs.Demand3.Machine.{first-none, next-zero, next-last, next-other}
-use Rattle.results.proofs.Demand3.Machine.{count-none, count-some, walk-keeps}
+use Rattle.results.proofs.Demand3.Machine.{first-none, next-zero, next-last, next-other, count-none, count-some, walk-keeps}
 use Rattle.results.proofs.Demand3.Figures.{saysCount-handed}
 
 -- a move that stays at the place p and hands nothing out

@@ -1,9 +1,8 @@
 -- `recognizer::Recognizer::take` meets its contract. Assumes nothing.
 use borrow.Author.Needs.{needs}
-use Rattle.recognizer.proofs.Calls.{was-invalid, was-valid}
+use Rattle.recognizer.proofs.Calls.{was-invalid, was-valid, take-invalid, take-over, take-short, take-full}
 use Rattle.recognizer.specs.Recognizer.{stateIn}
 use mathlib.Core.Path.{ap}
-use Rattle.recognizer.proofs.Calls.{take-invalid, take-over, take-short, take-full}
 use native.Mathlib.Omega.{arith}
 use Rattle.recognizer.proofs.Recognizer.take.Statement.{statement}
 use Rattle.recognizer.proofs.Recognizer.take.Tie as tie
