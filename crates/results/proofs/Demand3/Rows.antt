@@ -11,7 +11,7 @@ use mathlib.Core.Path.{_≡_, refl, sym, ap₂, subst, _∙_}
 use lib.Dec.{eqb}
 use lib.ListN.{length, getD}
 use borrow.Author.Tests.{eqb-true, eq-eqb}
-use Rattle.cfg.specs.Derivation.{Rising}
+use Rattle.cfg.specs.Derivation.{_≺_, Rising}
 use Rattle.listing.proofs.Members.{Pairs, pairs-none, pairs-more}
 use Rattle.listing.proofs.Order.{≺-different}
 use Rattle.listing.proofs.Rising.{rising→pairs}
