@@ -5,11 +5,13 @@ use mathlib.Core.Bool.{Bool, false}
 use mathlib.Core.List.{List, _∷_}
 use mathlib.Core.Path.{_≡_}
 use lib.ListN.{getD}
+use Rattle.sizes.specs.Sizes.{side}
 use Rattle.cfg.specs.Grammar.{Symbol, nonterminal}
 use Rattle.costs.specs.Cut.{Fit, LeastCut, within}
 use Rattle.packed.specs.Packed.{countIn, isNonterminalIn, terminalIn, placesFrom}
 use Rattle.tables.specs.Layout.{costIn, fullIn}
 use Rattle.cuts.specs.Suffix.{Passed}
+use Rattle.cuts.specs.declared.within.Part.{Part}
 
 -- the symbols of the places of rule r from q on
 abbrev pub tailIn : List ℕ → ℕ → ℕ → List Symbol
@@ -22,6 +24,10 @@ Inside fit tables full i j places a v = LeastCut fit (within i j (fullIn full) (
 -- the numbers of `rests` from `at` on are those costs, for each start from a to j
 abbrev pub Rests : Fit → List ℕ → List ℕ → ℕ → ℕ → List Symbol → ℕ → List ℕ → ℕ → Type 0
 Rests fit tables full i j places a rests at = (c : ℕ) → a ≤ c → c ≤ j → Inside fit tables full i j places c (getD rests (at + c) 0)
+
+-- a part of a span begins in it, and is looked at from behind its start on
+abbrev pub Proper : Part → Type 0
+Proper part = (part .i ≤ part .a) × (part .a < part .from) × (part .a ≤ part .j) × (part .j < side)
 
 -- v is that cost of the nonterminal k and any places behind it, whose costs are those given
 pub record NonterminalAt (tables full : List ℕ) (k i a from j : ℕ) (rests : List ℕ) (at v : ℕ) : Type 0 where

@@ -1,6 +1,5 @@
 // The least cost of the places q.. of a rule from a to j, inside a span from i to j: a child over the whole of it costs `full`, any other
-// what the least table says. The costs of the places behind q stand in `rests` from `at` on. The ends behind a and before `from`
-// are not looked at.
+// what the least table says. The costs of the places behind q stand in `rests` from `at` on.
 use super::suffix::at_terminal;
 use super::suffix::over_ends;
 use packed::Packed;
@@ -15,17 +14,26 @@ ghost use Rattle.sizes.specs.Sizes.{maxRules, maxPlaces, side};
 ghost use Rattle.costs.specs.Cut.{within as costWithin};
 ghost use Rattle.packed.specs.Packed.{countIn};
 ghost use Rattle.tables.specs.Layout.{costIn, fullIn};
-ghost use Rattle.cuts.specs.Within.{NonterminalAt, SuffixAt};
+ghost use Rattle.cuts.specs.Within.{Proper, NonterminalAt, SuffixAt};
+
+// The part from a to j of a span from i to j. Of the ends behind a those from `from` on are looked at.
+pub struct Part {
+    pub i: usize,
+    pub a: usize,
+    pub from: usize,
+    pub j: usize,
+}
 
 // The cost of the nonterminal k from a to j.
-fn last_cost(tables: &Tables, full: &Full, k: usize, i: usize, a: usize, j: usize) -> u16
-    requires { ⌜ (i ≤ a) × (a ≤ j) × (j < side) ⌝ }
-    ensures { λ v. ⌜ v ≡ costWithin i j (fullIn (now (full .entry))) (costIn (now (tables .entry))) k a j ⌝ }
+fn last_cost(tables: &Tables, full: &Full, k: usize, part: Part) -> u16
+    requires { ⌜ Proper part ⌝ }
+    ensures { λ v.
+        ⌜ v ≡ costWithin (part .i) (part .j) (fullIn (now (full .entry))) (costIn (now (tables .entry))) k (part .a) (part .j) ⌝ }
 {
-    if a == i {
+    if part.a == part.i {
         full_of(full, k)
     } else {
-        cost(tables, k, a, j)
+        cost(tables, k, part.a, part.j)
     }
 }
 
@@ -34,18 +42,17 @@ fn nonterminal_at(
     tables: &Tables,
     full: &Full,
     k: usize,
-    i: usize,
-    a: usize,
-    from: usize,
-    j: usize,
+    part: Part,
     rests: &[u16],
     at: usize,
 ) -> u16
-    requires { ⌜ (i ≤ a) × (a < from) × (a ≤ j) × (j < side) × (at + side ≤ length (now rests)) ⌝ }
-    ensures { λ v. ⌜ NonterminalAt (now (tables .entry)) (now (full .entry)) k i a from j (now (rests .entry)) at v ⌝ }
+    requires { ⌜ Proper part × (at + side ≤ length (now rests)) ⌝ }
+    ensures { λ v.
+        ⌜ NonterminalAt (now (tables .entry)) (now (full .entry)) k (part .i) (part .a) (part .from) (part .j)
+        (now (rests .entry)) at v ⌝ }
 {
-    let last = last_cost(tables, full, k, i, a, j);
-    over_ends(tables, k, a, from, j, last, rests, at)
+    let last = last_cost(tables, full, k, part);
+    over_ends(tables, k, part.a, part.from, part.j, last, rests, at)
 }
 
 // At place q of rule r; `fits` says of a terminal there whether it fits the byte at a.
@@ -56,29 +63,18 @@ pub fn suffix_at(
     fits: bool,
     tables: &Tables,
     full: &Full,
-    i: usize,
-    a: usize,
-    from: usize,
-    j: usize,
+    part: Part,
     rests: &[u16],
     at: usize,
 ) -> u16
-    requires { ⌜ (r < maxRules) × (q < maxPlaces) × (q < countIn (now p) r)
-        × (i ≤ a) × (a < from) × (a ≤ j) × (j < side) × (at + side ≤ length (now rests)) ⌝ }
-    ensures { λ v. ⌜ SuffixAt (now (p .entry)) r q fits (now (tables .entry)) (now (full .entry)) i a from j (now (rests .entry)) at v ⌝ }
+    requires { ⌜ (r < maxRules) × (q < maxPlaces) × (q < countIn (now p) r) × Proper part
+        × (at + side ≤ length (now rests)) ⌝ }
+    ensures { λ v.
+        ⌜ SuffixAt (now (p .entry)) r q fits (now (tables .entry)) (now (full .entry)) (part .i) (part .a) (part .from) (part .j)
+        (now (rests .entry)) at v ⌝ }
 {
     if packed::is_nonterminal(p, r, q) {
-        return nonterminal_at(
-            tables,
-            full,
-            packed::value(p, r, q),
-            i,
-            a,
-            from,
-            j,
-            rests,
-            at,
-        );
+        return nonterminal_at(tables, full, packed::value(p, r, q), part, rests, at);
     }
-    at_terminal(fits, a, j, rests, at)
+    at_terminal(fits, part.a, part.j, rests, at)
 }

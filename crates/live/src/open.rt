@@ -2,6 +2,7 @@
 // piece from i ends at a live start.
 use super::mark::Live;
 use super::mark::mark;
+use cuts::within::Part;
 use fit::FitTable;
 use packed::Packed;
 use suffixes::rows::put_start;
@@ -73,7 +74,8 @@ pub fn put_rule(
         (now (rows .entry)) (now (live .entry)) (now (rows .exit)) (now (live .exit)) ⌝ }
 {
     let from = first_end(reach, live[r], i);
-    put_start(p, r, fits, tables, full, i, i, from, j, rows, ROWS_SIZE * r);
+    let part = Part { i, a: i, from, j };
+    put_start(p, r, fits, tables, full, part, rows, ROWS_SIZE * r);
     mark(p, r, i, rows, live);
 }
 

@@ -1,4 +1,5 @@
 // The rows of all rules from one start on: of each, of those that are not passed over, of those that the numbers of the whole span change.
+use cuts::within::Part;
 use fit::FitTable;
 use live::mark::Live;
 use live::open::open_rule;
@@ -35,19 +36,13 @@ pub fn put_starts(
 {
     let mut r = 0;
     while r < rules {
-        put_start(
-            p,
-            r,
-            fits,
-            tables,
-            full,
+        let part = Part {
             i,
-            i,
-            i + 1,
+            a: i,
+            from: i + 1,
             j,
-            rows,
-            ROWS_SIZE * r,
-        );
+        };
+        put_start(p, r, fits, tables, full, part, rows, ROWS_SIZE * r);
         r += 1;
     }
 }

@@ -1,5 +1,6 @@
 // The least costs of the places of a rule by the fit table: from one start on, and from all starts of a span.
 use super::column::put_column;
+use cuts::within::Part;
 use fit::FitTable;
 use packed::Packed;
 use tables::layout::Full;
@@ -9,6 +10,7 @@ ghost use mathlib.Core.Path.{_≡_};
 ghost use Prim.Native.Nat.{_+_, _<_, _≤_};
 ghost use lib.ListN.{length};
 ghost use Rattle.sizes.specs.Sizes.{maxRules, side};
+ghost use Rattle.cuts.specs.Within.{Proper};
 ghost use Rattle.tables.specs.Layout.{rowsSize};
 ghost use Rattle.suffixes.specs.Rows.{WordAt, StartPut, RowsPut};
 
@@ -26,36 +28,29 @@ fn word_at(fits: &FitTable, r: usize, a: usize, j: usize) -> u32
     0
 }
 
-// Writes the costs from a to j inside i to j into the rows that begin at `at`, those of the later starts being written. The
-// ends behind a and before `from` are not looked at.
+// Writes the costs over a part, from a to j inside i to j, into the rows that begin at `at`, those of the later starts being written.
 pub fn put_start(
     p: &Packed,
     r: usize,
     fits: &FitTable,
     tables: &Tables,
     full: &Full,
-    i: usize,
-    a: usize,
-    from: usize,
-    j: usize,
+    part: Part,
     rows: &mut [u16],
     at: usize,
 )
-    requires { ⌜ (r < maxRules) × (i ≤ a) × (a < from) × (a ≤ j) × (j < side) × (at + rowsSize ≤ length (now rows)) ⌝ }
+    requires { ⌜ (r < maxRules) × Proper part × (at + rowsSize ≤ length (now rows)) ⌝ }
     ensures { λ _.
-        ⌜ StartPut (now (p .entry)) r (now (fits .entry)) (now (tables .entry)) (now (full .entry)) i a from j at
-        (now (rows .entry)) (now (rows .exit)) ⌝ }
+        ⌜ StartPut (now (p .entry)) r (now (fits .entry)) (now (tables .entry)) (now (full .entry))
+        (part .i) (part .a) (part .from) (part .j) at (now (rows .entry)) (now (rows .exit)) ⌝ }
 {
     put_column(
         p,
         r,
-        word_at(fits, r, a, j),
+        word_at(fits, r, part.a, part.j),
         tables,
         full,
-        i,
-        a,
-        from,
-        j,
+        part,
         rows,
         at,
     );
@@ -79,6 +74,12 @@ pub fn put_rows(
     let mut a = j + 1;
     while a > i {
         a -= 1;
-        put_start(p, r, fits, tables, full, i, a, a + 1, j, rows, 0);
+        let part = Part {
+            i,
+            a,
+            from: a + 1,
+            j,
+        };
+        put_start(p, r, fits, tables, full, part, rows, 0);
     }
 }
