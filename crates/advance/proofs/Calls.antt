@@ -1,7 +1,7 @@
 -- What the functions of the cycle {child, last, node, row, turned} are given, and their measures. Within a budget that of `turned` is
 -- 20 * budget + 1, that of `node` 20 * budget + 2, of `child` and `last` 20 * budget + 3, and of `row` at place q 20 * budget + 12 - q.
 -- Assumes nothing.
-use Prim.Native.Nat.{ℕ, _+_, _*_, _-_}
+use Prim.Native.Nat.{ℕ, _+_, _*_, _-_, _<_}
 use borrow.Fn.Kinds.{In}
 use borrow.Fn.PlainCycle.{Measures, is, falls, and}
 use Rattle.advance.proofs.child.child.Reads as child

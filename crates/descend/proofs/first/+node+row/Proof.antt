@@ -1,6 +1,6 @@
 -- The proof of the cycle of calls {node, row}. Within a budget the measure of `node` is 20 * budget + 1, and that of `row` at place q is
 -- 20 * budget + 11 - q. Assumes nothing.
-use Prim.Native.Nat.{ℕ, _+_, _*_, _-_}
+use Prim.Native.Nat.{ℕ, _+_, _*_, _-_, _<_}
 use native.Mathlib.Omega.{arith}
 use borrow.Author.Needs.{needs}
 use borrow.Fn.Kinds.{In}

@@ -1,6 +1,6 @@
 -- The proof of the cycle of calls {node, row}. With l nodes left and p places left the measure of `node` is 10 * l, and that of `row`
 -- 10 * l + p + 1. Assumes nothing.
-use Prim.Native.Nat.{ℕ, _+_, _*_, _-_}
+use Prim.Native.Nat.{ℕ, _+_, _*_, _-_, _<_}
 use native.Mathlib.Omega.{arith}
 use borrow.Fn.Kinds.{In}
 use borrow.Fn.PlainCycle.{Measures, is, falls, and}
