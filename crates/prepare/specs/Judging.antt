@@ -1,4 +1,4 @@
--- The first of the checks 8 to 11 that fails. Assumes nothing.
+-- The first of the checks 8 to 11 that fails, and what filling asks. Assumes nothing.
 use Prim.Native.Nat.{ℕ, _≤_, _<_}
 use mathlib.Core.Bool.{true, false}
 use mathlib.Core.Path.{_≡_}
