@@ -1,5 +1,4 @@
 // All rules at one cell, until nothing is added.
-use super::Known;
 use super::look_again;
 use super::look_first;
 use packed::Packed;
@@ -27,13 +26,17 @@ fn first(
     let mut own: u32 = 0;
     let mut r = 0;
     while r < rules {
-        let known = Known {
+        own = look_first(
+            p,
+            r,
             start,
-            inside: insides[r],
-            last: lasts[r],
-            kinds: kinds[r],
-        };
-        own = look_first(p, r, known, own, flags, made);
+            insides[r],
+            lasts[r],
+            kinds[r],
+            own,
+            flags,
+            made,
+        );
         r += 1;
     }
     own
@@ -60,13 +63,7 @@ fn again(
     let mut v = own;
     let mut r = 0;
     while r < rules {
-        let known = Known {
-            start,
-            inside: insides[r],
-            last: lasts[r],
-            kinds: kinds[r],
-        };
-        v = look_again(p, r, known, v, flags, made);
+        v = look_again(p, r, start, insides[r], lasts[r], kinds[r], v, flags, made);
         r += 1;
     }
     v
