@@ -1,4 +1,5 @@
 // Where a child ends: at the first position, from one on, up to which it costs, together with the places behind it, at most the budget.
+use cuts::within::Part;
 use numbers::wide;
 use suffixes::rows::Rows;
 use tables::layout::Full;
@@ -33,23 +34,23 @@ fn sum(a: u16, b: u16) -> usize
     wide(a) + wide(b)
 }
 
-// The smallest end from `from` on such that the nonterminal k up to it and the places behind it cost at most the budget together; j + 1 if
-// there is none up to j. The costs of those places stand in `rows` from `at` on.
+// The smallest end of the part, from its `from` on, such that the nonterminal k up to it and the places behind it cost at most the budget
+// together; j + 1 if there is none up to j. The costs of those places stand in `rows` from `at` on.
 pub fn choose_end(
     tables: &Tables,
     full: &Full,
     k: usize,
-    i: usize,
-    a: usize,
-    from: usize,
-    j: usize,
+    part: Part,
     rows: &Rows,
     at: usize,
     budget: usize,
 ) -> usize
-    requires { ⌜ (i ≤ a) × (a ≤ from) × (from ≤ j + 1) × (j < side) × (at + side ≤ rowsSize) ⌝ }
-    ensures { λ b. ⌜ EndChosen (now (tables .entry)) (now (full .entry)) k i a from j (now (rows .entry)) at budget b ⌝ }
+    requires { ⌜ (part .i ≤ part .a) × (part .a ≤ part .from) × (part .from ≤ part .j + 1) × (part .j < side)
+        × (at + side ≤ rowsSize) ⌝ }
+    ensures { λ b. ⌜ EndChosen (now (tables .entry)) (now (full .entry)) k (part .i) (part .a) (part .from) (part .j)
+        (now (rows .entry)) at budget b ⌝ }
 {
+    let Part { i, a, from, j } = part;
     let mut b = from;
     while b <= j {
         if sum(piece(tables, full, k, i, a, j, b), rows[at + b]) <= budget {

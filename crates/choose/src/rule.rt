@@ -1,4 +1,5 @@
 // Which rule a node has: the first from a number on that costs at most the budget.
+use nodes::Span;
 use numbers::wide;
 use packed::Packed;
 use solve::rule_over;
@@ -36,13 +37,14 @@ pub fn choose_rule(
     k: usize,
     full: &Full,
     tables: &Tables,
-    i: usize,
-    j: usize,
+    span: Span,
     budget: usize,
 ) -> usize
-    requires { ⌜ (rules ≤ maxRules) × (from ≤ maxRules) × (i ≤ j) × (j < side) ⌝ }
-    ensures { λ r. ⌜ RuleChosen (now (p .entry)) rules from k (now (full .entry)) (now (tables .entry)) i j budget r ⌝ }
+    requires { ⌜ (rules ≤ maxRules) × (from ≤ maxRules) × (span .i ≤ span .j) × (span .j < side) ⌝ }
+    ensures { λ r. ⌜ RuleChosen (now (p .entry)) rules from k (now (full .entry)) (now (tables .entry)) (span .i) (span .j) budget r ⌝ }
 {
+    let i = span.i;
+    let j = span.j;
     let mut r = from;
     while r < rules {
         if within_budget(p, k, full, tables, i, j, budget, r) {

@@ -13,8 +13,8 @@ use Rattle.chart.specs.Cell.{fitsAt}
 use Rattle.chart.specs.Column.{opened, extended, extendedBy, filled}
 use Rattle.chart.proofs.Filled.{extendedBy-append}
 use Rattle.packed.specs.Packed.{cfgIn, Used, terminalIn}
-use Rattle.fit.specs.Fit.{Told, Tells}
-use Rattle.fit.proofs.Reading.{told-tells}
+use Rattle.fit.specs.Fit.{Told, FitTold}
+use Rattle.fit.proofs.Reading.{fit-told}
 use Rattle.spans.specs.Spans.{endsSize}
 use Rattle.spans.specs.Ends.{EndsTo, ColumnsPut}
 use Rattle.empty.specs.Empty.{EmptyClosed, EmptyTold}
@@ -112,15 +112,15 @@ fits-take w m i s l h = rw (
   getD-take m w i 0 l,
 )
 
-tells-take : (p t w : List ℕ) (m n : ℕ) → m ≤ n → length w ≡ n → Tells (fitsAt w) p t n → Tells (fitsAt (take m w)) p t m
-tells-take p t w m n h e tells i r q l b c d = tells i r q (omega arith) b c d ∙ fits-take w m i (terminalIn p r q) l (omega arith)
+told-take : (p t w : List ℕ) (m n : ℕ) → m ≤ n → length w ≡ n → FitTold (fitsAt w) p t n → FitTold (fitsAt (take m w)) p t m
+told-take p t w m n h e tells i r q l b c d = tells i r q (omega arith) b c d ∙ fits-take w m i (terminalIn p r q) l (omega arith)
 
 module _ (p t : List ℕ) (n : ℕ) (start : List ℕ) where
   -- m positions are taken, and the columns before m told
   pub record FillTo (m : ℕ) (chart ends reach : List ℕ) : Type 0 where
     pub within : m ≤ n
     pub long : length chart ≡ length start
-    pub taken : (w : List ℕ) → length w ≡ n → Tells (fitsAt w) p t n
+    pub taken : (w : List ℕ) → length w ≡ n → FitTold (fitsAt w) p t n
         → (chart ≡ extendedBy (cfgIn 0 p) [] (take m w) start) × EndsTo chart m 0 ends reach
     pub ends-long : length ends ≡ endsSize
     pub reach-long : length reach ≡ 64
@@ -151,12 +151,12 @@ module _ (p t : List ℕ) (n : ℕ) (start : List ℕ) where
         reach-long = put .reach-long;
       }
     where
-      taken : (w : List ℕ) → length w ≡ n → Tells (fitsAt w) p t n
+      taken : (w : List ℕ) → length w ≡ n → FitTold (fitsAt w) p t n
           → (chart' ≡ extendedBy (cfgIn 0 p) [] (take m' w) start) × EndsTo chart' m' 0 ends' reach'
       taken w d tells =
           let (x, y) = to .taken w d tells in
           let z : EndsTo chart m' 0 ends' reach' = told-next chart m m' ends reach ends' reach' e put y in
-          let f = column .exact (fitsAt (take m' w)) (tells-take p t w m' n (omega arith) d tells) z in
+          let f = column .exact (fitsAt (take m' w)) (told-take p t w m' n (omega arith) d tells) z in
           let g = told-on p (fitsAt (take m' w)) chart chart' m' ends' reach' (omega arith) f z in
           (fill-step p w start m m' chart chart' e (omega arith) x f, g)
 
@@ -170,7 +170,7 @@ module _ (p t : List ℕ) (n : ℕ) (start : List ℕ) where
 
 pub filled-is : (p t : List ℕ) (n rules own : ℕ) (lasts kinds found start chart : List ℕ) → cells ≤ length found → Used p rules
     → own < 2 ^ 32 → EmptyTold p rules own lasts kinds → OpenedWith own found start → Taken p t n start chart
-    → (w : List ℕ) → length w ≡ n → Tells (fitsAt w) p t n → chart ≡ filled (cfgIn 0 p) w found
+    → (w : List ℕ) → length w ≡ n → FitTold (fitsAt w) p t n → chart ≡ filled (cfgIn 0 p) w found
 filled-is p t n rules own lasts kinds found start chart room used word told first taken w d tells =
     fill-done p w start chart found (opened-is p rules own lasts found start room used word (told .closed) first) (taken .exact w d tells)
 
@@ -180,4 +180,4 @@ pub column-of : (p w t : List ℕ) (n : ℕ) (ends reach chart chart' : List ℕ
     → ColumnsPut chart 0 n (replicate endsSize 0) (replicate 64 0) ends reach → ColumnWritten p t n ends reach chart chart'
     → chart' ≡ columnOf p w n chart
 column-of p w t n ends reach chart chart' small told put column =
-    column .exact (fitsAt w) (told-tells p w t n small told) (told-found chart n ends reach put)
+    column .exact (fitsAt w) (fit-told p w t n small told) (told-found chart n ends reach put)

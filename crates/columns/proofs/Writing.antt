@@ -16,7 +16,7 @@ use Rattle.chart.specs.Cell.{cell, index}
 use Rattle.chart.proofs.Cut.{bool-ext}
 use Rattle.chart.proofs.Written.{index-inj, written-length, written-other, written-cell-other}
 use Rattle.packed.specs.Packed.{Used, cfgIn}
-use Rattle.fit.specs.Fit.{entryIn, Tells}
+use Rattle.fit.specs.Fit.{entryIn, FitTold}
 use Rattle.cells.specs.Flags.{Fit, Sets}
 use Rattle.cells.specs.Passes.{Settled}
 use Rattle.spans.specs.Spans.{endsOf, startsSize}
@@ -149,7 +149,7 @@ module _ (p : List ℕ) (fit : Fit) (found : List ℕ) (rules n own : ℕ) (last
       (closed .sound fit (cell (columnBy p fit n found)) n (cell (columnBy p fit n found) n n)
       (column-closed-at p fit found n small room n (omega arith)))
 
-  pub around : (t ends reach : List ℕ) → Tells fit p t n → EndsTo found n 0 ends reach → Around p fit t found rules n ends reach lasts
+  pub around : (t ends reach : List ℕ) → FitTold fit p t n → EndsTo found n 0 ends reach → Around p fit t found rules n ends reach lasts
   around t ends reach fits to = record {
     fits = fits;
     told = to;

@@ -8,7 +8,7 @@ use Rattle.sizes.specs.Sizes.{cells, maxRules}
 use Rattle.chart.specs.Cell.{cell, index, fitsAt}
 use Rattle.chart.specs.Column.{written, extendedBy}
 use Rattle.packed.specs.Packed.{cfgIn}
-use Rattle.fit.specs.Fit.{Tells}
+use Rattle.fit.specs.Fit.{FitTold}
 use Rattle.cells.specs.Flags.{Fit, Cutting}
 use Rattle.spans.specs.Spans.{startsSize}
 use Rattle.spans.specs.Ends.{EndsTo, StartsFrom}
@@ -27,7 +27,7 @@ OpenedWith own chart chart' = chart' ≡ set (replicate cells 0 ++ drop cells ch
 
 -- what is the same for all cells of column n: the fit table, the ends of the earlier columns, and the flags of the rules at n
 pub record Around (p : List ℕ) (fit : Fit) (t found : List ℕ) (rules n : ℕ) (ends reach lasts : List ℕ) : Type 0 where
-  pub fits : Tells fit p t n
+  pub fits : FitTold fit p t n
   pub told : EndsTo found n 0 ends reach
   pub after : (r : ℕ) → r < rules → Cutting fit (cell (columnBy p fit n found)) p r n n (getD lasts r 0)
 
@@ -57,9 +57,9 @@ pub record LowerWritten (p t : List ℕ) (rules n : ℕ) (ends reach lasts chart
 -- column n was written, right for whatever the fit table tells, where the ends of the columns before it are told
 pub record ColumnWritten (p t : List ℕ) (n : ℕ) (ends reach chart chart' : List ℕ) : Type 0 where
   pub long : length chart' ≡ length chart
-  pub exact : (fit : Fit) → Tells fit p t n → EndsTo chart n 0 ends reach → chart' ≡ columnBy p fit n chart
+  pub exact : (fit : Fit) → FitTold fit p t n → EndsTo chart n 0 ends reach → chart' ≡ columnBy p fit n chart
 
 -- n positions were taken, right for each input that the fit table tells of
 pub record Taken (p t : List ℕ) (n : ℕ) (chart chart' : List ℕ) : Type 0 where
   pub long : length chart' ≡ length chart
-  pub exact : (w : List ℕ) → length w ≡ n → Tells (fitsAt w) p t n → chart' ≡ extendedBy (cfgIn 0 p) [] w chart
+  pub exact : (w : List ℕ) → length w ≡ n → FitTold (fitsAt w) p t n → chart' ≡ extendedBy (cfgIn 0 p) [] w chart

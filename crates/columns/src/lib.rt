@@ -19,7 +19,7 @@ ghost use Rattle.sets.specs.Set.{has as inSet};
 ghost use Rattle.chart.specs.Cell.{cell, fitsAt};
 ghost use Rattle.chart.specs.Column.{opened, filled};
 ghost use Rattle.packed.specs.Packed.{cfgIn, Used};
-ghost use Rattle.fit.specs.Fit.{Tells};
+ghost use Rattle.fit.specs.Fit.{FitTold};
 ghost use Rattle.empty.specs.Empty.{EmptyTold};
 ghost use Rattle.columns.specs.Columns.{columnOf, OpenedWith, Taken};
 
@@ -108,7 +108,7 @@ fn take_all(
 // Opening, and then taking an input of n bytes, of which the fit table tells.
 pub fn fill(p: &Packed, fits: &FitTable, n: usize, chart: &mut [u32])
     requires { ⌜ (n ≤ 64) × (cells ≤ length (now chart)) ⌝ }
-    ensures { λ _. ⌜ ((w : List ℕ) → length w ≡ n → Tells (fitsAt w) (now (p .entry)) (now (fits .entry)) n
+    ensures { λ _. ⌜ ((w : List ℕ) → length w ≡ n → FitTold (fitsAt w) (now (p .entry)) (now (fits .entry)) n
         → now (chart .exit) ≡ filled (cfgIn 0 (now (p .entry))) w (now (chart .entry))) ⌝ }
 {
     let rules = packed::rule_count(p);

@@ -12,7 +12,8 @@ use Rattle.costs.specs.Span.{bytesOf, FreeTree, Least}
 use Rattle.choices.specs.SpanCosts.{SpanCosts}
 use Rattle.packed.specs.Packed.{countIn}
 use Rattle.tables.specs.Layout.{costIn, fullIn}
-use Rattle.tables.specs.Exact.{Packing, PastLast, FitTold, ChartTrue, Exact}
+use Rattle.fit.specs.Fit.{FitTold}
+use Rattle.tables.specs.Exact.{Packing, PastLast, ChartTrue, Exact}
 use Rattle.suffixes.specs.Within.{tailIn, Inside, rowAt}
 use Rattle.suffixes.specs.Rows.{RowsPut}
 use Rattle.solve.specs.Solve.{Solved}

@@ -98,7 +98,7 @@ pub fn row(
 {
     let Tail { r, q, a } = tail;
     let Span { i, j, mask } = span;
-    let step = look(p, r, q, tables, full, rows, i, a, j, budget);
+    let step = look(p, tables, full, rows, tail, i, j, budget);
     match step {
         Step::No => 0,
         Step::End => 0,

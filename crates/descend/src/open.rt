@@ -76,7 +76,7 @@ pub fn open_node(
         return sizes::NO_RULE;
     }
     make_costs(p, rules, chart, tables, span, full);
-    let r = choose_rule(p, rules, from, k, full, tables, span.i, span.j, budget);
+    let r = choose_rule(p, rules, from, k, full, tables, span, budget);
     if r >= sizes::NO_RULE {
         return r;
     }

@@ -28,8 +28,8 @@ pub record Told (p w t : List ℕ) : Type 0 where
   pub exact : (i r q : ℕ) → i < maxInput → r < maxRules → q < countIn p r → fitIn t i r q ≡ fitsPlace w (symbolIn p r q) i
 
 -- t tells at the positions before n which terminals of the rules fit
-abbrev pub Tells : (ℕ → Terminal → Bool) → List ℕ → List ℕ → ℕ → Type 0
-Tells fit p t n =
+abbrev pub FitTold : (ℕ → Terminal → Bool) → List ℕ → List ℕ → ℕ → Type 0
+FitTold fit p t n =
     (i r q : ℕ) → i < n → r < maxRules → q < countIn p r → isNonterminalIn p r q ≡ false
     → has q (entryIn t i r) ≡ fit i (terminalIn p r q)
 

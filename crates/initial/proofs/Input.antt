@@ -12,7 +12,8 @@ use Rattle.cfg.specs.Tree.{Forest}
 use Rattle.chart.specs.Cell.{fitsAt}
 use Rattle.costs.specs.Span.{bytesOf, Tells, Reads, reads-end, reads-byte, Tree}
 use Rattle.costs.proofs.Span.{tells-input, least-same}
-use Rattle.tables.specs.Exact.{PastLast, FitTold, ChartTrue, Exact}
+use Rattle.fit.specs.Fit.{FitTold}
+use Rattle.tables.specs.Exact.{PastLast, ChartTrue, Exact}
 use Rattle.spancosts.specs.Sofar.{Standing}
 use Rattle.tabulate.specs.Spans.{Tabulated}
 

@@ -1,5 +1,4 @@
 -- Laws of the first derivation, once the tables are made.
-pub mod Fitting
 pub mod Input
 pub mod Front
 pub mod Root

@@ -12,6 +12,7 @@ use Rattle.costs.proofs.Plain.{unmasked-least}
 use Rattle.descend.specs.Descend.{Given, FirstAt, NodeFirst}
 use Rattle.enumeration.specs.Rows.{Tree}
 use Rattle.fit.specs.Fit.{Told}
+use Rattle.fit.proofs.Reading.{fit-told}
 use Rattle.packed.specs.Packed.{Used, cfgIn}
 use Rattle.packed.proofs.Used.{used-past}
 use Rattle.results.specs.Answer.{answered, handed}
@@ -19,7 +20,6 @@ use Rattle.tables.specs.Layout.{costIn}
 use Rattle.tables.specs.Exact.{Packing, ChartTrue}
 use Rattle.tabulate.specs.Spans.{Tabulated}
 use Rattle.initial.specs.Written.{enumerationOf, firstTree, FirstWritten}
-use Rattle.initial.proofs.Fitting.{fit-told}
 use Rattle.initial.proofs.Front.{front-put}
 use Rattle.initial.proofs.Input.{tabulated-input}
 use Rattle.initial.proofs.Root.{first-handed}
@@ -61,6 +61,6 @@ pub built : (p w : List ℕ) (rules : ℕ) (fits chart tables : List ℕ) → le
     → (rules ≤ maxRules) × Given p rules fits chart tables w
 built p w rules fits chart tables h told cells (few, used) T =
     let past = used-past p rules used in
-    let fitting = fit-told p w fits h told in
+    let fitting = fit-told p w fits (length w) h told in
     let exact = tabulated-input w p rules fits chart (length w) tables T past fitting cells in
     (few, record { past = past; told = fitting; cells = cells; exact = exact })

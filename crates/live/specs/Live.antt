@@ -10,7 +10,7 @@ use Rattle.sets.specs.Set.{has}
 use Rattle.costs.specs.Cut.{Fit}
 use Rattle.packed.specs.Packed.{countIn}
 use Rattle.tables.specs.Layout.{rowsSize, costIn}
-use Rattle.tables.specs.Exact.{FitTold}
+use Rattle.fit.specs.Fit.{FitTold}
 use Rattle.suffixes.specs.Within.{tailIn, Inside, LaterStarts}
 use Rattle.writes.specs.Writes.{placeAt}
 

@@ -18,6 +18,14 @@ ghost use Rattle.sizes.specs.Sizes.{maxRules, side};
 ghost use Rattle.writes.specs.Writes.{allRows, Nothing};
 ghost use Rattle.live.specs.Live.{NonePut, Passing, FirstEnd, RulePut};
 
+// A span from i to j, with what the chart tells of it: its cell, and the ends of nonterminals from i on.
+pub struct Over {
+    pub i: usize,
+    pub j: usize,
+    pub cell: u32,
+    pub reach: u64,
+}
+
 // Whether rule r is passed over: the byte at i ends inside the span and not at a live start, and no nonterminal from i ends at one.
 fn passed_over(i: usize, j: usize, reach: u64, live: u64) -> bool
     requires { ⌜ (i < j) × (j < side) ⌝ }
@@ -54,26 +62,27 @@ fn first_end(reach: u64, live: u64, i: usize) -> usize
     if i < first { first } else { i + 1 }
 }
 
-// Writes the costs of rule r from i to j, those of the later starts being written, and adds i to its live starts if it is one. `reach` has
-// the ends of nonterminals from i on: the sums begin at the first of them that is a live start, since those before cost too many.
+// Writes the costs of rule r over the span, those of the later starts being written, and adds i to its live starts if it is one. The sums
+// begin at the first end reached that is a live start, since those before cost too many.
 pub fn put_rule(
     p: &Packed,
     r: usize,
     fits: &FitTable,
     tables: &Tables,
     full: &Full,
-    reach: u64,
-    i: usize,
-    j: usize,
+    over: Over,
     rows: &mut AllRows,
     live: &mut Live,
 )
-    requires { ⌜ (r < maxRules) × (i < j) × (j < side) × (length (now rows) ≡ allRows) × (length (now live) ≡ maxRules) ⌝ }
+    requires { ⌜ (r < maxRules) × (over .i < over .j) × (over .j < side) × (length (now rows) ≡ allRows)
+        × (length (now live) ≡ maxRules) ⌝ }
     ensures { λ _.
-        ⌜ RulePut (now (p .entry)) r (now (fits .entry)) (now (tables .entry)) (now (full .entry)) reach i j
+        ⌜ RulePut (now (p .entry)) r (now (fits .entry)) (now (tables .entry)) (now (full .entry)) (over .reach) (over .i) (over .j)
         (now (rows .entry)) (now (live .entry)) (now (rows .exit)) (now (live .exit)) ⌝ }
 {
-    let from = first_end(reach, live[r], i);
+    let i = over.i;
+    let j = over.j;
+    let from = first_end(over.reach, live[r], i);
     let part = Part { i, a: i, from, j };
     put_start(p, r, fits, tables, full, part, rows, ROWS_SIZE * r);
     mark(p, r, i, rows, live);
@@ -86,21 +95,19 @@ pub fn open_rule(
     fits: &FitTable,
     tables: &Tables,
     nothing: &Full,
-    reach: u64,
-    i: usize,
-    j: usize,
+    over: Over,
     rows: &mut AllRows,
     live: &mut Live,
 )
-    requires { ⌜ (r < maxRules) × (i < j) × (j < side) × Nothing (now nothing) × (length (now rows) ≡ allRows)
+    requires { ⌜ (r < maxRules) × (over .i < over .j) × (over .j < side) × Nothing (now nothing) × (length (now rows) ≡ allRows)
         × (length (now live) ≡ maxRules) ⌝ }
     ensures { λ _.
-        ⌜ RulePut (now (p .entry)) r (now (fits .entry)) (now (tables .entry)) (now (nothing .entry)) reach i j
+        ⌜ RulePut (now (p .entry)) r (now (fits .entry)) (now (tables .entry)) (now (nothing .entry)) (over .reach) (over .i) (over .j)
         (now (rows .entry)) (now (live .entry)) (now (rows .exit)) (now (live .exit)) ⌝ }
 {
-    if passed_over(i, j, reach, live[r]) {
-        put_none(p, r, i, rows);
+    if passed_over(over.i, over.j, over.reach, live[r]) {
+        put_none(p, r, over.i, rows);
     } else {
-        put_rule(p, r, fits, tables, nothing, reach, i, j, rows, live);
+        put_rule(p, r, fits, tables, nothing, over, rows, live);
     }
 }

@@ -13,8 +13,8 @@ use Rattle.grammar.specs.declared.Grammar.{Grammar}
 use Rattle.grammar.specs.View.{grammarOf}
 use Rattle.packed.specs.Packed.{cfgIn}
 use Rattle.packed.proofs.Laws.{cfg-in-bounded}
-use Rattle.fit.specs.Fit.{Told, Tells}
-use Rattle.fit.proofs.Reading.{told-tells}
+use Rattle.fit.specs.Fit.{Told, FitTold}
+use Rattle.fit.proofs.Reading.{fit-told}
 use Rattle.prepare.proofs.SameRules.{derivations-same-rules}
 
 module _ (g : Grammar) (p w : List ℕ) (same : (r : ℕ) → rule (cfgIn (g .start) p) r ≡ rule (grammarOf g) r) where
@@ -27,9 +27,9 @@ module _ (g : Grammar) (p w : List ℕ) (same : (r : ℕ) → rule (cfgIn (g .st
 
   -- the same from what the fit table tells
   pub filled-told : (t chart chart' : List ℕ) → length w ≤ 64 → Told p w t
-      → ((x : List ℕ) → length x ≡ length w → Tells (fitsAt x) p t (length w) → chart' ≡ filled (cfgIn 0 p) x chart)
+      → ((x : List ℕ) → length x ≡ length w → FitTold (fitsAt x) p t (length w) → chart' ≡ filled (cfgIn 0 p) x chart)
       → chart' ≡ filled (grammarOf g) w chart
-  filled-told t chart chart' small told fill = filled-packed chart chart' (fill w refl (told-tells p w t (length w) small told))
+  filled-told t chart chart' small told fill = filled-packed chart chart' (fill w refl (fit-told p w t (length w) small told))
 
   pub list-packed : (s : ℕ) → s ≡ g .start → L (cfgIn s p) w ≡ L (grammarOf g) w
   unfolding cfgIn

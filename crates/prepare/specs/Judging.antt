@@ -11,8 +11,8 @@ use Rattle.prepare.specs.declared.Judged.{Judged}
 use Rattle.prepare.specs.declared.Judged.the-variants.{Passed, Refused}
 
 -- what filling asks: a valid grammar, an input of at most 64 bytes (n) and a chart of enough cells (m)
-abbrev pub Ready : Grammar → ℕ → ℕ → Type 0
-Ready g n m = (validGrammar g ≡ true) × (n ≤ 64) × (cells ≤ m)
+abbrev pub Fillable : Grammar → ℕ → ℕ → Type 0
+Fillable g n m = (validGrammar g ≡ true) × (n ≤ 64) × (cells ≤ m)
 
 -- checks 8, 9 and 10, for an input of n bytes and a chart of m cells
 pub data Judging (g : Grammar) (n m : ℕ) : Judged → Type 0 where

@@ -11,7 +11,7 @@ ghost use Rattle.chart.specs.Column.{filled};
 ghost use Rattle.fit.specs.Fit.{Told};
 ghost use Rattle.grammar.specs.View.{grammarOf};
 ghost use Rattle.packed.specs.Packed.{cfgIn};
-ghost use Rattle.prepare.specs.Judging.{Judging, JudgingOutput, Ready};
+ghost use Rattle.prepare.specs.Judging.{Judging, JudgingOutput, Fillable};
 
 // Whether the checks are passed.
 pub enum Judged {
@@ -56,7 +56,7 @@ pub fn judge_output(g: Grammar, n: usize, m: usize, k: usize) -> Judged
 
 // The packed grammar, with the chart filled for the input and the fit table made, which the caller goes on with.
 pub fn fill_fits(g: Grammar, input: &[u8], fits: &mut FitTable, chart: &mut [u32]) -> Packed
-    requires { ⌜ Ready g (length (now input)) (length (now chart)) ⌝ }
+    requires { ⌜ Fillable g (length (now input)) (length (now chart)) ⌝ }
     ensures { λ p. ⌜ ((now (chart .exit) ≡ filled (grammarOf g) (now (input .entry)) (now (chart .entry)))
         × ((r : ℕ) → ruleOfNumber (cfgIn (g .start) p) r ≡ ruleOfNumber (grammarOf g) r))
         × Told p (now (input .entry)) (now (fits .exit)) ⌝ }
@@ -70,7 +70,7 @@ pub fn fill_fits(g: Grammar, input: &[u8], fits: &mut FitTable, chart: &mut [u32
 // The same where the fit table is not needed any more. It has a body of its own, and does not call the function above: so short a function
 // would be compiled into the checker's calls, and the fit table would take 8 KB of stack beside the checker's recursion.
 pub fn fill(g: Grammar, input: &[u8], chart: &mut [u32]) -> Packed
-    requires { ⌜ Ready g (length (now input)) (length (now chart)) ⌝ }
+    requires { ⌜ Fillable g (length (now input)) (length (now chart)) ⌝ }
     ensures { λ p. ⌜ (now (chart .exit) ≡ filled (grammarOf g) (now (input .entry)) (now (chart .entry)))
         × ((r : ℕ) → ruleOfNumber (cfgIn (g .start) p) r ≡ ruleOfNumber (grammarOf g) r) ⌝ }
 {

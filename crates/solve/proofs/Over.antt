@@ -13,14 +13,14 @@ use Rattle.costs.proofs.Rule.{rule-empty}
 use Rattle.packed.specs.Packed.{leftIn, placesIn}
 use Rattle.tables.specs.Layout.{fullIn, bareIn}
 use Rattle.rulecosts.specs.Rule.{Known, OfRule}
-use Rattle.tables.specs.Exact.{Ready}
+use Rattle.tables.specs.Exact.{SpanReady}
 use Rattle.solve.specs.Solve.{RuleOver, Wanted}
 
 -- ---- the cost of a rule
 
 module _ (p : List ℕ) (r : ℕ) (full tables : List ℕ) (i j : ℕ) where
   known : {bare : ℕ} (fit : Fit) (least : Cost) → i < j → r < 128 → leftIn p r < 32 → bare ≡ bareIn tables i j r
-      → (R : Ready fit least p tables i j) → Known fit (R .empty) least i j p r tables bare
+      → (R : SpanReady fit least p tables i j) → Known fit (R .empty) least i j p r tables bare
   known fit least h l m e R = record {
     span = h;
     start = R .start;

@@ -13,13 +13,13 @@ use Rattle.costs.specs.Lowest.{Lowest}
 use Rattle.costs.specs.Rule.{NodeCost}
 use Rattle.packed.specs.Packed.{leftIn, placesIn}
 use Rattle.tables.specs.Layout.{fullIn}
-use Rattle.tables.specs.Exact.{Ready}
+use Rattle.tables.specs.Exact.{SpanReady}
 
 -- ---- one rule
 
 -- v is the cost of rule r over the span from i to j, the node included, `full` having the costs over the whole span
 pub record RuleOver (p : List ℕ) (r : ℕ) (full tables : List ℕ) (i j v : ℕ) : Type 0 where
-  pub exact : leftIn p r < nonterminals → (fit : Fit) (least : Cost) → (i < j → Ready fit least p tables i j)
+  pub exact : leftIn p r < nonterminals → (fit : Fit) (least : Cost) → (i < j → SpanReady fit least p tables i j)
       → Lowest (NodeCost fit (fullIn full) least (placesIn p r) i j) v
 
 -- the answer b tells whether the number of k is looked for: k is in the cell and not in the mask
@@ -46,12 +46,12 @@ pub data Reach (fit : Fit) (least : Cost) (p : List ℕ) (mask i j : ℕ) : ℕ 
 
 -- each number is none or reached, for all fits and costs that the tables are right for
 pub record AllReached (p : List ℕ) (mask : ℕ) (tables : List ℕ) (i j : ℕ) (full : List ℕ) : Type 0 where
-  pub at : (fit : Fit) (least : Cost) → (i < j → Ready fit least p tables i j)
+  pub at : (fit : Fit) (least : Cost) → (i < j → SpanReady fit least p tables i j)
       → (k : ℕ) → fullIn full k < tooMany → Reach fit least p mask i j k (fullIn full k)
 
 -- rule r gives no lower number to a left side in the cell and not in the mask
 abbrev pub Settled : List ℕ → ℕ → ℕ → ℕ → List ℕ → ℕ → ℕ → List ℕ → Type 0
-Settled p r cell mask tables i j full = (fit : Fit) (least : Cost) → (i < j → Ready fit least p tables i j)
+Settled p r cell mask tables i j full = (fit : Fit) (least : Cost) → (i < j → SpanReady fit least p tables i j)
     → leftIn p r < nonterminals → has (leftIn p r) cell ≡ true → has (leftIn p r) mask ≡ false
     → (u : ℕ) → NodeCost fit (fullIn full) least (placesIn p r) i j u → fullIn full (leftIn p r) ≤ u
 

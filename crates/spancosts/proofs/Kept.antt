@@ -17,7 +17,7 @@ use Rattle.packed.specs.Packed.{leftIn, countIn, placesIn}
 use Rattle.packed.proofs.Laws.{count-le}
 use Rattle.suffixes.specs.Within.{tailIn}
 use Rattle.tables.specs.Layout.{costIn, aloneIn, bareIn}
-use Rattle.tables.specs.Exact.{Packing, PastLast, Ready}
+use Rattle.tables.specs.Exact.{Packing, PastLast, SpanReady}
 use Rattle.writes.specs.Writes.{placeAt}
 use Rattle.spancosts.specs.Sofar.{Done, Sofar}
 
@@ -88,7 +88,7 @@ module _ {fit : Fit} {bytes : ℕ → ℕ → Type 0} {p : List ℕ} {rules i j 
     made r h l (yes m) = bare r m
     made r h l (no m) = let d = past r (omega arith) h in absurd (omega arith)
 
-    pub ready-by : Ready fit (costIn tables) p tables a b
+    pub ready-by : SpanReady fit (costIn tables) p tables a b
     ready-by = record {
       empty = S .empty;
       start = λ k. least-empty (S .least k a a (omega arith) x start) (S .none k);

@@ -18,7 +18,7 @@ use Rattle.packed.specs.Packed.{countIn, placesIn}
 use Rattle.packed.proofs.Laws.{count-le, places-start}
 use Rattle.suffixes.specs.Within.{tailIn, LaterStarts}
 use Rattle.tables.specs.Layout.{alonesAt, costIn, fullIn, bareIn}
-use Rattle.tables.specs.Exact.{FitTold}
+use Rattle.fit.specs.Fit.{FitTold}
 use Rattle.writes.specs.Writes.{placeAt, Nothing, BaresPut}
 use Rattle.live.specs.Live.{Silent, liveIn, Reached}
 use Rattle.starts.specs.Starts.{StartsOpened}

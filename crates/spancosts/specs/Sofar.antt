@@ -13,7 +13,8 @@ use Rattle.costs.specs.Span.{Tells, Tree, Least}
 use Rattle.packed.specs.Packed.{countIn, placesIn}
 use Rattle.suffixes.specs.Within.{tailIn}
 use Rattle.tables.specs.Layout.{costIn, fullIn, bareIn}
-use Rattle.tables.specs.Exact.{Alones, Packing, PastLast, FitTold}
+use Rattle.fit.specs.Fit.{FitTold}
+use Rattle.tables.specs.Exact.{Alones, Packing, PastLast}
 use Rattle.writes.specs.Writes.{placeAt}
 use Rattle.live.specs.Live.{Silent, liveIn}
 

@@ -8,7 +8,8 @@ use lib.ListN.{length}
 use Rattle.sizes.specs.Sizes.{maxRules}
 use Rattle.costs.specs.Cut.{Fit}
 use Rattle.tables.specs.Layout.{tablesSize}
-use Rattle.tables.specs.Exact.{FitTold, CellTrue}
+use Rattle.fit.specs.Fit.{FitTold}
+use Rattle.tables.specs.Exact.{CellTrue}
 use Rattle.writes.specs.Writes.{allRows}
 use Rattle.live.specs.Live.{Reached}
 use Rattle.spancosts.specs.Sofar.{Standing, Given, EmptyTrue, Sofar, Opened, LiveFrom}

@@ -1,6 +1,7 @@
 // One span: its costs that need no numbers of the whole of it, its numbers, and with them the rows from its start on.
 use fit::FitTable;
 use live::mark::Live;
+use live::open::Over;
 use packed::Packed;
 use solve::solve;
 use starts::open_starts;
@@ -19,53 +20,48 @@ ghost use Rattle.tables.specs.Layout.{tablesSize};
 ghost use Rattle.writes.specs.Writes.{allRows, Nothing};
 ghost use Rattle.spancosts.specs.Spans.{SpanOpened, SpanPut, EmptyPut};
 
-// The rows from i on and the costs of the rules, without a child over the whole of i to j; `reach` has the ends of nonterminals from i on.
+// The rows from the start of the span on and the costs of the rules, without a child over the whole of it.
 fn open_span(
     p: &Packed,
     rules: usize,
     fits: &FitTable,
     nothing: &Full,
-    reach: u64,
-    i: usize,
-    j: usize,
+    over: Over,
     tables: &mut Tables,
     rows: &mut AllRows,
     live: &mut Live,
 )
-    requires { ⌜ (rules ≤ maxRules) × (i < j) × (j < side) × Nothing (now nothing)
+    requires { ⌜ (rules ≤ maxRules) × (over .i < over .j) × (over .j < side) × Nothing (now nothing)
         × (length (now tables) ≡ tablesSize) × (length (now rows) ≡ allRows) × (length (now live) ≡ maxRules) ⌝ }
     ensures { λ _.
-        ⌜ SpanOpened (now (p .entry)) rules (now (fits .entry)) reach i j
+        ⌜ SpanOpened (now (p .entry)) rules (now (fits .entry)) (over .reach) (over .i) (over .j)
         (now (tables .entry)) (now (rows .entry)) (now (live .entry)) (now (tables .exit)) (now (rows .exit)) (now (live .exit)) ⌝ }
 {
-    open_starts(p, rules, fits, tables, nothing, reach, i, j, rows, live);
-    put_bares(rules, i, j, rows, tables);
+    open_starts(p, rules, fits, tables, nothing, over, rows, live);
+    put_bares(rules, over.i, over.j, rows, tables);
 }
 
-// The span from i to j, which is not empty, those with the same end and a later start being done; `cell` is its cell of the chart.
+// The span, which is not empty, those with the same end and a later start being done.
 pub fn put_span(
     p: &Packed,
     rules: usize,
     fits: &FitTable,
-    cell: u32,
     nothing: &Full,
-    reach: u64,
-    i: usize,
-    j: usize,
+    over: Over,
     tables: &mut Tables,
     rows: &mut AllRows,
     live: &mut Live,
 )
-    requires { ⌜ (rules ≤ maxRules) × (i < j) × (j < side) × Nothing (now nothing)
+    requires { ⌜ (rules ≤ maxRules) × (over .i < over .j) × (over .j < side) × Nothing (now nothing)
         × (length (now tables) ≡ tablesSize) × (length (now rows) ≡ allRows) × (length (now live) ≡ maxRules) ⌝ }
     ensures { λ _.
-        ⌜ SpanPut (now (p .entry)) rules (now (fits .entry)) cell reach i j
+        ⌜ SpanPut (now (p .entry)) rules (now (fits .entry)) (over .cell) (over .reach) (over .i) (over .j)
         (now (tables .entry)) (now (rows .entry)) (now (live .entry)) (now (tables .exit)) (now (rows .exit)) (now (live .exit)) ⌝ }
 {
-    open_span(p, rules, fits, nothing, reach, i, j, tables, rows, live);
-    let full = solve(p, rules, cell, 0, tables, i, j);
-    put_least(&full, i, j, tables);
-    put_suffixes(p, rules, fits, tables, &full, cell, reach, i, j, rows, live);
+    open_span(p, rules, fits, nothing, over, tables, rows, live);
+    let full = solve(p, rules, over.cell, 0, tables, over.i, over.j);
+    put_least(&full, over.i, over.j, tables);
+    put_suffixes(p, rules, fits, tables, &full, over, rows, live);
 }
 
 // The empty span at j; `empty` has its numbers.

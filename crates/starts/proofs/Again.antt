@@ -12,7 +12,7 @@ use Rattle.costs.specs.Cut.{Fit}
 use Rattle.packed.specs.Packed.{countIn, isNonterminalIn, valueIn}
 use Rattle.packed.proofs.Laws.{count-le}
 use Rattle.suffixes.specs.Within.{tailIn, Inside, LaterStarts}
-use Rattle.tables.specs.Exact.{FitTold}
+use Rattle.fit.specs.Fit.{FitTold}
 use Rattle.writes.specs.Writes.{allRows, placeAt}
 use Rattle.live.specs.Live.{Silent, liveIn, LiveTold, Reached, RulePut}
 use Rattle.starts.specs.Starts.{Untouched, StartRight, SuffixesPut}

@@ -10,7 +10,7 @@ use Rattle.costs.specs.Cut.{Fit}
 use Rattle.packed.proofs.Laws.{count-le}
 use Rattle.suffixes.specs.Within.{tailIn, Inside, LaterStarts}
 use Rattle.suffixes.specs.Rows.{StartPut}
-use Rattle.tables.specs.Exact.{FitTold}
+use Rattle.fit.specs.Fit.{FitTold}
 use Rattle.writes.specs.Writes.{allRows, placeAt}
 use Rattle.live.specs.Live.{Silent, liveIn, LiveTold, Reached, OneRule, Grown, RulePut}
 use Rattle.starts.specs.Starts.{OtherStarts, StartRight, StartsPut, StartsOpened}

@@ -11,7 +11,7 @@ use Rattle.costs.specs.Cut.{Fit}
 use Rattle.packed.specs.Packed.{countIn, isNonterminalIn, valueIn}
 use Rattle.suffixes.specs.Within.{tailIn, Inside, LaterStarts}
 use Rattle.tables.specs.Layout.{rowsSize}
-use Rattle.tables.specs.Exact.{FitTold}
+use Rattle.fit.specs.Fit.{FitTold}
 use Rattle.writes.specs.Writes.{allRows, placeAt}
 use Rattle.live.specs.Live.{Silent, liveIn, Grown, LiveTold, Reached}
 

@@ -2,6 +2,7 @@
 use cuts::within::Part;
 use fit::FitTable;
 use live::mark::Live;
+use live::open::Over;
 use live::open::open_rule;
 use live::open::put_rule;
 use packed::Packed;
@@ -47,29 +48,26 @@ pub fn put_starts(
     }
 }
 
-// Writes those without a child over the whole span. A rule is passed over where no piece from i ends at one of its live starts; `reach` has
-// the ends of nonterminals from i on.
+// Writes those without a child over the whole span. A rule is passed over where no piece from i ends at one of its live starts.
 pub fn open_starts(
     p: &Packed,
     rules: usize,
     fits: &FitTable,
     tables: &Tables,
     nothing: &Full,
-    reach: u64,
-    i: usize,
-    j: usize,
+    over: Over,
     rows: &mut AllRows,
     live: &mut Live,
 )
-    requires { ⌜ (rules ≤ maxRules) × (i < j) × (j < side) × Nothing (now nothing) × (length (now rows) ≡ allRows)
+    requires { ⌜ (rules ≤ maxRules) × (over .i < over .j) × (over .j < side) × Nothing (now nothing) × (length (now rows) ≡ allRows)
         × (length (now live) ≡ maxRules) ⌝ }
     ensures { λ _.
-        ⌜ StartsOpened (now (p .entry)) rules (now (fits .entry)) (now (tables .entry)) (now (nothing .entry)) reach i j
-        (now (rows .entry)) (now (live .entry)) (now (rows .exit)) (now (live .exit)) ⌝ }
+        ⌜ StartsOpened (now (p .entry)) rules (now (fits .entry)) (now (tables .entry)) (now (nothing .entry)) (over .reach) (over .i)
+        (over .j) (now (rows .entry)) (now (live .entry)) (now (rows .exit)) (now (live .exit)) ⌝ }
 {
     let mut r = 0;
     while r < rules {
-        open_rule(p, r, fits, tables, nothing, reach, i, j, rows, live);
+        open_rule(p, r, fits, tables, nothing, over, rows, live);
         r += 1;
     }
 }
@@ -92,32 +90,30 @@ fn touched(p: &Packed, r: usize, cell: u32) -> bool
     false
 }
 
-// Writes them for those rules that have a nonterminal of the set in a place; `reach` has the ends of nonterminals from i on.
+// Writes them for those rules that have a nonterminal of the cell in a place.
 pub fn put_suffixes(
     p: &Packed,
     rules: usize,
     fits: &FitTable,
     tables: &Tables,
     full: &Full,
-    cell: u32,
-    reach: u64,
-    i: usize,
-    j: usize,
+    over: Over,
     rows: &mut AllRows,
     live: &mut Live,
 )
-    requires { ⌜ (rules ≤ maxRules) × (i < j) × (j < side) × (length (now rows) ≡ allRows) × (length (now live) ≡ maxRules) ⌝ }
+    requires { ⌜ (rules ≤ maxRules) × (over .i < over .j) × (over .j < side) × (length (now rows) ≡ allRows)
+        × (length (now live) ≡ maxRules) ⌝ }
     ensures { λ _.
-        ⌜ SuffixesPut (now (p .entry)) rules (now (fits .entry)) (now (tables .entry)) (now (full .entry)) cell reach i j
-        (now (rows .entry)) (now (live .entry)) (now (rows .exit)) (now (live .exit)) ⌝ }
+        ⌜ SuffixesPut (now (p .entry)) rules (now (fits .entry)) (now (tables .entry)) (now (full .entry)) (over .cell) (over .reach)
+        (over .i) (over .j) (now (rows .entry)) (now (live .entry)) (now (rows .exit)) (now (live .exit)) ⌝ }
 {
-    if cell == 0 {
+    if over.cell == 0 {
         return;
     }
     let mut r = 0;
     while r < rules {
-        if touched(p, r, cell) {
-            put_rule(p, r, fits, tables, full, reach, i, j, rows, live);
+        if touched(p, r, over.cell) {
+            put_rule(p, r, fits, tables, full, over, rows, live);
         }
         r += 1;
     }

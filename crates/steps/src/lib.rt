@@ -1,5 +1,7 @@
 // What comes next at a place of a rule.
 use choose::ends::choose_end;
+use cuts::within::Part;
+use nodes::Tail;
 use numbers::wide;
 use packed::Packed;
 use suffixes::rows::Rows;
@@ -17,39 +19,29 @@ pub enum Step {
     Node(usize, usize, usize),
 }
 
-// What comes next at place q of rule r, from a to j inside i to j; `rows` has the costs of the places of rule r.
+// What comes next at the beginning of the tail, up to j inside i to j; `rows` has the costs of the places of its rule.
 pub fn look(
     p: &Packed,
-    r: usize,
-    q: usize,
     tables: &Tables,
     full: &Full,
     rows: &Rows,
+    tail: Tail,
     i: usize,
-    a: usize,
     j: usize,
     budget: usize,
 ) -> Step
-    requires { ⌜ (r < maxRules) × (q ≤ maxPlaces) × (i ≤ a) × (a ≤ j) × (j < side) ⌝ }
-    ensures { λ s. ⌜ Looked (now (p .entry)) r q (now (tables .entry)) (now (full .entry)) (now (rows .entry)) i a j budget s ⌝ }
+    requires { ⌜ (tail .r < maxRules) × (tail .q ≤ maxPlaces) × (i ≤ tail .a) × (tail .a ≤ j) × (j < side) ⌝ }
+    ensures { λ s. ⌜ Looked (now (p .entry)) (tail .r) (tail .q) (now (tables .entry)) (now (full .entry)) (now (rows .entry))
+        i (tail .a) j budget s ⌝ }
 {
+    let Tail { r, q, a } = tail;
     if packed::count(p, r) <= q {
         return Step::End;
     }
     if packed::is_nonterminal(p, r, q) {
         let k = packed::value(p, r, q);
-        let b = choose_end(
-            tables,
-            full,
-            k,
-            i,
-            a,
-            a,
-            j,
-            rows,
-            sizes::SIDE * (q + 1),
-            budget,
-        );
+        let part = Part { i, a, from: a, j };
+        let b = choose_end(tables, full, k, part, rows, sizes::SIDE * (q + 1), budget);
         if b <= j {
             return Step::Node(k, b, budget - wide(rows[sizes::SIDE * (q + 1) + b]));
         }

@@ -9,7 +9,7 @@ use Rattle.sets.specs.Set.{has}
 use Rattle.costs.specs.Cut.{Fit}
 use Rattle.packed.specs.Packed.{countIn}
 use Rattle.tables.specs.Layout.{rowsSize}
-use Rattle.tables.specs.Exact.{FitTold}
+use Rattle.fit.specs.Fit.{FitTold}
 use Rattle.suffixes.specs.Within.{tailIn, Inside, rowAt, Word, ColumnPut}
 use Rattle.suffixes.specs.Rows.{WordAt, StartPut, RowsFrom, RowsPut}
 

@@ -7,9 +7,8 @@ use mathlib.Core.Path.{_≡_}
 use lib.ListN.{length, getD}
 use Rattle.costs.specs.Cut.{Fit}
 use Rattle.packed.specs.Packed.{countIn}
-use Rattle.fit.specs.Fit.{entryIn}
+use Rattle.fit.specs.Fit.{entryIn, FitTold}
 use Rattle.tables.specs.Layout.{rowsSize}
-use Rattle.tables.specs.Exact.{FitTold}
 use Rattle.suffixes.specs.Within.{tailIn, Inside, rowAt, LaterStarts, EndsPassed}
 
 -- v has the places of rule r that fit position a, if that is before j

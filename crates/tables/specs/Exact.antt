@@ -10,8 +10,7 @@ use Rattle.sets.specs.Set.{has}
 use Rattle.cfg.specs.Grammar.{Cfg}
 use Rattle.cfg.specs.Tree.{Forest}
 use Rattle.chart.specs.Cell.{cell}
-use Rattle.packed.specs.Packed.{leftIn, countIn, isNonterminalIn, terminalIn, placesIn, cfgIn}
-use Rattle.fit.specs.Fit.{entryIn}
+use Rattle.packed.specs.Packed.{leftIn, countIn, placesIn, cfgIn}
 use Rattle.costs.specs.Cut.{Fit, Cost}
 use Rattle.costs.specs.Lowest.{Lowest}
 use Rattle.costs.specs.Span.{Tree, Least}
@@ -25,11 +24,6 @@ Packing p = cfgIn 0 p
 -- no number from m on has a rule
 abbrev pub PastLast : List ℕ → ℕ → Type 0
 PastLast p m = (r : ℕ) → m ≤ r → r < maxRules → nonterminals ≤ leftIn p r
-
--- the fit table tells for each terminal of a rule whether it fits each position before n
-abbrev pub FitTold : Fit → List ℕ → List ℕ → ℕ → Type 0
-FitTold fit p fits n = (a r q : ℕ) → a < n → r < maxRules → q < countIn p r → isNonterminalIn p r q ≡ false
-    → has q (entryIn fits a r) ≡ fit a (terminalIn p r q)
 
 -- a nonterminal that is not in the set has no tree over the span from i to j
 abbrev pub CellTrue : List ℕ → (ℕ → ℕ → Type 0) → ℕ → ℕ → ℕ → Type 0
@@ -45,7 +39,7 @@ Alones empty p r tables = (q : ℕ) → q < countIn p r → aloneIn tables r q �
 
 -- what the cost of a rule over the span from i to j, which is not empty, is made of: `least` has the costs over the spans inside. Of a
 -- number that has no rule nothing is said
-pub record Ready (fit : Fit) (least : Cost) (p tables : List ℕ) (i j : ℕ) : Type 0 where
+pub record SpanReady (fit : Fit) (least : Cost) (p tables : List ℕ) (i j : ℕ) : Type 0 where
   pub empty : ℕ → ℕ
   pub start : (k : ℕ) → least k i i ≡ empty k
   pub stop : (k : ℕ) → least k j j ≡ empty k
@@ -56,4 +50,4 @@ pub record Ready (fit : Fit) (least : Cost) (p tables : List ℕ) (i j : ℕ) : 
 pub record Exact (fit : Fit) (bytes : ℕ → ℕ → Type 0) (p : List ℕ) (n : ℕ) (tables : List ℕ) : Type 0 where
   pub long : length tables ≡ tablesSize
   pub least : (k i j : ℕ) → i ≤ j → j ≤ n → Least (Tree (Packing p) bytes k i j) (costIn tables k i j)
-  pub ready : (i j : ℕ) → i < j → j ≤ n → Ready fit (costIn tables) p tables i j
+  pub ready : (i j : ℕ) → i < j → j ≤ n → SpanReady fit (costIn tables) p tables i j

@@ -9,7 +9,8 @@ use Rattle.sizes.specs.Sizes.{maxRules}
 use Rattle.costs.specs.Cut.{Fit}
 use Rattle.costs.specs.Span.{Tells}
 use Rattle.tables.specs.Layout.{tablesSize, fullIn}
-use Rattle.tables.specs.Exact.{Alones, PastLast, FitTold, ChartTrue, Exact}
+use Rattle.fit.specs.Fit.{FitTold}
+use Rattle.tables.specs.Exact.{Alones, PastLast, ChartTrue, Exact}
 use Rattle.writes.specs.Writes.{allRows}
 use Rattle.spancosts.specs.Sofar.{Standing, Given, EmptyTrue, Sofar, LiveFrom}
 

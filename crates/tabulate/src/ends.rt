@@ -1,5 +1,6 @@
 // All spans: for each end, from the empty span there to the start of the input.
 use fit::FitTable;
+use live::open::Over;
 use packed::Packed;
 use reach::Reach;
 use reach::reaches;
@@ -45,19 +46,13 @@ fn put_end(
     let mut i = j;
     while i > 0 {
         i -= 1;
-        put_span(
-            p,
-            rules,
-            fits,
-            chart[sizes::SIDE * i + j],
-            nothing,
-            reach[i],
+        let over = Over {
             i,
             j,
-            tables,
-            rows,
-            &mut live,
-        );
+            cell: chart[sizes::SIDE * i + j],
+            reach: reach[i],
+        };
+        put_span(p, rules, fits, nothing, over, tables, rows, &mut live);
     }
 }
 

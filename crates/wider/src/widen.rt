@@ -1,5 +1,6 @@
 // The first row with a wider first node than the one that stands.
 use choose::ends::choose_end;
+use cuts::within::Part;
 use descend::first;
 use fit::FitTable;
 use nodes::Child;
@@ -42,18 +43,13 @@ pub fn widen(
     let Child { r, q, k, a, b } = child;
     let Span { i, j, mask } = span;
     let Room { at, budget } = room;
-    let c = choose_end(
-        tables,
-        full,
-        k,
+    let part = Part {
         i,
         a,
-        b + 1,
+        from: b + 1,
         j,
-        rows,
-        sizes::SIDE * (q + 1),
-        budget,
-    );
+    };
+    let c = choose_end(tables, full, k, part, rows, sizes::SIDE * (q + 1), budget);
     if c > j {
         return 0;
     }

@@ -9,11 +9,11 @@ use Rattle.starts.proofs.open_starts.Statement.{statement}
 use Rattle.starts.proofs.open_starts.Tie as tie
 
 abbrev Inv-loop : tie.InvT-loop
-Inv-loop p rules fits tables nothing reach i j rows₀ live₀ r₀ rows live r =
-    (r ≤ rules) × StartsOpened p r fits tables nothing reach i j rows₀ live₀ rows live
+Inv-loop p rules fits tables nothing over rows₀ live₀ r₀ rows live r =
+    (r ≤ rules) × StartsOpened p r fits tables nothing (over .reach) (over .i) (over .j) rows₀ live₀ rows live
 
 abbrev μ-loop : tie.MeasureT-loop
-μ-loop p rules fits tables nothing reach i j rows₀ live₀ r₀ rows live r = rules - r
+μ-loop p rules fits tables nothing over rows₀ live₀ r₀ rows live r = rules - r
 
 pub open-starts-spec : {M : Type 1} → statement M
 open-starts-spec = tie.close (tie.spec

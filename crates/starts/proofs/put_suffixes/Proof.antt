@@ -10,11 +10,11 @@ use Rattle.starts.proofs.put_suffixes.Statement.{statement}
 use Rattle.starts.proofs.put_suffixes.Tie as tie
 
 abbrev Inv-loop : tie.InvT-loop
-Inv-loop p rules fits tables full cell reach i j rows₀ live₀ r₀ rows live r =
-    (r ≤ rules) × SuffixesPut p r fits tables full cell reach i j rows₀ live₀ rows live
+Inv-loop p rules fits tables full over rows₀ live₀ r₀ rows live r =
+    (r ≤ rules) × SuffixesPut p r fits tables full (over .cell) (over .reach) (over .i) (over .j) rows₀ live₀ rows live
 
 abbrev μ-loop : tie.MeasureT-loop
-μ-loop p rules fits tables full cell reach i j rows₀ live₀ r₀ rows live r = rules - r
+μ-loop p rules fits tables full over rows₀ live₀ r₀ rows live r = rules - r
 
 loop-again : tie.Need-loop-again Inv-loop μ-loop
 loop-again c =

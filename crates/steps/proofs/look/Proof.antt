@@ -6,7 +6,7 @@ use Rattle.steps.proofs.look.Statement.{statement}
 use Rattle.steps.proofs.look.Tie as tie
 
 -- the places behind cost no more than the budget
-rest-within : tie.Need-sub-t27
+rest-within : tie.Need-sub-t29
 rest-within c = omega (arith, c .before .before .before .choose-end .ensures .fits (omega arith))
 
 node : tie.Need-returns-2

@@ -9,11 +9,11 @@ use Rattle.choose.proofs.ends.choose_end.Statement.{statement}
 use Rattle.choose.proofs.ends.choose_end.Tie as tie
 
 abbrev Inv-loop : tie.InvT-loop
-Inv-loop tables full k i a from j rows at budget b₀ b =
+Inv-loop tables full k rows at budget i a from j b₀ b =
     (from ≤ b) × (b ≤ j + 1) × EndsPassed tables full k i a from j rows at budget b
 
 abbrev μ-loop : tie.MeasureT-loop
-μ-loop tables full k i a from j rows at budget b₀ b = j + 1 - b
+μ-loop tables full k rows at budget i a from j b₀ b = j + 1 - b
 
 loop-again : tie.Need-loop-again Inv-loop μ-loop
 loop-again c = (

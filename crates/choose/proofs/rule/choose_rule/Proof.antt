@@ -9,10 +9,10 @@ use Rattle.choose.proofs.rule.choose_rule.Statement.{statement}
 use Rattle.choose.proofs.rule.choose_rule.Tie as tie
 
 abbrev Inv-loop : tie.InvT-loop
-Inv-loop p rules from k full tables i j budget r₀ r = RulesPassed p rules from k full tables i j budget r
+Inv-loop p rules from k full tables budget i j r₀ r = RulesPassed p rules from k full tables i j budget r
 
 abbrev μ-loop : tie.MeasureT-loop
-μ-loop p rules from k full tables i j budget r₀ r = rules - r
+μ-loop p rules from k full tables budget i j r₀ r = rules - r
 
 pub choose-rule-spec : {M : Type 1} → statement M
 choose-rule-spec = tie.close (tie.spec
