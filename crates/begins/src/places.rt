@@ -11,6 +11,15 @@ ghost use Rattle.packed.specs.Packed.{isNonterminalIn, countIn};
 ghost use Rattle.cells.specs.Flags.{Fit};
 ghost use Rattle.begins.specs.Begins.{Follows, BeginsAt, Begins};
 
+// The span from i to n, with two sets of places of a rule: those that fit the byte at i, and those from which on the places cut the empty
+// span at n.
+pub struct Window {
+    pub i: usize,
+    pub n: usize,
+    pub fits: u32,
+    pub last: u32,
+}
+
 // Whether the places q.. of rule r cut the span from a to n, the starts from j on being told.
 fn follows(p: &Packed, r: usize, q: usize, a: usize, n: usize, starts: &Starts, last: u32) -> bool
     requires { ⌜ (r < 128) × (0 < q) × (q ≤ countIn (now p) r) × (a ≤ n) × (n ≤ 64) ⌝ }
@@ -50,65 +59,41 @@ fn nonterminal_begins(
 }
 
 // Whether place q of rule r holds a terminal that fits position i, after which the places behind it cut the rest.
-fn terminal_begins(
-    p: &Packed,
-    r: usize,
-    q: usize,
-    fits: u32,
-    i: usize,
-    n: usize,
-    starts: &Starts,
-    last: u32,
-) -> bool
-    requires { ⌜ (r < 128) × (q < 8) × (i < n) × (n ≤ 64) × (q < countIn (now p) r) × (isNonterminalIn (now p) r q ≡ false) ⌝ }
-    ensures { λ f. ⌜ ((ends : List ℕ) → BeginsAt (now (p .entry)) r q i n fits ends (now (starts .entry)) last f) ⌝ }
+fn terminal_begins(p: &Packed, r: usize, q: usize, window: Window, starts: &Starts) -> bool
+    requires { ⌜ (r < 128) × (q < 8) × (window .i < window .n) × (window .n ≤ 64) × (q < countIn (now p) r)
+        × (isNonterminalIn (now p) r q ≡ false) ⌝ }
+    ensures { λ f. ⌜ ((ends : List ℕ) → BeginsAt (now (p .entry)) r q (window .i) (window .n) (window .fits) ends (now (starts .entry))
+        (window .last) f) ⌝ }
 {
-    if packed::contains(fits, q) {
-        return follows(p, r, q + 1, i + 1, n, starts, last);
+    if packed::contains(window.fits, q) {
+        return follows(p, r, q + 1, window.i + 1, window.n, starts, window.last);
     }
     false
 }
 
 // Whether the places q.. of rule r cut the span from i to n with a first piece that is a byte, or neither empty nor the whole.
-fn begins_at(
-    p: &Packed,
-    r: usize,
-    q: usize,
-    fits: u32,
-    i: usize,
-    n: usize,
-    ends: &Ends,
-    starts: &Starts,
-    last: u32,
-) -> bool
-    requires { ⌜ (r < 128) × (q < 8) × (i < n) × (n ≤ 64) × (q < countIn (now p) r) ⌝ }
-    ensures { λ f. ⌜ BeginsAt (now (p .entry)) r q i n fits (now (ends .entry)) (now (starts .entry)) last f ⌝ }
+fn begins_at(p: &Packed, r: usize, q: usize, window: Window, ends: &Ends, starts: &Starts) -> bool
+    requires { ⌜ (r < 128) × (q < 8) × (window .i < window .n) × (window .n ≤ 64) × (q < countIn (now p) r) ⌝ }
+    ensures { λ f. ⌜ BeginsAt (now (p .entry)) r q (window .i) (window .n) (window .fits) (now (ends .entry)) (now (starts .entry))
+        (window .last) f ⌝ }
 {
     if packed::is_nonterminal(p, r, q) {
-        return nonterminal_begins(p, r, q, i, ends, starts);
+        return nonterminal_begins(p, r, q, window.i, ends, starts);
     }
-    terminal_begins(p, r, q, fits, i, n, starts, last)
+    terminal_begins(p, r, q, window, starts)
 }
 
-// The places of rule r at which such a cut of the span from i to n begins.
-pub fn begins(
-    p: &Packed,
-    r: usize,
-    fits: u32,
-    i: usize,
-    n: usize,
-    ends: &Ends,
-    starts: &Starts,
-    last: u32,
-) -> u32
-    requires { ⌜ (r < 128) × (i < n) × (n ≤ 64) ⌝ }
-    ensures { λ v. ⌜ Begins (now (p .entry)) r i n fits (now (ends .entry)) (now (starts .entry)) last v ⌝ }
+// The places of rule r at which such a cut of the span begins.
+pub fn begins(p: &Packed, r: usize, window: Window, ends: &Ends, starts: &Starts) -> u32
+    requires { ⌜ (r < 128) × (window .i < window .n) × (window .n ≤ 64) ⌝ }
+    ensures { λ v. ⌜ Begins (now (p .entry)) r (window .i) (window .n) (window .fits) (now (ends .entry)) (now (starts .entry))
+        (window .last) v ⌝ }
 {
     let count = packed::count(p, r);
     let mut v: u32 = 0;
     let mut q = 0;
     while q < count {
-        v = with_if(v, q, begins_at(p, r, q, fits, i, n, ends, starts, last));
+        v = with_if(v, q, begins_at(p, r, q, window, ends, starts));
         q += 1;
     }
     v

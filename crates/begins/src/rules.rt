@@ -1,4 +1,5 @@
 // Where inner cuts begin, for every rule; rules that can have none are passed over.
+use super::places::Window;
 use super::places::begins;
 use fit::FitTable;
 use fit::wide_word;
@@ -26,22 +27,19 @@ fn can_begin(i: usize, n: usize, reach: u64, live: u64) -> bool
 fn begins_near(
     p: &Packed,
     r: usize,
-    fits: u32,
-    i: usize,
-    n: usize,
+    window: Window,
     ends: &Ends,
     starts: &Starts,
     reach: u64,
     live: u64,
-    last: u32,
 ) -> u32
-    requires { ⌜ (r < 128) × (i < n) × (n ≤ 64) ⌝ }
+    requires { ⌜ (r < 128) × (window .i < window .n) × (window .n ≤ 64) ⌝ }
     ensures { λ v.
-        ⌜ BeginsNear (now (p .entry)) r i n fits
-        (now (ends .entry)) (now (starts .entry)) reach live last v ⌝ }
+        ⌜ BeginsNear (now (p .entry)) r (window .i) (window .n) (window .fits)
+        (now (ends .entry)) (now (starts .entry)) reach live (window .last) v ⌝ }
 {
-    if can_begin(i, n, reach, live) {
-        begins(p, r, fits, i, n, ends, starts, last)
+    if can_begin(window.i, window.n, reach, live) {
+        begins(p, r, window, ends, starts)
     } else {
         0
     }
@@ -68,8 +66,13 @@ pub fn begin_all(
 {
     let mut r = 0;
     while r < rules {
-        let word = wide_word(fits[sizes::MAX_RULES * i + r]);
-        insides[r] = begins_near(p, r, word, i, n, ends, starts, reach, live[r], lasts[r]);
+        let window = Window {
+            i,
+            n,
+            fits: wide_word(fits[sizes::MAX_RULES * i + r]),
+            last: lasts[r],
+        };
+        insides[r] = begins_near(p, r, window, ends, starts, reach, live[r]);
         r += 1;
     }
 }

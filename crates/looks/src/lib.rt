@@ -9,75 +9,78 @@ ghost use Prim.Native.Nat.{_<_};
 ghost use lib.ListN.{length};
 ghost use Rattle.looks.specs.Looks.{Put, Again};
 
-// Looks at rule r at a cell of which `own` is known.
+// What is known at a cell: the set of the empty span at its start, and its own so far.
+pub struct Known {
+    pub start: u32,
+    pub own: u32,
+}
+
+// Looks at rule r at a cell.
 fn look(
     p: &Packed,
     r: usize,
-    start: u32,
+    known: Known,
     inside: u32,
     last: u32,
     kinds: u32,
-    own: u32,
     flags: &mut [u32; 128],
     made: &mut [u32; 128],
 ) -> u32
     requires { ⌜ (r < 128) × (length (now flags) ≡ 128) × (length (now made) ≡ 128) ⌝ }
     ensures { λ v.
-        ⌜ Put (now (p .entry)) r start inside last kinds own
+        ⌜ Put (now (p .entry)) r (known .start) inside last kinds (known .own)
         (now (flags .entry)) (now (made .entry)) (now (flags .exit)) (now (made .exit)) v ⌝ }
 {
-    let m = rule_mask(p, r, false, start, own, inside, last);
+    let m = rule_mask(p, r, false, known.start, known.own, inside, last);
     flags[r] = m;
-    made[r] = sets::common(own, kinds);
-    added(p, r, m, own)
+    made[r] = sets::common(known.own, kinds);
+    added(p, r, m, known.own)
 }
 
 // The first look at rule r: without inner cuts, and where the set has none of its kinds, it has no flags.
 pub fn look_first(
     p: &Packed,
     r: usize,
-    start: u32,
+    known: Known,
     inside: u32,
     last: u32,
     kinds: u32,
-    own: u32,
     flags: &mut [u32; 128],
     made: &mut [u32; 128],
 ) -> u32
     requires { ⌜ (r < 128) × (length (now flags) ≡ 128) × (length (now made) ≡ 128) ⌝ }
     ensures { λ v.
-        ⌜ Put (now (p .entry)) r start inside last kinds own
+        ⌜ Put (now (p .entry)) r (known .start) inside last kinds (known .own)
         (now (flags .entry)) (now (made .entry)) (now (flags .exit)) (now (made .exit)) v ⌝ }
 {
     if inside == 0 {
-        if sets::common(own, kinds) == 0 {
+        if sets::common(known.own, kinds) == 0 {
             flags[r] = 0;
             made[r] = 0;
-            return own;
+            return known.own;
         }
     }
-    look(p, r, start, inside, last, kinds, own, flags, made)
+    look(p, r, known, inside, last, kinds, flags, made)
 }
 
 // A further look at rule r, if its flags can have changed.
 pub fn look_again(
     p: &Packed,
     r: usize,
-    start: u32,
+    known: Known,
     inside: u32,
     last: u32,
     kinds: u32,
-    own: u32,
     flags: &mut [u32; 128],
     made: &mut [u32; 128],
 ) -> u32
     requires { ⌜ (r < 128) × (length (now flags) ≡ 128) × (length (now made) ≡ 128) ⌝ }
     ensures { λ v.
-        ⌜ Again (now (p .entry)) r start inside last kinds own
+        ⌜ Again (now (p .entry)) r (known .start) inside last kinds (known .own)
         (now (flags .entry)) (now (made .entry)) (now (flags .exit)) (now (made .exit)) v ⌝ }
 {
-    if sets::common(own, kinds) == made[r] {
-        return own;
+    if sets::common(known.own, kinds) == made[r] {
+        return known.own;
     }
-    look(p, r, start, inside, last, kinds, own, flags, made)
+    look(p, r, known, inside, last, kinds, flags, made)
 }

@@ -1,4 +1,5 @@
 // All rules at one cell, until nothing is added.
+use super::Known;
 use super::look_again;
 use super::look_first;
 use packed::Packed;
@@ -29,11 +30,10 @@ fn first(
         own = look_first(
             p,
             r,
-            start,
+            Known { start, own },
             insides[r],
             lasts[r],
             kinds[r],
-            own,
             flags,
             made,
         );
@@ -46,24 +46,33 @@ fn first(
 fn again(
     p: &Packed,
     rules: usize,
-    start: u32,
+    known: Known,
     insides: &[u32; 128],
     lasts: &[u32; 128],
     kinds: &[u32; 128],
-    own: u32,
     flags: &mut [u32; 128],
     made: &mut [u32; 128],
 ) -> u32
     requires { ⌜ (rules ≤ 128)
-        × State (now p) rules start (now insides) (now lasts) (now kinds) rules own (now flags) (now made) ⌝ }
+        × State (now p) rules (known .start) (now insides) (now lasts) (now kinds) rules (known .own) (now flags) (now made) ⌝ }
     ensures { λ v.
-        ⌜ Passed (now (p .entry)) rules start (now (insides .entry)) (now (lasts .entry)) (now (kinds .entry))
-        rules own v (now (flags .exit)) (now (made .exit)) ⌝ }
+        ⌜ Passed (now (p .entry)) rules (known .start) (now (insides .entry)) (now (lasts .entry)) (now (kinds .entry))
+        rules (known .own) v (now (flags .exit)) (now (made .exit)) ⌝ }
 {
+    let Known { start, own } = known;
     let mut v = own;
     let mut r = 0;
     while r < rules {
-        v = look_again(p, r, start, insides[r], lasts[r], kinds[r], v, flags, made);
+        v = look_again(
+            p,
+            r,
+            Known { start, own: v },
+            insides[r],
+            lasts[r],
+            kinds[r],
+            flags,
+            made,
+        );
         r += 1;
     }
     v
@@ -87,7 +96,16 @@ pub fn closure(
 {
     let mut own = first(p, rules, start, insides, lasts, kinds, flags, made);
     loop {
-        let next = again(p, rules, start, insides, lasts, kinds, own, flags, made);
+        let next = again(
+            p,
+            rules,
+            Known { start, own },
+            insides,
+            lasts,
+            kinds,
+            flags,
+            made,
+        );
         if next == own {
             return next;
         }

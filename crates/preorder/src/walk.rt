@@ -18,6 +18,13 @@ pub enum Step {
     Node(usize, usize),
 }
 
+// Where a row goes on: at node `at`, over the bytes `from` to `to`.
+struct Here {
+    at: usize,
+    from: usize,
+    to: usize,
+}
+
 // Of the set `above` over `cover` bytes, what matters for a node over c bytes: all of it, or nothing.
 fn same_span(cover: usize, above: u32, c: usize) -> u32
     ensures { λ set. ⌜ SameSpan cover above c set ⌝ }
@@ -49,21 +56,12 @@ fn rule_at(p: &Packed, e: &[u16], n: usize, set: u32, k: usize, c: usize, at: us
     if sets::has(set, k) { sizes::NO_RULE } else { r }
 }
 
-// What comes next at place q of rule r, over the bytes `from` to `to`.
-fn look(
-    p: &Packed,
-    w: &[u8],
-    e: &[u16],
-    n: usize,
-    r: usize,
-    q: usize,
-    at: usize,
-    from: usize,
-    to: usize,
-) -> Step
-    requires { ⌜ (r < 128) × (2 * n ≤ length (now e)) × (n ≤ 512) × (from ≤ to) × (to ≤ length (now w)) ⌝ }
-    ensures { λ s. ⌜ Looked (now (p .entry)) (now (w .entry)) (now (e .entry)) n r q at from to s ⌝ }
+// What comes next at place q of rule r.
+fn look(p: &Packed, w: &[u8], e: &[u16], n: usize, r: usize, q: usize, here: Here) -> Step
+    requires { ⌜ (r < 128) × (2 * n ≤ length (now e)) × (n ≤ 512) × (here .from ≤ here .to) × (here .to ≤ length (now w)) ⌝ }
+    ensures { λ s. ⌜ Looked (now (p .entry)) (now (w .entry)) (now (e .entry)) n r q (here .at) (here .from) (here .to) s ⌝ }
 {
+    let Here { at, from, to } = here;
     if packed::count(p, r) <= q {
         if from == to {
             return Step::End;
@@ -131,7 +129,7 @@ pub fn row(
     ensures { λ next. ⌜ Answers (Walked (cfgIn 0 (now (p .entry))) (now (w .entry)) (now (e .entry)) n cover above
         (placesFrom (now (p .entry)) r q (countIn (now (p .entry)) r - q)) at from to) tooMany next ⌝ }
 {
-    let step = look(p, w, e, n, r, q, at, from, to);
+    let step = look(p, w, e, n, r, q, Here { at, from, to });
     match step {
         Step::No => sizes::TOO_MANY,
         Step::End => at,

@@ -10,11 +10,11 @@ use Rattle.begins.proofs.places.begins.Statement.{statement}
 use Rattle.begins.proofs.places.begins.Tie as tie
 
 abbrev Inv-loop : tie.InvT-loop
-Inv-loop p r fits i n ends starts last count v₀ q₀ v q =
-    (q ≤ count) × (count ≡ countIn p r) × (count ≤ 8) × BeginsTo p r i n fits ends starts last q v
+Inv-loop p r window ends starts count v₀ q₀ v q =
+    (q ≤ count) × (count ≡ countIn p r) × (count ≤ 8) × BeginsTo p r (window .i) (window .n) (window .fits) ends starts (window .last) q v
 
 abbrev μ-loop : tie.MeasureT-loop
-μ-loop p r fits i n ends starts last count v₀ q₀ v q = count - q
+μ-loop p r window ends starts count v₀ q₀ v q = count - q
 
 loop-again : tie.Need-loop-again Inv-loop μ-loop
 loop-again c = (

@@ -9,11 +9,11 @@ use Rattle.looks.proofs.passes.again.Statement.{statement}
 use Rattle.looks.proofs.passes.again.Tie as tie
 
 abbrev Inv-loop : tie.InvT-loop
-Inv-loop p rules start insides lasts kinds own flags₀ made₀ v₀ r₀ flags made v r =
+Inv-loop p rules insides lasts kinds flags₀ made₀ start own v₀ r₀ flags made v r =
     (r ≤ rules) × Passed p rules start insides lasts kinds r own v flags made
 
 abbrev μ-loop : tie.MeasureT-loop
-μ-loop p rules start insides lasts kinds own flags₀ made₀ v₀ r₀ flags made v r = rules - r
+μ-loop p rules insides lasts kinds flags₀ made₀ start own v₀ r₀ flags made v r = rules - r
 
 pub again-spec : {M : Type 1} → statement M
 again-spec = tie.close (tie.spec
