@@ -10,7 +10,7 @@ use crate::{chart, Case};
 use std::hint::black_box;
 
 pub fn spans(list: &[Case]) {
-    println!("\nSPANS AS BITS: processor time, the least of the rounds; proved / plain, and how often the proved fill is in the one before");
+    println!("\nSPANS AS BITS: processor time, the least of the rounds; proved / plain, and how often it is in the fill before");
     heading("filling 64 marks");
     for c in list {
         let p = Packed::new(&flat::read(&c.flat));

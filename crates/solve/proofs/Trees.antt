@@ -33,7 +33,8 @@ module _ {fit : Fit} {bytes : ℕ → ℕ → Type 0} {least : Cost} {p : List �
 
 module _ {p : List ℕ} {rules cell mask : ℕ} {tables : List ℕ} {i j : ℕ} {full : List ℕ} (S : Solved p rules cell mask tables i j full)
     (fit : Fit) (bytes : ℕ → ℕ → Type 0) (least : Cost) (tells : Tells fit bytes) (past : PastLast p rules)
-    (ready : i < j → SpanReady fit least p tables i j) (inside : Inside (Packing p) bytes i j least) (chart : CellTrue p bytes i j cell) where
+    (ready : i < j → SpanReady fit least p tables i j) (inside : Inside (Packing p) bytes i j least)
+    (chart : CellTrue p bytes i j cell) where
   sound : Sound (Packing p) bytes mask i j (fullIn full)
   sound k = record { reached = λ l. reach-sound tells inside (S .reached .at fit least ready k l) .reached l }
 
