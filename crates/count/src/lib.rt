@@ -7,6 +7,7 @@ use grammar::Refusal;
 use initial::build;
 use initial::exists;
 use initial::write_first;
+use nodes::Root;
 use numbers::wide_byte;
 use packed::Packed;
 use prepare::Judged;
@@ -27,23 +28,16 @@ ghost use Rattle.counting.specs.Answer.{countedOf, countTree, countFilled};
 ghost use Rattle.counting.specs.Made.{CountedMade};
 
 // Counts the derivations over tables that are made, or refuses with 13. The buffer is this function's own.
-fn count_made(
-    p: &Packed,
-    rules: usize,
-    fits: &FitTable,
-    chart: &[u32],
-    tables: &Tables,
-    start: usize,
-    n: usize,
-) -> Counted
-    requires { ⌜ (rules ≤ maxRules) × (n < side) × (cells ≤ length (now chart)) ⌝ }
-    ensures { λ a. ⌜ CountedMade (now (p .entry)) rules (now (fits .entry)) (now (chart .entry)) (now (tables .entry)) start n
+fn count_made(p: &Packed, fits: &FitTable, chart: &[u32], tables: &Tables, root: Root) -> Counted
+    requires { ⌜ (root .rules ≤ maxRules) × (root .n < side) × (cells ≤ length (now chart)) ⌝ }
+    ensures { λ a. ⌜ CountedMade (now (p .entry)) (root .rules) (now (fits .entry)) (now (chart .entry)) (now (tables .entry))
+        (root .start) (root .n)
         (countedOf a) ⌝ }
 {
-    if exists(tables, start, n) {
+    if exists(tables, root.start, root.n) {
         let mut buf = [0u16; sizes::OUTPUT];
-        write_first(p, rules, fits, chart, tables, start, n, &mut buf);
-        count_on(p, rules, fits, chart, tables, start, n, &mut buf)
+        write_first(p, fits, chart, tables, root, &mut buf);
+        count_on(p, fits, chart, tables, root, &mut buf)
     } else {
         Counted::Refused(Refusal::OnlyLargerTrees)
     }
@@ -57,7 +51,8 @@ fn count_tree(p: &Packed, start: usize, input: &[u8], fits: &FitTable, chart: &[
 {
     let mut tables = [0u16; TABLES_SIZE];
     let rules = build(p, input, fits, chart, &mut tables);
-    count_made(p, rules, fits, chart, &tables, start, input.len())
+    let n = input.len();
+    count_made(p, fits, chart, &tables, Root { rules, start, n })
 }
 
 // Counts the derivations, where the chart is filled and the fit table made.

@@ -1,6 +1,7 @@
 // Counting the derivations one after the other, from the first one on.
 use fit::FitTable;
 use grammar::Refusal;
+use nodes::Root;
 use packed::Packed;
 use successor::advance_root;
 use tables::layout::Tables;
@@ -23,21 +24,20 @@ pub enum Counted {
 // Counts the derivations, where the first one stands at the front of the buffer.
 pub fn count_on(
     p: &Packed,
-    rules: usize,
     fits: &FitTable,
     chart: &[u32],
     tables: &Tables,
-    start: usize,
-    n: usize,
+    root: Root,
     buf: &mut [u16],
 ) -> Counted
-    requires { ⌜ (rules ≤ maxRules) × (n < side) × (cells ≤ length (now chart)) × (outputSize ≤ length (now buf)) ⌝ }
-    ensures { λ a. ⌜ CountedOn (now (p .entry)) rules (now (fits .entry)) (now (chart .entry)) (now (tables .entry)) start n
+    requires { ⌜ (root .rules ≤ maxRules) × (root .n < side) × (cells ≤ length (now chart)) × (outputSize ≤ length (now buf)) ⌝ }
+    ensures { λ a. ⌜ CountedOn (now (p .entry)) (root .rules) (now (fits .entry)) (now (chart .entry)) (now (tables .entry))
+        (root .start) (root .n)
         (now (buf .entry)) (countedOf a) ⌝ }
 {
     let mut i = 0;
     while i < MOST {
-        let m = advance_root(p, rules, fits, chart, tables, start, n, buf);
+        let m = advance_root(p, fits, chart, tables, root, buf);
         if m == 0 {
             return Counted::Exactly(i + 1);
         }

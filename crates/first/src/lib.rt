@@ -2,6 +2,7 @@
 use fit::FitTable;
 use grammar::Grammar;
 use grammar::Refusal;
+use nodes::Root;
 use numbers::wide_byte;
 use packed::Packed;
 use prepare::Judged;
@@ -43,7 +44,8 @@ fn first_tree(
 {
     let mut tables = [0u16; TABLES_SIZE];
     let rules = initial::build(p, input, fits, chart, &mut tables);
-    made::first_made(p, rules, fits, chart, &tables, start, input.len(), out)
+    let n = input.len();
+    made::first_made(p, fits, chart, &tables, Root { rules, start, n }, out)
 }
 
 // The first derivation, where the chart is filled and the fit table made.

@@ -4,6 +4,7 @@ use fit::FitTable;
 use grammar::Refusal;
 use initial::exists;
 use initial::write_first;
+use nodes::Root;
 use packed::Packed;
 use tables::layout::Tables;
 ghost use Prim.Native.Nat.{_<_, _≤_};
@@ -15,20 +16,19 @@ ghost use Rattle.first.specs.Made.{FirstMade};
 // The first derivation, where trees exist: handed out, or refused with 13.
 pub fn first_made(
     p: &Packed,
-    rules: usize,
     fits: &FitTable,
     chart: &[u32],
     tables: &Tables,
-    start: usize,
-    n: usize,
+    root: Root,
     out: &mut [u16],
 ) -> Handed
-    requires { ⌜ (rules ≤ 128) × (n < 65) × (cells ≤ length (now chart)) × (outputSize ≤ length (now out)) ⌝ }
-    ensures { λ a. ⌜ FirstMade (now (p .entry)) rules (now (fits .entry)) (now (chart .entry)) (now (tables .entry)) start n
+    requires { ⌜ (root .rules ≤ 128) × (root .n < 65) × (cells ≤ length (now chart)) × (outputSize ≤ length (now out)) ⌝ }
+    ensures { λ a. ⌜ FirstMade (now (p .entry)) (root .rules) (now (fits .entry)) (now (chart .entry)) (now (tables .entry))
+        (root .start) (root .n)
         (now (out .entry)) (now (out .exit)) (handingOf a) ⌝ }
 {
-    if exists(tables, start, n) {
-        Handed::Nodes(write_first(p, rules, fits, chart, tables, start, n, out))
+    if exists(tables, root.start, root.n) {
+        Handed::Nodes(write_first(p, fits, chart, tables, root, out))
     } else {
         Handed::Refused(Refusal::OnlyLargerTrees)
     }

@@ -1,6 +1,7 @@
 // Next over tables that are made: the derivation after an offered one, handed out.
 use first::Handed;
 use fit::FitTable;
+use nodes::Root;
 use packed::Packed;
 use successor::advance_root;
 use successor::copy;
@@ -15,23 +16,22 @@ ghost use Rattle.following.specs.Made.{NextMade};
 // comes after.
 pub fn next_made(
     p: &Packed,
-    rules: usize,
     fits: &FitTable,
     chart: &[u32],
     tables: &Tables,
-    start: usize,
-    n: usize,
+    root: Root,
     offered: &[u16],
     out: &mut [u16],
 ) -> Handed
-    requires { ⌜ (rules ≤ maxRules) × (n < side) × (cells ≤ length (now chart)) × (length (now offered) ≤ outputSize)
+    requires { ⌜ (root .rules ≤ maxRules) × (root .n < side) × (cells ≤ length (now chart)) × (length (now offered) ≤ outputSize)
         × (outputSize ≤ length (now out)) ⌝ }
-    ensures { λ a. ⌜ NextMade (now (p .entry)) rules (now (fits .entry)) (now (chart .entry)) (now (tables .entry)) start n
+    ensures { λ a. ⌜ NextMade (now (p .entry)) (root .rules) (now (fits .entry)) (now (chart .entry)) (now (tables .entry))
+        (root .start) (root .n)
         (now (offered .entry)) (now (out .entry)) (now (out .exit)) (handingOf a) ⌝ }
 {
     let mut buf = [0u16; sizes::OUTPUT];
     copy(offered, offered.len(), &mut buf);
-    let m = advance_root(p, rules, fits, chart, tables, start, n, &mut buf);
+    let m = advance_root(p, fits, chart, tables, root, &mut buf);
     if m == 0 {
         return Handed::Nothing;
     }

@@ -1,6 +1,7 @@
 // The tables of an input, and over tables that are made: whether there is a derivation, and the first one.
 use descend::first::node;
 use fit::FitTable;
+use nodes::Root;
 use nodes::Span;
 use numbers::wide;
 use packed::Packed;
@@ -42,18 +43,18 @@ pub fn exists(tables: &Tables, start: usize, n: usize) -> bool
 // Writes the first derivation to the front of the output, and answers how many nodes it has.
 pub fn write_first(
     p: &Packed,
-    rules: usize,
     fits: &FitTable,
     chart: &[u32],
     tables: &Tables,
-    start: usize,
-    n: usize,
+    root: Root,
     out: &mut [u16],
 ) -> usize
-    requires { ⌜ (rules ≤ 128) × (n < 65) × (cells ≤ length (now chart)) × (outputSize ≤ length (now out)) ⌝ }
-    ensures { λ m. ⌜ FirstWritten (now (p .entry)) rules (now (fits .entry)) (now (chart .entry)) (now (tables .entry)) start n
+    requires { ⌜ (root .rules ≤ 128) × (root .n < 65) × (cells ≤ length (now chart)) × (outputSize ≤ length (now out)) ⌝ }
+    ensures { λ m. ⌜ FirstWritten (now (p .entry)) (root .rules) (now (fits .entry)) (now (chart .entry)) (now (tables .entry))
+        (root .start) (root .n)
         (now (out .entry)) (now (out .exit)) m ⌝ }
 {
+    let Root { rules, start, n } = root;
     let mask = 0;
     node(
         p,

@@ -7,6 +7,7 @@ use initial::exists;
 use initial::write_first;
 use loader::Outcome;
 use measure::Lengths;
+use nodes::Root;
 use numbers::wide_byte;
 use packed::Packed;
 use prepare::Judged;
@@ -45,7 +46,7 @@ fn begin_tree(
     if !exists(tables, start, n) {
         return Due::Refusal(13);
     }
-    let nodes = write_first(p, rules, fits, chart, tables, start, n, buf);
+    let nodes = write_first(p, fits, chart, tables, Root { rules, start, n }, buf);
     Due::Reading {
         start,
         rules,

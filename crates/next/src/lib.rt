@@ -6,6 +6,7 @@ use following::next_made;
 use grammar::Grammar;
 use grammar::Refusal;
 use initial::build;
+use nodes::Root;
 use numbers::wide_byte;
 use packed::Packed;
 use prepare::Judged;
@@ -45,14 +46,13 @@ fn next_tree(
 {
     let mut tables = [0u16; TABLES_SIZE];
     let rules = build(p, input, fits, chart, &mut tables);
+    let n = input.len();
     next_made(
         p,
-        rules,
         fits,
         chart,
         &tables,
-        start,
-        input.len(),
+        Root { rules, start, n },
         offered,
         out,
     )

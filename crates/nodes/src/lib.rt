@@ -14,6 +14,13 @@ pub struct Span {
     pub mask: u32,
 }
 
+// The trees of a whole input: of the start symbol over n bytes, with the rules below a number.
+pub struct Root {
+    pub rules: usize,
+    pub start: usize,
+    pub n: usize,
+}
+
 // How many nodes a tree or a row may have, and the node at which it is written.
 pub struct Room {
     pub budget: usize,

@@ -9,6 +9,7 @@ use lister::Due;
 use measure::Lengths;
 use measure::rounded;
 use measure::total;
+use nodes::Root;
 use packed::Packed;
 use successor::advance_root;
 use tables::layout::Tables;
@@ -55,20 +56,20 @@ fn reading(lengths: &Lengths, buf: &[u16], i: usize, nodes: usize, out: &mut [u8
 // What is printed after derivation i, which stands in the buffer: the one after it stands there then, if there is one.
 fn following(
     p: &Packed,
-    rules: usize,
     fits: &FitTable,
     chart: &[u32],
     tables: &Tables,
-    start: usize,
-    n: usize,
+    root: Root,
     i: usize,
     buf: &mut [u16],
 ) -> Due
-    requires { ⌜ (rules ≤ maxRules) × (n < side) × (i < 4096) × (cells ≤ length (now chart)) × (outputSize ≤ length (now buf)) ⌝ }
-    ensures { λ d. ⌜ Followed (now (p .entry)) rules (now (fits .entry)) (now (chart .entry)) (now (tables .entry)) start n i
+    requires { ⌜ (root .rules ≤ maxRules) × (root .n < side) × (i < 4096) × (cells ≤ length (now chart)) × (outputSize ≤ length (now buf)) ⌝ }
+    ensures { λ d. ⌜ Followed (now (p .entry)) (root .rules) (now (fits .entry)) (now (chart .entry)) (now (tables .entry))
+        (root .start) (root .n) i
         (now (buf .entry)) (now (buf .exit)) d ⌝ }
 {
-    let nodes = advance_root(p, rules, fits, chart, tables, start, n, buf);
+    let Root { rules, start, n } = root;
+    let nodes = advance_root(p, fits, chart, tables, root, buf);
     if nodes == 0 {
         return Due::Total(i + 1);
     }
@@ -111,7 +112,8 @@ pub fn step(
             nodes,
         } => {
             let length = reading(lengths, buf, i, nodes, out);
-            let then = following(p, rules, fits, chart, tables, start, n, i, buf);
+            let root = Root { rules, start, n };
+            let then = following(p, fits, chart, tables, root, i, buf);
             Printed { length, due: then }
         }
         Due::Total(n) => last(put_readings(n, out)),

@@ -1,6 +1,7 @@
 // The derivation after the one that stands in a buffer, over tables that are made, and numbers copied from one front to another.
 use advance::next::node;
 use fit::FitTable;
+use nodes::Root;
 use nodes::Span;
 use packed::Packed;
 use tables::layout::Tables;
@@ -25,18 +26,18 @@ pub fn copy(from: &[u16], n: usize, to: &mut [u16])
 // then the buffer is as found.
 pub fn advance_root(
     p: &Packed,
-    rules: usize,
     fits: &FitTable,
     chart: &[u32],
     tables: &Tables,
-    start: usize,
-    n: usize,
+    root: Root,
     buf: &mut [u16],
 ) -> usize
-    requires { ⌜ (rules ≤ maxRules) × (n < side) × (cells ≤ length (now chart)) × (outputSize ≤ length (now buf)) ⌝ }
-    ensures { λ m. ⌜ RootNext (now (p .entry)) rules (now (fits .entry)) (now (chart .entry)) (now (tables .entry)) start n
+    requires { ⌜ (root .rules ≤ maxRules) × (root .n < side) × (cells ≤ length (now chart)) × (outputSize ≤ length (now buf)) ⌝ }
+    ensures { λ m. ⌜ RootNext (now (p .entry)) (root .rules) (now (fits .entry)) (now (chart .entry)) (now (tables .entry))
+        (root .start) (root .n)
         (now (buf .entry)) (now (buf .exit)) m ⌝ }
 {
+    let Root { rules, start, n } = root;
     let mask = 0;
     node(
         p,

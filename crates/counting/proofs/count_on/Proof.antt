@@ -7,10 +7,11 @@ use Rattle.counting.proofs.count_on.Statement.{statement}
 use Rattle.counting.proofs.count_on.Tie as tie
 
 abbrev Inv-loop : tie.InvT-loop
-Inv-loop p rules fits chart tables start n buf₀ i₀ buf i = (i ≤ 4096) × CountedTo p rules fits chart tables start n buf₀ buf i
+Inv-loop p fits chart tables root buf₀ i₀ buf i =
+    (i ≤ 4096) × CountedTo p (root .rules) fits chart tables (root .start) (root .n) buf₀ buf i
 
 abbrev μ-loop : tie.MeasureT-loop
-μ-loop p rules fits chart tables start n buf₀ i₀ buf i = 4096 - i
+μ-loop p fits chart tables root buf₀ i₀ buf i = 4096 - i
 
 returns : tie.Need-returns Inv-loop μ-loop
 returns c =
