@@ -5,6 +5,10 @@
 
 use crate::reader::{Answer, FlatGrammar, Hand, Reader};
 use filbozseg::{sys, Grammar, Refusal};
+use std::io::Write;
+use std::sync::{Mutex, MutexGuard, Once};
+use std::thread::{self, ThreadId};
+use std::time::{Duration, Instant};
 
 /// The proved library.
 pub struct Library;
@@ -49,19 +53,51 @@ fn lend<T: Copy>(place: &mut T, call: impl FnOnce(*mut T) -> u32) -> u32 {
     code
 }
 
-/// Ends the run, saying so, if the call takes longer than 20 s: a search that blows up fails, and does not hang.
-fn capped<T>(call: impl FnOnce() -> T) -> T {
-    let (done, waited) = std::sync::mpsc::channel::<()>();
-    let watch = std::thread::spawn(move || {
-        if waited.recv_timeout(std::time::Duration::from_secs(20)) == Err(std::sync::mpsc::RecvTimeoutError::Timeout) {
-            eprintln!("a call takes longer than 20 s");
+/// How long a call may take: a search that blows up fails, and does not hang.
+const CAP: Duration = Duration::from_secs(20);
+
+/// The threads with a call under way, and when it began.
+static UNDER_WAY: Mutex<Vec<(ThreadId, Instant)>> = Mutex::new(Vec::new());
+
+/// A call under way on this thread, until it is dropped.
+struct UnderWay;
+
+impl UnderWay {
+    fn begin() -> UnderWay {
+        under_way().push((thread::current().id(), Instant::now()));
+        UnderWay
+    }
+}
+
+impl Drop for UnderWay {
+    fn drop(&mut self) {
+        let this = thread::current().id();
+        under_way().retain(|(thread, _)| *thread != this);
+    }
+}
+
+fn under_way() -> MutexGuard<'static, Vec<(ThreadId, Instant)>> {
+    UNDER_WAY.lock().expect("nobody panics while holding it")
+}
+
+/// Ends the run, saying so, once a call has taken longer than it may.
+fn watch() {
+    loop {
+        thread::sleep(Duration::from_millis(100));
+        if under_way().iter().any(|(_, began)| began.elapsed() > CAP) {
+            // not eprintln!, whose text a test keeps back and the abort loses
+            let _ = writeln!(std::io::stderr(), "a call takes longer than {CAP:?}");
             std::process::abort();
         }
-    });
-    let answer = call();
-    drop(done);
-    watch.join().expect("the watch ends");
-    answer
+    }
+}
+
+/// The call, watched. One thread watches all calls, as starting one for each takes longer than most calls do.
+fn capped<T>(call: impl FnOnce() -> T) -> T {
+    static WATCHED: Once = Once::new();
+    WATCHED.call_once(|| drop(thread::spawn(watch)));
+    let _under_way = UnderWay::begin();
+    call()
 }
 
 // Safety, of each call: the pointers are those of live values of these lengths, and those that are written overlap nothing.
