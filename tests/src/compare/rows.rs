@@ -103,11 +103,11 @@ impl Comparison<'_> {
         }
         let known = First { list: list.as_deref(), front: front.as_deref(), tree, offered: &offered };
         self.first(flat, grammar, input, filled, known)?;
-        let small = derivations(grammar, input, LIMIT, STEPS / 10).is_ok();
-        if self.reader.lists() && (small || !self.reader.by_listing()) {
+        let quick = !self.reader.by_listing() || derivations(grammar, input, LIMIT, STEPS / 10).is_ok();
+        if self.reader.lists() && quick {
             self.nexts(flat, grammar, input, filled, known, &readings)?;
         }
-        let list = if small || !self.reader.by_listing() { list.or(front) } else { None };
+        let list = if quick { list.or(front) } else { None };
         if let (true, Some(list)) = (self.reader.lists(), list) {
             let calls = list.len().min(8) + 4;
             self.walk(flat, input, filled, Walk { list, tree, place: 0 }, &offered, calls)?;

@@ -28,7 +28,7 @@ pub fn members(mut set: u128) -> impl Iterator<Item = usize> {
 pub fn ends_of_row(places: &[Symbol], i: usize, input: &[u8], ends: &Ends) -> u128 {
     let mut here = 1_u128 << i;
     for (p, place) in places.iter().enumerate() {
-        let only_blank = fault(Fault::BlankFirstPlaceOnlyBlank) && p == 0;
+        let only_blank = p == 0 && fault(Fault::BlankFirstPlaceOnlyBlank);
         let mut next = 0;
         for a in members(here) {
             match *place {
@@ -54,7 +54,7 @@ pub fn fill_column(grammar: &Grammar, input: &[u8], chart: &mut [u32]) {
     for a in 0..n {
         for b in a..n + usize::from(fault(Fault::ColumnNotCleared)) {
             for k in 0..32 {
-                let from_the_set = fault(Fault::EmptyPieceFromTheNullableSet) && a == b;
+                let from_the_set = a == b && fault(Fault::EmptyPieceFromTheNullableSet);
                 if if from_the_set { nullable[k].is_some() } else { chart[cell(a, b)] >> k & 1 == 1 } {
                     ends[a][k] |= 1 << b;
                 }
