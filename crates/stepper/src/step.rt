@@ -63,7 +63,8 @@ fn following(
     i: usize,
     buf: &mut [u16],
 ) -> Due
-    requires { ⌜ (root .rules ≤ maxRules) × (root .n < side) × (i < 4096) × (cells ≤ length (now chart)) × (outputSize ≤ length (now buf)) ⌝ }
+    requires { ⌜ (root .rules ≤ maxRules) × (root .n < side) × (i < 4096) × (cells ≤ length (now chart))
+        × (outputSize ≤ length (now buf)) ⌝ }
     ensures { λ d. ⌜ Followed (now (p .entry)) (root .rules) (now (fits .entry)) (now (chart .entry)) (now (tables .entry))
         (root .start) (root .n) i
         (now (buf .entry)) (now (buf .exit)) d ⌝ }
