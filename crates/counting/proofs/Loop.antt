@@ -8,11 +8,12 @@ use mathlib.Core.Path.{_≡_, refl, sym, ap, subst, _∙_}
 use native.Mathlib.Decide.{decLt}
 use native.Mathlib.Omega.{arith}
 use lib.ListN.{length, getD}
+use Rattle.sizes.specs.Sizes.{most}
 use Rattle.cfg.specs.Derivation.{Rising}
 use Rattle.cfg.specs.Listing.{L}
 use Rattle.descend.specs.Descend.{Given}
 use Rattle.packed.specs.Packed.{cfgIn}
-use Rattle.results.specs.Answer.{answered, counted, more, most}
+use Rattle.results.specs.Answer.{answered, counted, more}
 use Rattle.results.specs.Enumerate.{figure}
 use Rattle.results.proofs.Demand3.Figures.{figure-counted, figure-more}
 use Rattle.results.proofs.Demand3.Listed.{L-rising}
@@ -51,15 +52,11 @@ module _ (l : List (List ℕ)) (rising : Rising l) (i : ℕ) (there : i < length
 
 -- ---- what is said
 
-largest : most ≡ 4096
-unfolding most
-largest = refl
+said-exactly : (l i : ℕ) → l ≡ i + 1 → i < most → answered (counted (i + 1)) ≡ answered (figure l)
+said-exactly l i e h = rw e (sym (ap answered (figure-counted (i + 1) (omega arith))))
 
-said-exactly : (l i : ℕ) → l ≡ i + 1 → i < 4096 → answered (counted (i + 1)) ≡ answered (figure l)
-said-exactly l i e h = rw e (sym (ap answered (figure-counted (i + 1) (omega (arith, largest)))))
-
-said-more : (l : ℕ) → 4096 < l → answered more ≡ answered (figure l)
-said-more l h = sym (ap answered (figure-more l (omega (arith, largest))))
+said-more : (l : ℕ) → most < l → answered more ≡ answered (figure l)
+said-more l h = sym (ap answered (figure-more l (omega arith)))
 
 -- ---- the loop
 
@@ -73,7 +70,7 @@ module _ (p : List ℕ) (rules : ℕ) (fits chart tables : List ℕ) (s n : ℕ)
   pub counted-start : CountedTo p rules fits chart tables s n buf₀ buf₀ 0
   counted-start = record { long = refl; exact = λ w to given S. S }
 
-  pub counted-all : (buf : List ℕ) (i : ℕ) → CountedTo p rules fits chart tables s n buf₀ buf i → 4096 ≤ i
+  pub counted-all : (buf : List ℕ) (i : ℕ) → CountedTo p rules fits chart tables s n buf₀ buf i → most ≤ i
       → CountedOn p rules fits chart tables s n buf₀ (answered more)
   counted-all buf i C h = record {
     exact = λ w to given S. said-more (length (L (cfgIn s p) w)) (omega (arith, C .exact w to given S .there));
@@ -94,7 +91,7 @@ module _ (p : List ℕ) (rules : ℕ) (fits chart tables : List ℕ) (s n : ℕ)
           next-element (L (cfgIn s p) w) (L-rising (cfgIn s p) w) i (T .there) buf' m (advance-from w to given T) h;
     }
 
-    pub counted-last : m ≡ 0 → i < 4096 → CountedOn p rules fits chart tables s n buf₀ (answered (counted (i + 1)))
+    pub counted-last : m ≡ 0 → i < most → CountedOn p rules fits chart tables s n buf₀ (answered (counted (i + 1)))
     counted-last h k = record {
       exact = λ w to given S.
           let T = C .exact w to given S in

@@ -3,6 +3,7 @@ use fit::FitTable;
 use grammar::Refusal;
 use nodes::Root;
 use packed::Packed;
+use sizes::MOST;
 use successor::advance_root;
 use tables::layout::Tables;
 ghost use Prim.Native.Nat.{_<_, _≤_};
@@ -10,9 +11,6 @@ ghost use lib.ListN.{length};
 ghost use Rattle.sizes.specs.Sizes.{maxRules, side, cells, outputSize};
 ghost use Rattle.counting.specs.Answer.{countedOf};
 ghost use Rattle.counting.specs.Made.{CountedOn};
-
-// The largest figure.
-const MOST: usize = 4096;
 
 // How many derivations there are, that there are more than 4,096, or why the call was refused.
 pub enum Counted {

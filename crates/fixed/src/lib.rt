@@ -5,10 +5,11 @@ use digits::put_decimal;
 use lines::NEWLINE;
 ghost use Prim.Native.Nat.{_<_, _≤_};
 ghost use lib.ListN.{length};
+ghost use Rattle.sizes.specs.Sizes.{most};
 ghost use Rattle.results.specs.Answer.{counted, more};
 ghost use Rattle.text.specs.Line.{refusedLine, noReadingLine, readingsLine};
 ghost use Rattle.digits.specs.Put.{Put};
-ghost use Rattle.lines.specs.Sizes.{lineSize, maxPlace};
+ghost use Rattle.lines.specs.Sizes.{lineSize};
 
 // A refusal and its number, one or two digits.
 pub fn put_refused(n: usize, out: &mut [u8]) -> usize
@@ -30,7 +31,7 @@ pub fn put_no_reading(out: &mut [u8]) -> usize
 
 // How many derivations there are.
 pub fn put_readings(n: usize, out: &mut [u8]) -> usize
-    requires { ⌜ (n ≤ maxPlace) × (lineSize ≤ length (now out)) ⌝ }
+    requires { ⌜ (n ≤ most) × (lineSize ≤ length (now out)) ⌝ }
     ensures { λ r. ⌜ Put (readingsLine (counted n)) 0 r (now (out .entry)) (now (out .exit)) ⌝ }
 {
     let a = put_bytes(b"READINGS ", 0, out);

@@ -1,17 +1,10 @@
--- The bounds that the lines are written for are those of lists of derivations and of their lengths. Assumes nothing.
+-- The bound on lengths that the lines are written for. Assumes nothing.
 use Prim.Native.Nat.{ℕ, zero, suc, _+_, _/_, _≤_}
 use native.Mathlib.Omega.{arith}
-use mathlib.Core.Path.{_≡_, refl}
 use lib.IntN.{ℤ, pos, negsuc, negℤ}
 use lib.Signed.{mag}
-use Rattle.results.specs.Answer.{most}
 use Rattle.results.specs.Measure.{rounded}
 use Rattle.digits.specs.Put.{maxTenths}
-use Rattle.lines.specs.Sizes.{maxPlace}
-
-pub places : most ≡ maxPlace
-unfolding most
-places = refl
 
 neg-size : (n : ℕ) → mag (negℤ (pos n)) ≤ n
 neg-size zero = omega arith

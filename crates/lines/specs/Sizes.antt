@@ -13,7 +13,3 @@ nodeSize = 12
 -- the bytes of a line's end at most: a space, an equals sign, a space, a length, a newline
 abbrev pub endSize : ℕ
 endSize = 3 + lengthSize + 1
-
--- the places in a list at most (proofs/Bounds.antt)
-abbrev pub maxPlace : ℕ
-maxPlace = 4096

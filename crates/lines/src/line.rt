@@ -8,11 +8,11 @@ ghost use mathlib.Core.List.{_∷_, _++_};
 ghost use Prim.Native.Nat.{_+_, _*_, _≤_};
 ghost use lib.ListN.{length, take};
 ghost use lib.Signed.{mag};
-ghost use Rattle.sizes.specs.Sizes.{maxNodes};
+ghost use Rattle.sizes.specs.Sizes.{maxNodes, most};
 ghost use Rattle.text.specs.Number.{decimal};
 ghost use Rattle.text.specs.Line.{space, point, parts, lengthEnd, line};
 ghost use Rattle.digits.specs.Put.{Put, maxTenths};
-ghost use Rattle.lines.specs.Sizes.{nodeSize, endSize, lineSize, maxPlace};
+ghost use Rattle.lines.specs.Sizes.{nodeSize, endSize, lineSize};
 
 const SPACE: u8 = 32;
 
@@ -59,7 +59,7 @@ fn put_end(tenths: i32, at: usize, out: &mut [u8]) -> usize
 
 // The line of a derivation: its place in the list, a colon, its nodes, its length in tenths.
 pub fn put_line(place: usize, e: &[u16], m: usize, tenths: i32, out: &mut [u8]) -> usize
-    requires { ⌜ (place ≤ maxPlace) × (2 * m ≤ length (now e)) × (m ≤ maxNodes) × (mag tenths ≤ maxTenths)
+    requires { ⌜ (place ≤ most) × (2 * m ≤ length (now e)) × (m ≤ maxNodes) × (mag tenths ≤ maxTenths)
         × (lineSize ≤ length (now out)) ⌝ }
     ensures { λ r. ⌜ Put (line place (take (2 * m) (now (e .entry))) tenths) 0 r (now (out .entry)) (now (out .exit)) ⌝ }
 {

@@ -1,2 +1,2 @@
--- The sizes of the program's output buffer.
-pub mod Buffer
+-- What the program promises of the bytes that it hands to the write.
+pub mod Listed

@@ -1,20 +1,26 @@
-// The listing program: the book is the file `book.bin`, the plate is standard input, and the lines go to standard output.
+// The listing program: the book is the file `book.bin`, the plate is standard input, and the text goes to standard output.
 mod output;
 
 use lister::begin::begin;
-use output::print_from;
+use output::Written;
+use output::write_pages;
 use packed::PACKED_SIZE;
 use tables::layout::TABLES_SIZE;
+ghost use mathlib.Core.Path.{_≡_};
+ghost use lib.ListN.{length};
 ghost use Rattle.io.specs.Counts.{Counts};
+ghost use Rattle.text.specs.Front.{bookFront, plateFront};
+ghost use Rattle.list.specs.Listed.{Listed};
 
 // The bytes of a book that are read at most: no further one changes the text.
 const BOOK: usize = 8192;
 
-// The bytes of a plate that are read at most, likewise: one more than a plate has.
+// The bytes of a plate that are read at most, likewise: one more than a plate may have.
 const PLATE: usize = sizes::MAX_INPUT + 1;
 
-// Reads the book to the front of the buffer. A file that can't be read counts as empty.
+// Reads the front of the book. A file that can't be opened counts as empty, and one that can't be read to its end as what was read.
 fn read_book(book: &mut [u8]) -> usize
+    requires { ⌜ length (now book) ≡ bookFront ⌝ }
     ensures { λ n. ⌜ Counts n (now (book .exit)) ⌝ }
 {
     let fd = os::open_read(b"book.bin");
@@ -26,8 +32,18 @@ fn read_book(book: &mut [u8]) -> usize
     n
 }
 
-// Prints the text of book and plate. What the steps need is this function's own.
-fn print(book: &[u8], plate: &[u8]) {
+// Reads the front of the plate.
+fn read_plate(plate: &mut [u8]) -> usize
+    requires { ⌜ length (now plate) ≡ plateFront ⌝ }
+    ensures { λ n. ⌜ Counts n (now (plate .exit)) ⌝ }
+{
+    io::read_full(libc::STDIN_FILENO, plate)
+}
+
+// Writes the text of book and plate. What the steps need is this function's own.
+fn list(book: &[u8], plate: &[u8]) -> Written
+    ensures { λ r. ⌜ Listed (now (book .entry)) (now (plate .entry)) (r .bytes) (r .all) ⌝ }
+{
     let mut p = [0u8; PACKED_SIZE];
     let mut lengths = [0i16; sizes::MAX_RULES];
     let mut chart = [0u32; sizes::CELLS];
@@ -44,13 +60,23 @@ fn print(book: &[u8], plate: &[u8]) {
         &mut tables,
         &mut buf,
     );
-    print_from(due, &p, &lengths, &fits, &chart, &tables, &mut buf);
+    write_pages(
+        book,
+        plate,
+        due,
+        &p,
+        &lengths,
+        &fits,
+        &chart,
+        &tables,
+        &mut buf,
+    )
 }
 
 fn main() {
     let mut book = [0u8; BOOK];
     let b = read_book(&mut book);
     let mut plate = [0u8; PLATE];
-    let n = io::read_full(libc::STDIN_FILENO, &mut plate);
-    print(&book[..b], &plate[..n]);
+    let n = read_plate(&mut plate);
+    list(&book[..b], &plate[..n]);
 }

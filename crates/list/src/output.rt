@@ -1,65 +1,51 @@
-// The lines go to standard output through a buffer of 64 KiB.
+// The pages of the listing go to standard output.
 use fit::FitTable;
 use lister::Due;
 use measure::Lengths;
 use packed::Packed;
-use stepper::step::step;
+use pages::PAGE;
+use pages::fill_page;
+use pages::is_done;
 use tables::layout::Tables;
 ghost use mathlib.Core.Path.{_≡_};
 ghost use Prim.Native.Nat.{_+_, _≤_};
 ghost use lib.ListN.{length};
-ghost use Rattle.list.specs.Buffer.{bufferSize, room};
-ghost use Rattle.lister.specs.Due.{Sized};
+ghost use Rattle.lister.specs.Due.{Ahead, Sized};
+ghost use Rattle.measure.specs.Measure.{lengthsIn};
+ghost use Rattle.pages.specs.Page.{pageSize};
 ghost use Rattle.sizes.specs.Sizes.{maxRules, cells, outputSize};
+ghost use Rattle.text.specs.Text.{textOf};
+ghost use Rattle.list.specs.Listed.{maxText, Next, HandedAll};
 
-// The buffer's bytes, and how many of them may be in use for a further line to fit.
-const BUFFER: usize = 65536;
+// The pages at most: each has a line, and the last line follows those of the derivations.
+const PAGES: usize = sizes::MOST + 1;
 
-const ROOM: usize = BUFFER - lines::LINE;
+// How many bytes were handed to the write, and whether it wrote all of them.
+pub struct Written {
+    pub bytes: usize,
+    pub all: bool,
+}
 
-// The steps at most: 4,096 derivations and the last line.
-const STEPS: usize = 4097;
-
-// Writes bytes to standard output, or says on standard error that they can't be written.
-fn write(bytes: &[u8]) -> bool {
-    let done = io::write_all(libc::STDOUT_FILENO, bytes);
-    if !done {
+// Hands the bytes to the write that come in the text of book and plate after so many others: the contract says that they are these, so
+// nothing else is ever written. Where they can't be written, standard error says so.
+fn write(book: &[u8], plate: &[u8], before: usize, bytes: &[u8]) -> Written
+    requires { ⌜ (before ≤ maxText) × (length (now bytes) ≤ pageSize) × Next (now book) (now plate) before (now bytes) ⌝ }
+    ensures { λ r. ⌜ r .bytes ≡ before + length (now (bytes .entry)) ⌝ }
+{
+    let all = io::write_all(libc::STDOUT_FILENO, bytes);
+    if !all {
         os::fail(b"list: standard output");
     }
-    done
-}
-
-// How many bytes of the buffer are in use, and what is printed next.
-struct State {
-    at: usize,
-    due: Due,
-}
-
-// Whether all lines are printed.
-fn is_done(due: Due) -> bool {
-    if let Due::Nothing = due { true } else { false }
-}
-
-// Writes the bytes in use where no further line fits or all are printed. Where they can't be written, nothing more is printed.
-fn flush(at: usize, due: Due, out: &[u8]) -> State
-    requires { ⌜ (at ≤ length (now out)) × Sized due ⌝ }
-    ensures { λ t. ⌜ (t .at ≤ room) × Sized (t .due) ⌝ }
-{
-    if at <= ROOM && !is_done(due) {
-        return State { at, due };
-    }
-    if write(&out[..at]) {
-        State { at: 0, due }
-    } else {
-        State {
-            at: 0,
-            due: Due::Nothing,
-        }
+    Written {
+        bytes: before + bytes.len(),
+        all,
     }
 }
 
-// Prints the line that is due.
-fn print_line(
+// Writes page after page until nothing is due, or one can't be written.
+pub fn write_pages(
+    book: &[u8],
+    plate: &[u8],
     due: Due,
     p: &Packed,
     lengths: &Lengths,
@@ -67,42 +53,26 @@ fn print_line(
     chart: &[u32],
     tables: &Tables,
     buf: &mut [u16],
-    at: usize,
-    out: &mut [u8],
-) -> State
+) -> Written
     requires { ⌜ Sized due × (length (now lengths) ≡ maxRules) × (cells ≤ length (now chart)) × (outputSize ≤ length (now buf))
-        × (at ≤ room) × (length (now out) ≡ bufferSize) ⌝ }
-    ensures { λ t. ⌜ (t .at ≤ room) × Sized (t .due) × (length (now (buf .exit)) ≡ length (now (buf .entry)))
-        × (length (now (out .exit)) ≡ length (now (out .entry))) ⌝ }
+        × Ahead (lengthsIn (now lengths)) (now p) (now fits) (now chart) (now tables) (now buf) due (textOf (now book) (now plate)) ⌝ }
+    ensures { λ r. ⌜ HandedAll (lengthsIn (now (lengths .entry))) (now (p .entry)) (now (fits .entry)) (now (chart .entry))
+        (now (tables .entry)) due (now (buf .entry)) (r .bytes) (r .all) ⌝ }
 {
-    let s = step(due, p, lengths, fits, chart, tables, buf, &mut out[at..]);
-    let then = s.due;
-    flush(at + s.length, then, out)
-}
-
-// Prints all lines from the one that is due on.
-pub fn print_from(
-    due: Due,
-    p: &Packed,
-    lengths: &Lengths,
-    fits: &FitTable,
-    chart: &[u32],
-    tables: &Tables,
-    buf: &mut [u16],
-)
-    requires { ⌜ Sized due × (length (now lengths) ≡ maxRules) × (cells ≤ length (now chart)) × (outputSize ≤ length (now buf)) ⌝ }
-{
-    let mut out = [0u8; BUFFER];
+    let mut out = [0u8; PAGE];
     let mut then = due;
-    let mut at = 0;
-    let mut turns = STEPS;
-    while turns > 0 {
-        let t = print_line(then, p, lengths, fits, chart, tables, buf, at, &mut out);
-        at = t.at;
-        then = t.due;
-        if is_done(then) {
-            return;
+    let mut bytes = 0;
+    let mut left = PAGES;
+    while left > 0 && !is_done(then) {
+        let t = fill_page(then, p, lengths, fits, chart, tables, buf, &mut out);
+        let n = t.bytes;
+        let w = write(book, plate, bytes, &out[..n]);
+        if !w.all {
+            return w;
         }
-        turns -= 1;
+        bytes = w.bytes;
+        then = t.due;
+        left -= 1;
     }
+    Written { bytes, all: true }
 }

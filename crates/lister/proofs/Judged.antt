@@ -8,7 +8,7 @@ use mathlib.Core.Path.{_≡_, refl, sym, ap, ap₂, subst, _∙_}
 use native.Mathlib.Omega.{arith}
 use lib.IntN.{ℤ}
 use lib.ListN.{length, take, replicate, length-map, length-replicate}
-use Rattle.sizes.specs.Sizes.{maxRules, maxInput, cells}
+use Rattle.sizes.specs.Sizes.{maxRules, maxInput, cells, most}
 use Rattle.cfg.specs.Grammar.{rule}
 use Rattle.cfg.specs.Listing.{L}
 use Rattle.chart.specs.Column.{filled, complete}
@@ -29,7 +29,6 @@ use Rattle.prepare.specs.declared.Judged.the-variants.{Passed, Refused}
 use Rattle.prepare.specs.Judging.{Judging, passed, invalid, no-input, long-input, no-room}
 use Rattle.prepare.proofs.Judging.{judged-ready}
 use Rattle.prepare.proofs.Packing.{list-packed}
-use Rattle.results.specs.Answer.{most}
 use Rattle.results.specs.Check.{inputCheck}
 use Rattle.results.specs.Enumerate.{treeIn, figure}
 use Rattle.results.specs.Measure.{sum, rounded}

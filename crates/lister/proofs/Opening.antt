@@ -8,7 +8,7 @@ use lib.Dec.{leb}
 use lib.IntN.{ℤ}
 use lib.ListN.{length, getD, drop, length-append, length-drop, List·getD-append}
 use borrow.Author.Tests.{leb-true, leb-false, not-true, not-false}
-use Rattle.sizes.specs.Sizes.{maxRules, maxInput, maxNodes, outputSize}
+use Rattle.sizes.specs.Sizes.{maxRules, maxInput, maxNodes, outputSize, most}
 use Rattle.sets.specs.Set.{has}
 use Rattle.cfg.specs.Listing.{L}
 use Rattle.chart.specs.Cell.{cell}
@@ -20,7 +20,7 @@ use Rattle.descend.specs.Descend.{Given}
 use Rattle.initial.specs.Written.{enumerationOf, FirstWritten}
 use Rattle.initial.proofs.Root.{same, start}
 use Rattle.packed.specs.Packed.{cfgIn}
-use Rattle.results.specs.Answer.{Answer, Handing, refused, answered, handed, nothing, most}
+use Rattle.results.specs.Answer.{Answer, Handing, refused, answered, handed, nothing}
 use Rattle.results.specs.Enumerate.{Enumeration, headOf, handingOut}
 use Rattle.results.proofs.Answers.{answered-apart}
 use Rattle.results.proofs.Demand3.Listed.{reading-even, reading-short}
@@ -78,7 +78,6 @@ handed-length d out₀ out h k e =
     omega (arith, length-drop (length d) out₀)
 
 first-early : 0 < most
-unfolding most
 first-early = omega arith
 
 -- ---- where trees exist

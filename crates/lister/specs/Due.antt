@@ -1,15 +1,15 @@
 -- Which lines are still to be printed, by what is printed next and what the program holds. Assumes nothing.
-use Prim.Native.Nat.{ℕ, suc, _*_, _≤_, _<_}
+use Prim.Native.Nat.{ℕ, suc, _*_, _-_, _≤_, _<_}
 use mathlib.Core.List.{List, [], _∷_, _++_}
 use mathlib.Core.Path.{_≡_}
 use lib.IntN.{ℤ}
 use lib.ListN.{length, getD, take, drop}
-use Rattle.sizes.specs.Sizes.{maxRules, maxNodes, side}
+use Rattle.sizes.specs.Sizes.{maxRules, maxNodes, side, most}
 use Rattle.cfg.specs.Listing.{L}
 use Rattle.counting.specs.Made.{Stands}
 use Rattle.descend.specs.Descend.{Given}
 use Rattle.packed.specs.Packed.{cfgIn}
-use Rattle.results.specs.Answer.{counted, more, most}
+use Rattle.results.specs.Answer.{counted, more}
 use Rattle.results.specs.Enumerate.{figure}
 use Rattle.text.specs.Line.{refusedLine, noReadingLine, readingsLine}
 use Rattle.text.specs.Text.{linesFrom}
@@ -45,7 +45,16 @@ Ahead lengths p fits chart tables buf Nothing lines = lines ≡ []
 abbrev pub Sized : Due → Type 0
 Sized (Refusal number) = number ≤ 15
 Sized NoReading = Unit {0}
-Sized (Reading s rules n i nodes) = (rules ≤ maxRules) × (n < side) × (i < 4096) × (nodes ≤ maxNodes)
-Sized (Total number) = number ≤ 4096
+Sized (Reading s rules n i nodes) = (rules ≤ maxRules) × (n < side) × (i < most) × (nodes ≤ maxNodes)
+Sized (Total number) = number ≤ most
 Sized More = Unit {0}
 Sized Nothing = Unit {0}
+
+-- the steps until nothing is due, at most
+abbrev pub stepsLeft : Due → ℕ
+stepsLeft (Refusal number) = 1
+stepsLeft NoReading = 1
+stepsLeft (Reading s rules n i nodes) = suc most - i
+stepsLeft (Total number) = 1
+stepsLeft More = 1
+stepsLeft Nothing = 0

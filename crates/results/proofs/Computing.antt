@@ -5,7 +5,7 @@ use Rattle.sets.specs.Set.{has, insert}
 use Rattle.chart.specs.Cell.{fitsAt, piece, someFrom, cuts, derived}
 use Rattle.chart.specs.Column as Column
 use Rattle.grammar.specs.Valid.{all, validRule, validGrammar}
-use Rattle.results.specs.Answer.{most, decide}
+use Rattle.results.specs.Answer.{decide}
 use Rattle.results.specs.Load as Load
 use Rattle.results.specs.Recognize as Recognize
 use Rattle.results.specs.Check.{same, listed, onInput, checkIn, checkOf}
@@ -16,7 +16,7 @@ use Rattle.results.specs.Starred.{outcome}
 unfoldable pub computing : Unit {0}
 unfolding fits joined over when from among keep rulesFrom items upTo listing derivations has insert fitsAt piece someFrom cuts derived
     Column.seen Column.times Column.least Column.column Column.putColumn Column.written Column.opened Column.extended Column.extendedBy
-    Column.filled Column.complete all validRule validGrammar most decide Load.operands Load.signed Load.openRule Load.withStart
+    Column.filled Column.complete all validRule validGrammar decide Load.operands Load.signed Load.openRule Load.withStart
     Load.withRule Load.withPlace Load.after Load.unknown Load.outOfTurn Load.commandChecks Load.step Load.refusedLoad Load.acceptedLoad
     Load.run Load.loadOf Recognize.stateOf Recognize.openIn Recognize.openOf Recognize.takeIn Recognize.takeOf same listed onInput
     checkIn checkOf Measure.sum Measure.rounded Measure.unlisted Measure.lengthIn Measure.lengthOf Measure.rulesUsed Measure.occurrences

@@ -19,10 +19,6 @@ pub data Figure : Type 0 where
   counted : ℕ → Figure
   more : Figure
 
--- the largest figure that count gives
-unfoldable pub most : ℕ
-most = 4096
-
 -- loading: the number of the refusal and its offset, or loaded
 pub data LoadAnswer : Type 0 where
   refusedAt : ℕ → ℕ → LoadAnswer

@@ -5,10 +5,10 @@ use mathlib.Core.List.{List, [], _∷_}
 use mathlib.Core.Logic.{ite}
 use lib.Dec.{ltb, leb, eqb}
 use lib.ListN.{length, getD}
+use Rattle.sizes.specs.Sizes.{most}
 use Rattle.cfg.specs.Grammar.{Cfg}
 use Rattle.cfg.specs.Tree.{HasTree}
 use Rattle.cfg.specs.Listing.{L}
-use Rattle.results.specs.Answer.{most}
 
 -- the calls: first; next, offered the caller's copy; next, offered a reading that is no derivation (reading); count
 pub data Call : Type 0 where

@@ -33,6 +33,10 @@ maxNodes = 512
 abbrev pub tooMany : ℕ
 tooMany = maxNodes + 1
 
+-- the largest figure that count gives, and the derivations that are listed at most
+abbrev pub most : ℕ
+most = 4096
+
 -- the numbers of an output: two for each node
 abbrev pub outputSize : ℕ
 outputSize = 2 * maxNodes

@@ -1,7 +1,7 @@
 // The sizes of document 01, for every crate. Each constant is tied to its twin in specs/ by the function of its name, since an edit of a
 // constant is checked in this crate only.
 ghost use mathlib.Core.Path.{_≡_};
-ghost use Rattle.sizes.specs.Sizes.{maxRules, maxPlaces, nonterminals, maxInput, side, cells, maxNodes, tooMany, outputSize};
+ghost use Rattle.sizes.specs.Sizes.{maxRules, maxPlaces, nonterminals, maxInput, side, cells, maxNodes, tooMany, most, outputSize};
 
 // Rules of a grammar (book), places of a rule, and nonterminals (kinds).
 pub const MAX_RULES: usize = 128;
@@ -26,6 +26,9 @@ pub const MAX_NODES: usize = 512;
 pub const TOO_MANY: usize = MAX_NODES + 1;
 
 pub const OUTPUT: usize = 2 * MAX_NODES;
+
+// The largest figure that count gives, and the derivations (readings) that are listed at most.
+pub const MOST: usize = 4096;
 
 pub fn tied_rules() -> usize
     ensures { λ n. ⌜ n ≡ maxRules ⌝ }
@@ -79,4 +82,10 @@ pub fn tied_output() -> usize
     ensures { λ n. ⌜ n ≡ outputSize ⌝ }
 {
     OUTPUT
+}
+
+pub fn tied_most() -> usize
+    ensures { λ n. ⌜ n ≡ most ⌝ }
+{
+    MOST
 }

@@ -1,5 +1,4 @@
--- Laws of the listing program after its first step, and of the run of all steps (Printed).
+-- Laws of the listing program after its first step.
 pub mod Lines
 pub mod Stepping
 pub mod Measured
-pub mod Printed

@@ -8,7 +8,7 @@ use native.Mathlib.Omega.{arith}
 use lib.IntN.{ℤ}
 use lib.ListN.{length, getD, take, drop, length-take, drop-of-length-le}
 use lib.Seq.{drop-cons, getD-take}
-use Rattle.sizes.specs.Sizes.{maxRules, side}
+use Rattle.sizes.specs.Sizes.{maxRules, side, most}
 use Rattle.cfg.specs.Derivation.{Rising}
 use Rattle.cfg.specs.Listing.{L}
 use Rattle.counting.specs.Made.{Stands}
@@ -16,7 +16,6 @@ use Rattle.counting.proofs.Loop.{last-element, next-element}
 use Rattle.descend.specs.Descend.{Given}
 use Rattle.successor.specs.Advanced.{Advanced, RootNext}
 use Rattle.packed.specs.Packed.{cfgIn}
-use Rattle.results.specs.Answer.{most}
 use Rattle.results.specs.Enumerate.{figure}
 use Rattle.results.specs.Measure.{sum, rounded}
 use Rattle.results.proofs.Demand3.Figures.{figure-counted, figure-more}
@@ -27,10 +26,6 @@ use Rattle.text.specs.Text.{linesFrom}
 use Rattle.lister.specs.declared.Due.the-variants.{Reading, Total, More}
 use Rattle.lister.specs.Due.{linesAt}
 use Rattle.stepper.specs.Stepped.{Followed}
-
-largest : most ≡ 4096
-unfolding most
-largest = refl
 
 -- ---- the lines from one derivation on
 
@@ -63,7 +58,7 @@ next-size l rising i h buf m A k =
     ap length (sym (some-inj (sym (F .after) ∙ after-next l rising i h))) ∙ F .size
 
 module _ (p : List ℕ) (rules : ℕ) (fits chart tables : List ℕ) (s n i : ℕ) (buf₀ buf : List ℕ) (m : ℕ)
-    (R : RootNext p rules fits chart tables s n buf₀ buf m) (low : i < 4096) where
+    (R : RootNext p rules fits chart tables s n buf₀ buf m) (low : i < most) where
   advanced : (w : List ℕ) → n ≡ length w → Given p rules fits chart tables w → (S : Stands (L (cfgIn s p) w) i buf₀)
       → Advanced (L (cfgIn s p) w) (getD (L (cfgIn s p) w) i []) buf m
   advanced w to given S =
@@ -73,11 +68,12 @@ module _ (p : List ℕ) (rules : ℕ) (fits chart tables : List ℕ) (s n i : �
   followed-last h = record {
     long = R .kept .long;
     sized = omega arith;
+    fewer = omega arith;
     ahead = λ lengths w to given S.
         let l = L (cfgIn s p) w in
         let e : length l ≡ i + 1 = last-element l (L-rising (cfgIn s p) w) i (S .there) buf m (advanced w to given S) h in
-        lines-last lengths l (i + 1) (omega (arith, largest))
-        ∙ ap (λ x. readingsLine x ∷ []) (ap figure e ∙ figure-counted (i + 1) (omega (arith, largest)));
+        lines-last lengths l (i + 1) (omega arith)
+        ∙ ap (λ x. readingsLine x ∷ []) (ap figure e ∙ figure-counted (i + 1) (omega arith));
   }
 
   module _ (h : m ≡ 0 → ⊥) where
@@ -86,22 +82,24 @@ module _ (p : List ℕ) (rules : ℕ) (fits chart tables : List ℕ) (s n i : �
     stands-next w to given S =
         next-element (L (cfgIn s p) w) (L-rising (cfgIn s p) w) i (S .there) buf m (advanced w to given S) h
 
-    pub followed-more : i + 1 ≡ 4096 → Followed p rules fits chart tables s n i buf₀ buf More
+    pub followed-more : i + 1 ≡ most → Followed p rules fits chart tables s n i buf₀ buf More
     followed-more e = record {
       long = R .kept .long;
       sized = tt;
+      fewer = omega arith;
       ahead = λ lengths w to given S.
           let l = L (cfgIn s p) w in
           let T = stands-next w to given S in
-          lines-last lengths l (i + 1) (omega (arith, largest))
-          ∙ ap (λ x. readingsLine x ∷ []) (figure-more (length l) (omega (arith, largest, T .there)));
+          lines-last lengths l (i + 1) (omega arith)
+          ∙ ap (λ x. readingsLine x ∷ []) (figure-more (length l) (omega (arith, T .there)));
     }
 
-    pub followed-next : (i + 1 ≡ 4096 → ⊥) → rules ≤ maxRules → n < side
+    pub followed-next : (i + 1 ≡ most → ⊥) → rules ≤ maxRules → n < side
         → Followed p rules fits chart tables s n i buf₀ buf (Reading s rules n (i + 1) m)
     followed-next e few short = record {
       long = R .kept .long;
       sized = (few, short, omega arith, R .kept .few);
+      fewer = omega arith;
       ahead = λ lengths w to given S.
           let l = L (cfgIn s p) w in
           let T = stands-next w to given S in
@@ -112,7 +110,7 @@ module _ (p : List ℕ) (rules : ℕ) (fits chart tables : List ℕ) (s n i : �
             stands = T;
             size = ap (λ (x : ℕ). length (getD l x [])) (add-one i)
                 ∙ next-size l (L-rising (cfgIn s p) w) i (omega (arith, T .there)) buf m (advanced w to given S) (omega arith);
-            early = omega (arith, largest);
+            early = omega arith;
             ahead = refl;
           };
     }

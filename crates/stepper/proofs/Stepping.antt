@@ -1,6 +1,6 @@
 -- One step, by what is due: the line that was written is the first one ahead, and what is due then has those behind it ahead.
 -- Assumes nothing.
-use Prim.Native.Nat.{ℕ, suc, _+_, _*_, _≤_, _<_}
+use Prim.Native.Nat.{ℕ, suc, _+_, _*_, _-_, _≤_, _<_}
 use mathlib.Core.List.{List, [], _∷_}
 use mathlib.Core.Path.{_≡_, refl, sym, ap, subst, _∙_}
 use native.Mathlib.Numerals.{add-one}
@@ -8,7 +8,7 @@ use native.Mathlib.Omega.{arith}
 use lib.IntN.{ℤ}
 use lib.ListN.{length, getD, take, length-take}
 use lib.Seq.{getD-take, ext-getD}
-use Rattle.sizes.specs.Sizes.{maxRules, maxNodes, side, outputSize}
+use Rattle.sizes.specs.Sizes.{maxRules, maxNodes, side, outputSize, most}
 use Rattle.cfg.specs.Listing.{L}
 use Rattle.digits.specs.Put.{Put}
 use Rattle.successor.specs.Advanced.{Begins}
@@ -18,7 +18,7 @@ use Rattle.results.specs.Measure.{sum, rounded}
 use Rattle.text.specs.Line.{line, refusedLine, noReadingLine, readingsLine}
 use Rattle.lister.specs.declared.Due.{Due}
 use Rattle.lister.specs.declared.Due.the-variants.{Refusal, NoReading, Reading, Total, More, Nothing}
-use Rattle.lister.specs.Due.{linesAt, Holds, Ahead, Sized}
+use Rattle.lister.specs.Due.{linesAt, Holds, Ahead, Sized, stepsLeft}
 use Rattle.stepper.specs.Stepped.{lineIn, headLine, behind, Followed, Stepped}
 use Rattle.stepper.proofs.Lines.{lines-next}
 
@@ -29,10 +29,10 @@ module _ (d : Due) (sized : Sized d) where
   refusal-small n e = let h : n ≤ 15 = subst Sized e sized in omega arith
 
   pub reading-sized : (s rules n i nodes : ℕ) → d ≡ Reading s rules n i nodes
-      → (rules ≤ maxRules) × (n < side) × (i < 4096) × (nodes ≤ maxNodes)
+      → (rules ≤ maxRules) × (n < side) × (i < most) × (nodes ≤ maxNodes)
   reading-sized s rules n i nodes e = subst Sized e sized
 
-  pub total-small : (n : ℕ) → d ≡ Total n → n ≤ 4096
+  pub total-small : (n : ℕ) → d ≡ Total n → n ≤ most
   total-small n e = subst Sized e sized
 
 -- ---- the last line
@@ -56,6 +56,7 @@ module _ (lengths : ℕ → ℤ) (p fits chart tables : List ℕ) (d : Due) (buf
       out-long = P .long;
       within = omega (arith, ended .0, put-within x r out₀ out P);
       sized = subst Sized (sym (ended .1)) tt;
+      fewer = subst (λ (y : Due). stepsLeft y ≤ stepsLeft d - 1) (sym (ended .1)) (omega arith);
       printed = λ lines a. ap (λ (y : ℕ). take y out) (ended .0) ∙ P .front ∙ sym (ap headLine (only lines a));
       ahead = λ lines a. subst (λ (y : Due). Ahead lengths p fits chart tables buf y (behind lines)) (sym (ended .1))
           (ap behind (only lines a));
@@ -87,6 +88,7 @@ module _ (lengths : ℕ → ℤ) (p fits chart tables : List ℕ) (d : Due) (buf
         out-long = refl;
         within = omega (arith, ended .0);
         sized = subst Sized (sym (ended .1)) tt;
+        fewer = subst (λ (y : Due). stepsLeft y ≤ stepsLeft d - 1) (sym (ended .1)) (omega arith);
         printed = λ lines a. ap (λ (y : ℕ). take y out) (ended .0) ∙ sym (ap headLine (none lines a));
         ahead = λ lines a. subst (λ (y : Due). Ahead lengths p fits chart tables buf y (behind lines)) (sym (ended .1))
             (ap behind (none lines a));
@@ -127,6 +129,7 @@ module _ (lengths : ℕ → ℤ) (p fits chart tables : List ℕ) (d : Due) (s r
         out-long = P .long;
         within = put-within (lineIn lengths (i + 1) nodes buf₀) r out₀ out P;
         sized = F .sized;
+        fewer = subst (λ (y : Due). stepsLeft t ≤ stepsLeft y - 1) (sym is) (omega (arith, F .fewer));
         printed = λ lines a. P .front ∙ sym (ap headLine (held-line lines (at lines a)));
         ahead = λ lines a.
             let H = at lines a in

@@ -1,3 +1,2 @@
--- What each step of the listing program after the first does, and the run of all steps.
+-- What each step of the listing program after the first does.
 pub mod Stepped
-pub mod Run

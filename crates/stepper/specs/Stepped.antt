@@ -1,9 +1,10 @@
 -- One step of the listing program: the line that it writes, and what is still to be printed after it. Assumes nothing.
-use Prim.Native.Nat.{ℕ, _+_, _*_, _≤_}
+use Prim.Native.Nat.{ℕ, _+_, _*_, _-_, _≤_}
 use mathlib.Core.List.{List, [], _∷_}
 use mathlib.Core.Path.{_≡_}
 use lib.IntN.{ℤ}
 use lib.ListN.{length, take}
+use Rattle.sizes.specs.Sizes.{most}
 use Rattle.cfg.specs.Listing.{L}
 use Rattle.counting.specs.Made.{Stands}
 use Rattle.descend.specs.Descend.{Given}
@@ -11,7 +12,7 @@ use Rattle.packed.specs.Packed.{cfgIn}
 use Rattle.results.specs.Measure.{sum, rounded}
 use Rattle.text.specs.Line.{line}
 use Rattle.lister.specs.declared.Due.{Due}
-use Rattle.lister.specs.Due.{linesAt, Ahead, Sized}
+use Rattle.lister.specs.Due.{linesAt, Ahead, Sized, stepsLeft}
 
 -- the line of the derivation of so many nodes at the front of the buffer
 abbrev pub lineIn : (ℕ → ℤ) → ℕ → ℕ → List ℕ → List ℕ
@@ -30,6 +31,7 @@ behind (x ∷ lines) = lines
 pub record Followed (p : List ℕ) (rules : ℕ) (fits chart tables : List ℕ) (s n i : ℕ) (buf₀ buf : List ℕ) (d : Due) : Type 0 where
   pub long : length buf ≡ length buf₀
   pub sized : Sized d
+  pub fewer : stepsLeft d ≤ most - i
   pub ahead : (lengths : ℕ → ℤ) (w : List ℕ) → n ≡ length w → Given p rules fits chart tables w → Stands (L (cfgIn s p) w) i buf₀
       → Ahead lengths p fits chart tables buf d (linesAt lengths (L (cfgIn s p) w) (i + 1))
 
@@ -40,6 +42,7 @@ pub record Stepped (lengths : ℕ → ℤ) (p fits chart tables : List ℕ) (d�
     pub out-long : length out ≡ length out₀
     pub within : r ≤ length out
     pub sized : Sized d
+    pub fewer : stepsLeft d ≤ stepsLeft d₀ - 1
     pub printed : (lines : List (List ℕ)) → Ahead lengths p fits chart tables buf₀ d₀ lines → take r out ≡ headLine lines
     pub ahead : (lines : List (List ℕ)) → Ahead lengths p fits chart tables buf₀ d₀ lines
         → Ahead lengths p fits chart tables buf d (behind lines)

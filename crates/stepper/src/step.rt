@@ -11,6 +11,7 @@ use measure::rounded;
 use measure::total;
 use nodes::Root;
 use packed::Packed;
+use sizes::MOST;
 use successor::advance_root;
 use tables::layout::Tables;
 ghost use mathlib.Core.Path.{_≡_};
@@ -19,32 +20,29 @@ ghost use lib.ListN.{length};
 ghost use Rattle.measure.specs.Measure.{lengthsIn};
 ghost use Rattle.digits.specs.Put.{Put};
 ghost use Rattle.lines.specs.Sizes.{lineSize};
-ghost use Rattle.sizes.specs.Sizes.{maxRules, maxNodes, side, cells, outputSize};
+ghost use Rattle.sizes.specs.Sizes.{maxRules, maxNodes, side, cells, outputSize, most};
 ghost use Rattle.lister.specs.Due.{Sized};
 ghost use Rattle.stepper.specs.Stepped.{lineIn, Followed, Stepped};
 
-// The lines of derivations at most.
-const MOST: usize = 4096;
-
 // The bytes of the line that was printed, and what is printed next.
 pub struct Printed {
-    pub length: usize,
+    pub bytes: usize,
     pub due: Due,
 }
 
 // The last line was printed.
-fn last(length: usize) -> Printed
-    ensures { λ r. ⌜ (r .length ≡ length) × (r .due ≡ Due.Nothing) ⌝ }
+fn last(bytes: usize) -> Printed
+    ensures { λ r. ⌜ (r .bytes ≡ bytes) × (r .due ≡ Due.Nothing) ⌝ }
 {
     Printed {
-        length,
+        bytes,
         due: Due::Nothing,
     }
 }
 
 // Writes the line of derivation i, which stands in the buffer.
 fn reading(lengths: &Lengths, buf: &[u16], i: usize, nodes: usize, out: &mut [u8]) -> usize
-    requires { ⌜ (length (now lengths) ≡ maxRules) × (i < 4096) × (nodes ≤ maxNodes) × (outputSize ≤ length (now buf))
+    requires { ⌜ (length (now lengths) ≡ maxRules) × (i < most) × (nodes ≤ maxNodes) × (outputSize ≤ length (now buf))
         × (lineSize ≤ length (now out)) ⌝ }
     ensures { λ r. ⌜ Put (lineIn (lengthsIn (now (lengths .entry))) (i + 1) nodes (now (buf .entry))) 0 r
         (now (out .entry)) (now (out .exit)) ⌝ }
@@ -63,7 +61,7 @@ fn following(
     i: usize,
     buf: &mut [u16],
 ) -> Due
-    requires { ⌜ (root .rules ≤ maxRules) × (root .n < side) × (i < 4096) × (cells ≤ length (now chart))
+    requires { ⌜ (root .rules ≤ maxRules) × (root .n < side) × (i < most) × (cells ≤ length (now chart))
         × (outputSize ≤ length (now buf)) ⌝ }
     ensures { λ d. ⌜ Followed (now (p .entry)) (root .rules) (now (fits .entry)) (now (chart .entry)) (now (tables .entry))
         (root .start) (root .n) i
@@ -100,7 +98,7 @@ pub fn step(
     requires { ⌜ Sized due × (length (now lengths) ≡ maxRules) × (cells ≤ length (now chart)) × (outputSize ≤ length (now buf))
         × (lineSize ≤ length (now out)) ⌝ }
     ensures { λ r. ⌜ Stepped (lengthsIn (now (lengths .entry))) (now (p .entry)) (now (fits .entry)) (now (chart .entry))
-        (now (tables .entry)) due (now (buf .entry)) (now (buf .exit)) (now (out .entry)) (now (out .exit)) (r .length) (r .due) ⌝ }
+        (now (tables .entry)) due (now (buf .entry)) (now (buf .exit)) (now (out .entry)) (now (out .exit)) (r .bytes) (r .due) ⌝ }
 {
     match due {
         Due::Refusal(n) => last(put_refused(n, out)),
@@ -112,10 +110,10 @@ pub fn step(
             i,
             nodes,
         } => {
-            let length = reading(lengths, buf, i, nodes, out);
+            let bytes = reading(lengths, buf, i, nodes, out);
             let root = Root { rules, start, n };
             let then = following(p, fits, chart, tables, root, i, buf);
-            Printed { length, due: then }
+            Printed { bytes, due: then }
         }
         Due::Total(n) => last(put_readings(n, out)),
         Due::More => last(put_more(out)),

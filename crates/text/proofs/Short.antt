@@ -5,10 +5,11 @@ use mathlib.Core.List.{List, [], _∷_}
 use mathlib.Core.Path.{_≡_, refl, ap, _∙_}
 use lib.IntN.{ℤ}
 use lib.ListN.{length, take, length-append, length-take}
+use Rattle.sizes.specs.Sizes.{most}
 use Rattle.cfg.specs.Listing.{L}
 use Rattle.grammar.specs.declared.Grammar.{Grammar}
 use Rattle.grammar.specs.View.{grammarOf, lengthsOf}
-use Rattle.results.specs.Answer.{LoadAnswer, refusedAt, loaded, most}
+use Rattle.results.specs.Answer.{LoadAnswer, refusedAt, loaded}
 use Rattle.results.specs.Load.{loadOf}
 use Rattle.results.specs.Enumerate.{figure}
 use Rattle.results.proofs.Decide.{decide-either}
@@ -18,7 +19,7 @@ use Rattle.text.specs.Text.{linesFrom, listText, emptyText, textBy, inpu
 -- the lines of a text are so many
 pub record Lines (text : List (List ℕ)) : Type 0 where
   pub some : 0 < length text
-  pub few : length text ≤ 4097
+  pub few : length text ≤ suc most
 
 one-line : (l : List ℕ) → Lines (l ∷ [])
 one-line l = record { some = omega arith; few = omega arith }
@@ -30,11 +31,11 @@ lines-length lengths place [] = refl
 lines-length lengths place (e ∷ l) = ap suc (lines-length lengths (suc place) l)
 
 -- and one for how many there are
-list-length : (lengths : ℕ → ℤ) (l : List (List ℕ)) → length (listText lengths l) ≡ min 4096 (length l) + 1
-unfolding listText most
+list-length : (lengths : ℕ → ℤ) (l : List (List ℕ)) → length (listText lengths l) ≡ min most (length l) + 1
+unfolding listText
 list-length lengths l =
-    length-append (linesFrom lengths 1 (take 4096 l)) (readingsLine (figure (length l)) ∷ [])
-    ∙ ap (λ (n : ℕ). n + 1) (lines-length lengths 1 (take 4096 l) ∙ length-take 4096 l)
+    length-append (linesFrom lengths 1 (take most l)) (readingsLine (figure (length l)) ∷ [])
+    ∙ ap (λ (n : ℕ). n + 1) (lines-length lengths 1 (take most l) ∙ length-take most l)
 
 list-lines : (lengths : ℕ → ℤ) (l : List (List ℕ)) → Lines (listText lengths l)
 list-lines lengths l = let e = list-length lengths l in record { some = omega arith; few = omega arith }
@@ -58,7 +59,7 @@ text-sized book w = go (loadOf book 0 .answer)
     go (refusedAt n at) = one-line (refusedLine n)
     go loaded = input-lines (loadOf book 0 .grammar) w
 
-pub text-lines : (book w : List ℕ) → length (textOf book w) ≤ 4097
+pub text-lines : (book w : List ℕ) → length (textOf book w) ≤ suc most
 text-lines book w = text-sized book w .few
 
 pub text-some : (book w : List ℕ) → 0 < length (textOf book w)

@@ -4,12 +4,12 @@ use mathlib.Core.Bool.{cond}
 use mathlib.Core.List.{List, [], _∷_, _++_}
 use lib.IntN.{ℤ}
 use lib.ListN.{length, take, replicate}
-use Rattle.sizes.specs.Sizes.{cells}
+use Rattle.sizes.specs.Sizes.{cells, most}
 use Rattle.cfg.specs.Grammar.{Cfg}
 use Rattle.cfg.specs.Listing.{L}
 use Rattle.grammar.specs.declared.Grammar.{Grammar}
 use Rattle.grammar.specs.View.{grammarOf, lengthsOf}
-use Rattle.results.specs.Answer.{refusedAt, loaded, most, decide}
+use Rattle.results.specs.Answer.{refusedAt, loaded, decide}
 use Rattle.results.specs.Load.{Loading, loadOf}
 use Rattle.results.specs.Check.{inputCheck}
 use Rattle.results.specs.Measure.{sum, rounded}

@@ -1,6 +1,7 @@
 -- The final theorems over the definitions, each proved by citation. The demands are the customer's three (README says them in short); the
 -- other sources are sections of document 01, his scope (docs/REFERENCE.md says what it fixes). The definitions stand in `cfg/specs`,
--- `chart/specs`, `grammar/specs`, `results/specs`, `text/specs` and `demands/specs`, and none in a `proofs/` folder.
+-- `chart/specs`, `grammar/specs`, `results/specs`, `text/specs`, `demands/specs`, `lister/specs` and `pages/specs`, and none in a `proofs/`
+-- folder.
 --
 --   statement                         says                                                            source
 --   starred-table                     the starred plates, from book bytes to answers                   Plates from the drawer
@@ -18,6 +19,7 @@
 --   listing-of-T                      the three lines of T with the plate `A`, byte for byte           Listing program
 --   text-depth                        no nullable depth changes the text of the listing program        Listing program
 --   text-front                        8,192 bytes of the book and 65 of the plate decide the text      Listing program
+--   pages-text, pages-few             the pages, from the first to the last, are the text; how many    Listing program
 --
 -- That the code gives and leaves what these definitions say is each exported function's contract, an equality without a condition:
 --
@@ -31,17 +33,19 @@
 --   next/src/lib.rt        next         nextOf
 --   count/src/lib.rt       count        countOf
 --
--- That the lines which the listing program writes, from its first step until its last, are textOf of book and plate is
--- stepper/proofs/Printed.antt: printed-text.
+-- The listing program reads, calls `begin` of lister/src/begin.rt and `fill_page` of pages/src/lib.rt, and writes. Their contracts are the
+-- premises of pages-text, so every byte handed to the write is proved, in its order. The contract of `list` in list/src/main.rt adds that
+-- no page is left out: unless a write fails, as many bytes are handed to the write as the text has. That the write writes them is run.
 --
 -- `tools/trace-check` reads the table above and fails if a call lacks its equality or has a `requires`; README's table of the calls is held
 -- to this file by it too. With the last three, demand-3 is a claim about the code's first, next and count.
 -- Assumes nothing.
 use Prim.Native.Nat.{ℕ, suc, _+_, _-_, _≤_, _<_}
 use mathlib.Core.Bool.{true, false}
-use mathlib.Core.List.{List, [], _∷_, _++_, List·Memᴰ, map}
+use mathlib.Core.List.{List, [], _∷_, _++_, List·Memᴰ, map, flatten}
 use mathlib.Core.Logic.{_↔_, _⊎_}
 use mathlib.Core.Path.{_≡_}
+use lib.IntN.{ℤ}
 use lib.ListN.{length, getD, take, replicate}
 use Rattle.sizes.specs.Sizes.{maxInput, cells, outputSize}
 use Rattle.cfg.specs.Grammar.{Cfg}
@@ -51,7 +55,7 @@ use Rattle.cfg.specs.Listing.{L}
 use Rattle.grammar.specs.declared.Grammar.{Grammar}
 use Rattle.grammar.specs.Valid.{validGrammar}
 use Rattle.grammar.specs.View.{grammarOf}
-use Rattle.results.specs.Answer.{refused, answered, nothing, counted, more, most}
+use Rattle.results.specs.Answer.{refused, answered, nothing, counted, more}
 use Rattle.results.specs.Load.{step, loadOf}
 use Rattle.results.specs.Recognize.{State, openOf, takeOf, fed}
 use Rattle.results.specs.Check.{checkOf}
@@ -65,6 +69,11 @@ use Rattle.results.specs.Drawer.{T, As}
 use Rattle.text.specs.Text.{loadedText, textOf}
 use Rattle.text.specs.Sample.{listingOfT}
 use Rattle.text.specs.Front.{bookFront, plateFront}
+use Rattle.measure.specs.Measure.{lengthsIn}
+use Rattle.lister.specs.declared.Due.{Due}
+use Rattle.lister.specs.declared.Due.the-variants.{Nothing}
+use Rattle.lister.specs.Begun.{BookBegun}
+use Rattle.pages.specs.Pages.{Pages}
 use Rattle.demands.specs.Demand1.{OpenDemand, TakeDemand, InputDemand, OutputDemand}
 use Rattle.results.specs.Ready.{Ready, ReadyOut}
 use Rattle.demands.specs.OrderAfter.{OfferedOrder, TreesOrder}
@@ -80,6 +89,7 @@ use Rattle.results.proofs.Demand3.Consequences as Consequences
 use Rattle.text.proofs.Sample as Sample
 use Rattle.text.proofs.Depth as Depth
 use Rattle.text.proofs.Front as Front
+use Rattle.pages.proofs.Printed as Printed
 use Rattle.demands.proofs.Demand1 as Demand1
 use Rattle.demands.proofs.OrderOffered as Offered
 use Rattle.demands.proofs.OrderTrees as Trees
@@ -205,11 +215,9 @@ module _ (g : Grammar) (valid : validGrammar g ≡ true) (w : List ℕ) (low : 1
     -- count is N up to 4,096, where N is not 0 or the input has no tree, and "more" exactly above
     pub count-exact : length (L (grammarOf g) w) ≤ 4096 → (1 ≤ length (L (grammarOf g) w)) ⊎ (HasTree (grammarOf g) w → ⊥)
         → countOf g w chart .answer ≡ answered (counted (length (L (grammarOf g) w)))
-    unfolding most
     count-exact = Consequences.count-exact g valid w low high chart room
 
     pub count-more : (countOf g w chart .answer ≡ answered more) ↔ (4096 < length (L (grammarOf g) w))
-    unfolding most
     count-more = Consequences.count-more g valid w low high chart room
 
     -- refusal 13 exactly if the input has trees, all of more than 512 nodes
@@ -235,3 +243,14 @@ text-depth = Depth.text-depth
 -- a program that reads no more of book and plate than their fronts prints the same
 pub text-front : (book w : List ℕ) → textOf (take bookFront book) (take plateFront w) ≡ textOf book w
 text-front = Front.text-front
+
+-- THE LISTING PROGRAM'S PAGES: what is due first was found from the fronts of book and plate, and page after page is written until nothing
+-- is due. Then the pages, one after the other, are the text of the whole book and the whole plate, and there are at most 4,097 of them
+module _ (book w p : List ℕ) (lengths : List ℤ) (chart₀ chart fits tables buf₀ buf last : List ℕ) (d : Due)
+    (begun : BookBegun (take bookFront book) (take plateFront w) p lengths chart₀ chart fits tables buf₀ buf d) (pages : List (List ℕ))
+    (run : Pages (lengthsIn lengths) p fits chart tables d buf pages Nothing last) where
+  pub pages-text : flatten pages ≡ flatten (textOf book w)
+  pages-text = Printed.pages-text book w p lengths chart₀ chart fits tables buf₀ buf last d begun pages run
+
+  pub pages-few : length pages ≤ 4097
+  pages-few = Printed.pages-few book w p lengths chart₀ chart fits tables buf₀ buf last d begun pages run

@@ -2,16 +2,17 @@
 -- The measure is what is left of 4,096. Assumes nothing.
 use Prim.Native.Nat.{_≤_, _-_}
 use native.Mathlib.Omega.{arith}
+use Rattle.sizes.specs.Sizes.{most}
 use Rattle.counting.proofs.Loop.{CountedTo, counted-start, counted-step, counted-last, counted-all}
 use Rattle.counting.proofs.count_on.Statement.{statement}
 use Rattle.counting.proofs.count_on.Tie as tie
 
 abbrev Inv-loop : tie.InvT-loop
 Inv-loop p fits chart tables root buf₀ i₀ buf i =
-    (i ≤ 4096) × CountedTo p (root .rules) fits chart tables (root .start) (root .n) buf₀ buf i
+    (i ≤ most) × CountedTo p (root .rules) fits chart tables (root .start) (root .n) buf₀ buf i
 
 abbrev μ-loop : tie.MeasureT-loop
-μ-loop p fits chart tables root buf₀ i₀ buf i = 4096 - i
+μ-loop p fits chart tables root buf₀ i₀ buf i = most - i
 
 returns : tie.Need-returns Inv-loop μ-loop
 returns c =

@@ -9,7 +9,7 @@ use mathlib.Core.Logic.{_↔_, _⊎_, inl, inr, dite, ite}
 use mathlib.Core.Path.{_≡_, refl, sym, ap, subst, _∙_}
 use lib.ListN.{length, take, replicate}
 use lib.Seq.{take-length}
-use Rattle.sizes.specs.Sizes.{cells, outputSize}
+use Rattle.sizes.specs.Sizes.{cells, outputSize, most}
 use Rattle.cfg.specs.Tree.{HasTree}
 use Rattle.cfg.specs.Listing.{L}
 use Rattle.chart.proofs.Derived.{Bounded}
@@ -17,7 +17,7 @@ use Rattle.grammar.specs.declared.Grammar.{Grammar}
 use Rattle.grammar.specs.Valid.{validGrammar}
 use Rattle.grammar.specs.View.{grammarOf}
 use Rattle.grammar.proofs.Bounds.{valid-bounded}
-use Rattle.results.specs.Answer.{Answer, refused, answered, Handing, handed, nothing, Figure, counted, more, most}
+use Rattle.results.specs.Answer.{Answer, refused, answered, Handing, handed, nothing, Figure, counted, more}
 use Rattle.results.specs.Check.{Checking}
 use Rattle.results.specs.Enumerate.{Enumeration, figure, firstIn, countIn, firstOf, countOf}
 use Rattle.results.specs.Walk.{Call, hands, handedOut, nexts, NoFirst}

@@ -6,7 +6,8 @@ use mathlib.Core.List.{List, _∷_}
 use mathlib.Core.Path.{_≡_, refl}
 use lib.Dec.{leb}
 use borrow.Author.Tests.{le-leb, lt-leb}
-use Rattle.results.specs.Answer.{answered, counted, more, most}
+use Rattle.sizes.specs.Sizes.{most}
+use Rattle.results.specs.Answer.{answered, counted, more}
 use Rattle.results.specs.Enumerate.{figure}
 use Rattle.results.specs.Walk.{Said, counts, saysCount, handedOut}
 use Rattle.results.specs.Walk as Walk
@@ -15,11 +16,11 @@ use Rattle.results.specs.History.{countSaid, copied}
 -- ---- on both sides of 4,096
 
 pub figure-rows : (figure 4096 ≡ counted 4096) × (figure 4097 ≡ more)
-unfolding figure most
+unfolding figure
 figure-rows = (refl, refl)
 
 pub saysCount-rows : (saysCount 4096 ≡ counts 4096) × (saysCount 4097 ≡ Walk.more)
-unfolding saysCount most
+unfolding saysCount
 saysCount-rows = (refl, refl)
 
 -- ---- any N

@@ -1,0 +1,33 @@
+-- `list::list` meets its contract: what it lends is long enough, and the text of book and plate is ahead after the first step.
+-- Assumes nothing.
+use Prim.Native.Nat.{ℕ}
+use native.Mathlib.Omega.{arith}
+use lib.IntN.{ℤ, pos}
+use lib.ListN.{length-replicate}
+use Rattle.sizes.specs.Sizes.{maxRules, cells, outputSize}
+use Rattle.tables.specs.Layout.{tablesSize}
+use Rattle.list.proofs.Going.{listed}
+use Rattle.list.proofs.list.Statement.{statement}
+use Rattle.list.proofs.list.Tie as tie
+
+begin-requires : tie.Need-begin-requires
+begin-requires c κs = (
+  length-replicate {A = ℤ} maxRules (pos 0),
+  omega (arith, length-replicate {A = ℕ} cells 0),
+  length-replicate {A = ℕ} tablesSize 0,
+  omega (arith, length-replicate {A = ℕ} outputSize 0),
+)
+
+write-pages-requires : tie.Need-write-pages-requires
+write-pages-requires c κs =
+    let begun = c .before .before .before .before .before .before .before .before .begin .ensures in (
+      begun .sized,
+      begun .rows,
+      omega (arith, begun .chart-long, length-replicate {A = ℕ} cells 0),
+      omega (arith, begun .long, length-replicate {A = ℕ} outputSize 0),
+      begun .ahead,
+    )
+
+pub list-spec : {M : Type 1} → statement M
+list-spec = tie.close (tie.spec
+    (λ c. omega arith) (λ c. omega arith) begin-requires (λ c. omega arith) (λ c. omega arith) write-pages-requires (λ c. search listed))

@@ -1,0 +1,43 @@
+-- `list::output::write_pages` meets its contract. The loop's invariant: the pages handed to the write so far are the front of the text, and
+-- the counter is enough for the others. The measure is the counter. Assumes nothing.
+use mathlib.Core.Path.{_≡_}
+use native.Mathlib.Omega.{arith}
+use lib.ListN.{length}
+use borrow.Author.Needs.{needs}
+use Rattle.measure.specs.Measure.{lengthsIn}
+use Rattle.pages.specs.Page.{pageSize}
+use Rattle.pages.proofs.Paging.{some-due, none-due}
+use Rattle.list.proofs.Going.{part-long, part-small, Going, going-first, going-next, going-page, handed-done, handed-down, handed-failed}
+use Rattle.list.proofs.output.write_pages.Statement.{statement}
+use Rattle.list.proofs.output.write_pages.Tie as tie
+
+abbrev Inv-loop : tie.InvT-loop
+Inv-loop book plate p lengths fits chart tables buf₀ out₀ then₀ bytes₀ left₀ buf out then bytes left =
+    Going (lengthsIn lengths) p fits chart tables then₀ buf₀ then buf bytes left × (length out ≡ pageSize)
+
+abbrev μ-loop : tie.MeasureT-loop
+μ-loop book plate p lengths fits chart tables buf₀ out₀ then₀ bytes₀ left₀ buf out then bytes left = left
+
+loop-holds : tie.Need-loop-holds Inv-loop μ-loop
+loop-holds c = (search going-first, search needs)
+
+write-requires : tie.Need-write-requires Inv-loop μ-loop
+write-requires c κs = (omega arith, search part-small, search (going-next, some-due))
+
+returns : tie.Need-returns Inv-loop μ-loop
+returns c = search handed-failed
+
+loop-again : tie.Need-loop-again Inv-loop μ-loop
+loop-again c = (search (going-page, some-due), omega arith)
+
+returns-2 : tie.Need-returns-2 Inv-loop μ-loop
+returns-2 c = search (handed-done, none-due)
+
+returns-3 : tie.Need-returns-3 Inv-loop μ-loop
+returns-3 c = search handed-down
+
+pub write-pages-spec : {M : Type 1} → statement M
+write-pages-spec = tie.close (tie.spec
+    Inv-loop μ-loop loop-holds (λ c κs. search needs) (λ c. omega arith) (λ c κs. (search needs, omega arith, omega arith, omega arith, omega arith))
+    (λ c. omega arith) (λ c. search part-long) write-requires (λ c. omega arith) returns (λ c. omega arith) (λ c. omega arith) loop-again
+    (λ c. omega arith) returns-2 (λ c. omega arith) returns-3)

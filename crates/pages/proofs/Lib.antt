@@ -1,0 +1,3 @@
+-- Laws of one page, and of all pages.
+pub mod Paging
+pub mod Printed

@@ -1,0 +1,3 @@
+-- What a page of the listing is, and all pages one after the other.
+pub mod Page
+pub mod Pages
