@@ -6,7 +6,7 @@ use mathlib.Core.Path.{_≡_, refl}
 use Rattle.grammar.specs.Zero.{zeroGrammar}
 use Rattle.results.specs.Answer.{refusedAt}
 use Rattle.results.specs.Load.{Loading, loadOf}
-use Rattle.results.specs.Drawer.{start, rule, A, close, times}
+use Rattle.results.specs.Drawer.{start, rule, A, close, many}
 use Rattle.results.proofs.Computing.{computing}
 
 -- a faulty book: its bytes, and the number and the offset of its refusal
@@ -20,10 +20,10 @@ faulty bytes n at = record { bytes = bytes; number = n; offset = at }
 
 -- 128 rules, and a rule of eight places, each with what comes next
 abbrev pub full : List ℕ → List ℕ
-full rest = start 0 (times 128 (rule 0) rest)
+full rest = start 0 (many 128 (rule 0) rest)
 
 abbrev pub wide : List ℕ → List ℕ
-wide rest = start 0 (rule 0 (times 8 A rest))
+wide rest = start 0 (rule 0 (many 8 A rest))
 
 unfoldable pub faults : List Faulty
 faults =
