@@ -26,7 +26,7 @@ use Rattle.grammar.specs.View.{symbolOf, placeOf, wholeOf}
 use Rattle.grammar.specs.Zero.{noRule}
 use Rattle.grammar.proofs.All.{true-false, and-parts, and-both}
 use Rattle.grammar.proofs.RuleAt.{rule-at, rule-past}
-use Rattle.nullable.specs.Nullable.{symbolIn, placeIn, ruleIn, widen}
+use Rattle.nullable.specs.Nullable.{symbolKnown, placeKnown, ruleKnown, widen}
 use Rattle.nullable.proofs.Pass.{widen-in, widen-out}
 
 -- each member is nullable
@@ -48,16 +48,16 @@ join G (fits-node {r} {below} {rest} o b s) e t = (
 )
 
 -- places that hold members have an empty row
-symbol-row : (G : Cfg) (known : ℕ) → Sound G known → (s : Symbol) → symbolIn known s ≡ true → {places : List Abstract.Symbol}
+symbol-row : (G : Cfg) (known : ℕ) → Sound G known → (s : Symbol) → symbolKnown known s ≡ true → {places : List Abstract.Symbol}
     → EmptyForest G places → EmptyForest G (symbolOf s ∷ places)
 symbol-row G known sound (Nonterminal k) e t = let n = sound k e in join G (n .1 .0) (n .1 .1) t
 symbol-row G known sound (Terminal m) e t = absurd (true-false e refl)
 
-places-row : (G : Cfg) (known : ℕ) → Sound G known → (l : List Place) → all (placeIn known) l ≡ true → EmptyForest G (map placeOf l)
+places-row : (G : Cfg) (known : ℕ) → Sound G known → (l : List Place) → all (placeKnown known) l ≡ true → EmptyForest G (map placeOf l)
 unfolding all yield
 places-row G known sound [] e = (end, fits-end, refl)
 places-row G known sound (p ∷ l) e =
-    let h = and-parts (placeIn known p) (all (placeIn known) l) e in
+    let h = and-parts (placeKnown known p) (all (placeKnown known) l) e in
     symbol-row G known sound (p .symbol) (h .0) (places-row G known sound l (h .1))
 
 -- the members of a set, in the places of an abstract rule
@@ -65,21 +65,21 @@ symbolHas : ℕ → Abstract.Symbol → Bool
 symbolHas known (nonterminal k) = has k known
 symbolHas known (terminal t) = false
 
-symbol-has : (known : ℕ) (s : Symbol) → symbolHas known (symbolOf s) ≡ symbolIn known s
+symbol-has : (known : ℕ) (s : Symbol) → symbolHas known (symbolOf s) ≡ symbolKnown known s
 unfolding symbolHas
 symbol-has known (Nonterminal k) = refl
 symbol-has known (Terminal m) = refl
 
-places-has : (known : ℕ) (l : List Place) → all (symbolHas known) (map placeOf l) ≡ all (placeIn known) l
+places-has : (known : ℕ) (l : List Place) → all (symbolHas known) (map placeOf l) ≡ all (placeKnown known) l
 unfolding all
 places-has known [] = refl
 places-has known (p ∷ l) = ap₂ (λ (a b : Bool). a && b) (symbol-has known (p .symbol)) (places-has known l)
 
 module _ (g : Grammar) (size : length (g .rules) ≡ 128) (valid : validGrammar g ≡ true) where
   -- the left side of a rule whose places hold members is nullable
-  rule-nullable : (known i : ℕ) → Sound (wholeOf g) known → i < g .count → ruleIn known (getD (g .rules) i noRule) ≡ true
+  rule-nullable : (known i : ℕ) → Sound (wholeOf g) known → i < g .count → ruleKnown known (getD (g .rules) i noRule) ≡ true
       → Nullable (wholeOf g) (getD (g .rules) i noRule .left)
-  unfolding ruleIn yield
+  unfolding ruleKnown yield
   rule-nullable known i sound h e =
       let r = getD (g .rules) i noRule in
       let t = places-row (wholeOf g) known sound (take (r .count) (r .places)) e in
@@ -91,27 +91,28 @@ module _ (g : Grammar) (size : length (g .rules) ≡ 128) (valid : validGrammar 
       (node i (t .0) end, (fits-node o (t .1) fits-end, append-nil (yield (t .0)) ∙ t .2))
 
   pub widen-sound : (known i : ℕ) → Sound (wholeOf g) known → i < g .count → Sound (wholeOf g) (widen (getD (g .rules) i noRule) known)
-  widen-sound known i sound h = go (ruleIn known r) refl
+  widen-sound known i sound h = go (ruleKnown known r) refl
     where
       r : Rule
       r = getD (g .rules) i noRule
 
-      inserted : ruleIn known r ≡ true → (k : ℕ) → has k (insert (r .left) known) ≡ true → Nullable (wholeOf g) k
+      inserted : ruleKnown known r ≡ true → (k : ℕ) → has k (insert (r .left) known) ≡ true → Nullable (wholeOf g) k
       inserted e k m = dite (ℕ-discrete k (r .left))
           (λ p. subst (Nullable (wholeOf g)) (sym p) (rule-nullable known i sound h e))
           (λ n. sound k (sym (has-insert-other k (r .left) known n) ∙ m))
 
-      go : (b : Bool) → ruleIn known r ≡ b → Sound (wholeOf g) (widen r known)
+      go : (b : Bool) → ruleKnown known r ≡ b → Sound (wholeOf g) (widen r known)
       go true e = subst (Sound (wholeOf g)) (widen-in known r true (sym e) refl) (inserted e)
       go false e = subst (Sound (wholeOf g)) (widen-out known r false (sym e) refl) sound
 
   -- each rule whose places hold members has its left side in the set
   abbrev pub Closed : ℕ → Type 0
-  Closed known = (i : ℕ) → i < g .count → ruleIn known (getD (g .rules) i noRule) ≡ true → has (getD (g .rules) i noRule .left) known ≡ true
+  Closed known = (i : ℕ) → i < g .count → ruleKnown known (getD (g .rules) i noRule) ≡ true
+      → has (getD (g .rules) i noRule .left) known ≡ true
 
   module _ (known : ℕ) (closed : Closed known) where
     of-closed : {r k : ℕ} (o : Of (wholeOf g) r k) → all (symbolHas known) (o .the .places) ≡ true → has k known ≡ true
-    unfolding ruleIn
+    unfolding ruleKnown
     of-closed {r} {k} o e = dite (decLt r (g .count)) inside outside
       where
         ρ : Rule
@@ -123,7 +124,7 @@ module _ (g : Grammar) (size : length (g .rules) ≡ 128) (valid : validGrammar 
             Option·some-injective _ (o .the) (sym (rule-at g r size valid h) ∙ o .here) in
             let a : all (symbolHas known) (map placeOf (take (ρ .count) (ρ .places))) ≡ true =
             ap (λ (σ : Abstract.Rule). all (symbolHas known) (σ .places)) m ∙ e in
-            let b : ruleIn known ρ ≡ true = sym (places-has known (take (ρ .count) (ρ .places))) ∙ a in
+            let b : ruleKnown known ρ ≡ true = sym (places-has known (take (ρ .count) (ρ .places))) ∙ a in
             ap (λ (j : ℕ). has j known) (sym (ap (λ (σ : Abstract.Rule). σ .left) m ∙ o .left)) ∙ closed r h b
 
         outside : ¬ (r < g .count) → has k known ≡ true

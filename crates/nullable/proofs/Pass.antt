@@ -18,15 +18,15 @@ use Rattle.grammar.specs.Valid.{all, validSymbol, validPlace, validRule}
 use Rattle.grammar.specs.Zero.{zeroPlace, noRule}
 use Rattle.grammar.proofs.All.{and-parts, all-at}
 use Rattle.grammar.proofs.Bounds.{rule-parts}
-use Rattle.nullable.specs.Nullable.{symbolIn, placeIn, ruleIn, widen, pass}
+use Rattle.nullable.specs.Nullable.{symbolKnown, placeKnown, ruleKnown, widen, pass}
 
 -- ---- a place
 
 pub place-bound : (p : Place) (k : ℕ) → p .symbol ≡ Nonterminal k → validPlace p ≡ true → k < 32
 place-bound p k e v = omega (arith, leb-true k 31 (sym (ap validSymbol e) ∙ v))
 
-pub place-member : (known : ℕ) (p : Place) (k : ℕ) (b : Bool) → p .symbol ≡ Nonterminal k → b ≡ has k known → b ≡ placeIn known p
-place-member known p k b e h = h ∙ sym (ap (symbolIn known) e)
+pub place-member : (known : ℕ) (p : Place) (k : ℕ) (b : Bool) → p .symbol ≡ Nonterminal k → b ≡ has k known → b ≡ placeKnown known p
+place-member known p k b e h = h ∙ sym (ap (symbolKnown known) e)
 
 -- ---- the places of a rule
 
@@ -44,43 +44,43 @@ pub rule-place-valid : (r : Rule) (q : ℕ) → validRule r ≡ true → q < r .
 rule-place-valid r q v h = all-at validPlace zeroPlace refl (r .places) (r .count) q h (rule-parts r v .2)
 
 module _ (known : ℕ) (r : Rule) where
-  pub rule-stops : (q : ℕ) (b : Bool) → b ≡ placeIn known (getD (r .places) q zeroPlace) → not b ≡ true → q < r .count
-      → r .count ≤ 8 → length (r .places) ≡ 8 → false ≡ ruleIn known r
-  unfolding ruleIn
+  pub rule-stops : (q : ℕ) (b : Bool) → b ≡ placeKnown known (getD (r .places) q zeroPlace) → not b ≡ true → q < r .count
+      → r .count ≤ 8 → length (r .places) ≡ 8 → false ≡ ruleKnown known r
+  unfolding ruleKnown
   rule-stops q b e t h m k =
-      sym (all-stops (placeIn known) zeroPlace (r .places) (r .count) q h (omega arith) (sym e ∙ not-true b t))
+      sym (all-stops (placeKnown known) zeroPlace (r .places) (r .count) q h (omega arith) (sym e ∙ not-true b t))
 
-  pub rule-whole : (q : ℕ) → q ≤ r .count → r .count ≤ q → all (placeIn known) (take q (r .places)) ≡ true → true ≡ ruleIn known r
-  unfolding ruleIn
+  pub rule-whole : (q : ℕ) → q ≤ r .count → r .count ≤ q → all (placeKnown known) (take q (r .places)) ≡ true → true ≡ ruleKnown known r
+  unfolding ruleKnown
   rule-whole q h k e = rw (le-antisymm k h) (sym e)
 
-  pub widen-in : (b : Bool) → b ≡ ruleIn known r → b ≡ true → insert (r .left) known ≡ widen r known
+  pub widen-in : (b : Bool) → b ≡ ruleKnown known r → b ≡ true → insert (r .left) known ≡ widen r known
   unfolding widen
   widen-in b e t = rw (sym e ∙ t)
 
-  pub widen-with : (b : Bool) (s : ℕ) → b ≡ ruleIn known r → b ≡ true → s ≡ insert (r .left) known → s ≡ widen r known
+  pub widen-with : (b : Bool) (s : ℕ) → b ≡ ruleKnown known r → b ≡ true → s ≡ insert (r .left) known → s ≡ widen r known
   widen-with b s e t h = h ∙ widen-in b e t
 
-  pub widen-out : (b : Bool) → b ≡ ruleIn known r → b ≡ false → known ≡ widen r known
+  pub widen-out : (b : Bool) → b ≡ ruleKnown known r → b ≡ false → known ≡ widen r known
   unfolding widen
   widen-out b e t = rw (sym e ∙ t)
 
   pub widen-le : known ≤ widen r known
-  widen-le = go (ruleIn known r) refl
+  widen-le = go (ruleKnown known r) refl
     where
-      go : (b : Bool) → ruleIn known r ≡ b → known ≤ widen r known
+      go : (b : Bool) → ruleKnown known r ≡ b → known ≤ widen r known
       go true e = omega (arith, insert-le (r .left) known, widen-in true (sym e) refl)
       go false e = omega (arith, widen-out false (sym e) refl)
 
   pub widen-word : r .left ≤ 31 → known < 2 ^ 32 → widen r known < 2 ^ 32
-  widen-word h l = go (ruleIn known r) refl
+  widen-word h l = go (ruleKnown known r) refl
     where
-      go : (b : Bool) → ruleIn known r ≡ b → widen r known < 2 ^ 32
+      go : (b : Bool) → ruleKnown known r ≡ b → widen r known < 2 ^ 32
       go true e = omega (arith, insert-lt (r .left) known (omega arith) l, widen-in true (sym e) refl)
       go false e = omega (arith, widen-out false (sym e) refl)
 
   -- a rule that adds nothing: its left side is in the set where its places are
-  pub widen-same : widen r known ≡ known → ruleIn known r ≡ true → has (r .left) known ≡ true
+  pub widen-same : widen r known ≡ known → ruleKnown known r ≡ true → has (r .left) known ≡ true
   widen-same s e = insert-same→has (r .left) known (widen-in true (sym e) refl ∙ s)
 
 pub rule-left-bound : (r : Rule) → validRule r ≡ true → r .left < 32

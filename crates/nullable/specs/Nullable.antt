@@ -14,20 +14,20 @@ use Rattle.grammar.specs.declared.Grammar.{Grammar}
 use Rattle.grammar.specs.Valid.{all}
 use Rattle.grammar.specs.View.{wholeOf}
 
-abbrev pub symbolIn : ℕ → Symbol → Bool
-symbolIn known (Nonterminal k) = has k known
-symbolIn known (Terminal m) = false
+abbrev pub symbolKnown : ℕ → Symbol → Bool
+symbolKnown known (Nonterminal k) = has k known
+symbolKnown known (Terminal m) = false
 
-abbrev pub placeIn : ℕ → Place → Bool
-placeIn known p = symbolIn known (p .symbol)
+abbrev pub placeKnown : ℕ → Place → Bool
+placeKnown known p = symbolKnown known (p .symbol)
 
 -- each place of the rule holds a known nonterminal
-unfoldable pub ruleIn : ℕ → Rule → Bool
-ruleIn known r = all (placeIn known) (take (r .count) (r .places))
+unfoldable pub ruleKnown : ℕ → Rule → Bool
+ruleKnown known r = all (placeKnown known) (take (r .count) (r .places))
 
 -- what is known, with the rule's left side where each place of the rule holds a known nonterminal
 unfoldable pub widen : Rule → ℕ → ℕ
-widen r known = cond (ruleIn known r) (insert (r .left) known) known
+widen r known = cond (ruleKnown known r) (insert (r .left) known) known
 
 -- the same for each rule of a list in turn
 unfoldable pub pass : List Rule → ℕ → ℕ

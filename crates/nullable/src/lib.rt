@@ -8,12 +8,12 @@ ghost use mathlib.Core.Path.{_≡_};
 ghost use lib.ListN.{take};
 ghost use Rattle.sets.specs.Set.{card};
 ghost use Rattle.grammar.specs.Valid.{validPlace, validRule, validGrammar};
-ghost use Rattle.nullable.specs.Nullable.{placeIn, ruleIn, widen, pass, Exact};
+ghost use Rattle.nullable.specs.Nullable.{placeKnown, ruleKnown, widen, pass, Exact};
 
 // Whether the place holds a known nonterminal.
 pub fn place_in(p: Place, known: u32) -> bool
     requires { ⌜ validPlace p ≡ true ⌝ }
-    ensures { λ r. ⌜ r ≡ placeIn known p ⌝ }
+    ensures { λ r. ⌜ r ≡ placeKnown known p ⌝ }
 {
     let s = p.symbol;
     match s {
@@ -25,7 +25,7 @@ pub fn place_in(p: Place, known: u32) -> bool
 // Whether each place of the rule holds a known nonterminal.
 pub fn rule_in(rule: Rule, known: u32) -> bool
     requires { ⌜ validRule rule ≡ true ⌝ }
-    ensures { λ r. ⌜ r ≡ ruleIn known rule ⌝ }
+    ensures { λ r. ⌜ r ≡ ruleKnown known rule ⌝ }
 {
     let n = rule.count;
     let mut q = 0;
