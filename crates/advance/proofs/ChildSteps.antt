@@ -40,18 +40,18 @@ module _ {p : List ℕ} {rules : ℕ} {fits chart tables full rows : List ℕ} {
           absurd (omega arith);
     }
 
-    module _ {set n : ℕ} {buf₀ buf₁ : List ℕ} (d : rest ≤ budget) (S : SameSpan (j - i) mask (b - a) set)
-        (N : NodeNext p rules fits chart tables k a b set (budget - rest) at buf₀ buf₁ n) where
+    module _ {own n : ℕ} {buf₀ buf₁ : List ℕ} (d : rest ≤ budget) (S : SameSpan (j - i) mask (b - a) own)
+        (N : NodeNext p rules fits chart tables k a b own (budget - rest) at buf₀ buf₁ n) where
       -- what comes after the node that stands, within what the least rest leaves
       child-next : {w : List ℕ} {f x y : Forest} → Given p rules fits chart tables w → j ≤ length w → q < countIn p r
           → OpenedRow (Packing p) w (j - i) mask k (tailIn p r (q + 1)) a j budget f b x y → StandsAt buf₀ at (code x)
-          → NextAt (Tree (Packing p) w (b - a) set k a b (budget - getD rows (side * (q + 1) + b) 0)) (code x) buf₁ at n
+          → NextAt (Tree (Packing p) w (b - a) own k a b (budget - getD rows (side * (q + 1) + b) 0)) (code x) buf₁ at n
       child-next {w} {x = x} G known c o T =
           let B = made-below G (omega arith) known (M .made) in
           let X = child-stands (B .solved) h (all-rests B q c h (omega arith)) o S in
-          subst (λ (z : ℕ). NextAt (Tree (Packing p) w (b - a) set k a b (budget - z)) (code x) buf₁ at n) (M .here)
+          subst (λ (z : ℕ). NextAt (Tree (Packing p) w (b - a) own k a b (budget - z)) (code x) buf₁ at n) (M .here)
           (N .exact w G (omega arith) x
-          (subst (λ (z : ℕ). Tree (Packing p) w (b - a) set k a b (budget - z) x) (sym (M .here)) X) T)
+          (subst (λ (z : ℕ). Tree (Packing p) w (b - a) own k a b (budget - z) x) (sym (M .here)) X) T)
 
       child-rest : {buf : List ℕ} {s : ℕ} → 0 < n
           → RowFirst p rules fits chart tables full rows r (q + 1) b i j mask (budget - n) (at + n) buf₁ buf s
@@ -82,7 +82,7 @@ module _ {p : List ℕ} {rules : ℕ} {fits chart tables full rows : List ℕ} {
             kept = kept-then e (N .kept) (W .kept);
             frame = made-frame (M .made);
             exact = λ w G known c f x y o last T.
-                W .exact (M .made) w G known c f x y o last set S (child-next G known c o T .none e);
+                W .exact (M .made) w G known c f x y o last own S (child-next G known c o T .none e);
           }
           go (no e) =
               let z : ¬ (n ≡ 0) = e in

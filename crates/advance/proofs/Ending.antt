@@ -20,15 +20,15 @@ use Rattle.beyond.proofs.Codes.{tree-nonempty}
 use Rattle.placed.specs.Looked.{LeavesIn}
 use Rattle.placed.specs.Reached.{Ends, ends-none, ends-leaf, ends-node, ends-last}
 
-module _ {p w : List ℕ} {cover set r j q a budget : ℕ} {f : Forest} (E : Ends p w cover set r j q a budget f) (c : q < countIn p r) where
+module _ {p w : List ℕ} {cover mask r j q a budget : ℕ} {f : Forest} (E : Ends p w cover mask r j q a budget f) (c : q < countIn p r) where
   pub ends-byte : isNonterminalIn p r q ≡ false
-      → (g : Forest) × OpenedLeaf (Packing p) w cover set (terminalIn p r q) (tailIn p r (q + 1)) a j budget f (a + 1) g
-      × Ends p w cover set r j (q + 1) (a + 1) budget g
+      → (g : Forest) × OpenedLeaf (Packing p) w cover mask (terminalIn p r q) (tailIn p r (q + 1)) a j budget f (a + 1) g
+      × Ends p w cover mask r j (q + 1) (a + 1) budget g
   ends-byte n = go E
     where
-      go : Ends p w cover set r j q a budget f
-          → (g : Forest) × OpenedLeaf (Packing p) w cover set (terminalIn p r q) (tailIn p r (q + 1)) a j budget f (a + 1) g
-          × Ends p w cover set r j (q + 1) (a + 1) budget g
+      go : Ends p w cover mask r j q a budget f
+          → (g : Forest) × OpenedLeaf (Packing p) w cover mask (terminalIn p r q) (tailIn p r (q + 1)) a j budget f (a + 1) g
+          × Ends p w cover mask r j (q + 1) (a + 1) budget g
       go (ends-none m) = absurd (omega arith)
       go (ends-leaf g _ o D) = (g, o, D)
       go (ends-node _ _ _ y _ _ _) = absurd (true≢false (sym y ∙ n))
@@ -36,31 +36,31 @@ module _ {p w : List ℕ} {cover set r j q a budget : ℕ} {f : Forest} (E : End
 
   module _ (y : isNonterminalIn p r q ≡ true) where
     pub ends-others : {k : ℕ} → (LeavesIn p r (q + 1) (countIn p r) → ⊥) → k ≡ valueIn p r q
-        → (b : ℕ) × (x z : Forest) × OpenedRow (Packing p) w cover set k (tailIn p r (q + 1)) a j budget f b x z
-        × Ends p w cover set r j (q + 1) b (budget - nodes x) z
+        → (b : ℕ) × (x z : Forest) × OpenedRow (Packing p) w cover mask k (tailIn p r (q + 1)) a j budget f b x z
+        × Ends p w cover mask r j (q + 1) b (budget - nodes x) z
     ends-others {k} N e = go E
       where
-        go : Ends p w cover set r j q a budget f
-            → (b : ℕ) × (x z : Forest) × OpenedRow (Packing p) w cover set k (tailIn p r (q + 1)) a j budget f b x z
-            × Ends p w cover set r j (q + 1) b (budget - nodes x) z
+        go : Ends p w cover mask r j q a budget f
+            → (b : ℕ) × (x z : Forest) × OpenedRow (Packing p) w cover mask k (tailIn p r (q + 1)) a j budget f b x z
+            × Ends p w cover mask r j (q + 1) b (budget - nodes x) z
         go (ends-none m) = absurd (omega arith)
         go (ends-leaf _ n _ _) = absurd (true≢false (sym y ∙ n))
         go (ends-node b x z _ _ o D) =
-            (b, x, z, subst (λ (v : ℕ). OpenedRow (Packing p) w cover set v (tailIn p r (q + 1)) a j budget f b x z) (sym e) o, D)
+            (b, x, z, subst (λ (v : ℕ). OpenedRow (Packing p) w cover mask v (tailIn p r (q + 1)) a j budget f b x z) (sym e) o, D)
         go (ends-last _ L _) = absurd (N L)
 
-    pub ends-row : LeavesIn p r (q + 1) (countIn p r) → Last (Row (Packing p) w cover set (tailIn p r q) a j budget) (code f)
+    pub ends-row : LeavesIn p r (q + 1) (countIn p r) → Last (Row (Packing p) w cover mask (tailIn p r q) a j budget) (code f)
     ends-row L = go E
       where
-        go : Ends p w cover set r j q a budget f → Last (Row (Packing p) w cover set (tailIn p r q) a j budget) (code f)
+        go : Ends p w cover mask r j q a budget f → Last (Row (Packing p) w cover mask (tailIn p r q) a j budget) (code f)
         go (ends-none m) = absurd (omega arith)
         go (ends-leaf _ n _ _) = absurd (true≢false (sym y ∙ n))
         go (ends-node _ _ _ _ N _ _) = absurd (N L)
         go (ends-last _ _ D) = D
 
 -- the first number of what stands says where its first node ends
-pub ends-here : {G : Cfg} {w : List ℕ} {cover set k : ℕ} {places : List Symbol} {a j budget b c : ℕ} {f x y : Forest}
-    (buf : List ℕ) (at : ℕ) → StandsAt buf at (code f) → OpenedRow G w cover set k places a j budget f c x y
+pub ends-here : {G : Cfg} {w : List ℕ} {cover mask k : ℕ} {places : List Symbol} {a j budget b c : ℕ} {f x y : Forest}
+    (buf : List ℕ) (at : ℕ) → StandsAt buf at (code f) → OpenedRow G w cover mask k places a j budget f c x y
     → b ≡ a + getD buf (2 * at) 0 → c ≡ b
 ends-here {a = a} {b = b} {c} {f} {x} {y} buf at S o e =
     let n = o .counted in

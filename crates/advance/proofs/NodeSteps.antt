@@ -30,7 +30,7 @@ use Rattle.beyond.proofs.LaterRules.{places-of, of-used}
 use Rattle.beyond.proofs.Codes.{tree-nonempty, stands-join, stands-same, kept-same, kept-behind, kept-then, next-some}
 
 -- the second number of a tree that stands in a buffer
-second : {G : Cfg} {w : List ℕ} {cover set k i j budget : ℕ} {t : Forest} (buf : List ℕ) (at : ℕ) → Tree G w cover set k i j budget t
+second : {G : Cfg} {w : List ℕ} {cover mask k i j budget : ℕ} {t : Forest} (buf : List ℕ) (at : ℕ) → Tree G w cover mask k i j budget t
     → StandsAt buf at (code t) → getD buf (2 * at + 1) 0 ≡ getD (code t) 1 0
 second {t = t} buf at T S = S 1 (omega (arith, length-code t, tree-nonempty (T .fit)))
 

@@ -60,7 +60,7 @@ unfolding nodes
 tree-nonempty (fits-node o b f) = omega arith
 
 -- so has the first one of a set of trees
-pub first-nonempty : {G : Cfg} {w : List ℕ} {cover set k a b budget m : ℕ} {e : List ℕ} → Min (Tree G w cover set k a b budget) e
+pub first-nonempty : {G : Cfg} {w : List ℕ} {cover mask k a b budget m : ℕ} {e : List ℕ} → Min (Tree G w cover mask k a b budget) e
     → length e ≡ 2 * m → 0 < m
 first-nonempty {e = e} M size =
     let t = M .found .forest in

@@ -12,9 +12,6 @@ use Rattle.cfg.specs.Derivation.{Has, has-here, has-below, has-beside, h
 use Rattle.cfg.specs.Derivation.{Superfluous, super-here, super-below, super-beside, super-after, Rising, rising-one, rising-more}
 use Rattle.cfg.specs.Listing.{L, over, when, from, among, keep, rulesFrom, items, upTo, listing, derivations}
 
-abbrev pub N : ℕ → Symbol
-N k = nonterminal k
-
 abbrev pub A : Symbol
 A = terminal (byte 65)
 
@@ -28,7 +25,7 @@ grammar rules = record { start = 0; rules = rules }
 
 -- 0 → 0 0, 0 → A
 abbrev pub pairs : Cfg
-pairs = grammar (0 ⇒ (N 0 ∷ N 0 ∷ []) ∷ 0 ⇒ (A ∷ []) ∷ [])
+pairs = grammar (0 ⇒ (nonterminal 0 ∷ nonterminal 0 ∷ []) ∷ 0 ⇒ (A ∷ []) ∷ [])
 
 -- L, with all that it is made of open
 unfoldable pub listOf : Cfg → ℕ → List (List ℕ)
@@ -51,17 +48,17 @@ unfolding listOf
 twins-listed = refl
 
 -- 0 → 0, 0 → A: the same nonterminal over the same bytes is superfluous
-pub unit-listed : listOf (grammar (0 ⇒ (N 0 ∷ []) ∷ 0 ⇒ (A ∷ []) ∷ [])) 1 ≡ (1 ∷ 1 ∷ []) ∷ []
+pub unit-listed : listOf (grammar (0 ⇒ (nonterminal 0 ∷ []) ∷ 0 ⇒ (A ∷ []) ∷ [])) 1 ≡ (1 ∷ 1 ∷ []) ∷ []
 unfolding listOf
 unit-listed = refl
 
 -- 0 → 0 A, 0 → A: the same nonterminal over fewer bytes is not
-pub nested-listed : listOf (grammar (0 ⇒ (N 0 ∷ A ∷ []) ∷ 0 ⇒ (A ∷ []) ∷ [])) 3 ≡ (3 ∷ 0 ∷ 2 ∷ 0 ∷ 1 ∷ 1 ∷ []) ∷ []
+pub nested-listed : listOf (grammar (0 ⇒ (nonterminal 0 ∷ A ∷ []) ∷ 0 ⇒ (A ∷ []) ∷ [])) 3 ≡ (3 ∷ 0 ∷ 2 ∷ 0 ∷ 1 ∷ 1 ∷ []) ∷ []
 unfolding listOf
 nested-listed = refl
 
 -- 0 → 1, 1 → A: another nonterminal over the same bytes is not
-pub other-listed : listOf (grammar (0 ⇒ (N 1 ∷ []) ∷ 1 ⇒ (A ∷ []) ∷ [])) 1 ≡ (1 ∷ 0 ∷ 1 ∷ 1 ∷ []) ∷ []
+pub other-listed : listOf (grammar (0 ⇒ (nonterminal 1 ∷ []) ∷ 1 ⇒ (A ∷ []) ∷ [])) 1 ≡ (1 ∷ 0 ∷ 1 ∷ 1 ∷ []) ∷ []
 unfolding listOf
 other-listed = refl
 
@@ -69,7 +66,9 @@ other-listed = refl
 abbrev pub bush : ℕ → Cfg
 bush k = record {
   start = k;
-  rules = 0 ⇒ (A ∷ replicate 7 (N 1)) ∷ 1 ⇒ replicate 8 (N 2) ∷ 2 ⇒ replicate 8 (N 3) ∷ 3 ⇒ [] ∷ 4 ⇒ (N 0 ∷ []) ∷ [];
+  rules =
+      0 ⇒ (A ∷ replicate 7 (nonterminal 1)) ∷ 1 ⇒ replicate 8 (nonterminal 2) ∷ 2 ⇒ replicate 8 (nonterminal 3) ∷ 3 ⇒ []
+      ∷ 4 ⇒ (nonterminal 0 ∷ []) ∷ [];
 }
 
 pub limit-met : map length (listOf (bush 0) 1) ≡ 1024 ∷ []
@@ -82,13 +81,13 @@ limit-passed = refl
 
 -- 0 → 0 A, 0 → A, 0 → 1, 1 → 0: the grammar of the trees below
 abbrev pub nest : Cfg
-nest = grammar (0 ⇒ (N 0 ∷ A ∷ []) ∷ 0 ⇒ (A ∷ []) ∷ 0 ⇒ (N 1 ∷ []) ∷ 1 ⇒ (N 0 ∷ []) ∷ [])
+nest = grammar (0 ⇒ (nonterminal 0 ∷ A ∷ []) ∷ 0 ⇒ (A ∷ []) ∷ 0 ⇒ (nonterminal 1 ∷ []) ∷ 1 ⇒ (nonterminal 0 ∷ []) ∷ [])
 
 -- 0 above 1 above 0, all over one byte: superfluous, two levels apart
 pub cycle-superfluous : Superfluous nest (node 2 (node 3 (node 1 (leaf 65 end) end) end) end)
 unfolding joined yield
 cycle-superfluous =
-    super-here {k = 0} (record { the = record { left = 0; places = N 1 ∷ [] }; here = refl; left = refl })
+    super-here {k = 0} (record { the = record { left = 0; places = nonterminal 1 ∷ [] }; here = refl; left = refl })
     (has-below (has-here (record { the = record { left = 0; places = A ∷ [] }; here = refl; left = refl }) refl))
 
 -- a row of leaves has no node, so none that is superfluous
@@ -111,14 +110,14 @@ nested-plain (super-beside h) = elim h [ ]
 
 -- 0 → 1, 1 → A: another nonterminal over the same bytes is plain
 abbrev pub chain : Cfg
-chain = grammar (0 ⇒ (N 1 ∷ []) ∷ 1 ⇒ (A ∷ []) ∷ [])
+chain = grammar (0 ⇒ (nonterminal 1 ∷ []) ∷ 1 ⇒ (A ∷ []) ∷ [])
 
 -- rule 1 of that grammar is one of 1 only
 chain-left : {k : ℕ} → Of chain 1 k → Of chain 0 k → ⊥
 unfolding joined
 chain-left o p =
     let here : some (record { left = 1; places = A ∷ [] }) ≡ some (o .the) = o .here in
-    let there : some (record { left = 0; places = N 1 ∷ [] }) ≡ some (p .the) = p .here in
+    let there : some (record { left = 0; places = nonterminal 1 ∷ [] }) ≡ some (p .the) = p .here in
     let a : o .the .left ≡ 1 = ap (λ (r : Rule). r .left) (sym (Option·some-injective _ _ here)) in
     let b : p .the .left ≡ 0 = ap (λ (r : Rule). r .left) (sym (Option·some-injective _ _ there)) in
     omega (arith, a, b, o .left, p .left)

@@ -25,56 +25,56 @@ use Rattle.choices.proofs.Stands.{end-stands}
 -- ---- no places, and a terminal
 
 -- nothing is after no nodes
-pub end-ends : {G : Cfg} {w : List ℕ} {cover set a j budget : ℕ} {f : Forest} → j ≤ length w → a ≤ j
-    → Row G w cover set [] a j budget f → Last (Row G w cover set [] a j budget) (code f)
-end-ends {G} {w} {cover} {set} {a} {j} {budget} known rising r =
-    subst (λ (d : List ℕ). Last (Row G w cover set [] a j budget) d) (sym (end-stands known rising r .1)) (end-last _)
+pub end-ends : {G : Cfg} {w : List ℕ} {cover mask a j budget : ℕ} {f : Forest} → j ≤ length w → a ≤ j
+    → Row G w cover mask [] a j budget f → Last (Row G w cover mask [] a j budget) (code f)
+end-ends {G} {w} {cover} {mask} {a} {j} {budget} known rising r =
+    subst (λ (d : List ℕ). Last (Row G w cover mask [] a j budget) d) (sym (end-stands known rising r .1)) (end-last _)
 
-module _ {G : Cfg} {w : List ℕ} {cover set : ℕ} {t : Terminal} {places : List Symbol} {a j budget c : ℕ} {f g : Forest}
-    (known : j ≤ length w) (o : OpenedLeaf G w cover set t places a j budget f c g) where
+module _ {G : Cfg} {w : List ℕ} {cover mask : ℕ} {t : Terminal} {places : List Symbol} {a j budget c : ℕ} {f g : Forest}
+    (known : j ≤ length w) (o : OpenedLeaf G w cover mask t places a j budget f c g) where
   at-next : c ≡ a + 1
   at-next = let e = o .next in omega arith
 
   -- the row behind the leaf moves
-  pub leaf-moves : {e : List ℕ} → After (Row G w cover set places c j budget) (code g) e
-      → After (Row G w cover set (terminal t ∷ places) a j budget) (code f) e
+  pub leaf-moves : {e : List ℕ} → After (Row G w cover mask places c j budget) (code g) e
+      → After (Row G w cover mask (terminal t ∷ places) a j budget) (code f) e
   leaf-moves {e} m =
       let h = o .more in
-      leaf-next G w cover set a j budget known places (omega arith) t h (o .fit)
-      (subst (λ (d : List ℕ). After (Row G w cover set places (a + 1) j budget) d e) (o .coded)
-      (subst (λ (y : ℕ). After (Row G w cover set places y j budget) (code g) e) at-next m))
+      leaf-next G w cover mask a j budget known places (omega arith) t h (o .fit)
+      (subst (λ (d : List ℕ). After (Row G w cover mask places (a + 1) j budget) d e) (o .coded)
+      (subst (λ (y : ℕ). After (Row G w cover mask places y j budget) (code g) e) at-next m))
 
   -- the row behind the leaf is last
-  pub leaf-ends : Last (Row G w cover set places c j budget) (code g)
-      → Last (Row G w cover set (terminal t ∷ places) a j budget) (code f)
+  pub leaf-ends : Last (Row G w cover mask places c j budget) (code g)
+      → Last (Row G w cover mask (terminal t ∷ places) a j budget) (code f)
   leaf-ends m =
       let h = o .more in
-      leaf-last G w cover set a j budget known places (omega arith) t h (o .fit)
-      (subst (λ (d : List ℕ). Last (Row G w cover set places (a + 1) j budget) d) (o .coded)
-      (subst (λ (y : ℕ). Last (Row G w cover set places y j budget) (code g)) at-next m))
+      leaf-last G w cover mask a j budget known places (omega arith) t h (o .fit)
+      (subst (λ (d : List ℕ). Last (Row G w cover mask places (a + 1) j budget) d) (o .coded)
+      (subst (λ (y : ℕ). Last (Row G w cover mask places y j budget) (code g)) at-next m))
 
 -- ---- a nonterminal, before the costs are known: the budget itself is what the child may have
 
-module _ {G : Cfg} {w : List ℕ} {cover set k : ℕ} {places : List Symbol} {a j budget b n : ℕ} {f x y : Forest} (known : j ≤ length w)
-    (o : OpenedRow G w cover set k places a j budget f b x y) (count : n ≡ nodes x) where
+module _ {G : Cfg} {w : List ℕ} {cover mask k : ℕ} {places : List Symbol} {a j budget b n : ℕ} {f x y : Forest} (known : j ≤ length w)
+    (o : OpenedRow G w cover mask k places a j budget f b x y) (count : n ≡ nodes x) where
   at-end : b ≡ a + (b - a)
   at-end = let h = o .rising in omega arith
 
-  child-coded : {share : ℕ} → nodes x ≤ share → Coded (Tree G w cover set k a (a + (b - a)) share) (code x)
+  child-coded : {share : ℕ} → nodes x ≤ share → Coded (Tree G w cover mask k a (a + (b - a)) share) (code x)
   child-coded {share} l = record {
     forest = x;
-    member = subst (λ (z : ℕ). Tree G w cover set k a z share x) at-end (row-budget G w (o .child) l);
+    member = subst (λ (z : ℕ). Tree G w cover mask k a z share x) at-end (row-budget G w (o .child) l);
     coded = refl;
   }
 
   -- the rest stands within what the child leaves
-  pub rest-stands : Row G w cover set places b j (budget - n) y
+  pub rest-stands : Row G w cover mask places b j (budget - n) y
   rest-stands = row-budget G w (o .others) (omega (arith, o .others .small))
 
-  others-coded : Coded (Row G w cover set places (a + (b - a)) j (budget - n)) (code y)
+  others-coded : Coded (Row G w cover mask places (a + (b - a)) j (budget - n)) (code y)
   others-coded = record {
     forest = y;
-    member = subst (λ (z : ℕ). Row G w cover set places z j (budget - n) y) at-end rest-stands;
+    member = subst (λ (z : ℕ). Row G w cover mask places z j (budget - n) y) at-end rest-stands;
     coded = refl;
   }
 
@@ -82,17 +82,17 @@ module _ {G : Cfg} {w : List ℕ} {cover set k : ℕ} {places : List Symbol} {a 
   child-size = omega (arith, length-code x)
 
   -- the rest moves
-  pub rest-moves : {e : List ℕ} → After (Row G w cover set places b j (budget - n)) (code y) e
-      → After (Row G w cover set (nonterminal k ∷ places) a j budget) (code f) (code x ++ e)
+  pub rest-moves : {e : List ℕ} → After (Row G w cover mask places b j (budget - n)) (code y) e
+      → After (Row G w cover mask (nonterminal k ∷ places) a j budget) (code f) (code x ++ e)
   rest-moves {e} m =
       let h = o .rising in
       let l = o .inside in
-      subst (λ (d : List ℕ). After (Row G w cover set (nonterminal k ∷ places) a j budget) d (code x ++ e)) (sym (o .coded))
-      (row-next-rest G w cover set a j budget known places (omega arith) k (b - a) budget n (omega arith) share
+      subst (λ (d : List ℕ). After (Row G w cover mask (nonterminal k ∷ places) a j budget) d (code x ++ e)) (sym (o .coded))
+      (row-next-rest G w cover mask a j budget known places (omega arith) k (b - a) budget n (omega arith) share
       (child-coded (o .child .small)) child-size others-coded
-      (subst (λ (z : ℕ). After (Row G w cover set places z j (budget - n)) (code y) e) at-end m))
+      (subst (λ (z : ℕ). After (Row G w cover mask places z j (budget - n)) (code y) e) at-end m))
     where
-      share : Share G w cover set k places a j budget (b - a) budget
+      share : Share G w cover mask k places a j budget (b - a) budget
       share = record { within = omega arith; enough = λ u v p q. p .small }
 
 -- ---- a nonterminal, where the costs are known

@@ -23,8 +23,8 @@ use Rattle.choices.proofs.Ties.{row→plain}
 
 -- ---- the rows of grammars with the same rules
 
-pub row-same : (G G' : Cfg) → SameRules G G' → {w : List ℕ} {cover set : ℕ} {places : List Symbol} {a b budget : ℕ} {t : Forest}
-    → Row G w cover set places a b budget t → Row G' w cover set places a b budget t
+pub row-same : (G G' : Cfg) → SameRules G G' → {w : List ℕ} {cover mask : ℕ} {places : List Symbol} {a b budget : ℕ} {t : Forest}
+    → Row G w cover mask places a b budget t → Row G' w cover mask places a b budget t
 row-same G G' same r = record {
   fit = fits-same-rules G G' same (r .fit);
   covers = r .covers;
@@ -41,11 +41,11 @@ free-same G G' same (R, F) = (
 )
 
 module _ (G G' : Cfg) (same : SameRules G G') where
-  pub first-same-rules : {w : List ℕ} {cover set : ℕ} {places : List Symbol} {a b budget : ℕ} {e : List ℕ}
-      → Min (Row G w cover set places a b budget) e → Min (Row G' w cover set places a b budget) e
-  first-same-rules {w} {cover} {set} {places} {a} {b} {budget} = prefixed-first into
+  pub first-same-rules : {w : List ℕ} {cover mask : ℕ} {places : List Symbol} {a b budget : ℕ} {e : List ℕ}
+      → Min (Row G w cover mask places a b budget) e → Min (Row G' w cover mask places a b budget) e
+  first-same-rules {w} {cover} {mask} {places} {a} {b} {budget} = prefixed-first into
     where
-      into : Prefixed [] (Row G w cover set places a b budget) (Row G' w cover set places a b budget)
+      into : Prefixed [] (Row G w cover mask places a b budget) (Row G' w cover mask places a b budget)
       into = record {
         up = λ t r. record { forest = t; member = row-same G G' same r; coded = refl };
         down = λ t r. (t, row-same G' G (same-sym G G' same) r, refl);

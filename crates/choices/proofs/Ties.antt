@@ -18,8 +18,8 @@ use Rattle.enumeration.specs.Rows.{Row, Tree}
 use Rattle.enumeration.specs.Order.{AtLeast}
 use Rattle.choices.specs.SpanCosts.{SpanCosts}
 
-module _ {G : Cfg} {w : List ℕ} {cover set : ℕ} {places : List Symbol} {a b budget : ℕ} {f : Forest} (known : b ≤ length w) where
-  pub row→plain : a ≤ b → Row G w cover set places a b budget f → PlainRow G (bytesOf w) set cover places a b f × (nodes f ≤ budget)
+module _ {G : Cfg} {w : List ℕ} {cover mask : ℕ} {places : List Symbol} {a b budget : ℕ} {f : Forest} (known : b ≤ length w) where
+  pub row→plain : a ≤ b → Row G w cover mask places a b budget f → PlainRow G (bytesOf w) mask cover places a b f × (nodes f ≤ budget)
   row→plain h r = (
     (
       (record { fitted = r .fit; reads = slice-reads w (yield f) h known (r .covers) }, record { none = r .free }),

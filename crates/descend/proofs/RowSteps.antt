@@ -110,8 +110,8 @@ module _ {p : List ℕ} {rules : ℕ} {fits chart tables full rows : List ℕ} {
 
   -- ---- a node and the places behind it
 
-  module _ {k b share set m n at : ℕ} {out₀ out₁ out : List ℕ} (s : SameSpan (j - i) mask (b - a) set)
-      (N : NodeFirst p rules fits chart tables k a b set share at out₀ out₁ m)
+  module _ {k b share own m n at : ℕ} {out₀ out₁ out : List ℕ} (s : SameSpan (j - i) mask (b - a) own)
+      (N : NodeFirst p rules fits chart tables k a b own share at out₀ out₁ m)
       (R : RowFirst p rules fits chart tables full rows r (q + 1) b i j mask (budget - m) (at + m) out₁ out n) where
     node-and-row : (w : List ℕ) → Below p rules fits chart tables full rows r i j mask w → q < countIn p r
         → EndChosen tables full k i a a j rows (side * (q + 1)) budget b → b ≤ j → share ≡ budget - getD rows (side * (q + 1) + b) 0
@@ -128,7 +128,7 @@ module _ {p : List ℕ} {rules : ℕ} {fits chart tables full rows : List ℕ} {
         let L = R .exact w B (omega arith) (omega arith) in
         first-join F L (R .kept) (λ u v M size Q. row-step (B .solved) m h y x (rests B c)
         (λ z α β. C .early .beyond z α β (omega arith)) s
-        (subst (λ (z : ℕ). Min (Tree (Packing p) w (b - a) set k a b z) u) e M) size Q)
+        (subst (λ (z : ℕ). Min (Tree (Packing p) w (b - a) own k a b z) u) e M) size Q)
 
     pub row-node : {t : Step} → Looked p r q tables full rows i a j budget t → t ≡ Node k b share
         → RowFirst p rules fits chart tables full rows r q a i j mask budget at out₀ out (m + n)

@@ -18,26 +18,26 @@ use Rattle.enumeration.proofs.Joined.{Split, Joined}
 use Rattle.enumeration.proofs.Rows.{row-budget}
 use Rattle.enumeration.proofs.Free.{join-plain, join-free, first-plain, first-free, beside-plain, beside-free}
 
-module _ (G : Cfg) (w : List ℕ) (cover set k : ℕ) (places : List Symbol) (from to budget : ℕ) where
+module _ (G : Cfg) (w : List ℕ) (cover mask k : ℕ) (places : List Symbol) (from to budget : ℕ) where
   -- a forest of the row cut behind its first node, which covers c bytes
   pub record Cut (c : ℕ) (t : Forest) : Type 0 where
     pub first : Forest
     pub rest : Forest
     pub inside : from + c ≤ to
-    pub child : Tree G w cover set k from (from + c) budget first
-    pub others : Row G w cover set places (from + c) to (budget - nodes first) rest
+    pub child : Tree G w cover mask k from (from + c) budget first
+    pub others : Row G w cover mask places (from + c) to (budget - nodes first) rest
     pub coded : code t ≡ code first ++ code rest
 
   -- the forests of the row whose first node covers c bytes
   abbrev pub Covering : ℕ → Forest → Type 0
-  Covering c t = Row G w cover set (nonterminal k ∷ places) from to budget t × (firstCover t ≡ c)
+  Covering c t = Row G w cover mask (nonterminal k ∷ places) from to budget t × (firstCover t ≡ c)
 
   module _ (known : to ≤ length w) where
-    pub row-cut : from ≤ to → (t : Forest) → Row G w cover set (nonterminal k ∷ places) from to budget t → Cut (firstCover t) t
+    pub row-cut : from ≤ to → (t : Forest) → Row G w cover mask (nonterminal k ∷ places) from to budget t → Cut (firstCover t) t
     unfolding yield nodes code firstCover
     row-cut rising t a = go (a .fit) (a .covers) (a .plain) (a .free) (a .small)
       where
-        go : {t : Forest} → Fits G (nonterminal k ∷ places) t → yield t ≡ slice from to w → ¬ Superfluous G t → Free G cover set t
+        go : {t : Forest} → Fits G (nonterminal k ∷ places) t → yield t ≡ slice from to w → ¬ Superfluous G t → Free G cover mask t
             → nodes t ≤ budget → Cut (firstCover t) t
         go (fits-node {r = r} {below = below} {rest = rest} o f g) c s z n =
             let x = slice-split from to w rising known (yield below) (yield rest) c in
@@ -49,25 +49,25 @@ module _ (G : Cfg) (w : List ℕ) (cover set k : ℕ) (places : List Symbol) (fr
                 fit = fits-node o f fits-end;
                 covers = append-nil (yield below) ∙ x .1;
                 plain = first-plain G r below rest s;
-                free = first-free G r below rest cover set z;
+                free = first-free G r below rest cover mask z;
                 small = omega arith;
               };
               others = record {
                 fit = g;
                 covers = x .2;
                 plain = beside-plain G r below rest s;
-                free = beside-free G r below rest cover set z;
+                free = beside-free G r below rest cover mask z;
                 small = omega arith;
               };
               coded = ap (λ (l : List ℕ). length (yield below) ∷ r ∷ (l ++ code rest)) (sym (append-nil (code below)));
             }
 
-    pub row-join : (c : ℕ) → from + c ≤ to → (x y : Forest) → Tree G w cover set k from (from + c) budget x
-        → Row G w cover set places (from + c) to (budget - nodes x) y → Coded (Covering c) (code x ++ code y)
+    pub row-join : (c : ℕ) → from + c ≤ to → (x y : Forest) → Tree G w cover mask k from (from + c) budget x
+        → Row G w cover mask places (from + c) to (budget - nodes x) y → Coded (Covering c) (code x ++ code y)
     unfolding yield nodes code firstCover
     row-join c l x y a b = go (a .fit) (a .covers) (a .plain) (a .free) (a .small) (b .small)
       where
-        go : {x : Forest} → Fits G (nonterminal k ∷ []) x → yield x ≡ slice from (from + c) w → ¬ Superfluous G x → Free G cover set x
+        go : {x : Forest} → Fits G (nonterminal k ∷ []) x → yield x ≡ slice from (from + c) w → ¬ Superfluous G x → Free G cover mask x
             → nodes x ≤ budget → nodes y ≤ budget - nodes x → Coded (Covering c) (code x ++ code y)
         go (fits-node {r = r} {below = below} o f fits-end) u s z n m =
             let v : yield below ≡ slice from (from + c) w = sym (append-nil (yield below)) ∙ u in
@@ -78,7 +78,7 @@ module _ (G : Cfg) (w : List ℕ) (cover set k : ℕ) (places : List Symbol) (fr
                   fit = fits-node o f (b .fit);
                   covers = ap₂ _++_ v (b .covers) ∙ slice-append from (from + c) to w (omega arith) l known;
                   plain = join-plain G r below y s (b .plain);
-                  free = join-free G r below y cover set z (b .free);
+                  free = join-free G r below y cover mask z (b .free);
                   small = omega arith;
                 },
                 omega (arith, ap length v, length-slice from (from + c) w (omega arith)),
@@ -90,12 +90,12 @@ module _ (G : Cfg) (w : List ℕ) (cover set k : ℕ) (places : List Symbol) (fr
       pub covering-cut : (c : ℕ) (t : Forest) → Covering c t → Cut c t
       covering-cut c t a = subst (λ (x : ℕ). Cut x t) (a .1) (row-cut rising t (a .0))
 
-      pub skipped-none : (c : ℕ) → (from + c ≤ to → Skipped G w cover set k places from to budget c) → None (Covering c)
+      pub skipped-none : (c : ℕ) → (from + c ≤ to → Skipped G w cover mask k places from to budget c) → None (Covering c)
       skipped-none c n t a =
           let x = covering-cut c t a in
           n (x .inside) (x .first) (x .rest) (x .child) (x .others)
 
-      pub row-layered : Layered (Row G w cover set (nonterminal k ∷ places) from to budget) Covering
+      pub row-layered : Layered (Row G w cover mask (nonterminal k ∷ places) from to budget) Covering
       unfolding code firstCover
       row-layered = record {
         into = λ c t a. a .0;
@@ -110,11 +110,11 @@ module _ (G : Cfg) (w : List ℕ) (cover set k : ℕ) (places : List Symbol) (fr
               first-less z
 
     -- `share` is what the first node may cost
-    pub row-joined : (rising : from ≤ to) (c share : ℕ) → from + c ≤ to → Share G w cover set k places from to budget c share
-        → Joined (Tree G w cover set k from (from + c) share) (λ n. Row G w cover set places (from + c) to (budget - n)) (Covering c)
+    pub row-joined : (rising : from ≤ to) (c share : ℕ) → from + c ≤ to → Share G w cover mask k places from to budget c share
+        → Joined (Tree G w cover mask k from (from + c) share) (λ n. Row G w cover mask places (from + c) to (budget - n)) (Covering c)
     row-joined rising c share l b = record { join = join; split = split; ordered = ordered }
       where
-        join : (x y : Forest) → Tree G w cover set k from (from + c) share x → Row G w cover set places (from + c) to (budget - nodes x) y
+        join : (x y : Forest) → Tree G w cover mask k from (from + c) share x → Row G w cover mask places (from + c) to (budget - nodes x) y
             → Coded (Covering c) (code x ++ code y)
         join x y p q =
             let i = b .within in
@@ -122,7 +122,7 @@ module _ (G : Cfg) (w : List ℕ) (cover set k : ℕ) (places : List Symbol) (fr
             row-join c l x y (row-budget G w p (omega arith)) q
 
         split : (t : Forest) → Covering c t
-            → Split (Tree G w cover set k from (from + c) share) (λ n. Row G w cover set places (from + c) to (budget - n)) (code t)
+            → Split (Tree G w cover mask k from (from + c) share) (λ n. Row G w cover mask places (from + c) to (budget - n)) (code t)
         split t a =
             let x = covering-cut rising c t a in
             record {
@@ -133,6 +133,6 @@ module _ (G : Cfg) (w : List ℕ) (cover set k : ℕ) (places : List Symbol) (fr
               coded = x .coded;
             }
 
-        ordered : (x u : Forest) → Tree G w cover set k from (from + c) share x
-            → Tree G w cover set k from (from + c) share u → Ordered x u
+        ordered : (x u : Forest) → Tree G w cover mask k from (from + c) share x
+            → Tree G w cover mask k from (from + c) share u → Ordered x u
         ordered x u p q = forests-compared G (p .fit) (q .fit) (p .covers ∙ sym (q .covers))

@@ -1,5 +1,5 @@
--- Superfluous recursion, and being free of a set, for a row from those of its parts and back: a leaf before a row, a node before a row, a
--- node and the row below it. No node covers more than the row that it stands in, so a narrow row is free of every set. Assumes nothing.
+-- Superfluous recursion, and being free of a mask, for a row from those of its parts and back: a leaf before a row, a node before a row, a
+-- node and the row below it. No node covers more than the row that it stands in, so a narrow row is free of every mask. Assumes nothing.
 use Prim.Native.Nat.{ℕ, _≤_, _<_}
 use mathlib.Core.Bool.{Bool, true, false, true≢false}
 use mathlib.Core.Path.{_≡_, refl, sym, ap, subst, _∙_}
@@ -23,9 +23,9 @@ has-within (has-beside {below = below} {rest} h) = omega (arith, has-within h, l
 has-within (has-after h) = omega (arith, has-within h)
 
 module _ (G : Cfg) where
-  -- a forest over fewer bytes is free of every set
-  pub free-narrow : (cover set : ℕ) (t : Forest) → length (yield t) < cover → Free G cover set t
-  free-narrow cover set t l k h i = absurd (omega (arith, has-within i))
+  -- a forest over fewer bytes is free of every mask
+  pub free-narrow : (cover mask : ℕ) (t : Forest) → length (yield t) < cover → Free G cover mask t
+  free-narrow cover mask t l k h i = absurd (omega (arith, has-within i))
 
   pub free-empty : (cover : ℕ) (t : Forest) → Free G cover 0 t
   free-empty cover t k h = absurd (true≢false (sym h ∙ has-empty k))
@@ -35,21 +35,21 @@ module _ (G : Cfg) where
   pub end-plain : Superfluous G end → ⊥
   end-plain = elim [ ]
 
-  pub end-free : (cover set : ℕ) → Free G cover set end
-  end-free cover set k h = elim [ ]
+  pub end-free : (cover mask : ℕ) → Free G cover mask end
+  end-free cover mask k h = elim [ ]
 
   module _ (m : ℕ) (rest : Forest) where
     pub leaf-plain : ¬ Superfluous G rest → ¬ Superfluous G (leaf m rest)
     leaf-plain s (super-after i) = s i
 
-    pub leaf-free : (cover set : ℕ) → Free G cover set rest → Free G cover set (leaf m rest)
-    leaf-free cover set f k h (has-after i) = f k h i
+    pub leaf-free : (cover mask : ℕ) → Free G cover mask rest → Free G cover mask (leaf m rest)
+    leaf-free cover mask f k h (has-after i) = f k h i
 
     pub after-plain : ¬ Superfluous G (leaf m rest) → ¬ Superfluous G rest
     after-plain s i = s (super-after i)
 
-    pub after-free : (cover set : ℕ) → Free G cover set (leaf m rest) → Free G cover set rest
-    after-free cover set f k h i = f k h (has-after i)
+    pub after-free : (cover mask : ℕ) → Free G cover mask (leaf m rest) → Free G cover mask rest
+    after-free cover mask f k h i = f k h (has-after i)
 
   -- ---- a node alone, and before a row
 
@@ -59,56 +59,56 @@ module _ (G : Cfg) where
     join-plain s t (super-below i) = s (super-below i)
     join-plain s t (super-beside i) = t i
 
-    pub join-free : (cover set : ℕ) → Free G cover set (node r below end) → Free G cover set rest → Free G cover set (node r below rest)
-    join-free cover set f g k h (has-here o e) = f k h (has-here o e)
-    join-free cover set f g k h (has-below i) = f k h (has-below i)
-    join-free cover set f g k h (has-beside i) = g k h i
+    pub join-free : (cover mask : ℕ) → Free G cover mask (node r below end) → Free G cover mask rest → Free G cover mask (node r below rest)
+    join-free cover mask f g k h (has-here o e) = f k h (has-here o e)
+    join-free cover mask f g k h (has-below i) = f k h (has-below i)
+    join-free cover mask f g k h (has-beside i) = g k h i
 
     pub first-plain : ¬ Superfluous G (node r below rest) → ¬ Superfluous G (node r below end)
     first-plain s (super-here o i) = s (super-here o i)
     first-plain s (super-below i) = s (super-below i)
     first-plain s (super-beside i) = end-plain i
 
-    pub first-free : (cover set : ℕ) → Free G cover set (node r below rest) → Free G cover set (node r below end)
-    first-free cover set f k h (has-here o e) = f k h (has-here o e)
-    first-free cover set f k h (has-below i) = f k h (has-below i)
-    first-free cover set f k h (has-beside i) = end-free cover set k h i
+    pub first-free : (cover mask : ℕ) → Free G cover mask (node r below rest) → Free G cover mask (node r below end)
+    first-free cover mask f k h (has-here o e) = f k h (has-here o e)
+    first-free cover mask f k h (has-below i) = f k h (has-below i)
+    first-free cover mask f k h (has-beside i) = end-free cover mask k h i
 
     pub beside-plain : ¬ Superfluous G (node r below rest) → ¬ Superfluous G rest
     beside-plain s i = s (super-beside i)
 
-    pub beside-free : (cover set : ℕ) → Free G cover set (node r below rest) → Free G cover set rest
-    beside-free cover set f k h i = f k h (has-beside i)
+    pub beside-free : (cover mask : ℕ) → Free G cover mask (node r below rest) → Free G cover mask rest
+    beside-free cover mask f k h i = f k h (has-beside i)
 
--- ---- a node over c bytes and the row below it: below it the node's own nonterminal k is one more of the set
+-- ---- a node over c bytes and the row below it: below it the node's own nonterminal k is one more of the mask
 
-module _ (G : Cfg) (c set k r : ℕ) (o : Of G r k) (below : Forest) (size : length (yield below) ≡ c) where
-  pub node-plain : ¬ Superfluous G below → Free G c (insert k set) below → ¬ Superfluous G (node r below end)
+module _ (G : Cfg) (c mask k r : ℕ) (o : Of G r k) (below : Forest) (size : length (yield below) ≡ c) where
+  pub node-plain : ¬ Superfluous G below → Free G c (insert k mask) below → ¬ Superfluous G (node r below end)
   node-plain s f (super-here {k = j} p i) =
-      f k (has-insert-same k set) (subst (λ (x : ℕ). Has G x c below) (of-same-left p o) (subst (λ (x : ℕ). Has G j x below) size i))
+      f k (has-insert-same k mask) (subst (λ (x : ℕ). Has G x c below) (of-same-left p o) (subst (λ (x : ℕ). Has G j x below) size i))
   node-plain s f (super-below i) = s i
   node-plain s f (super-beside i) = end-plain G i
 
-  pub node-free : has k set ≡ false → Free G c (insert k set) below → Free G c set (node r below end)
-  node-free fresh f j h (has-here p e) = true≢false (sym (ap (λ (x : ℕ). has x set) (of-same-left o p) ∙ h) ∙ fresh)
-  node-free fresh f j h (has-below i) = f j (has-insert j k set h) i
-  node-free fresh f j h (has-beside i) = end-free G c set j h i
+  pub node-free : has k mask ≡ false → Free G c (insert k mask) below → Free G c mask (node r below end)
+  node-free fresh f j h (has-here p e) = true≢false (sym (ap (λ (x : ℕ). has x mask) (of-same-left o p) ∙ h) ∙ fresh)
+  node-free fresh f j h (has-below i) = f j (has-insert j k mask h) i
+  node-free fresh f j h (has-beside i) = end-free G c mask j h i
 
   pub below-plain : ¬ Superfluous G (node r below end) → ¬ Superfluous G below
   below-plain s i = s (super-below i)
 
-  pub node-fresh : Free G c set (node r below end) → has k set ≡ false
-  node-fresh f = go (has k set) refl
+  pub node-fresh : Free G c mask (node r below end) → has k mask ≡ false
+  node-fresh f = go (has k mask) refl
     where
-      go : (b : Bool) → has k set ≡ b → has k set ≡ false
+      go : (b : Bool) → has k mask ≡ b → has k mask ≡ false
       go true h = absurd (f k h (has-here o size))
       go false h = h
 
-  pub below-free : ¬ Superfluous G (node r below end) → Free G c set (node r below end) → Free G c (insert k set) below
+  pub below-free : ¬ Superfluous G (node r below end) → Free G c mask (node r below end) → Free G c (insert k mask) below
   below-free s f j h i = go (ℕ-discrete j k)
     where
       go : Dec (j ≡ k) → ⊥
       go (yes e) =
           let h : Has G j (length (yield below)) below = subst (λ (x : ℕ). Has G j x below) (sym size) i in
           s (super-here o (subst (λ (x : ℕ). Has G x (length (yield below)) below) e h))
-      go (no d) = f j (sym (has-insert-other j k set d) ∙ h) (has-below i)
+      go (no d) = f j (sym (has-insert-other j k mask d) ∙ h) (has-below i)

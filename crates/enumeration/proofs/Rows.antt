@@ -1,4 +1,4 @@
--- Rows of no places, and of a terminal and a row; what matters of the set for a row over fewer bytes; and that a row can be shrunk.
+-- Rows of no places, and of a terminal and a row; what matters of the mask for a row over fewer bytes; and that a row can be shrunk.
 -- Assumes nothing.
 use Prim.Native.Nat.{ℕ, suc, _+_, _-_, _≤_, _<_}
 use mathlib.Core.Bool.{true}
@@ -18,28 +18,28 @@ use Rattle.enumeration.proofs.Free.{free-narrow, free-empty, end-plain,
 
 module _ (G : Cfg) (w : List ℕ) where
   -- a row over a span has as many bytes
-  pub row-length : {cover set from to budget : ℕ} {places : List Symbol} {t : Forest} → to ≤ length w
-      → Row G w cover set places from to budget t → length (yield t) ≡ to - from
+  pub row-length : {cover mask from to budget : ℕ} {places : List Symbol} {t : Forest} → to ≤ length w
+      → Row G w cover mask places from to budget t → length (yield t) ≡ to - from
   row-length {from = from} {to} l r = ap length (r .covers) ∙ length-slice from to w l
 
   -- another budget that the forest keeps
-  pub row-budget : {cover set from to budget other : ℕ} {places : List Symbol} {t : Forest} → Row G w cover set places from to budget t
-      → nodes t ≤ other → Row G w cover set places from to other t
+  pub row-budget : {cover mask from to budget other : ℕ} {places : List Symbol} {t : Forest} → Row G w cover mask places from to budget t
+      → nodes t ≤ other → Row G w cover mask places from to other t
   row-budget r l = record { fit = r .fit; covers = r .covers; plain = r .plain; free = r .free; small = l }
 
-  -- ---- what matters of the set for a row over c bytes
+  -- ---- what matters of the mask for a row over c bytes
 
-  module _ {cover set c own from to budget : ℕ} {places : List Symbol} (s : SameSpan cover set c own) (narrow : c ≤ cover)
+  module _ {cover mask c own from to budget : ℕ} {places : List Symbol} (s : SameSpan cover mask c own) (narrow : c ≤ cover)
       (size : from + c ≡ to) (known : to ≤ length w) where
-    pub row-wider : (t : Forest) → Row G w c own places from to budget t → Row G w cover set places from to budget t
+    pub row-wider : (t : Forest) → Row G w c own places from to budget t → Row G w cover mask places from to budget t
     row-wider t r =
         record { fit = r .fit; covers = r .covers; plain = r .plain; free = go (ℕ-discrete c cover); small = r .small }
       where
-        go : Dec (c ≡ cover) → Free G cover set t
-        go (yes x) = subst (λ (n : ℕ). Free G n set t) x (subst (λ (n : ℕ). Free G c n t) (s .same x) (r .free))
-        go (no d) = free-narrow G cover set t (omega (arith, row-length known r))
+        go : Dec (c ≡ cover) → Free G cover mask t
+        go (yes x) = subst (λ (n : ℕ). Free G n mask t) x (subst (λ (n : ℕ). Free G c n t) (s .same x) (r .free))
+        go (no d) = free-narrow G cover mask t (omega (arith, row-length known r))
 
-    pub row-narrower : (t : Forest) → Row G w cover set places from to budget t → Row G w c own places from to budget t
+    pub row-narrower : (t : Forest) → Row G w cover mask places from to budget t → Row G w c own places from to budget t
     row-narrower t r =
         record { fit = r .fit; covers = r .covers; plain = r .plain; free = go (ℕ-discrete c cover); small = r .small }
       where
@@ -47,26 +47,26 @@ module _ (G : Cfg) (w : List ℕ) where
         go (yes x) = subst (λ (n : ℕ). Free G n own t) (sym x) (subst (λ (n : ℕ). Free G cover n t) (sym (s .same x)) (r .free))
         go (no d) = subst (λ (n : ℕ). Free G c n t) (sym (s .other d)) (free-empty G c t)
 
-    pub row-own : Prefixed [] (Row G w c own places from to budget) (Row G w cover set places from to budget)
+    pub row-own : Prefixed [] (Row G w c own places from to budget) (Row G w cover mask places from to budget)
     row-own = record {
       up = λ t r. record { forest = t; member = row-wider t r; coded = refl };
       down = λ t r. (t, row-narrower t r, refl);
     }
 
-  module _ (cover set from to budget : ℕ) where
+  module _ (cover mask from to budget : ℕ) where
     -- ---- no places
 
-    pub row-end : from ≡ to → Row G w cover set [] from to budget end
+    pub row-end : from ≡ to → Row G w cover mask [] from to budget end
     unfolding yield nodes
     row-end e = record {
       fit = fits-end;
       covers = sym (ap (λ (x : ℕ). slice from x w) (sym e) ∙ slice-empty from w);
       plain = end-plain G;
-      free = end-free G cover set;
+      free = end-free G cover mask;
       small = omega arith;
     }
 
-    pub end-row : (t : Forest) → from ≤ to → to ≤ length w → Row G w cover set [] from to budget t → (from ≡ to) × (t ≡ end)
+    pub end-row : (t : Forest) → from ≤ to → to ≤ length w → Row G w cover mask [] from to budget t → (from ≡ to) × (t ≡ end)
     unfolding yield
     end-row t h l r = go t (r .fit) (r .covers)
       where
@@ -77,8 +77,8 @@ module _ (G : Cfg) (w : List ℕ) where
       -- ---- a terminal
 
       pub row-leaf : (t : Terminal) (u : Forest) → from < to → fits t (getD w from 0) ≡ true
-          → Row G w cover set places (from + 1) to budget u
-          → Row G w cover set (terminal t ∷ places) from to budget (leaf (getD w from 0) u)
+          → Row G w cover mask places (from + 1) to budget u
+          → Row G w cover mask (terminal t ∷ places) from to budget (leaf (getD w from 0) u)
       unfolding yield nodes
       row-leaf t u h f r =
           let i : from + 1 ≡ suc from = omega arith in
@@ -87,7 +87,7 @@ module _ (G : Cfg) (w : List ℕ) where
             covers =
                 ap (λ (l : List ℕ). getD w from 0 ∷ l) (r .covers ∙ ap (λ (x : ℕ). slice x to w) i) ∙ sym (slice-cons from to w 0 h known);
             plain = leaf-plain G (getD w from 0) u (r .plain);
-            free = leaf-free G (getD w from 0) u cover set (r .free);
+            free = leaf-free G (getD w from 0) u cover mask (r .free);
             small = r .small;
           }
 
@@ -96,14 +96,14 @@ module _ (G : Cfg) (w : List ℕ) where
         pub more : from < to
         pub fit : fits t (getD w from 0) ≡ true
         pub rest : Forest
-        pub row : Row G w cover set places (from + 1) to budget rest
+        pub row : Row G w cover mask places (from + 1) to budget rest
         pub coded : e ≡ code rest
 
-      pub leaf-row : (t : Terminal) (v : Forest) → Row G w cover set (terminal t ∷ places) from to budget v → Eaten t (code v)
+      pub leaf-row : (t : Terminal) (v : Forest) → Row G w cover mask (terminal t ∷ places) from to budget v → Eaten t (code v)
       unfolding yield nodes code
       leaf-row t v r = go (r .fit) (r .covers) (r .plain) (r .free) (r .small)
         where
-          go : {v : Forest} → Fits G (terminal t ∷ places) v → yield v ≡ slice from to w → ¬ Superfluous G v → Free G cover set v
+          go : {v : Forest} → Fits G (terminal t ∷ places) v → yield v ≡ slice from to w → ¬ Superfluous G v → Free G cover mask v
               → nodes v ≤ budget → Eaten t (code v)
           go (fits-leaf {m = m} {rest = rest} f g) c s z n =
               let x = slice-head from to w rising known m (yield rest) c in
@@ -116,14 +116,14 @@ module _ (G : Cfg) (w : List ℕ) where
                   fit = g;
                   covers = x .2 ∙ ap (λ (y : ℕ). slice y to w) i;
                   plain = after-plain G m rest s;
-                  free = after-free G m rest cover set z;
+                  free = after-free G m rest cover mask z;
                   small = n;
                 };
                 coded = refl;
               }
 
       pub leaf-prefixed : (t : Terminal) → from < to → fits t (getD w from 0) ≡ true
-          → Prefixed [] (Row G w cover set places (from + 1) to budget) (Row G w cover set (terminal t ∷ places) from to budget)
+          → Prefixed [] (Row G w cover mask places (from + 1) to budget) (Row G w cover mask (terminal t ∷ places) from to budget)
       unfolding code
       leaf-prefixed t h f = record {
         up = λ u r. record { forest = leaf (getD w from 0) u; member = row-leaf t u h f r; coded = refl };

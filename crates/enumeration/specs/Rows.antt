@@ -12,25 +12,25 @@ use Rattle.cfg.specs.Grammar.{Cfg, Symbol, nonterminal, Of}
 use Rattle.cfg.specs.Tree.{Forest, end, leaf, node, yield, nodes, Fits}
 use Rattle.cfg.specs.Derivation.{Has, Superfluous}
 
--- no node of the forest has a nonterminal of the set over that many bytes
+-- no node of the forest has a nonterminal of the mask over that many bytes
 abbrev pub Free : Cfg → ℕ → ℕ → Forest → Type 0
-Free G cover set t = (k : ℕ) → has k set ≡ true → Has G k cover t → ⊥
+Free G cover mask t = (k : ℕ) → has k mask ≡ true → Has G k cover t → ⊥
 
--- t fits the places over the span, has no superfluous recursion and at most `budget` nodes, and is free of the set over `cover` bytes
-pub record Row (G : Cfg) (w : List ℕ) (cover set : ℕ) (places : List Symbol) (from to budget : ℕ) (t : Forest) : Type 0 where
+-- t fits the places over the span, has no superfluous recursion and at most `budget` nodes, and is free of the mask over `cover` bytes
+pub record Row (G : Cfg) (w : List ℕ) (cover mask : ℕ) (places : List Symbol) (from to budget : ℕ) (t : Forest) : Type 0 where
   pub fit : Fits G places t
   pub covers : yield t ≡ slice from to w
   pub plain : ¬ Superfluous G t
-  pub free : Free G cover set t
+  pub free : Free G cover mask t
   pub small : nodes t ≤ budget
 
 -- the same for one node of the nonterminal k
 abbrev pub Tree : Cfg → List ℕ → ℕ → ℕ → ℕ → ℕ → ℕ → ℕ → Forest → Type 0
-Tree G w cover set k from to budget = Row G w cover set (nonterminal k ∷ []) from to budget
+Tree G w cover mask k from to budget = Row G w cover mask (nonterminal k ∷ []) from to budget
 
 -- the rows below a node of rule r, a rule of k, over c bytes: one node less may be spent, and k too may not stand over c bytes
 abbrev pub Below : (G : Cfg) → List ℕ → ℕ → ℕ → (k : ℕ) → ℕ → ℕ → ℕ → {r : ℕ} → Of G r k → Forest → Type 0
-Below G w c set k from to budget o = Row G w c (insert k set) (o .the .places) from to (budget - 1)
+Below G w c mask k from to budget o = Row G w c (insert k mask) (o .the .places) from to (budget - 1)
 
 -- the trees of the derivations of w
 abbrev pub Root : Cfg → ℕ → List ℕ → Forest → Type 0
@@ -50,16 +50,16 @@ firstRule (node r below rest) = r
 
 -- no row of k and the places within the budget begins with a node over c bytes
 abbrev pub Skipped : Cfg → List ℕ → ℕ → ℕ → ℕ → List Symbol → ℕ → ℕ → ℕ → ℕ → Type 0
-Skipped G w cover set k places from to budget c = (x y : Forest) → Tree G w cover set k from (from + c) budget x
-    → Row G w cover set places (from + c) to (budget - nodes x) y → ⊥
+Skipped G w cover mask k places from to budget c = (x y : Forest) → Tree G w cover mask k from (from + c) budget x
+    → Row G w cover mask places (from + c) to (budget - nodes x) y → ⊥
 
 -- what the first node over c bytes may cost: the share is within the budget, and each node that some rest completes keeps it
-pub record Share (G : Cfg) (w : List ℕ) (cover set k : ℕ) (places : List Symbol) (from to budget c share : ℕ) : Type 0 where
+pub record Share (G : Cfg) (w : List ℕ) (cover mask k : ℕ) (places : List Symbol) (from to budget c share : ℕ) : Type 0 where
   pub within : share ≤ budget
-  pub enough : (x y : Forest) → Tree G w cover set k from (from + c) budget x → Row G w cover set places (from + c) to (budget - nodes x) y
-      → nodes x ≤ share
+  pub enough : (x y : Forest) → Tree G w cover mask k from (from + c) budget x
+      → Row G w cover mask places (from + c) to (budget - nodes x) y → nodes x ≤ share
 
--- own is what matters of the set over `cover` bytes for a node over c bytes: all of it where the bytes are the same, else nothing
-pub record SameSpan (cover set c own : ℕ) : Type 0 where
-  pub same : c ≡ cover → own ≡ set
+-- own is what matters of the mask over `cover` bytes for a node over c bytes: all of it where the bytes are the same, else nothing
+pub record SameSpan (cover mask c own : ℕ) : Type 0 where
+  pub same : c ≡ cover → own ≡ mask
   pub other : c ≢ cover → own ≡ empty

@@ -6,8 +6,7 @@ use mathlib.Core.List.{List}
 use mathlib.Core.Path.{_≡_, refl, _∙_}
 use lib.Dec.{eqb, ltb}
 use lib.IntN.{ℤ, pos, negℤ}
-use lib.ListN.{getD, set, replicate, length-set}
-use lib.ListN as ListN
+use lib.ListN.{length, getD, set, replicate, length-set}
 use lib.Signed.{mag}
 use borrow.Author.Tests.{ltb-true, ltb-false}
 use Rattle.rows.specs.Fits.{DeclaredRule, Fits16}
@@ -32,7 +31,7 @@ record SmallRule (ρ : Rule) : Type 0 where
 record Small (g : Grammar) : Type 0 where
   pub start : g .start < 256
   pub count : g .count ≤ 128
-  pub rules : ListN.length (g .rules) ≡ 128
+  pub rules : length (g .rules) ≡ 128
   pub each : (r : ℕ) → r < 128 → SmallRule (getD (g .rules) r noRule)
 
 small-fits : (g : Grammar) (d : ℕ) → Small g → d < 256
@@ -49,7 +48,7 @@ opened-small : (k : ℕ) (z : ℤ) → k < 256 → mag z < 32768
 opened-small k z h m = record {
   declared = record {
     left = h;
-    length = m;
+    magnitude = m;
     places = refl;
     values = replicate-each (λ p. valueOf (p .symbol) < 256) zeroPlace zeroPlace 8 (omega arith);
   };
@@ -112,7 +111,7 @@ module _ (g : Grammar) (S : Small g) where
       placed R = record {
         declared = record {
           left = R .declared .left;
-          length = R .declared .length;
+          magnitude = R .declared .magnitude;
           places = length-set (ρ .places) (ρ .count) _ ∙ R .declared .places;
           values =
               set-each (λ (p : Place). valueOf (p .symbol) < 256) zeroPlace 8 (ρ .places) (ρ .count)
@@ -177,4 +176,4 @@ module _ (bytes : List ℕ) (small : (i : ℕ) → getD bytes i 0 < 256) where
 
   pub load-fits : (d : ℕ) → d < 256 → Fits16 (loadOf bytes d .grammar)
   unfolding loadOf
-  load-fits d h = run-fits d (ListN.length bytes) 0 zeroGrammar h zero-small
+  load-fits d h = run-fits d (length bytes) 0 zeroGrammar h zero-small

@@ -12,7 +12,7 @@ use Rattle.grammar.specs.declared.Place.{Place}
 use Rattle.grammar.specs.declared.Rule.{Rule}
 use Rattle.grammar.specs.declared.Grammar.{Grammar}
 use Rattle.grammar.specs.Tagged.{tagOf, valueOf}
-use Rattle.numbers.specs.Numbers.{countOf, unsignedOf}
+use Rattle.numbers.specs.Numbers.{saturated, unsignedOf}
 use Rattle.rows.specs.Flat.{flatPlace, flatRule, flatOf, flatSize, ruleNumbers}
 use Rattle.rows.proofs.Records.{put-two, put-three, flat-step}
 
@@ -58,7 +58,7 @@ place-done p at f t v h n et ev =
 module _ (ρ : Rule) (at : ℕ) (low : at + ruleNumbers ≤ flatSize) where
   -- the whole rule
   pub rule-done : (f₀ f : List ℕ) (u k q : ℕ) → length f₀ ≡ flatSize → length (ρ .places) ≡ 8 → SFits w16 (ρ .length) → q ≤ 8 → 8 ≤ q
-      → u ≡ unsignedOf (toZ w16 (ofZ w16 (ρ .length))) → k ≡ countOf (ρ .count)
+      → u ≡ unsignedOf (toZ w16 (ofZ w16 (ρ .length))) → k ≡ saturated (ρ .count)
       → Written flatPlace 2 (at + 3) (ρ .places) (set (set (set f₀ at (ρ .left)) (at + 1) u) (at + 2) k) q f
       → take (at + ruleNumbers) f ≡ take at f₀ ++ flatRule ρ
   unfolding flatRule
@@ -68,12 +68,12 @@ module _ (ρ : Rule) (at : ℕ) (low : at + ruleNumbers ≤ flatSize) where
       ∙ ap (λ (x : List ℕ). x ++ flatMap flatPlace (ρ .places))
       (put-three f₀ at (at + 1) (at + 2) (at + 3) (ρ .left) u k (omega arith) (omega arith) (omega arith) (omega arith)
       ∙ λ i. take at f₀ ++ (ρ .left ∷ e i ∷ ek i ∷ []))
-      ∙ append-assoc (take at f₀) (ρ .left ∷ unsignedOf (ρ .length) ∷ countOf (ρ .count) ∷ []) (flatMap flatPlace (ρ .places))
+      ∙ append-assoc (take at f₀) (ρ .left ∷ unsignedOf (ρ .length) ∷ saturated (ρ .count) ∷ []) (flatMap flatPlace (ρ .places))
 
 -- ---- a grammar
 
 pub grammar-done : (g : Grammar) (f₀ f : List ℕ) (k r : ℕ) → length f₀ ≡ flatSize → length (g .rules) ≡ 128 → r ≤ 128 → 128 ≤ r
-    → k ≡ countOf (g .count)
+    → k ≡ saturated (g .count)
     → Written flatRule ruleNumbers 3 (g .rules) (set (set (set f₀ 0 (g .start)) 1 k) 2 (g .depth)) r f
     → f ≡ flatOf g
 unfolding flatOf

@@ -32,7 +32,7 @@ pub fn write_rule(rule: Rule, at: usize, f: &mut Flat)
     f[at] = rule.left as u16;
     let z = rule.length;
     f[at + 1] = numbers::unsigned(z);
-    f[at + 2] = numbers::count_of(rule.count);
+    f[at + 2] = numbers::saturate(rule.count);
     let mut q = 0;
     while q < sizes::MAX_PLACES {
         let place = rule.places[q];
@@ -47,7 +47,7 @@ pub fn write(g: Grammar, f: &mut Flat)
 {
     *f = [0u16; FLAT_SIZE];
     f[0] = g.start as u16;
-    f[1] = numbers::count_of(g.count);
+    f[1] = numbers::saturate(g.count);
     f[2] = g.depth as u16;
     let mut r = 0;
     while r < sizes::MAX_RULES {

@@ -8,7 +8,7 @@ use lib.ListN.{length, getD, take, set, length-set, length-map, List·getD-map}
 use lib.Seq.{take-suc, take-suc-set, take-all}
 use Rattle.sizes.specs.Sizes.{maxInput}
 use Rattle.results.specs.Recognize.{State}
-use Rattle.numbers.specs.Numbers.{byteIn, countOf}
+use Rattle.numbers.specs.Numbers.{byteIn, saturated}
 use Rattle.hand.specs.Hand.{handSize, bytesIn, countIn, stateOfRow, rowOf}
 
 -- l has n elements, and its first i are those of x
@@ -48,7 +48,7 @@ read-done h i l c k = sym (take-all maxInput l (omega (arith, c .long))) ∙ cop
 
 -- all bytes are written, and then the count
 pub write-done : (s : State) (i : ℕ) (l : List ℕ) (k : ℕ) → Copied (s .bytes) handSize i l → length (s .bytes) ≡ maxInput → maxInput ≤ i
-    → k ≡ countOf (s .count) → set l maxInput k ≡ rowOf s
+    → k ≡ saturated (s .count) → set l maxInput k ≡ rowOf s
 unfolding rowOf
 write-done s i l k c n h e =
     let t : take maxInput l ≡ s .bytes = copied-all (s .bytes) handSize i l c h ∙ take-all maxInput (s .bytes) (omega arith) in

@@ -15,7 +15,7 @@ use Rattle.grammar.specs.Valid.{all}
 use Rattle.results.specs.Recognize.{State, stateCheck}
 use Rattle.hand.specs.Declared.{Declared}
 use Rattle.sizes.specs.Sizes.{maxInput}
-use Rattle.numbers.specs.Numbers.{byteIn, countOf}
+use Rattle.numbers.specs.Numbers.{byteIn, saturated}
 use Rattle.hand.specs.Hand.{isByte, bytesIn, countIn, stateOfRow, rowOf}
 
 -- ---- bytes
@@ -41,22 +41,22 @@ bytes-all (a ∷ l) (suc n) b = rw (le-leb a 255 (omega (arith, b 0)), bytes-all
 
 -- the state with a count that a row holds
 abbrev pub kept : State → State
-kept s = record { bytes = s .bytes; count = countOf (s .count) }
+kept s = record { bytes = s .bytes; count = saturated (s .count) }
 
 module _ (s : State) (d : Declared s) where
   bytes-back : bytesIn (rowOf s) ≡ s .bytes
   unfolding bytesIn rowOf
   bytes-back =
-      ap (λ (n : ℕ). take n (map byteIn (s .bytes ++ (countOf (s .count) ∷ [])))) (sym (d .long))
-      ∙ bytes-front (s .bytes) (countOf (s .count) ∷ []) (d .each)
+      ap (λ (n : ℕ). take n (map byteIn (s .bytes ++ (saturated (s .count) ∷ [])))) (sym (d .long))
+      ∙ bytes-front (s .bytes) (saturated (s .count) ∷ []) (d .each)
 
-  count-back : countIn (rowOf s) ≡ countOf (s .count)
+  count-back : countIn (rowOf s) ≡ saturated (s .count)
   unfolding countIn rowOf
   count-back =
       rw (
-        getD-at (s .bytes) (countOf (s .count)) [] 0 maxInput (d .long),
-        take-at (s .bytes) (countOf (s .count) ∷ []) maxInput (d .long),
-        bytes-all (s .bytes) (countOf (s .count)) (d .each),
+        getD-at (s .bytes) (saturated (s .count)) [] 0 maxInput (d .long),
+        take-at (s .bytes) (saturated (s .count) ∷ []) maxInput (d .long),
+        bytes-all (s .bytes) (saturated (s .count)) (d .each),
       )
 
   pub read-kept : stateOfRow (rowOf s) ≡ kept s
@@ -66,17 +66,17 @@ module _ (s : State) (d : Declared s) where
   -- a state whose count is one of 16 bits is read back as it was written
   pub read-write : s .count < 65536 → stateOfRow (rowOf s) ≡ s
   read-write h =
-      let e : countOf (s .count) ≡ s .count = omega arith in
+      let e : saturated (s .count) ≡ s .count = omega arith in
       read-kept ∙ λ i. record { bytes = s .bytes; count = e i }
 
   -- what is written is refused exactly if the state is
   pub write-judged : stateCheck (stateOfRow (rowOf s)) .fails ≡ stateCheck s .fails
   write-judged = ap (λ (x : State). stateCheck x .fails) read-kept ∙ dite (decLt (s .count) 65536) small large
     where
-      small : s .count < 65536 → ltb maxInput (countOf (s .count)) ≡ ltb maxInput (s .count)
+      small : s .count < 65536 → ltb maxInput (saturated (s .count)) ≡ ltb maxInput (s .count)
       small h =
-          let e : countOf (s .count) ≡ s .count = omega arith in
+          let e : saturated (s .count) ≡ s .count = omega arith in
           ap (ltb maxInput) e
 
-      large : (s .count < 65536 → ⊥) → ltb maxInput (countOf (s .count)) ≡ ltb maxInput (s .count)
-      large h = lt-ltb maxInput (countOf (s .count)) (omega arith) ∙ sym (lt-ltb maxInput (s .count) (omega arith))
+      large : (s .count < 65536 → ⊥) → ltb maxInput (saturated (s .count)) ≡ ltb maxInput (s .count)
+      large h = lt-ltb maxInput (saturated (s .count)) (omega arith) ∙ sym (lt-ltb maxInput (s .count) (omega arith))

@@ -8,7 +8,7 @@ use mathlib.Core.List.{List, [], _∷_, _++_, map}
 use lib.Dec.{leb}
 use lib.ListN.{getD, take}
 use Rattle.sizes.specs.Sizes.{maxInput}
-use Rattle.numbers.specs.Numbers.{byteIn, countOf}
+use Rattle.numbers.specs.Numbers.{byteIn, saturated}
 use Rattle.grammar.specs.Valid.{all}
 use Rattle.results.specs.Recognize.{State}
 
@@ -46,4 +46,4 @@ validHand h = leb (getD h maxInput 0) maxInput && all isByte (take (getD h maxIn
 
 -- the row of a state
 unfoldable pub rowOf : State → List ℕ
-rowOf s = s .bytes ++ (countOf (s .count) ∷ [])
+rowOf s = s .bytes ++ (saturated (s .count) ∷ [])

@@ -76,5 +76,5 @@ pub fn write(r: Recognizer, h: &mut [u16; HAND])
         h[k] = r.bytes[k] as u16;
         k += 1;
     }
-    h[MAX_INPUT] = numbers::count_of(r.count);
+    h[MAX_INPUT] = numbers::saturate(r.count);
 }

@@ -92,10 +92,10 @@ module _ (lengthAt : ℕ → ℤ) (e : List ℕ) where
     )
 
     pub next-rule : (y : ℤ) → r < 128 → (y ≡ lengthAt r) × (mag y < 32768) → s' ≡ ofZ w32 (toZ w32 s +ℤ toZ w32 (ofZ w32 y)) → Next
-    next-rule y low length d =
-        let x = more (lengthAt r) y (length .0) (length .1) s i small s' (omega arith) d in
+    next-rule y low told d =
+        let x = more (lengthAt r) y (told .0) (told .1) s i small s' (omega arith) d in
         next r (omega arith) x
-        (subst (λ (z : ℤ). mag z ≤ 32768 * (i + 1)) (sym x) (more-size (lengthAt r) y (length .0) (length .1) s i small))
+        (subst (λ (z : ℤ). mag z ≤ 32768 * (i + 1)) (sym x) (more-size (lengthAt r) y (told .0) (told .1) s i small))
 
     pub next-none : ((q : ℕ) → 128 ≤ q → lengthAt q ≡ pos 0) → 128 ≤ r → s' ≡ s → Next
     next-none beyond high d =

@@ -45,7 +45,7 @@ pub struct Child {
 
 // The mask with the nonterminal k in it.
 pub fn own_set(mask: u32, k: usize) -> u32
-    ensures { λ set. ⌜ (k < nonterminals → set ≡ insert k mask) ⌝ }
+    ensures { λ own. ⌜ (k < nonterminals → own ≡ insert k mask) ⌝ }
 {
     if k < sizes::NONTERMINALS {
         sets::with(mask, k)
@@ -56,7 +56,7 @@ pub fn own_set(mask: u32, k: usize) -> u32
 
 // Of the mask over `cover` bytes, what matters for a child over c bytes: all of it over as many, else nothing.
 pub fn child_set(cover: usize, mask: u32, c: usize) -> u32
-    ensures { λ set. ⌜ SameSpan cover mask c set ⌝ }
+    ensures { λ own. ⌜ SameSpan cover mask c own ⌝ }
 {
     if c == cover { mask } else { 0 }
 }

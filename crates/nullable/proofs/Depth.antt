@@ -94,22 +94,22 @@ node-nullable G f h =
     nothing [] e = refl
     nothing (a ∷ w) e = absurd (omega arith)
 
-pub exact-depth : (g : Grammar) (set : ℕ) → Exact g set → Depth (wholeOf g) (card set)
+pub exact-depth : (g : Grammar) (known : ℕ) → Exact g known → Depth (wholeOf g) (card known)
 unfolding card
-exact-depth g set E = record { small = card-le set; zero = none; reached = reached }
+exact-depth g known E = record { small = card-le known; zero = none; reached = reached }
   where
-    none : ((k : ℕ) → Nullable (wholeOf g) k → ⊥) → countBelow 32 set ≡ 0
-    none f = count-none 32 set (λ k e. f k (E .sound k e))
+    none : ((k : ℕ) → Nullable (wholeOf g) k → ⊥) → countBelow 32 known ≡ 0
+    none f = count-none 32 known (λ k e. f k (E .sound k e))
 
-    member : (j : ℕ) → Nullable (wholeOf g) j → List·Memᴰ j (members 32 set)
+    member : (j : ℕ) → Nullable (wholeOf g) j → List·Memᴰ j (members 32 known)
     member j n = dite (decLt j 32)
-        (λ l. members-mem 32 set j l (E .complete j n))
-        (λ l. absurd (true-false (E .complete j n) (has-high j set (E .word) (omega arith))))
+        (λ l. members-mem 32 known j l (E .complete j n))
+        (λ l. absurd (true-false (E .complete j n) (has-high j known (E .word) (omega arith))))
 
-    reached : (k : ℕ) → Nullable (wholeOf g) k → (t : Forest) × Parse (wholeOf g) k [] t × (height t ≤ countBelow 32 set)
+    reached : (k : ℕ) → Nullable (wholeOf g) k → (t : Forest) × Parse (wholeOf g) k [] t × (height t ≤ countBelow 32 known)
     reached k n =
         let S = shrink (wholeOf g) (n .1 .0) in
         let e : yield (S .row) ≡ [] = S .same ∙ n .1 .1 in
-        let low = empty-low (wholeOf g) (members 32 set) (S .fitted) e (S .plain)
+        let low = empty-low (wholeOf g) (members 32 known) (S .fitted) e (S .plain)
         (λ j h. member j (node-nullable (wholeOf g) (S .fitted) h)) in
-        (S .row, (S .fitted, e), subst (λ (m : ℕ). height (S .row) ≤ m) (members-length 32 set) low)
+        (S .row, (S .fitted, e), subst (λ (m : ℕ). height (S .row) ≤ m) (members-length 32 known) low)

@@ -26,12 +26,12 @@ use Rattle.grammar.specs.View.{symbolOf, placeOf, wholeOf}
 use Rattle.grammar.specs.Zero.{noRule}
 use Rattle.grammar.proofs.All.{true-false, and-parts, and-both}
 use Rattle.grammar.proofs.RuleAt.{rule-at, rule-past}
-use Rattle.nullable.specs.Nullable.{symbolIn, placeIn, ruleIn, widen}
+use Rattle.nullable.specs.Nullable.{symbolKnown, placeKnown, ruleKnown, widen}
 use Rattle.nullable.proofs.Pass.{widen-in, widen-out}
 
 -- each member is nullable
 abbrev pub Sound : Cfg → ℕ → Type 0
-Sound G set = (k : ℕ) → has k set ≡ true → Nullable G k
+Sound G known = (k : ℕ) → has k known ≡ true → Nullable G k
 
 -- a row over nothing
 abbrev EmptyForest : Cfg → List Abstract.Symbol → Type 0
@@ -48,41 +48,41 @@ join G (fits-node {r} {below} {rest} o b s) e t = (
 )
 
 -- places that hold members have an empty row
-symbol-row : (G : Cfg) (set : ℕ) → Sound G set → (s : Symbol) → symbolIn set s ≡ true → {places : List Abstract.Symbol}
+symbol-row : (G : Cfg) (known : ℕ) → Sound G known → (s : Symbol) → symbolKnown known s ≡ true → {places : List Abstract.Symbol}
     → EmptyForest G places → EmptyForest G (symbolOf s ∷ places)
-symbol-row G set sound (Nonterminal k) e t = let n = sound k e in join G (n .1 .0) (n .1 .1) t
-symbol-row G set sound (Terminal m) e t = absurd (true-false e refl)
+symbol-row G known sound (Nonterminal k) e t = let n = sound k e in join G (n .1 .0) (n .1 .1) t
+symbol-row G known sound (Terminal m) e t = absurd (true-false e refl)
 
-places-row : (G : Cfg) (set : ℕ) → Sound G set → (l : List Place) → all (placeIn set) l ≡ true → EmptyForest G (map placeOf l)
+places-row : (G : Cfg) (known : ℕ) → Sound G known → (l : List Place) → all (placeKnown known) l ≡ true → EmptyForest G (map placeOf l)
 unfolding all yield
-places-row G set sound [] e = (end, fits-end, refl)
-places-row G set sound (p ∷ l) e =
-    let h = and-parts (placeIn set p) (all (placeIn set) l) e in
-    symbol-row G set sound (p .symbol) (h .0) (places-row G set sound l (h .1))
+places-row G known sound [] e = (end, fits-end, refl)
+places-row G known sound (p ∷ l) e =
+    let h = and-parts (placeKnown known p) (all (placeKnown known) l) e in
+    symbol-row G known sound (p .symbol) (h .0) (places-row G known sound l (h .1))
 
 -- the members of a set, in the places of an abstract rule
 symbolHas : ℕ → Abstract.Symbol → Bool
-symbolHas set (nonterminal k) = has k set
-symbolHas set (terminal t) = false
+symbolHas known (nonterminal k) = has k known
+symbolHas known (terminal t) = false
 
-symbol-has : (set : ℕ) (s : Symbol) → symbolHas set (symbolOf s) ≡ symbolIn set s
+symbol-has : (known : ℕ) (s : Symbol) → symbolHas known (symbolOf s) ≡ symbolKnown known s
 unfolding symbolHas
-symbol-has set (Nonterminal k) = refl
-symbol-has set (Terminal m) = refl
+symbol-has known (Nonterminal k) = refl
+symbol-has known (Terminal m) = refl
 
-places-has : (set : ℕ) (l : List Place) → all (symbolHas set) (map placeOf l) ≡ all (placeIn set) l
+places-has : (known : ℕ) (l : List Place) → all (symbolHas known) (map placeOf l) ≡ all (placeKnown known) l
 unfolding all
-places-has set [] = refl
-places-has set (p ∷ l) = ap₂ (λ (a b : Bool). a && b) (symbol-has set (p .symbol)) (places-has set l)
+places-has known [] = refl
+places-has known (p ∷ l) = ap₂ (λ (a b : Bool). a && b) (symbol-has known (p .symbol)) (places-has known l)
 
 module _ (g : Grammar) (size : length (g .rules) ≡ 128) (valid : validGrammar g ≡ true) where
   -- the left side of a rule whose places hold members is nullable
-  rule-nullable : (set i : ℕ) → Sound (wholeOf g) set → i < g .count → ruleIn set (getD (g .rules) i noRule) ≡ true
+  rule-nullable : (known i : ℕ) → Sound (wholeOf g) known → i < g .count → ruleKnown known (getD (g .rules) i noRule) ≡ true
       → Nullable (wholeOf g) (getD (g .rules) i noRule .left)
-  unfolding ruleIn yield
-  rule-nullable set i sound h e =
+  unfolding ruleKnown yield
+  rule-nullable known i sound h e =
       let r = getD (g .rules) i noRule in
-      let t = places-row (wholeOf g) set sound (take (r .count) (r .places)) e in
+      let t = places-row (wholeOf g) known sound (take (r .count) (r .places)) e in
       let o : Of (wholeOf g) i (r .left) = record {
         the = record { left = r .left; places = map placeOf (take (r .count) (r .places)) };
         here = rule-at g i size valid h;
@@ -90,54 +90,56 @@ module _ (g : Grammar) (size : length (g .rules) ≡ 128) (valid : validGrammar 
       } in
       (node i (t .0) end, (fits-node o (t .1) fits-end, append-nil (yield (t .0)) ∙ t .2))
 
-  pub widen-sound : (set i : ℕ) → Sound (wholeOf g) set → i < g .count → Sound (wholeOf g) (widen (getD (g .rules) i noRule) set)
-  widen-sound set i sound h = go (ruleIn set r) refl
+  pub widen-sound : (known i : ℕ) → Sound (wholeOf g) known → i < g .count → Sound (wholeOf g) (widen (getD (g .rules) i noRule) known)
+  widen-sound known i sound h = go (ruleKnown known r) refl
     where
       r : Rule
       r = getD (g .rules) i noRule
 
-      inserted : ruleIn set r ≡ true → (k : ℕ) → has k (insert (r .left) set) ≡ true → Nullable (wholeOf g) k
+      inserted : ruleKnown known r ≡ true → (k : ℕ) → has k (insert (r .left) known) ≡ true → Nullable (wholeOf g) k
       inserted e k m = dite (ℕ-discrete k (r .left))
-          (λ p. subst (Nullable (wholeOf g)) (sym p) (rule-nullable set i sound h e))
-          (λ n. sound k (sym (has-insert-other k (r .left) set n) ∙ m))
+          (λ p. subst (Nullable (wholeOf g)) (sym p) (rule-nullable known i sound h e))
+          (λ n. sound k (sym (has-insert-other k (r .left) known n) ∙ m))
 
-      go : (b : Bool) → ruleIn set r ≡ b → Sound (wholeOf g) (widen r set)
-      go true e = subst (Sound (wholeOf g)) (widen-in set r true (sym e) refl) (inserted e)
-      go false e = subst (Sound (wholeOf g)) (widen-out set r false (sym e) refl) sound
+      go : (b : Bool) → ruleKnown known r ≡ b → Sound (wholeOf g) (widen r known)
+      go true e = subst (Sound (wholeOf g)) (widen-in known r true (sym e) refl) (inserted e)
+      go false e = subst (Sound (wholeOf g)) (widen-out known r false (sym e) refl) sound
 
   -- each rule whose places hold members has its left side in the set
   abbrev pub Closed : ℕ → Type 0
-  Closed set = (i : ℕ) → i < g .count → ruleIn set (getD (g .rules) i noRule) ≡ true → has (getD (g .rules) i noRule .left) set ≡ true
+  Closed known = (i : ℕ) → i < g .count → ruleKnown known (getD (g .rules) i noRule) ≡ true
+      → has (getD (g .rules) i noRule .left) known ≡ true
 
-  module _ (set : ℕ) (closed : Closed set) where
-    of-closed : {r k : ℕ} (o : Of (wholeOf g) r k) → all (symbolHas set) (o .the .places) ≡ true → has k set ≡ true
-    unfolding ruleIn
+  module _ (known : ℕ) (closed : Closed known) where
+    of-closed : {r k : ℕ} (o : Of (wholeOf g) r k) → all (symbolHas known) (o .the .places) ≡ true → has k known ≡ true
+    unfolding ruleKnown
     of-closed {r} {k} o e = dite (decLt r (g .count)) inside outside
       where
         ρ : Rule
         ρ = getD (g .rules) r noRule
 
-        inside : r < g .count → has k set ≡ true
+        inside : r < g .count → has k known ≡ true
         inside h =
             let m : record { left = ρ .left; places = map placeOf (take (ρ .count) (ρ .places)) } ≡ o .the =
             Option·some-injective _ (o .the) (sym (rule-at g r size valid h) ∙ o .here) in
-            let a : all (symbolHas set) (map placeOf (take (ρ .count) (ρ .places))) ≡ true =
-            ap (λ (σ : Abstract.Rule). all (symbolHas set) (σ .places)) m ∙ e in
-            let b : ruleIn set ρ ≡ true = sym (places-has set (take (ρ .count) (ρ .places))) ∙ a in
-            ap (λ (j : ℕ). has j set) (sym (ap (λ (σ : Abstract.Rule). σ .left) m ∙ o .left)) ∙ closed r h b
+            let a : all (symbolHas known) (map placeOf (take (ρ .count) (ρ .places))) ≡ true =
+            ap (λ (σ : Abstract.Rule). all (symbolHas known) (σ .places)) m ∙ e in
+            let b : ruleKnown known ρ ≡ true = sym (places-has known (take (ρ .count) (ρ .places))) ∙ a in
+            ap (λ (j : ℕ). has j known) (sym (ap (λ (σ : Abstract.Rule). σ .left) m ∙ o .left)) ∙ closed r h b
 
-        outside : ¬ (r < g .count) → has k set ≡ true
+        outside : ¬ (r < g .count) → has k known ≡ true
         outside n = absurd (Option·some-ne-none (o .the) (sym (o .here) ∙ rule-past g r (omega arith)))
 
-    row-closed : {places : List Abstract.Symbol} {t : Forest} → Fits (wholeOf g) places t → yield t ≡ [] → all (symbolHas set) places ≡ true
+    row-closed : {places : List Abstract.Symbol} {t : Forest} → Fits (wholeOf g) places t → yield t ≡ []
+        → all (symbolHas known) places ≡ true
     unfolding all yield symbolHas
     row-closed fits-end e = refl
     row-closed (fits-leaf {m} {rest} f s) e = absurd (cons-ne-nil m (yield rest) e)
     row-closed (fits-node {k} {places} {below} {rest} o b s) e =
         let x = row-closed b (append-empty-left (yield below) (yield rest) e) in
         let y = row-closed s (append-empty-right (yield below) (yield rest) e) in
-        and-both (has k set) (all (symbolHas set) places) (of-closed o x) y
+        and-both (has k known) (all (symbolHas known) places) (of-closed o x) y
 
-    pub closed-complete : (k : ℕ) → Nullable (wholeOf g) k → has k set ≡ true
+    pub closed-complete : (k : ℕ) → Nullable (wholeOf g) k → has k known ≡ true
     unfolding all symbolHas
-    closed-complete k n = and-parts (has k set) true (row-closed (n .1 .0) (n .1 .1)) .0
+    closed-complete k n = and-parts (has k known) true (row-closed (n .1 .0) (n .1 .1)) .0

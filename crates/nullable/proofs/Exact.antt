@@ -21,10 +21,10 @@ use Rattle.nullable.proofs.Empty.{Sound, widen-sound, Closed, closed-co
 -- ---- the loop of the search
 
 -- after a number of passes: the set is a word of nullable nonterminals, and next is what a pass makes of it
-pub record Searched (g : Grammar) (set next : ℕ) : Type 0 where
-  pub word : set < 2 ^ 32
-  pub sound : Sound (wholeOf g) set
-  pub passed : next ≡ pass (take (g .count) (g .rules)) set
+pub record Searched (g : Grammar) (known next : ℕ) : Type 0 where
+  pub word : known < 2 ^ 32
+  pub sound : Sound (wholeOf g) known
+  pub passed : next ≡ pass (take (g .count) (g .rules)) known
 
 pub searched-first : (g : Grammar) (next : ℕ) → next ≡ pass (take (g .count) (g .rules)) 0 → Searched g 0 next
 searched-first g next e = record {
@@ -34,39 +34,40 @@ searched-first g next e = record {
 }
 
 module _ (g : Grammar) (size : length (g .rules) ≡ 128) (valid : validGrammar g ≡ true) where
-  pass-sound : (set n : ℕ) → Sound (wholeOf g) set → n ≤ g .count → Sound (wholeOf g) (pass (take n (g .rules)) set)
+  pass-sound : (known n : ℕ) → Sound (wholeOf g) known → n ≤ g .count → Sound (wholeOf g) (pass (take n (g .rules)) known)
   unfolding pass
-  pass-sound set zero sound h = sound
-  pass-sound set (suc n) sound h =
+  pass-sound known zero sound h = sound
+  pass-sound known (suc n) sound h =
       let l : n < length (g .rules) = omega (arith, valid-count g valid) in
-      let e = rw add-one at (pass-next (g .rules) n set l) in
-      let w = widen-sound g size valid (pass (take n (g .rules)) set) n (pass-sound set n sound (omega arith)) h in
+      let e = rw add-one at (pass-next (g .rules) n known l) in
+      let w = widen-sound g size valid (pass (take n (g .rules)) known) n (pass-sound known n sound (omega arith)) h in
       subst (Sound (wholeOf g)) (sym e) w
 
-  pub searched-next : (set next after : ℕ) → Searched g set next → after ≡ pass (take (g .count) (g .rules)) next → Searched g next after
-  searched-next set next after S e =
+  pub searched-next : (known next after : ℕ) → Searched g known next → after ≡ pass (take (g .count) (g .rules)) next
+      → Searched g next after
+  searched-next known next after S e =
       let p = S .passed in
       record {
-        word = subst (λ (n : ℕ). n < 2 ^ 32) (sym p) (pass-word (take (g .count) (g .rules)) set (grammar-parts g valid .2) (S .word));
-        sound = subst (Sound (wholeOf g)) (sym p) (pass-sound set (g .count) (S .sound) (omega arith));
+        word = subst (λ (n : ℕ). n < 2 ^ 32) (sym p) (pass-word (take (g .count) (g .rules)) known (grammar-parts g valid .2) (S .word));
+        sound = subst (Sound (wholeOf g)) (sym p) (pass-sound known (g .count) (S .sound) (omega arith));
         passed = e;
       }
 
-  pub searched-falls : (set next : ℕ) → Searched g set next → (next ≡ set → ⊥) → 2 ^ 32 - next < 2 ^ 32 - set
-  searched-falls set next S n =
+  pub searched-falls : (known next : ℕ) → Searched g known next → (next ≡ known → ⊥) → 2 ^ 32 - next < 2 ^ 32 - known
+  searched-falls known next S n =
       let p = S .passed in
       let w = S .word in
-      omega (arith, pass-le (take (g .count) (g .rules)) set)
+      omega (arith, pass-le (take (g .count) (g .rules)) known)
 
-  closed-of : (set : ℕ) → pass (take (g .count) (g .rules)) set ≡ set → Closed g size valid set
-  closed-of set e i h r =
+  closed-of : (known : ℕ) → pass (take (g .count) (g .rules)) known ≡ known → Closed g size valid known
+  closed-of known e i h r =
       let l : i < length (take (g .count) (g .rules)) = simp length-take (omega (arith, valid-count g valid)) in
-      let w = rw getD-take at (pass-same (take (g .count) (g .rules)) set e i l) in
-      widen-same set (getD (g .rules) i noRule) w r
+      let w = rw getD-take at (pass-same (take (g .count) (g .rules)) known e i l) in
+      widen-same known (getD (g .rules) i noRule) w r
 
-  pub searched-exact : (set next : ℕ) → Searched g set next → next ≡ set → Exact g set
-  searched-exact set next S e = record {
+  pub searched-exact : (known next : ℕ) → Searched g known next → next ≡ known → Exact g known
+  searched-exact known next S e = record {
     word = S .word;
     sound = S .sound;
-    complete = closed-complete g size valid set (closed-of set (sym (S .passed) ∙ e));
+    complete = closed-complete g size valid known (closed-of known (sym (S .passed) ∙ e));
   }

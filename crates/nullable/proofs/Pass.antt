@@ -18,15 +18,15 @@ use Rattle.grammar.specs.Valid.{all, validSymbol, validPlace, validRule}
 use Rattle.grammar.specs.Zero.{zeroPlace, noRule}
 use Rattle.grammar.proofs.All.{and-parts, all-at}
 use Rattle.grammar.proofs.Bounds.{rule-parts}
-use Rattle.nullable.specs.Nullable.{symbolIn, placeIn, ruleIn, widen, pass}
+use Rattle.nullable.specs.Nullable.{symbolKnown, placeKnown, ruleKnown, widen, pass}
 
 -- ---- a place
 
 pub place-bound : (p : Place) (k : ℕ) → p .symbol ≡ Nonterminal k → validPlace p ≡ true → k < 32
 place-bound p k e v = omega (arith, leb-true k 31 (sym (ap validSymbol e) ∙ v))
 
-pub place-member : (set : ℕ) (p : Place) (k : ℕ) (b : Bool) → p .symbol ≡ Nonterminal k → b ≡ has k set → b ≡ placeIn set p
-place-member set p k b e h = h ∙ sym (ap (symbolIn set) e)
+pub place-member : (known : ℕ) (p : Place) (k : ℕ) (b : Bool) → p .symbol ≡ Nonterminal k → b ≡ has k known → b ≡ placeKnown known p
+place-member known p k b e h = h ∙ sym (ap (symbolKnown known) e)
 
 -- ---- the places of a rule
 
@@ -43,90 +43,90 @@ all-stops test d (a ∷ l) (suc n) (suc q) h k e =
 pub rule-place-valid : (r : Rule) (q : ℕ) → validRule r ≡ true → q < r .count → validPlace (getD (r .places) q zeroPlace) ≡ true
 rule-place-valid r q v h = all-at validPlace zeroPlace refl (r .places) (r .count) q h (rule-parts r v .2)
 
-module _ (set : ℕ) (r : Rule) where
-  pub rule-stops : (q : ℕ) (b : Bool) → b ≡ placeIn set (getD (r .places) q zeroPlace) → not b ≡ true → q < r .count
-      → r .count ≤ 8 → length (r .places) ≡ 8 → false ≡ ruleIn set r
-  unfolding ruleIn
+module _ (known : ℕ) (r : Rule) where
+  pub rule-stops : (q : ℕ) (b : Bool) → b ≡ placeKnown known (getD (r .places) q zeroPlace) → not b ≡ true → q < r .count
+      → r .count ≤ 8 → length (r .places) ≡ 8 → false ≡ ruleKnown known r
+  unfolding ruleKnown
   rule-stops q b e t h m k =
-      sym (all-stops (placeIn set) zeroPlace (r .places) (r .count) q h (omega arith) (sym e ∙ not-true b t))
+      sym (all-stops (placeKnown known) zeroPlace (r .places) (r .count) q h (omega arith) (sym e ∙ not-true b t))
 
-  pub rule-whole : (q : ℕ) → q ≤ r .count → r .count ≤ q → all (placeIn set) (take q (r .places)) ≡ true → true ≡ ruleIn set r
-  unfolding ruleIn
+  pub rule-whole : (q : ℕ) → q ≤ r .count → r .count ≤ q → all (placeKnown known) (take q (r .places)) ≡ true → true ≡ ruleKnown known r
+  unfolding ruleKnown
   rule-whole q h k e = rw (le-antisymm k h) (sym e)
 
-  pub widen-in : (b : Bool) → b ≡ ruleIn set r → b ≡ true → insert (r .left) set ≡ widen r set
+  pub widen-in : (b : Bool) → b ≡ ruleKnown known r → b ≡ true → insert (r .left) known ≡ widen r known
   unfolding widen
   widen-in b e t = rw (sym e ∙ t)
 
-  pub widen-with : (b : Bool) (s : ℕ) → b ≡ ruleIn set r → b ≡ true → s ≡ insert (r .left) set → s ≡ widen r set
+  pub widen-with : (b : Bool) (s : ℕ) → b ≡ ruleKnown known r → b ≡ true → s ≡ insert (r .left) known → s ≡ widen r known
   widen-with b s e t h = h ∙ widen-in b e t
 
-  pub widen-out : (b : Bool) → b ≡ ruleIn set r → b ≡ false → set ≡ widen r set
+  pub widen-out : (b : Bool) → b ≡ ruleKnown known r → b ≡ false → known ≡ widen r known
   unfolding widen
   widen-out b e t = rw (sym e ∙ t)
 
-  pub widen-le : set ≤ widen r set
-  widen-le = go (ruleIn set r) refl
+  pub widen-le : known ≤ widen r known
+  widen-le = go (ruleKnown known r) refl
     where
-      go : (b : Bool) → ruleIn set r ≡ b → set ≤ widen r set
-      go true e = omega (arith, insert-le (r .left) set, widen-in true (sym e) refl)
+      go : (b : Bool) → ruleKnown known r ≡ b → known ≤ widen r known
+      go true e = omega (arith, insert-le (r .left) known, widen-in true (sym e) refl)
       go false e = omega (arith, widen-out false (sym e) refl)
 
-  pub widen-word : r .left ≤ 31 → set < 2 ^ 32 → widen r set < 2 ^ 32
-  widen-word h l = go (ruleIn set r) refl
+  pub widen-word : r .left ≤ 31 → known < 2 ^ 32 → widen r known < 2 ^ 32
+  widen-word h l = go (ruleKnown known r) refl
     where
-      go : (b : Bool) → ruleIn set r ≡ b → widen r set < 2 ^ 32
-      go true e = omega (arith, insert-lt (r .left) set (omega arith) l, widen-in true (sym e) refl)
+      go : (b : Bool) → ruleKnown known r ≡ b → widen r known < 2 ^ 32
+      go true e = omega (arith, insert-lt (r .left) known (omega arith) l, widen-in true (sym e) refl)
       go false e = omega (arith, widen-out false (sym e) refl)
 
   -- a rule that adds nothing: its left side is in the set where its places are
-  pub widen-same : widen r set ≡ set → ruleIn set r ≡ true → has (r .left) set ≡ true
-  widen-same s e = insert-same→has (r .left) set (widen-in true (sym e) refl ∙ s)
+  pub widen-same : widen r known ≡ known → ruleKnown known r ≡ true → has (r .left) known ≡ true
+  widen-same s e = insert-same→has (r .left) known (widen-in true (sym e) refl ∙ s)
 
 pub rule-left-bound : (r : Rule) → validRule r ≡ true → r .left < 32
 rule-left-bound r v = omega (arith, rule-parts r v .0)
 
 -- ---- a pass over the rules
 
-pub pass-le : (l : List Rule) (set : ℕ) → set ≤ pass l set
+pub pass-le : (l : List Rule) (known : ℕ) → known ≤ pass l known
 unfolding pass
-pass-le [] set = le-refl set
-pass-le (r ∷ l) set = le-trans (widen-le set r) (pass-le l (widen r set))
+pass-le [] known = le-refl known
+pass-le (r ∷ l) known = le-trans (widen-le known r) (pass-le l (widen r known))
 
-pub pass-word : (l : List Rule) (set : ℕ) → all validRule l ≡ true → set < 2 ^ 32 → pass l set < 2 ^ 32
+pub pass-word : (l : List Rule) (known : ℕ) → all validRule l ≡ true → known < 2 ^ 32 → pass l known < 2 ^ 32
 unfolding pass all
-pass-word [] set v h = h
-pass-word (r ∷ l) set v h =
+pass-word [] known v h = h
+pass-word (r ∷ l) known v h =
     let p = and-parts (validRule r) (all validRule l) v in
-    pass-word l (widen r set) (p .1) (widen-word set r (rule-parts r (p .0) .0) h)
+    pass-word l (widen r known) (p .1) (widen-word known r (rule-parts r (p .0) .0) h)
 
-pass-suc : (l : List Rule) (i set : ℕ) → i < length l → pass (take (suc i) l) set ≡ widen (getD l i noRule) (pass (take i l) set)
+pass-suc : (l : List Rule) (i known : ℕ) → i < length l → pass (take (suc i) l) known ≡ widen (getD l i noRule) (pass (take i l) known)
 unfolding pass
-pass-suc [] i set h = absurd (not-suc-le-zero h)
-pass-suc (r ∷ l) zero set h = refl
-pass-suc (r ∷ l) (suc i) set h = pass-suc l i (widen r set) (le-of-suc-le-suc h)
+pass-suc [] i known h = absurd (not-suc-le-zero h)
+pass-suc (r ∷ l) zero known h = refl
+pass-suc (r ∷ l) (suc i) known h = pass-suc l i (widen r known) (le-of-suc-le-suc h)
 
 -- one rule more
-pub pass-next : (l : List Rule) (i set : ℕ) → i < length l → pass (take (i + 1) l) set ≡ widen (getD l i noRule) (pass (take i l) set)
-pass-next l i set h = rw add-one (pass-suc l i set h)
+pub pass-next : (l : List Rule) (i known : ℕ) → i < length l → pass (take (i + 1) l) known ≡ widen (getD l i noRule) (pass (take i l) known)
+pass-next l i known h = rw add-one (pass-suc l i known h)
 
 -- the steps of the loop over the rules of g
-pub pass-first : (l : List Rule) (set : ℕ) → set ≡ pass (take 0 l) set
+pub pass-first : (l : List Rule) (known : ℕ) → known ≡ pass (take 0 l) known
 unfolding pass
-pass-first l set = refl
+pass-first l known = refl
 
-pub pass-again : (l : List Rule) (i n set s t : ℕ) → s ≡ pass (take i l) set → t ≡ widen (getD l i noRule) s → i < n → n ≤ 128
-    → length l ≡ 128 → t ≡ pass (take (i + 1) l) set
-pass-again l i n set s t e f h m k = f ∙ ap (widen (getD l i noRule)) e ∙ sym (pass-next l i set (omega arith))
+pub pass-again : (l : List Rule) (i n known s t : ℕ) → s ≡ pass (take i l) known → t ≡ widen (getD l i noRule) s → i < n → n ≤ 128
+    → length l ≡ 128 → t ≡ pass (take (i + 1) l) known
+pass-again l i n known s t e f h m k = f ∙ ap (widen (getD l i noRule)) e ∙ sym (pass-next l i known (omega arith))
 
-pub pass-last : (l : List Rule) (i n set s : ℕ) → s ≡ pass (take i l) set → i ≤ n → n ≤ i → s ≡ pass (take n l) set
-pass-last l i n set s e h k = e ∙ ap (λ (m : ℕ). pass (take m l) set) (le-antisymm h k)
+pub pass-last : (l : List Rule) (i n known s : ℕ) → s ≡ pass (take i l) known → i ≤ n → n ≤ i → s ≡ pass (take n l) known
+pass-last l i n known s e h k = e ∙ ap (λ (m : ℕ). pass (take m l) known) (le-antisymm h k)
 
 -- a pass that adds nothing: no rule adds anything
-pub pass-same : (l : List Rule) (set : ℕ) → pass l set ≡ set → (i : ℕ) → i < length l → widen (getD l i noRule) set ≡ set
+pub pass-same : (l : List Rule) (known : ℕ) → pass l known ≡ known → (i : ℕ) → i < length l → widen (getD l i noRule) known ≡ known
 unfolding pass
-pass-same [] set e i h = absurd (not-suc-le-zero h)
-pass-same (r ∷ l) set e zero h = omega (arith, widen-le set r, pass-le l (widen r set))
-pass-same (r ∷ l) set e (suc i) h =
-    let w : widen r set ≡ set = omega (arith, widen-le set r, pass-le l (widen r set)) in
-    pass-same l set (ap (pass l) (sym w) ∙ e) i (le-of-suc-le-suc h)
+pass-same [] known e i h = absurd (not-suc-le-zero h)
+pass-same (r ∷ l) known e zero h = omega (arith, widen-le known r, pass-le l (widen r known))
+pass-same (r ∷ l) known e (suc i) h =
+    let w : widen r known ≡ known = omega (arith, widen-le known r, pass-le l (widen r known)) in
+    pass-same l known (ap (pass l) (sym w) ∙ e) i (le-of-suc-le-suc h)

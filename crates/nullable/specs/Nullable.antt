@@ -14,28 +14,28 @@ use Rattle.grammar.specs.declared.Grammar.{Grammar}
 use Rattle.grammar.specs.Valid.{all}
 use Rattle.grammar.specs.View.{wholeOf}
 
-abbrev pub symbolIn : ℕ → Symbol → Bool
-symbolIn set (Nonterminal k) = has k set
-symbolIn set (Terminal m) = false
+abbrev pub symbolKnown : ℕ → Symbol → Bool
+symbolKnown known (Nonterminal k) = has k known
+symbolKnown known (Terminal m) = false
 
-abbrev pub placeIn : ℕ → Place → Bool
-placeIn set p = symbolIn set (p .symbol)
+abbrev pub placeKnown : ℕ → Place → Bool
+placeKnown known p = symbolKnown known (p .symbol)
 
--- each place of the rule holds a nonterminal of the set
-unfoldable pub ruleIn : ℕ → Rule → Bool
-ruleIn set r = all (placeIn set) (take (r .count) (r .places))
+-- each place of the rule holds a known nonterminal
+unfoldable pub ruleKnown : ℕ → Rule → Bool
+ruleKnown known r = all (placeKnown known) (take (r .count) (r .places))
 
--- the set with the rule's left side, where each place of the rule holds a nonterminal of the set
+-- what is known, with the rule's left side where each place of the rule holds a known nonterminal
 unfoldable pub widen : Rule → ℕ → ℕ
-widen r set = cond (ruleIn set r) (insert (r .left) set) set
+widen r known = cond (ruleKnown known r) (insert (r .left) known) known
 
 -- the same for each rule of a list in turn
 unfoldable pub pass : List Rule → ℕ → ℕ
-pass [] set = set
-pass (r ∷ l) set = pass l (widen r set)
+pass [] known = known
+pass (r ∷ l) known = pass l (widen r known)
 
 -- a word whose members are nullable nonterminals of the grammar, and all of them
-pub record Exact (g : Grammar) (set : ℕ) : Type 0 where
-  pub word : set < 2 ^ 32
-  pub sound : (k : ℕ) → has k set ≡ true → Nullable (wholeOf g) k
-  pub complete : (k : ℕ) → Nullable (wholeOf g) k → has k set ≡ true
+pub record Exact (g : Grammar) (known : ℕ) : Type 0 where
+  pub word : known < 2 ^ 32
+  pub sound : (k : ℕ) → has k known ≡ true → Nullable (wholeOf g) k
+  pub complete : (k : ℕ) → Nullable (wholeOf g) k → has k known ≡ true

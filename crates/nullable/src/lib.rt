@@ -8,30 +8,30 @@ ghost use mathlib.Core.Path.{_≡_};
 ghost use lib.ListN.{take};
 ghost use Rattle.sets.specs.Set.{card};
 ghost use Rattle.grammar.specs.Valid.{validPlace, validRule, validGrammar};
-ghost use Rattle.nullable.specs.Nullable.{placeIn, ruleIn, widen, pass, Exact};
+ghost use Rattle.nullable.specs.Nullable.{placeKnown, ruleKnown, widen, pass, Exact};
 
-// Whether the place holds a nonterminal of the set.
-pub fn place_in(p: Place, set: u32) -> bool
+// Whether the place holds a known nonterminal.
+pub fn place_in(p: Place, known: u32) -> bool
     requires { ⌜ validPlace p ≡ true ⌝ }
-    ensures { λ r. ⌜ r ≡ placeIn set p ⌝ }
+    ensures { λ r. ⌜ r ≡ placeKnown known p ⌝ }
 {
     let s = p.symbol;
     match s {
-        Symbol::Nonterminal(k) => sets::has(set, k as usize),
+        Symbol::Nonterminal(k) => sets::has(known, k as usize),
         Symbol::Terminal(_) => false,
     }
 }
 
-// Whether each place of the rule holds a nonterminal of the set.
-pub fn rule_in(rule: Rule, set: u32) -> bool
+// Whether each place of the rule holds a known nonterminal.
+pub fn rule_in(rule: Rule, known: u32) -> bool
     requires { ⌜ validRule rule ≡ true ⌝ }
-    ensures { λ r. ⌜ r ≡ ruleIn set rule ⌝ }
+    ensures { λ r. ⌜ r ≡ ruleKnown known rule ⌝ }
 {
     let n = rule.count;
     let mut q = 0;
     while q < n {
         let p = rule.places[q];
-        if !place_in(p, set) {
+        if !place_in(p, known) {
             return false;
         }
         q += 1;
@@ -39,26 +39,26 @@ pub fn rule_in(rule: Rule, set: u32) -> bool
     true
 }
 
-// The set, with the rule's left side where each of its places holds a nonterminal of the set.
-pub fn widened(rule: Rule, set: u32) -> u32
+// What is known, with the rule's left side where each of its places holds a known nonterminal.
+pub fn widened(rule: Rule, known: u32) -> u32
     requires { ⌜ validRule rule ≡ true ⌝ }
-    ensures { λ r. ⌜ r ≡ widen rule set ⌝ }
+    ensures { λ r. ⌜ r ≡ widen rule known ⌝ }
 {
     let k = rule.left;
-    if rule_in(rule, set) {
-        sets::with(set, k as usize)
+    if rule_in(rule, known) {
+        sets::with(known, k as usize)
     } else {
-        set
+        known
     }
 }
 
 // One pass over all rules, each of which finds what those before it added.
-pub fn nullable_pass(g: Grammar, set: u32) -> u32
+pub fn nullable_pass(g: Grammar, known: u32) -> u32
     requires { ⌜ validGrammar g ≡ true ⌝ }
-    ensures { λ r. ⌜ r ≡ pass (take (g .count) (g .rules)) set ⌝ }
+    ensures { λ r. ⌜ r ≡ pass (take (g .count) (g .rules)) known ⌝ }
 {
     let n = g.count;
-    let mut s = set;
+    let mut s = known;
     let mut i = 0;
     while i < n {
         let rule = g.rules[i];
@@ -73,23 +73,23 @@ pub fn nullable_set(g: Grammar) -> u32
     requires { ⌜ validGrammar g ≡ true ⌝ }
     ensures { λ r. ⌜ Exact g r ⌝ }
 {
-    let mut set = 0;
-    let mut next = nullable_pass(g, set);
-    while next != set {
-        set = next;
-        next = nullable_pass(g, set);
+    let mut known = 0;
+    let mut next = nullable_pass(g, known);
+    while next != known {
+        known = next;
+        next = nullable_pass(g, known);
     }
-    set
+    known
 }
 
 // A nullable depth: how many nonterminals are nullable.
-pub fn nullable_depth(set: u32) -> u8
-    ensures { λ r. ⌜ r ≡ card set ⌝ }
+pub fn nullable_depth(known: u32) -> u8
+    ensures { λ r. ⌜ r ≡ card known ⌝ }
 {
     let mut n = 0u8;
     let mut k = 0;
     while k < sizes::NONTERMINALS {
-        if sets::has(set, k) {
+        if sets::has(known, k) {
             n += 1;
         }
         k += 1;

@@ -10,8 +10,8 @@ abbrev pub byteIn : ℕ → ℕ
 byteIn n = min n 255
 
 -- a count: one over 65535 is written as 65535
-abbrev pub countOf : ℕ → ℕ
-countOf n = min n 65535
+abbrev pub saturated : ℕ → ℕ
+saturated n = min n 65535
 
 -- the signed number of 16 bits
 unfoldable pub signedIn : ℕ → ℤ

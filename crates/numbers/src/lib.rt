@@ -1,7 +1,7 @@
 // Small functions on numbers that several crates need: numbers of one width as numbers of another, none of them cut to its low bits.
 ghost use mathlib.Core.Path.{_≡_};
 ghost use Prim.Native.Nat.{_<_};
-ghost use Rattle.numbers.specs.Numbers.{byteIn, countOf, signedIn, unsignedOf};
+ghost use Rattle.numbers.specs.Numbers.{byteIn, saturated, signedIn, unsignedOf};
 
 // A byte as a number.
 pub fn wide_byte(x: u8) -> usize
@@ -25,8 +25,8 @@ pub fn byte(n: u16) -> u8
 }
 
 // A count, or 65535 if that is less.
-pub fn count_of(n: usize) -> u16
-    ensures { λ r. ⌜ r ≡ countOf n ⌝ }
+pub fn saturate(n: usize) -> u16
+    ensures { λ r. ⌜ r ≡ saturated n ⌝ }
 {
     if n < 65535 { n as u16 } else { 65535 }
 }

@@ -67,21 +67,21 @@ leaves-fit {G} p r (suc n) q L =
 pub leaves-behind : {G : Cfg} (p : List ℕ) (r q : ℕ) → LeavesIn p r q (countIn p r) → NoNodes G (tailIn p r q) (countIn p r - q)
 leaves-behind p r q L = leaves-fit p r (countIn p r - q) q (λ s u v. L s u (omega arith))
 
-module _ {G : Cfg} {w : List ℕ} {cover set k : ℕ} {places : List Symbol} {a j budget b : ℕ} {f x y : Forest} {m : ℕ} (known : j ≤ length w)
-    (N : NoNodes G places m) (o : OpenedRow G w cover set k places a j budget f b x y) where
+module _ {G : Cfg} {w : List ℕ} {cover mask k : ℕ} {places : List Symbol} {a j budget b : ℕ} {f x y : Forest} {m : ℕ} (known : j ≤ length w)
+    (N : NoNodes G places m) (o : OpenedRow G w cover mask k places a j budget f b x y) where
   -- a row of the places: where it begins, and its code
-  leaves-row : {c share : ℕ} {t : Forest} → Row G w cover set places c j share t → (code t ≡ []) × (j - c ≡ m)
+  leaves-row : {c share : ℕ} {t : Forest} → Row G w cover mask places c j share t → (code t ≡ []) × (j - c ≡ m)
   leaves-row {c} {t = t} R = let (e, n) = N t (R .fit) in (e, omega (arith, row-length G w known R))
 
   -- it is the first one there is
-  leaves-first : {c share : ℕ} → c ≡ b → Min (Row G w cover set places c j share) []
+  leaves-first : {c share : ℕ} → c ≡ b → Min (Row G w cover mask places c j share) []
   leaves-first {c} {share} e =
       let d = leaves-row (o .others) .0 in
       let n : nodes y ≡ 0 = omega (arith, ap length d, length-code y) in
       record {
         found = record {
           forest = y;
-          member = subst (λ (z : ℕ). Row G w cover set places z j share y) (sym e)
+          member = subst (λ (z : ℕ). Row G w cover mask places z j share y) (sym e)
               (row-budget G w (o .others) (omega arith));
           coded = d;
         };
@@ -94,52 +94,52 @@ module _ {G : Cfg} {w : List ℕ} {cover set k : ℕ} {places : List Symbol} {a 
   code-here : code x ++ code y ≡ code f
   code-here = sym (o .coded)
 
-  whole : Share G w cover set k places a j budget (b - a) budget
+  whole : Share G w cover mask k places a j budget (b - a) budget
   whole = record { within = omega arith; enough = λ u v T R. T .small }
 
   at-end : b ≡ a + (b - a)
   at-end = let h = o .rising in omega arith
 
-  child-coded : Coded (Tree G w cover set k a (a + (b - a)) budget) (code x)
+  child-coded : Coded (Tree G w cover mask k a (a + (b - a)) budget) (code x)
   child-coded = record {
     forest = x;
-    member = subst (λ (z : ℕ). Tree G w cover set k a z budget x) at-end (o .child);
+    member = subst (λ (z : ℕ). Tree G w cover mask k a z budget x) at-end (o .child);
     coded = refl;
   }
 
-  rest-coded : Coded (Row G w cover set places (a + (b - a)) j (budget - nodes x)) (code y)
+  rest-coded : Coded (Row G w cover mask places (a + (b - a)) j (budget - nodes x)) (code y)
   rest-coded = record {
     forest = y;
-    member = subst (λ (z : ℕ). Row G w cover set places z j (budget - nodes x) y) at-end (o .others);
+    member = subst (λ (z : ℕ). Row G w cover mask places z j (budget - nodes x) y) at-end (o .others);
     coded = refl;
   }
 
-  rest-last : Last (Row G w cover set places (a + (b - a)) j (budget - nodes x)) (code y)
-  rest-last = subst (Last (Row G w cover set places (a + (b - a)) j (budget - nodes x)))
+  rest-last : Last (Row G w cover mask places (a + (b - a)) j (budget - nodes x)) (code y)
+  rest-last = subst (Last (Row G w cover mask places (a + (b - a)) j (budget - nodes x)))
       (sym (leaves-row (o .others) .0)) (end-last _)
 
   -- the node moves
-  pub leaves-move : (e : List ℕ) → After (Tree G w cover set k a b budget) (code x) e
-      → After (Row G w cover set (nonterminal k ∷ places) a j budget) (code f) e
+  pub leaves-move : (e : List ℕ) → After (Tree G w cover mask k a b budget) (code x) e
+      → After (Row G w cover mask (nonterminal k ∷ places) a j budget) (code f) e
   leaves-move e A =
       let h = o .rising in
       let l = o .inside in
       let t = A .found .forest in
-      subst (λ (c : List ℕ). After (Row G w cover set (nonterminal k ∷ places) a j budget) c e) code-here
-      (subst (After (Row G w cover set (nonterminal k ∷ places) a j budget) (code x ++ code y)) (append-nil e)
-      (row-next-child G w cover set a j budget known places (omega arith) k (b - a) budget (nodes x) (omega arith)
+      subst (λ (c : List ℕ). After (Row G w cover mask (nonterminal k ∷ places) a j budget) c e) code-here
+      (subst (After (Row G w cover mask (nonterminal k ∷ places) a j budget) (code x ++ code y)) (append-nil e)
+      (row-next-child G w cover mask a j budget known places (omega arith) k (b - a) budget (nodes x) (omega arith)
       whole child-coded (length-code x) rest-coded rest-last (nodes t)
-      (subst (λ (z : ℕ). After (Tree G w cover set k a z budget) (code x) e) at-end A)
+      (subst (λ (z : ℕ). After (Tree G w cover mask k a z budget) (code x) e) at-end A)
       (sym (ap length (A .found .coded)) ∙ length-code t) (leaves-first (sym at-end))))
 
   -- it is last
-  pub leaves-end : Last (Tree G w cover set k a b budget) (code x)
-      → Last (Row G w cover set (nonterminal k ∷ places) a j budget) (code f)
+  pub leaves-end : Last (Tree G w cover mask k a b budget) (code x)
+      → Last (Row G w cover mask (nonterminal k ∷ places) a j budget) (code f)
   leaves-end A =
       let h = o .rising in
       let l = o .inside in
-      subst (Last (Row G w cover set (nonterminal k ∷ places) a j budget)) code-here
-      (row-last G w cover set a j budget known places (omega arith) k (b - a) budget (nodes x) (omega arith)
+      subst (Last (Row G w cover mask (nonterminal k ∷ places) a j budget)) code-here
+      (row-last G w cover mask a j budget known places (omega arith) k (b - a) budget (nodes x) (omega arith)
       whole child-coded (length-code x) rest-coded rest-last
-      (subst (λ (z : ℕ). Last (Tree G w cover set k a z budget) (code x)) at-end A)
+      (subst (λ (z : ℕ). Last (Tree G w cover mask k a z budget) (code x)) at-end A)
       (λ c u v s t T R. omega (arith, leaves-row R .1, leaves-row (o .others) .1)))

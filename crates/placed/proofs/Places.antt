@@ -20,24 +20,24 @@ use Rattle.beyond.proofs.Codes.{tree-nonempty}
 use Rattle.placed.proofs.Reading.{opened-here, size-here}
 
 -- the rows of the places from q on, as those of another list
-module _ (p : List ℕ) (r q : ℕ) {w : List ℕ} {cover set a j budget : ℕ} {places : List Symbol} (d : tailIn p r q ≡ places) where
-  pub row-as : {f : Forest} → Row (Packing p) w cover set (tailIn p r q) a j budget f → Row (Packing p) w cover set places a j budget f
-  row-as {f} R = subst (λ (s : List Symbol). Row (Packing p) w cover set s a j budget f) d R
+module _ (p : List ℕ) (r q : ℕ) {w : List ℕ} {cover mask a j budget : ℕ} {places : List Symbol} (d : tailIn p r q ≡ places) where
+  pub row-as : {f : Forest} → Row (Packing p) w cover mask (tailIn p r q) a j budget f → Row (Packing p) w cover mask places a j budget f
+  row-as {f} R = subst (λ (s : List Symbol). Row (Packing p) w cover mask s a j budget f) d R
 
-  pub next-as : {c buf : List ℕ} {at n : ℕ} → NextAt (Row (Packing p) w cover set places a j budget) c buf at n
-      → NextAt (Row (Packing p) w cover set (tailIn p r q) a j budget) c buf at n
+  pub next-as : {c buf : List ℕ} {at n : ℕ} → NextAt (Row (Packing p) w cover mask places a j budget) c buf at n
+      → NextAt (Row (Packing p) w cover mask (tailIn p r q) a j budget) c buf at n
   next-as {c} {buf} {at} {n} N =
-      subst (λ (s : List Symbol). NextAt (Row (Packing p) w cover set s a j budget) c buf at n) (sym d) N
+      subst (λ (s : List Symbol). NextAt (Row (Packing p) w cover mask s a j budget) c buf at n) (sym d) N
 
-  pub after-as : {c buf : List ℕ} {at n : ℕ} → AfterAt (Row (Packing p) w cover set places a j budget) c buf at n
-      → AfterAt (Row (Packing p) w cover set (tailIn p r q) a j budget) c buf at n
+  pub after-as : {c buf : List ℕ} {at n : ℕ} → AfterAt (Row (Packing p) w cover mask places a j budget) c buf at n
+      → AfterAt (Row (Packing p) w cover mask (tailIn p r q) a j budget) c buf at n
   after-as {c} {buf} {at} {n} N =
-      subst (λ (s : List Symbol). AfterAt (Row (Packing p) w cover set s a j budget) c buf at n) (sym d) N
+      subst (λ (s : List Symbol). AfterAt (Row (Packing p) w cover mask s a j budget) c buf at n) (sym d) N
 
 -- where nothing stands that is right, no row stands
 module _ {p : List ℕ} {r q a j budget at : ℕ} {buf : List ℕ} (l : a ≤ j) (room : at + budget ≤ maxNodes) where
-  pub none-stands : {w : List ℕ} {cover set : ℕ} {f : Forest} → Looked p r q buf at a j budget No → j ≤ length w
-      → Row (Packing p) w cover set (tailIn p r q) a j budget f → StandsAt buf at (code f) → ⊥
+  pub none-stands : {w : List ℕ} {cover mask : ℕ} {f : Forest} → Looked p r q buf at a j budget No → j ≤ length w
+      → Row (Packing p) w cover mask (tailIn p r q) a j budget f → StandsAt buf at (code f) → ⊥
   none-stands (no-byte c n m) known R S =
       let (g, o) = leaf-opened known l (a + 1) (row-as p r q (tail-terminal p r q c n) R) (omega arith) in
       let x = o .more in

@@ -43,13 +43,13 @@ module _ {p : List ℕ} {r q at a j budget : ℕ} {buf : List ℕ} (l : a ≤ j)
 
   pub reach-none : {s : Step} → Looked p r q buf at a j budget s → s ≡ No → Reached p r q buf at a j budget Nowhere
   reach-none L e =
-      nowhere (λ w cover set f known R S. absurd (none-stands l room (subst (Looked p r q buf at a j budget) e L) known R S))
+      nowhere (λ w cover mask f known R S. absurd (none-stands l room (subst (Looked p r q buf at a j budget) e L) known R S))
 
   pub reach-end : {s : Step} → Looked p r q buf at a j budget s → s ≡ End → Reached p r q buf at a j budget Nowhere
   reach-end L e = go (subst (Looked p r q buf at a j budget) e L)
     where
       go : Looked p r q buf at a j budget End → Reached p r q buf at a j budget Nowhere
-      go (at-end m) = nowhere (λ w cover set f known R S. ends-none m)
+      go (at-end m) = nowhere (λ w cover mask f known R S. ends-none m)
 
   -- ---- a byte
 
@@ -59,12 +59,12 @@ module _ {p : List ℕ} {r q at a j budget : ℕ} {buf : List ℕ} (l : a ≤ j)
     where
       go : {t : Found} → Looked p r q buf at a j budget Byte → Reached p r (q + 1) buf at (a + 1) j budget t
           → Reached p r q buf at a j budget t
-      go (at-byte c n m) (nowhere H) = nowhere (λ w cover set f known R S.
+      go (at-byte c n m) (nowhere H) = nowhere (λ w cover mask f known R S.
           let (g, o) = leaf-opened known l (a + 1) (row-as p r q (tail-terminal p r q c n) R) (omega arith) in
-          ends-leaf g n o (H w cover set g known (o .row) (subst (StandsAt buf at) (sym (o .coded)) S)))
-      go (at-byte c n m) (there {c = from} x y z u v H) = there {c = from} (omega arith) y z u v (λ w cover set f known R S.
+          ends-leaf g n o (H w cover mask g known (o .row) (subst (StandsAt buf at) (sym (o .coded)) S)))
+      go (at-byte c n m) (there {c = from} x y z u v H) = there {c = from} (omega arith) y z u v (λ w cover mask f known R S.
           let (g, o) = leaf-opened known l (a + 1) (row-as p r q (tail-terminal p r q c n) R) (omega arith) in
-          let F = H w cover set g known (o .row) (subst (StandsAt buf at) (sym (o .coded)) S) in
+          let F = H w cover mask g known (o .row) (subst (StandsAt buf at) (sym (o .coded)) S) in
           record {
             tree = F .tree;
             child = F .child;
@@ -84,7 +84,7 @@ module _ {p : List ℕ} {r q at a j budget : ℕ} {buf : List ℕ} (l : a ≤ j)
     where
       go : Looked p r q buf at a j budget (Final k b) → Reached p r q buf at a j budget (There k a b at budget)
       go (at-last c m t g d u) = there {c = a} {b = b} {to = at} {share = budget} (omega arith) (omega arith) u (omega arith) refl
-          (λ w cover set f known R S.
+          (λ w cover mask f known R S.
           let D = tail-nonterminal p r q c t g in
           let (x, y, o) = opened-here buf at S known l (row-as p r q D R) d in
           let z = leaves-behind p r (q + 1) m in
@@ -93,7 +93,7 @@ module _ {p : List ℕ} {r q at a j budget : ℕ} {buf : List ℕ} (l : a ≤ j)
             child = o .child;
             here = child-here buf at S o;
             last = λ A. ends-last t m
-                (subst (λ (s : List Symbol). Last (Row (Packing p) w cover set s a j budget) (code f)) (sym D) (leaves-end known z o A));
+                (subst (λ (s : List Symbol). Last (Row (Packing p) w cover mask s a j budget) (code f)) (sym D) (leaves-end known z o A));
             moves = λ buf₁ n K A.
                 after-as p r q D (record {
                   numbers = A .numbers;
@@ -106,9 +106,9 @@ module _ {p : List ℕ} {r q at a j budget : ℕ} {buf : List ℕ} (l : a ≤ j)
   -- ---- a node with others behind it
 
   module _ {k b s : ℕ} where
-    passed : {w : List ℕ} {cover set : ℕ} {f : Forest} → Looked p r q buf at a j budget (Node k b s) → j ≤ length w
-        → Row (Packing p) w cover set (tailIn p r q) a j budget f → StandsAt buf at (code f)
-        → Passed p w cover set r q k a j budget b s buf at f
+    passed : {w : List ℕ} {cover mask : ℕ} {f : Forest} → Looked p r q buf at a j budget (Node k b s) → j ≤ length w
+        → Row (Packing p) w cover mask (tailIn p r q) a j budget f → StandsAt buf at (code f)
+        → Passed p w cover mask r q k a j budget b s buf at f
     passed (at-node c t g d N Z u v) known R S =
         let (x, y, o) = opened-here buf at S known l (row-as p r q (tail-nonterminal p r q c t g) R) d in
         let z = size-here Z S o room in
@@ -123,19 +123,19 @@ module _ {p : List ℕ} {r q at a j budget : ℕ} {buf : List ℕ} (l : a ≤ j)
           stands = stands-second buf at (code x) (code y) s size (both-stand buf at S o);
         }
 
-    passed-ends : {w : List ℕ} {cover set : ℕ} {f : Forest} → Looked p r q buf at a j budget (Node k b s)
-        → (P : Passed p w cover set r q k a j budget b s buf at f)
-        → Ends p w cover set r j (q + 1) b (budget - s) (P .rest) → Ends p w cover set r j q a budget f
-    passed-ends {w} {cover} {set} {f} (at-node c t g d N Z u v) P E =
+    passed-ends : {w : List ℕ} {cover mask : ℕ} {f : Forest} → Looked p r q buf at a j budget (Node k b s)
+        → (P : Passed p w cover mask r q k a j budget b s buf at f)
+        → Ends p w cover mask r j (q + 1) b (budget - s) (P .rest) → Ends p w cover mask r j q a budget f
+    passed-ends {w} {cover} {mask} {f} (at-node c t g d N Z u v) P E =
         ends-node b (P .first) (P .rest) t N
-        (subst (λ (z : ℕ). OpenedRow (Packing p) w cover set z (tailIn p r (q + 1)) a j budget f b (P .first) (P .rest)) g (P .opened))
-        (subst (λ (z : ℕ). Ends p w cover set r j (q + 1) b (budget - z) (P .rest)) (P .count) E)
+        (subst (λ (z : ℕ). OpenedRow (Packing p) w cover mask z (tailIn p r (q + 1)) a j budget f b (P .first) (P .rest)) g (P .opened))
+        (subst (λ (z : ℕ). Ends p w cover mask r j (q + 1) b (budget - z) (P .rest)) (P .count) E)
 
-    passed-moves : {w : List ℕ} {cover set to : ℕ} (n : ℕ) {f : Forest} {buf₁ : List ℕ} → Looked p r q buf at a j budget (Node k b s)
-        → j ≤ length w → StandsAt buf at (code f) → (P : Passed p w cover set r q k a j budget b s buf at f) → at + s ≤ to
+    passed-moves : {w : List ℕ} {cover mask to : ℕ} (n : ℕ) {f : Forest} {buf₁ : List ℕ} → Looked p r q buf at a j budget (Node k b s)
+        → j ≤ length w → StandsAt buf at (code f) → (P : Passed p w cover mask r q k a j budget b s buf at f) → at + s ≤ to
         → ((y : ℕ) → y < 2 * to → getD buf₁ y 0 ≡ getD buf y 0)
-        → AfterAt (Row (Packing p) w cover set (tailIn p r (q + 1)) b j (budget - s)) (code (P .rest)) buf₁ (at + s) (to - (at + s) + n)
-        → AfterAt (Row (Packing p) w cover set (tailIn p r q) a j budget) (code f) buf₁ at (to - at + n)
+        → AfterAt (Row (Packing p) w cover mask (tailIn p r (q + 1)) b j (budget - s)) (code (P .rest)) buf₁ (at + s) (to - (at + s) + n)
+        → AfterAt (Row (Packing p) w cover mask (tailIn p r q) a j budget) (code f) buf₁ at (to - at + n)
     passed-moves n {buf₁ = buf₁} (at-node c t g d N Z u v) known S P h K A =
         let x = P .first in
         after-as p r q (tail-nonterminal p r q c t g) (record {
@@ -155,14 +155,14 @@ module _ {p : List ℕ} {r q at a j budget : ℕ} {buf : List ℕ} (l : a ≤ j)
 
         go : {t : Found} → Looked p r q buf at a j budget (Node k b s) → Reached p r (q + 1) buf (at + s) b j (budget - s) t
             → Reached p r q buf at a j budget t
-        go L (nowhere H) = nowhere (λ w cover set f known R S.
+        go L (nowhere H) = nowhere (λ w cover mask f known R S.
             let P = passed L known R S in
-            passed-ends L P (H w cover set (P .rest) known (P .row) (P .stands)))
+            passed-ends L P (H w cover mask (P .rest) known (P .row) (P .stands)))
         go L (there {c = from} {to = to} {share = share} x y z u v H) =
             let h = low L in
-            there {c = from} {to = to} {share = share} (omega arith) y z (omega arith) (omega arith) (λ w cover set f known R S.
+            there {c = from} {to = to} {share = share} (omega arith) y z (omega arith) (omega arith) (λ w cover mask f known R S.
             let P = passed L known R S in
-            let F = H w cover set (P .rest) known (P .row) (P .stands) in
+            let F = H w cover mask (P .rest) known (P .row) (P .stands) in
             record {
               tree = F .tree;
               child = F .child;

@@ -74,11 +74,11 @@ module _ {p : List ℕ} {r q : ℕ} {buf : List ℕ} {at a j budget : ℕ} {s : 
 
 -- ---- what stands
 
-module _ {G : Cfg} {w : List ℕ} {cover set k : ℕ} {places : List Symbol} {a j budget : ℕ} {f : Forest} (buf : List ℕ) (at : ℕ)
+module _ {G : Cfg} {w : List ℕ} {cover mask k : ℕ} {places : List Symbol} {a j budget : ℕ} {f : Forest} (buf : List ℕ) (at : ℕ)
     (S : StandsAt buf at (code f)) where
   -- the first number of a node that stands there says where it ends
-  pub opened-here : {b : ℕ} → j ≤ length w → a ≤ j → Row G w cover set (nonterminal k ∷ places) a j budget f → b ≡ a + getD buf (2 * at) 0
-      → (x y : Forest) × OpenedRow G w cover set k places a j budget f b x y
+  pub opened-here : {b : ℕ} → j ≤ length w → a ≤ j → Row G w cover mask (nonterminal k ∷ places) a j budget f → b ≡ a + getD buf (2 * at) 0
+      → (x y : Forest) × OpenedRow G w cover mask k places a j budget f b x y
   opened-here {b} known l R e =
       let (x, y, o) = row-opened known l (a + getD (code f) 0 0) R refl in
       let n = o .counted in
@@ -87,7 +87,7 @@ module _ {G : Cfg} {w : List ℕ} {cover set k : ℕ} {places : List Symbol} {a 
       ∙ S 0 (omega (arith, length-code f, tree-nonempty (o .child .fit))) in
       row-opened known l b R (e ∙ ap (λ (v : ℕ). a + v) d)
 
-  module _ {b : ℕ} {x y : Forest} (o : OpenedRow G w cover set k places a j budget f b x y) where
+  module _ {b : ℕ} {x y : Forest} (o : OpenedRow G w cover mask k places a j budget f b x y) where
     pub both-stand : StandsAt buf at (code x ++ code y)
     both-stand = subst (StandsAt buf at) (o .coded) S
 
@@ -95,18 +95,18 @@ module _ {G : Cfg} {w : List ℕ} {cover set k : ℕ} {places : List Symbol} {a 
     child-here = stands-first buf at (code x) (code y) both-stand
 
 -- the nodes counted are those of the tree
-pub size-here : {p w : List ℕ} {cover set k : ℕ} {places : List Symbol} {a j budget at s b : ℕ} {buf : List ℕ} {f x y : Forest}
-    → Sized p buf at s → StandsAt buf at (code f) → OpenedRow (Packing p) w cover set k places a j budget f b x y → at + budget ≤ maxNodes
+pub size-here : {p w : List ℕ} {cover mask k : ℕ} {places : List Symbol} {a j budget at s b : ℕ} {buf : List ℕ} {f x y : Forest}
+    → Sized p buf at s → StandsAt buf at (code f) → OpenedRow (Packing p) w cover mask k places a j budget f b x y → at + budget ≤ maxNodes
     → s ≡ nodes x
 size-here {k = k} {at = at} {buf = buf} {x = x} Z S o room =
     Z .exact k x (o .child .fit) (child-here buf at S o) (omega (arith, o .child .small))
 
 -- a node of k up to b with s nodes, the first of a row that stands, and the row behind it
-pub record Passed (p w : List ℕ) (cover set r q k a j budget b s : ℕ) (buf : List ℕ) (at : ℕ) (f : Forest) : Type 0 where
+pub record Passed (p w : List ℕ) (cover mask r q k a j budget b s : ℕ) (buf : List ℕ) (at : ℕ) (f : Forest) : Type 0 where
   pub first : Forest
   pub rest : Forest
-  pub opened : OpenedRow (Packing p) w cover set k (tailIn p r (q + 1)) a j budget f b first rest
+  pub opened : OpenedRow (Packing p) w cover mask k (tailIn p r (q + 1)) a j budget f b first rest
   pub count : s ≡ nodes first
   pub size : length (code first) ≡ 2 * s
-  pub row : Row (Packing p) w cover set (tailIn p r (q + 1)) b j (budget - s) rest
+  pub row : Row (Packing p) w cover mask (tailIn p r (q + 1)) b j (budget - s) rest
   pub stands : StandsAt buf (at + s) (code rest)

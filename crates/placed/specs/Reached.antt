@@ -19,34 +19,34 @@ use Rattle.placed.specs.declared.reach.Found.the-variants.{Nowhere, Ther
 use Rattle.placed.specs.Looked.{LeavesIn}
 
 -- the row f of the places of rule r from q on, from a to j, has no last node, or that node is last
-pub data Ends (p w : List ℕ) (cover set r j : ℕ) : ℕ → ℕ → ℕ → Forest → Type 0 where
-  ends-none : {q a budget : ℕ} {f : Forest} → countIn p r ≤ q → Ends p w cover set r j q a budget f
+pub data Ends (p w : List ℕ) (cover mask r j : ℕ) : ℕ → ℕ → ℕ → Forest → Type 0 where
+  ends-none : {q a budget : ℕ} {f : Forest} → countIn p r ≤ q → Ends p w cover mask r j q a budget f
   ends-leaf : {q a budget : ℕ} {f : Forest} (g : Forest) → isNonterminalIn p r q ≡ false
-      → OpenedLeaf (Packing p) w cover set (terminalIn p r q) (tailIn p r (q + 1)) a j budget f (a + 1) g
-      → Ends p w cover set r j (q + 1) (a + 1) budget g → Ends p w cover set r j q a budget f
+      → OpenedLeaf (Packing p) w cover mask (terminalIn p r q) (tailIn p r (q + 1)) a j budget f (a + 1) g
+      → Ends p w cover mask r j (q + 1) (a + 1) budget g → Ends p w cover mask r j q a budget f
   ends-node : {q a budget : ℕ} {f : Forest} (b : ℕ) (x y : Forest) → isNonterminalIn p r q ≡ true
       → (LeavesIn p r (q + 1) (countIn p r) → ⊥)
-      → OpenedRow (Packing p) w cover set (valueIn p r q) (tailIn p r (q + 1)) a j budget f b x y
-      → Ends p w cover set r j (q + 1) b (budget - nodes x) y → Ends p w cover set r j q a budget f
+      → OpenedRow (Packing p) w cover mask (valueIn p r q) (tailIn p r (q + 1)) a j budget f b x y
+      → Ends p w cover mask r j (q + 1) b (budget - nodes x) y → Ends p w cover mask r j q a budget f
   ends-last : {q a budget : ℕ} {f : Forest} → isNonterminalIn p r q ≡ true → LeavesIn p r (q + 1) (countIn p r)
-      → Last (Row (Packing p) w cover set (tailIn p r q) a j budget) (code f) → Ends p w cover set r j q a budget f
+      → Last (Row (Packing p) w cover mask (tailIn p r q) a j budget) (code f) → Ends p w cover mask r j q a budget f
 
 -- the last node of f is a node of k from c to b that stands at node `to`; what comes after it, the numbers before it being kept, comes
 -- after f
-pub record LastNode (p w : List ℕ) (cover set r q a j budget : ℕ) (f : Forest) (buf : List ℕ) (at k c b to share : ℕ) : Type 0 where
+pub record LastNode (p w : List ℕ) (cover mask r q a j budget : ℕ) (f : Forest) (buf : List ℕ) (at k c b to share : ℕ) : Type 0 where
   pub tree : Forest
-  pub child : Tree (Packing p) w cover set k c b share tree
+  pub child : Tree (Packing p) w cover mask k c b share tree
   pub here : StandsAt buf to (code tree)
-  pub last : Last (Tree (Packing p) w cover set k c b share) (code tree) → Ends p w cover set r j q a budget f
+  pub last : Last (Tree (Packing p) w cover mask k c b share) (code tree) → Ends p w cover mask r j q a budget f
   pub moves : (buf₁ : List ℕ) (n : ℕ) → ((y : ℕ) → y < 2 * to → getD buf₁ y 0 ≡ getD buf y 0)
-      → AfterAt (Tree (Packing p) w cover set k c b share) (code tree) buf₁ to n
-      → AfterAt (Row (Packing p) w cover set (tailIn p r q) a j budget) (code f) buf₁ at (to - at + n)
+      → AfterAt (Tree (Packing p) w cover mask k c b share) (code tree) buf₁ to n
+      → AfterAt (Row (Packing p) w cover mask (tailIn p r q) a j budget) (code f) buf₁ at (to - at + n)
 
 -- where the last node of the row stands that stands at node `at`, and what is left of the budget there
 pub data Reached (p : List ℕ) (r q : ℕ) (buf : List ℕ) (at a j budget : ℕ) : Found → Type 0 where
-  nowhere : ((w : List ℕ) (cover set : ℕ) (f : Forest) → j ≤ length w → Row (Packing p) w cover set (tailIn p r q) a j budget f
-      → StandsAt buf at (code f) → Ends p w cover set r j q a budget f) → Reached p r q buf at a j budget Nowhere
+  nowhere : ((w : List ℕ) (cover mask : ℕ) (f : Forest) → j ≤ length w → Row (Packing p) w cover mask (tailIn p r q) a j budget f
+      → StandsAt buf at (code f) → Ends p w cover mask r j q a budget f) → Reached p r q buf at a j budget Nowhere
   there : {k c b to share : ℕ} → a ≤ c → c ≤ b → b ≤ j → at ≤ to → to + share ≡ at + budget
-      → ((w : List ℕ) (cover set : ℕ) (f : Forest) → j ≤ length w → Row (Packing p) w cover set (tailIn p r q) a j budget f
-      → StandsAt buf at (code f) → LastNode p w cover set r q a j budget f buf at k c b to share)
+      → ((w : List ℕ) (cover mask : ℕ) (f : Forest) → j ≤ length w → Row (Packing p) w cover mask (tailIn p r q) a j budget f
+      → StandsAt buf at (code f) → LastNode p w cover mask r q a j budget f buf at k c b to share)
       → Reached p r q buf at a j budget (There k c b to share)

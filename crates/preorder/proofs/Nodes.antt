@@ -62,26 +62,26 @@ code-after e x t at next h d =
     sym (drop-append-seam (code t) x) ∙ ap (drop (length (code t))) d ∙ drop-drop (length (code t)) (2 * at) e
     ∙ ap (λ (y : ℕ). drop y e) i
 
-module _ (G : Cfg) (w e : List ℕ) (n cover set k : ℕ) (places : List Symbol) where
+module _ (G : Cfg) (w e : List ℕ) (n cover mask k : ℕ) (places : List Symbol) where
   -- ---- a node alone, and a row after it
 
   module _ (at from mid to middle next : ℕ) (order : from ≤ mid) (rising : mid ≤ to) (known : to ≤ length w) where
-    pub walk-node : Walked G w e n cover set (nonterminal k ∷ []) at from mid middle
-        → Walked G w e n cover set places middle mid to next → Walked G w e n cover set (nonterminal k ∷ places) at from to next
+    pub walk-node : Walked G w e n cover mask (nonterminal k ∷ []) at from mid middle
+        → Walked G w e n cover mask places middle mid to next → Walked G w e n cover mask (nonterminal k ∷ places) at from to next
     unfolding yield nodes
     walk-node a b = go (a .fit) (a .plain) (a .free) (a .covers) (a .coded) (a .ends)
       where
-        go : {forest : Forest} → Fits G (nonterminal k ∷ []) forest → ¬ Superfluous G forest → Free G cover set forest
+        go : {forest : Forest} → Fits G (nonterminal k ∷ []) forest → ¬ Superfluous G forest → Free G cover mask forest
             → yield forest ≡ slice from mid w
             → code forest ++ drop (2 * middle) e ≡ drop (2 * at) e → middle ≡ at + nodes forest
-            → Walked G w e n cover set (nonterminal k ∷ places) at from to next
+            → Walked G w e n cover mask (nonterminal k ∷ places) at from to next
         go (fits-node {r = r} {below = below} o f fits-end) s z c d m =
             let y = b .ends in
             record {
               forest = node r below (b .forest);
               fit = fits-node o f (b .fit);
               plain = join-plain G r below (b .forest) s (b .plain);
-              free = join-free G r below (b .forest) cover set z (b .free);
+              free = join-free G r below (b .forest) cover mask z (b .free);
               covers =
                   ap₂ _++_ (sym (yield-alone r below) ∙ c) (b .covers) ∙ slice-append from mid to w order rising known;
               coded =
@@ -98,15 +98,15 @@ module _ (G : Cfg) (w e : List ℕ) (n cover set k : ℕ) (places : List Symbol)
     pub middle : ℕ
     pub early : at < n
     pub fitting : from + getD e (2 * at) 0 ≤ to
-    pub first : Walked G w e n cover set (nonterminal k ∷ []) at from (from + getD e (2 * at) 0) middle
-    pub rest : Walked G w e n cover set places middle (from + getD e (2 * at) 0) to next
+    pub first : Walked G w e n cover mask (nonterminal k ∷ []) at from (from + getD e (2 * at) 0) middle
+    pub rest : Walked G w e n cover mask places middle (from + getD e (2 * at) 0) to next
 
   module _ (at from to next : ℕ) (rising : from ≤ to) (known : to ≤ length w) where
-    pub node-walk : Walked G w e n cover set (nonterminal k ∷ places) at from to next → Parted at from to next
+    pub node-walk : Walked G w e n cover mask (nonterminal k ∷ places) at from to next → Parted at from to next
     unfolding yield nodes
     node-walk a = go (a .fit) (a .plain) (a .free) (a .covers) (a .coded) (a .ends)
       where
-        go : {forest : Forest} → Fits G (nonterminal k ∷ places) forest → ¬ Superfluous G forest → Free G cover set forest
+        go : {forest : Forest} → Fits G (nonterminal k ∷ places) forest → ¬ Superfluous G forest → Free G cover mask forest
             → yield forest ≡ slice from to w
             → code forest ++ drop (2 * next) e ≡ drop (2 * at) e → next ≡ at + nodes forest → Parted at from to next
         go (fits-node {r = r} {below = below} {rest = rest} o f g) s z c d m =
@@ -128,7 +128,7 @@ module _ (G : Cfg) (w e : List ℕ) (n cover set k : ℕ) (places : List Symbol)
                 forest = node r below end;
                 fit = fits-node o f fits-end;
                 plain = first-plain G r below rest s;
-                free = first-free G r below rest cover set z;
+                free = first-free G r below rest cover mask z;
                 covers = yield-alone r below ∙ v .1 ∙ ap (λ (y : ℕ). slice from y w) i;
                 coded = ap (λ (l : List ℕ). code (node r below end) ++ l) (sym after) ∙ whole;
                 ends = omega arith;
@@ -138,7 +138,7 @@ module _ (G : Cfg) (w e : List ℕ) (n cover set k : ℕ) (places : List Symbol)
                 forest = rest;
                 fit = g;
                 plain = beside-plain G r below rest s;
-                free = beside-free G r below rest cover set z;
+                free = beside-free G r below rest cover mask z;
                 covers = v .2 ∙ ap (λ (y : ℕ). slice y to w) i;
                 coded = after;
                 ends = omega arith;
@@ -148,7 +148,7 @@ module _ (G : Cfg) (w e : List ℕ) (n cover set k : ℕ) (places : List Symbol)
 
 -- ---- a node alone: its two numbers, and the row below it
 
-module _ (G : Cfg) (w e : List ℕ) (n cover set own k at from to next : ℕ) (span : SameSpan cover set (to - from) own)
+module _ (G : Cfg) (w e : List ℕ) (n cover mask own k at from to next : ℕ) (span : SameSpan cover mask (to - from) own)
     (rising : from ≤ to) (known : to ≤ length w) where
   -- the rule of a node alone, and the row below it
   pub record Opened : Type 0 where
@@ -162,18 +162,18 @@ module _ (G : Cfg) (w e : List ℕ) (n cover set own k at from to next : ℕ) (s
 
   -- the node over its own row, the cover being the row's own
   alone : {t : Forest} {r : ℕ} (o : Of G r k) → Fits G (o .the .places) t → ¬ Superfluous G t → Free G (length (yield t)) (insert k own) t
-      → SameSpan cover set (length (yield t)) own → has k own ≡ false → length (yield t) ≤ cover → yield t ≡ slice from to w
+      → SameSpan cover mask (length (yield t)) own → has k own ≡ false → length (yield t) ≤ cover → yield t ≡ slice from to w
       → suc (2 * at) < length e → getD e (2 * at) 0 ≡ length (yield t) → getD e (2 * at + 1) 0 ≡ r
       → code t ++ drop (2 * next) e ≡ drop (2 * (at + 1)) e → next ≡ at + 1 + nodes t → next ≤ n
-      → Walked G w e n cover set (nonterminal k ∷ []) at from to next
+      → Walked G w e n cover mask (nonterminal k ∷ []) at from to next
   unfolding nodes
   alone {t} {r} o f s z same fresh narrow c h x y d m l =
       let i : 2 * (at + 1) ≡ 2 * at + 2 = omega arith in
       record {
         forest = node r t end;
         fit = fits-node o f fits-end;
-        plain = node-plain G cover set own k r o t s z;
-        free = node-free G cover set own k r o t same narrow fresh z;
+        plain = node-plain G cover mask own k r o t s z;
+        free = node-free G cover mask own k r o t same narrow fresh z;
         covers = yield-alone r t ∙ c;
         coded =
             code-alone r t (drop (2 * next) e)
@@ -183,30 +183,30 @@ module _ (G : Cfg) (w e : List ℕ) (n cover set own k at from to next : ℕ) (s
         inside = l;
       }
 
-  pub walk-open : to ≤ from + cover → 2 * n ≤ length e → Opened → Walked G w e n cover set (nonterminal k ∷ []) at from to next
+  pub walk-open : to ≤ from + cover → 2 * n ≤ length e → Opened → Walked G w e n cover mask (nonterminal k ∷ []) at from to next
   walk-open narrow long a = go (ap length (a .below .covers) ∙ length-slice from to w known)
     where
-      go : length (yield (a .below .forest)) ≡ to - from → Walked G w e n cover set (nonterminal k ∷ []) at from to next
+      go : length (yield (a .below .forest)) ≡ to - from → Walked G w e n cover mask (nonterminal k ∷ []) at from to next
       go h =
           let b = a .below in
           let early = a .early in
           let free : Free G (length (yield (b .forest))) (insert k own) (b .forest) =
           subst (λ (x : ℕ). Free G x (insert k own) (b .forest)) (sym h) (b .free) in
-          let same : SameSpan cover set (length (yield (b .forest))) own = subst (λ (x : ℕ). SameSpan cover set x own) (sym h) span in
+          let same : SameSpan cover mask (length (yield (b .forest))) own = subst (λ (x : ℕ). SameSpan cover mask x own) (sym h) span in
           alone (a .of) (b .fit) (b .plain) free same (a .fresh) (omega arith) (b .covers) (omega arith) (a .bytes ∙ sym h) (a .number)
           (b .coded) (b .ends) (b .inside)
 
-  pub open-walk : Walked G w e n cover set (nonterminal k ∷ []) at from to next → Opened
+  pub open-walk : Walked G w e n cover mask (nonterminal k ∷ []) at from to next → Opened
   unfolding yield nodes
   open-walk a = go (a .fit) (a .plain) (a .free) (a .covers) (a .coded) (a .ends)
     where
-      go : {forest : Forest} → Fits G (nonterminal k ∷ []) forest → ¬ Superfluous G forest → Free G cover set forest
+      go : {forest : Forest} → Fits G (nonterminal k ∷ []) forest → ¬ Superfluous G forest → Free G cover mask forest
           → yield forest ≡ slice from to w
           → code forest ++ drop (2 * next) e ≡ drop (2 * at) e → next ≡ at + nodes forest → Opened
       go (fits-node {r = r} {below = below} o f fits-end) s z c d m =
           let q : yield below ≡ slice from to w = sym (yield-alone r below) ∙ c in
           let width : length (yield below) ≡ to - from = ap length q ∙ length-slice from to w known in
-          let same : SameSpan cover set (length (yield below)) own = subst (λ (x : ℕ). SameSpan cover set x own) (sym width) span in
+          let same : SameSpan cover mask (length (yield below)) own = subst (λ (x : ℕ). SameSpan cover mask x own) (sym width) span in
           let x = drop (2 * next) e in
           let u = two-at e (code below ++ x) (2 * at) (length (yield below)) r (sym (code-alone r below x) ∙ d) in
           let i : 2 * at + 2 ≡ 2 * (at + 1) = omega arith in
@@ -217,12 +217,12 @@ module _ (G : Cfg) (w e : List ℕ) (n cover set own k at from to next : ℕ) (s
             early = omega arith;
             bytes = u .1 ∙ width;
             number = u .2;
-            fresh = node-fresh G cover set own k r o below same s z;
+            fresh = node-fresh G cover mask own k r o below same s z;
             below = record {
               forest = below;
               fit = f;
-              plain = below-plain G cover set own k r o below same s z;
-              free = subst (λ (y : ℕ). Free G y (insert k own) below) width (below-free G cover set own k r o below same s z);
+              plain = below-plain G cover mask own k r o below same s z;
+              free = subst (λ (y : ℕ). Free G y (insert k own) below) width (below-free G cover mask own k r o below same s z);
               covers = q;
               coded = u .3 ∙ ap (λ (y : ℕ). drop y e) i;
               ends = omega arith;

@@ -15,18 +15,18 @@ use Rattle.cfg.proofs.Of.{of-same-left}
 use Rattle.enumeration.specs.Rows.{Free, SameSpan}
 use Rattle.enumeration.proofs.Free.{has-within, end-free, node-plain as node-plain-over}
 
--- own: what matters of the set for the node
-module _ (G : Cfg) (cover set own k r : ℕ) (o : Of G r k) (below : Forest) where
+-- own: what matters of the mask for the node
+module _ (G : Cfg) (cover mask own k r : ℕ) (o : Of G r k) (below : Forest) where
   pub node-plain : ¬ Superfluous G below → Free G (length (yield below)) (insert k own) below → ¬ Superfluous G (node r below end)
   node-plain = node-plain-over G (length (yield below)) own k r o below refl
 
-  module _ (span : SameSpan cover set (length (yield below)) own) where
-    -- a member of the set over the bytes of the node is one that matters
-    member : (j : ℕ) → length (yield below) ≡ cover → has j set ≡ true → has j own ≡ true
+  module _ (span : SameSpan cover mask (length (yield below)) own) where
+    -- a member of the mask over the bytes of the node is one that matters
+    member : (j : ℕ) → length (yield below) ≡ cover → has j mask ≡ true → has j own ≡ true
     member j e h = ap (has j) (span .same e) ∙ h
 
     pub node-free : length (yield below) ≤ cover → has k own ≡ false → Free G (length (yield below)) (insert k own) below
-        → Free G cover set (node r below end)
+        → Free G cover mask (node r below end)
     node-free narrow fresh f j h (has-here p e) =
         true≢false (sym (ap (λ (x : ℕ). has x own) (of-same-left o p) ∙ member j e h) ∙ fresh)
     node-free narrow fresh f j h (has-below i) = go (ℕ-discrete (length (yield below)) cover)
@@ -36,17 +36,17 @@ module _ (G : Cfg) (cover set own k r : ℕ) (o : Of G r k) (below : Forest) whe
         go (no d) =
             let l = has-within i in
             d (omega arith)
-    node-free narrow fresh f j h (has-beside i) = end-free G cover set j h i
+    node-free narrow fresh f j h (has-beside i) = end-free G cover mask j h i
 
-    module _ (plain : ¬ Superfluous G (node r below end)) (free : Free G cover set (node r below end)) where
+    module _ (plain : ¬ Superfluous G (node r below end)) (free : Free G cover mask (node r below end)) where
       pub below-plain : ¬ Superfluous G below
       below-plain i = plain (super-below i)
 
-      -- a member that matters is one of the set, over the bytes of the node
-      matters : (j : ℕ) → has j own ≡ true → (length (yield below) ≡ cover) × (has j set ≡ true)
+      -- a member that matters is one of the mask, over the bytes of the node
+      matters : (j : ℕ) → has j own ≡ true → (length (yield below) ≡ cover) × (has j mask ≡ true)
       matters j h = go (ℕ-discrete (length (yield below)) cover)
         where
-          go : Dec (length (yield below) ≡ cover) → (length (yield below) ≡ cover) × (has j set ≡ true)
+          go : Dec (length (yield below) ≡ cover) → (length (yield below) ≡ cover) × (has j mask ≡ true)
           go (yes e) = (e, ap (has j) (sym (span .same e)) ∙ h)
           go (no d) = absurd (true≢false (sym h ∙ ap (has j) (span .other d) ∙ has-empty j))
 

@@ -23,23 +23,23 @@ none-answers P f = record { found = λ h. absurd (omega arith); none = λ _. f }
 answers-same : (P Q : ℕ → Type 0) (b r : ℕ) → ((s : ℕ) → P s → Q s) → ((s : ℕ) → Q s → P s) → Answers P b r → Answers Q b r
 answers-same P Q b r f g a = record { found = λ h. f r (a .found h); none = λ h s q. a .none h s (g s q) }
 
-module _ (p w e : List ℕ) (n cover set at from to : ℕ) (room : Room w e n cover at from to) where
+module _ (p w e : List ℕ) (n cover mask at from to : ℕ) (room : Room w e n cover at from to) where
   -- the rows for these places
   abbrev Rows : List Symbol → ℕ → Type 0
-  Rows places = Walked (cfgIn 0 p) w e n cover set places at from to
+  Rows places = Walked (cfgIn 0 p) w e n cover mask places at from to
 
   -- ---- a node
 
-  module _ (k own : ℕ) (span : SameSpan cover set (to - from) own) where
+  module _ (k own : ℕ) (span : SameSpan cover mask (to - from) own) where
     -- the rows below the node for these places
     abbrev Below : List Symbol → ℕ → Type 0
     Below places = Walked (cfgIn 0 p) w e n (to - from) (insert k own) places (at + 1) from to
 
     opened : (next : ℕ) → Rows (nonterminal k ∷ []) next
-        → Opened (cfgIn 0 p) w e n cover set own k at from to next span (room .rising) (room .known)
-    opened next = open-walk (cfgIn 0 p) w e n cover set own k at from to next span (room .rising) (room .known)
+        → Opened (cfgIn 0 p) w e n cover mask own k at from to next span (room .rising) (room .known)
+    opened next = open-walk (cfgIn 0 p) w e n cover mask own k at from to next span (room .rising) (room .known)
 
-    opens : (next : ℕ) (o : Opened (cfgIn 0 p) w e n cover set own k at from to next span (room .rising) (room .known))
+    opens : (next : ℕ) (o : Opened (cfgIn 0 p) w e n cover mask own k at from to next span (room .rising) (room .known))
         → Opens p e n own k (to - from) at (o .rule)
     opens next o =
         let u = of-in 0 p (o .rule) k (o .of) in
@@ -80,7 +80,7 @@ module _ (p w e : List ℕ) (n cover set at from to : ℕ) (room : Room w e n co
 
         up : (s : ℕ) → Below (placesFrom p r 0 (countIn p r - 0)) s → Rows (nonterminal k ∷ []) s
         up s x =
-            walk-open (cfgIn 0 p) w e n cover set own k at from to s span (room .rising) (room .known) (room .narrow) (room .long)
+            walk-open (cfgIn 0 p) w e n cover mask own k at from to s span (room .rising) (room .known) (room .narrow) (room .long)
             record {
               rule = r;
               of = in-of 0 p r k (it .low) (it .left) small;
@@ -120,14 +120,14 @@ module _ (p w e : List ℕ) (n cover set at from to : ℕ) (room : Room w e n co
       where
         go : Looked p w e n r q at from to No → (s : ℕ) → Rows left s → ⊥
         go (not-end c d) s x =
-            d (end-walk (cfgIn 0 p) w e n cover set at from to s (room .rising) (room .known)
+            d (end-walk (cfgIn 0 p) w e n cover mask at from to s (room .rising) (room .known)
             (subst (λ (l : List Symbol). Rows l s) (places-end p r q c) x))
         go (not-byte {t} c y d) s x =
-            let u = leaf-walk (cfgIn 0 p) w e n cover set t later at from to s (room .known) (room .rising)
+            let u = leaf-walk (cfgIn 0 p) w e n cover mask t later at from to s (room .known) (room .rising)
             (subst (λ (l : List Symbol). Rows l s) (left-cons (terminal t) c y) x) in
             d (u .0) (u .1)
         go (not-node {k} c y d) s x =
-            let u = node-walk (cfgIn 0 p) w e n cover set k later at from to s (room .rising) (room .known)
+            let u = node-walk (cfgIn 0 p) w e n cover mask k later at from to s (room .rising) (room .known)
             (subst (λ (l : List Symbol). Rows l s) (left-cons (nonterminal k) c y) x) in
             d (u .early) (u .fitting)
 
@@ -140,55 +140,55 @@ module _ (p w e : List ℕ) (n cover set at from to : ℕ) (room : Room w e n co
             let before = room .before in
             record {
               found = λ _. subst (λ (l : List Symbol). Rows l at) (sym (places-end p r q c))
-                  (walk-end (cfgIn 0 p) w e n cover set at from to (room .before) d);
+                  (walk-end (cfgIn 0 p) w e n cover mask at from to (room .before) d);
               none = λ l. absurd (omega arith);
             }
 
     pub row-byte : (s : Step) (next : ℕ) → Looked p w e n r q at from to s → s ≡ Byte
-        → Answers (Walked (cfgIn 0 p) w e n cover set later at (from + 1) to) tooMany next → Answers (Rows left) tooMany next
+        → Answers (Walked (cfgIn 0 p) w e n cover mask later at (from + 1) to) tooMany next → Answers (Rows left) tooMany next
     row-byte s next l h a = go (subst (Looked p w e n r q at from to) h l)
       where
         go : Looked p w e n r q at from to Byte → Answers (Rows left) tooMany next
         go (at-byte {t} c y d f) =
             subst (λ (l : List Symbol). Answers (Rows l) tooMany next) (sym (left-cons (terminal t) c y))
-            (answers-same (Walked (cfgIn 0 p) w e n cover set later at (from + 1) to) (Rows (terminal t ∷ later)) tooMany next
-            (λ s x. walk-leaf (cfgIn 0 p) w e n cover set t later at from to s (room .known) d f x)
-            (λ s x. leaf-walk (cfgIn 0 p) w e n cover set t later at from to s (room .known) (room .rising) x .2) a)
+            (answers-same (Walked (cfgIn 0 p) w e n cover mask later at (from + 1) to) (Rows (terminal t ∷ later)) tooMany next
+            (λ s x. walk-leaf (cfgIn 0 p) w e n cover mask t later at from to s (room .known) d f x)
+            (λ s x. leaf-walk (cfgIn 0 p) w e n cover mask t later at from to s (room .known) (room .rising) x .2) a)
 
     module _ (s : Step) (k c middle : ℕ) (looked : Looked p w e n r q at from to s) (is : s ≡ Node k c)
-        (first : Answers (Walked (cfgIn 0 p) w e n cover set (nonterminal k ∷ []) at from (from + c)) tooMany middle) where
+        (first : Answers (Walked (cfgIn 0 p) w e n cover mask (nonterminal k ∷ []) at from (from + c)) tooMany middle) where
       pub row-node-none : 512 < middle → Answers (Rows left) tooMany tooMany
       row-node-none h = none-answers (Rows left) (λ s x. go (subst (Looked p w e n r q at from to) is looked) s x)
         where
           go : Looked p w e n r q at from to (Node k c) → (s : ℕ) → Rows left s → ⊥
           go (at-node b y i d f) s x =
-              let u = node-walk (cfgIn 0 p) w e n cover set k later at from to s (room .rising) (room .known)
+              let u = node-walk (cfgIn 0 p) w e n cover mask k later at from to s (room .rising) (room .known)
               (subst (λ (l : List Symbol). Rows l s) (left-cons (nonterminal k) b y) x) in
               first .none h (u .middle)
-              (subst (λ (z : ℕ). Walked (cfgIn 0 p) w e n cover set (nonterminal k ∷ []) at from (from + z) (u .middle)) d (u .first))
+              (subst (λ (z : ℕ). Walked (cfgIn 0 p) w e n cover mask (nonterminal k ∷ []) at from (from + z) (u .middle)) d (u .first))
 
       pub row-node-some : (next : ℕ) → middle ≤ 512
-          → Answers (Walked (cfgIn 0 p) w e n cover set later middle (from + c) to) tooMany next → Answers (Rows left) tooMany next
+          → Answers (Walked (cfgIn 0 p) w e n cover mask later middle (from + c) to) tooMany next → Answers (Rows left) tooMany next
       row-node-some next h a = go (subst (Looked p w e n r q at from to) is looked)
         where
           go : Looked p w e n r q at from to (Node k c) → Answers (Rows left) tooMany next
           go (at-node b y i d f) =
               subst (λ (l : List Symbol). Answers (Rows l) tooMany next) (sym (left-cons (nonterminal k) b y))
-              (answers-same (Walked (cfgIn 0 p) w e n cover set later middle (from + c) to) (Rows (nonterminal k ∷ later)) tooMany next
-              (λ s x. walk-node (cfgIn 0 p) w e n cover set k later at from (from + c) to middle s (omega arith) f (room .known)
+              (answers-same (Walked (cfgIn 0 p) w e n cover mask later middle (from + c) to) (Rows (nonterminal k ∷ later)) tooMany next
+              (λ s x. walk-node (cfgIn 0 p) w e n cover mask k later at from (from + c) to middle s (omega arith) f (room .known)
               (first .found (omega arith)) x)
-              (λ s x. down s (node-walk (cfgIn 0 p) w e n cover set k later at from to s (room .rising) (room .known) x)) a)
+              (λ s x. down s (node-walk (cfgIn 0 p) w e n cover mask k later at from to s (room .rising) (room .known) x)) a)
             where
-              down : (s : ℕ) → Parted (cfgIn 0 p) w e n cover set k later at from to s
-                  → Walked (cfgIn 0 p) w e n cover set later middle (from + c) to s
+              down : (s : ℕ) → Parted (cfgIn 0 p) w e n cover mask k later at from to s
+                  → Walked (cfgIn 0 p) w e n cover mask later middle (from + c) to s
               down s u =
-                  let one : Walked (cfgIn 0 p) w e n cover set (nonterminal k ∷ []) at from (from + c) (u .middle) =
-                  subst (λ (z : ℕ). Walked (cfgIn 0 p) w e n cover set (nonterminal k ∷ []) at from (from + z) (u .middle)) d (u .first) in
+                  let one : Walked (cfgIn 0 p) w e n cover mask (nonterminal k ∷ []) at from (from + c) (u .middle) =
+                  subst (λ (z : ℕ). Walked (cfgIn 0 p) w e n cover mask (nonterminal k ∷ []) at from (from + z) (u .middle)) d (u .first) in
                   let same : u .middle ≡ middle =
-                  walk-unique (cfgIn 0 p) w e n cover set (nonterminal k ∷ []) at from (from + c) (u .middle) middle one
+                  walk-unique (cfgIn 0 p) w e n cover mask (nonterminal k ∷ []) at from (from + c) (u .middle) middle one
                   (first .found (omega arith)) in
-                  subst (λ (m : ℕ). Walked (cfgIn 0 p) w e n cover set later m (from + c) to s) same
-                  (subst (λ (z : ℕ). Walked (cfgIn 0 p) w e n cover set later (u .middle) (from + z) to s) d (u .rest))
+                  subst (λ (m : ℕ). Walked (cfgIn 0 p) w e n cover mask later m (from + c) to s) same
+                  (subst (λ (z : ℕ). Walked (cfgIn 0 p) w e n cover mask later (u .middle) (from + z) to s) d (u .rest))
 
 -- ---- where the walkers stand next
 
@@ -205,8 +205,8 @@ node-room {p} {w} {e} {n} {r} {q} {at} {from} {to} {k} {c} looked h = go (subst 
     go : Looked p w e n r q at from to (Node k c) → (q < 8) × (at < n) × (from + c ≤ to)
     go (at-node a y d f l) = (omega (arith, count-le p r), d, l)
 
-pub walk-room : {G : Cfg} {w e : List ℕ} {n cover set at from to middle : ℕ} {places : List Symbol}
-    → Answers (Walked G w e n cover set places at from to) tooMany middle → middle ≤ 512 → (at ≤ middle) × (middle ≤ n)
+pub walk-room : {G : Cfg} {w e : List ℕ} {n cover mask at from to middle : ℕ} {places : List Symbol}
+    → Answers (Walked G w e n cover mask places at from to) tooMany middle → middle ≤ 512 → (at ≤ middle) × (middle ≤ n)
 walk-room a h =
     let x = a .found (omega arith) in
     let y = x .ends in

@@ -16,10 +16,10 @@ use Rattle.preorder.specs.Walk.{Answers, Opens, Looked, at-end, not-end,
 
 -- ---- the rule of a node
 
-module _ (p e : List ℕ) (n set k c at : ℕ) where
+module _ (p e : List ℕ) (n mask k c at : ℕ) where
   -- the rules that fit
   abbrev Rules : ℕ → Type 0
-  Rules = Opens p e n set k c at
+  Rules = Opens p e n mask k c at
 
   none-fits : ((r : ℕ) → Rules r → ⊥) → Answers Rules 128 128
   none-fits f = record { found = λ h. absurd (omega arith); none = λ _. f }
@@ -44,7 +44,7 @@ module _ (p e : List ℕ) (n set k c at : ℕ) where
       pub rule-left : (l ≡ k → ⊥) → Answers Rules 128 128
       rule-left d = none-fits (λ s o. d (left ∙ ap (leftIn p) (same s o) ∙ o .left))
 
-      module _ (b : Bool) (member : b ≡ has k set) where
+      module _ (b : Bool) (member : b ≡ has k mask) where
         pub rule-barred : b ≡ true → Answers Rules 128 128
         rule-barred h = none-fits (λ s o. true≢false (sym h ∙ member ∙ o .fresh))
 

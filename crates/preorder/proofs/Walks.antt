@@ -15,11 +15,11 @@ use Rattle.enumeration.specs.Rows.{Free}
 use Rattle.enumeration.proofs.Free.{end-plain, end-free, leaf-plain, leaf-free, after-plain, after-free}
 use Rattle.preorder.specs.Walk.{Walked}
 
-module _ (G : Cfg) (w e : List ℕ) (n cover set : ℕ) where
+module _ (G : Cfg) (w e : List ℕ) (n cover mask : ℕ) where
   -- ---- one row at most
 
-  pub walk-unique : (places : List Symbol) (at from to next next' : ℕ) → Walked G w e n cover set places at from to next
-      → Walked G w e n cover set places at from to next' → next ≡ next'
+  pub walk-unique : (places : List Symbol) (at from to next next' : ℕ) → Walked G w e n cover mask places at from to next
+      → Walked G w e n cover mask places at from to next' → next ≡ next'
   walk-unique places at from to next next' a b =
       let u = row-unique G (drop (2 * next) e) (drop (2 * next') e) [] [] (a .fit) (b .fit)
       (ap (λ (l : List ℕ). l ++ []) (a .covers ∙ sym (b .covers))) (a .coded ∙ sym (b .coded)) in
@@ -27,21 +27,21 @@ module _ (G : Cfg) (w e : List ℕ) (n cover set : ℕ) where
 
   -- ---- the end of a row
 
-  pub walk-end : (at from to : ℕ) → at ≤ n → from ≡ to → Walked G w e n cover set [] at from to at
+  pub walk-end : (at from to : ℕ) → at ≤ n → from ≡ to → Walked G w e n cover mask [] at from to at
   unfolding yield code nodes
   walk-end at from to l h =
       record {
         forest = end;
         fit = fits-end;
         plain = end-plain G;
-        free = end-free G cover set;
+        free = end-free G cover mask;
         covers = sym (ap (λ (x : ℕ). slice from x w) (sym h) ∙ slice-empty from w);
         coded = refl;
         ends = omega arith;
         inside = l;
       }
 
-  pub end-walk : (at from to next : ℕ) → from ≤ to → to ≤ length w → Walked G w e n cover set [] at from to next → from ≡ to
+  pub end-walk : (at from to next : ℕ) → from ≤ to → to ≤ length w → Walked G w e n cover mask [] at from to next → from ≡ to
   unfolding yield
   end-walk at from to next h l a = go (a .forest) (a .fit) (a .covers)
     where
@@ -51,8 +51,8 @@ module _ (G : Cfg) (w e : List ℕ) (n cover set : ℕ) where
   -- ---- a byte before a row
 
   module _ (t : Terminal) (places : List Symbol) (at from to next : ℕ) (known : to ≤ length w) where
-    pub walk-leaf : from < to → fits t (getD w from 0) ≡ true → Walked G w e n cover set places at (from + 1) to next
-        → Walked G w e n cover set (terminal t ∷ places) at from to next
+    pub walk-leaf : from < to → fits t (getD w from 0) ≡ true → Walked G w e n cover mask places at (from + 1) to next
+        → Walked G w e n cover mask (terminal t ∷ places) at from to next
     unfolding yield code nodes
     walk-leaf h f a =
         let i : from + 1 ≡ suc from = omega arith in
@@ -60,7 +60,7 @@ module _ (G : Cfg) (w e : List ℕ) (n cover set : ℕ) where
           forest = leaf (getD w from 0) (a .forest);
           fit = fits-leaf f (a .fit);
           plain = leaf-plain G (getD w from 0) (a .forest) (a .plain);
-          free = leaf-free G (getD w from 0) (a .forest) cover set (a .free);
+          free = leaf-free G (getD w from 0) (a .forest) cover mask (a .free);
           covers =
               ap (λ (l : List ℕ). getD w from 0 ∷ l) (a .covers ∙ ap (λ (x : ℕ). slice x to w) i) ∙ sym (slice-cons from to w 0 h known);
           coded = a .coded;
@@ -68,15 +68,15 @@ module _ (G : Cfg) (w e : List ℕ) (n cover set : ℕ) where
           inside = a .inside;
         }
 
-    pub leaf-walk : from ≤ to → Walked G w e n cover set (terminal t ∷ places) at from to next
-        → (from < to) × (fits t (getD w from 0) ≡ true) × Walked G w e n cover set places at (from + 1) to next
+    pub leaf-walk : from ≤ to → Walked G w e n cover mask (terminal t ∷ places) at from to next
+        → (from < to) × (fits t (getD w from 0) ≡ true) × Walked G w e n cover mask places at (from + 1) to next
     unfolding yield code nodes
     leaf-walk rising a = go (a .fit) (a .plain) (a .free) (a .covers) (a .coded) (a .ends)
       where
-        go : {forest : Forest} → Fits G (terminal t ∷ places) forest → ¬ Superfluous G forest → Free G cover set forest
+        go : {forest : Forest} → Fits G (terminal t ∷ places) forest → ¬ Superfluous G forest → Free G cover mask forest
             → yield forest ≡ slice from to w
             → code forest ++ drop (2 * next) e ≡ drop (2 * at) e → next ≡ at + nodes forest
-            → (from < to) × (fits t (getD w from 0) ≡ true) × Walked G w e n cover set places at (from + 1) to next
+            → (from < to) × (fits t (getD w from 0) ≡ true) × Walked G w e n cover mask places at (from + 1) to next
         go (fits-leaf {m = m} {rest = rest} f g) s r c d k =
             let x = slice-head from to w rising known m (yield rest) c in
             let i : suc from ≡ from + 1 = omega arith in (
@@ -86,7 +86,7 @@ module _ (G : Cfg) (w e : List ℕ) (n cover set : ℕ) where
                 forest = rest;
                 fit = g;
                 plain = after-plain G m rest s;
-                free = after-free G m rest cover set r;
+                free = after-free G m rest cover mask r;
                 covers = x .2 ∙ ap (λ (y : ℕ). slice y to w) i;
                 coded = d;
                 ends = k;

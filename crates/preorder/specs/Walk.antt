@@ -1,5 +1,5 @@
 -- What the checker of a node and the walker of a row of places find in an offered derivation e. Its node i is the two numbers at 2 * i (how
--- many bytes it covers) and 2 * i + 1 (its rule). The words of a set are those of crate sets. Assumes nothing.
+-- many bytes it covers) and 2 * i + 1 (its rule). A mask is a set of nonterminals, as a word of crate sets. Assumes nothing.
 use Prim.Native.Nat.{ℕ, _+_, _*_, _≤_, _<_}
 use mathlib.Core.Bool.{true, false}
 use mathlib.Core.List.{List, _++_}
@@ -15,13 +15,13 @@ use Rattle.packed.specs.Packed.{leftIn, countIn, symbolIn}
 use Rattle.preorder.specs.declared.walk.Step.{Step}
 use Rattle.preorder.specs.declared.walk.Step.the-variants.{No, End, Byte, Node}
 
--- a forest for the places over the bytes `from` to `to`, without superfluous recursion and free of the set over `cover` bytes, whose code
+-- a forest for the places over the bytes `from` to `to`, without superfluous recursion and free of the mask over `cover` bytes, whose code
 -- stands in e from node `at` on; `next` is the node after it, and n the number of nodes that e has
-pub record Walked (G : Cfg) (w e : List ℕ) (n cover set : ℕ) (places : List Symbol) (at from to next : ℕ) : Type 0 where
+pub record Walked (G : Cfg) (w e : List ℕ) (n cover mask : ℕ) (places : List Symbol) (at from to next : ℕ) : Type 0 where
   pub forest : Forest
   pub fit : Fits G places forest
   pub plain : ¬ Superfluous G forest
-  pub free : Free G cover set forest
+  pub free : Free G cover mask forest
   pub covers : yield forest ≡ slice from to w
   pub coded : code forest ++ drop (2 * next) e ≡ drop (2 * at) e
   pub ends : next ≡ at + nodes forest
@@ -41,15 +41,15 @@ pub record Room (w e : List ℕ) (n cover at from to : ℕ) : Type 0 where
   pub known : to ≤ length w
   pub narrow : to ≤ from + cover
 
--- node `at` of e covers c bytes and has rule r, a rule of the nonterminal k, which is not in the set
-pub record Opens (p e : List ℕ) (n set k c at r : ℕ) : Type 0 where
+-- node `at` of e covers c bytes and has rule r, a rule of the nonterminal k, which is not in the mask
+pub record Opens (p e : List ℕ) (n mask k c at r : ℕ) : Type 0 where
   pub inside : at < n
   pub covers : getD e (2 * at) 0 ≡ c
   pub number : getD e (2 * at + 1) 0 ≡ r
   pub low : r < 128
   pub used : k < 32
   pub left : leftIn p r ≡ k
-  pub fresh : has k set ≡ false
+  pub fresh : has k mask ≡ false
 
 -- what comes next at place q of rule r: the end of the row, a byte that fits, a node of k over c bytes, or none of these
 pub data Looked (p w e : List ℕ) (n r q at from to : ℕ) : Step → Type 0 where

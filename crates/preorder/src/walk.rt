@@ -25,17 +25,17 @@ struct Here {
     to: usize,
 }
 
-// Of the set `above` over `cover` bytes, what matters for a node over c bytes: all of it, or nothing.
+// Of the mask `above` over `cover` bytes, what matters for a node over c bytes: all of it, or nothing.
 fn same_span(cover: usize, above: u32, c: usize) -> u32
-    ensures { λ set. ⌜ SameSpan cover above c set ⌝ }
+    ensures { λ mask. ⌜ SameSpan cover above c mask ⌝ }
 {
     if c == cover { above } else { 0 }
 }
 
-// The rule of node `at`, if the node covers c bytes and is of the nonterminal k, which is not in the set; else that of no rule.
-fn rule_at(p: &Packed, e: &[u16], n: usize, set: u32, k: usize, c: usize, at: usize) -> usize
+// The rule of node `at`, if the node covers c bytes and is of the nonterminal k, which is not in the mask; else that of no rule.
+fn rule_at(p: &Packed, e: &[u16], n: usize, mask: u32, k: usize, c: usize, at: usize) -> usize
     requires { ⌜ (2 * n ≤ length (now e)) × (n ≤ 512) ⌝ }
-    ensures { λ r. ⌜ Answers (Opens (now (p .entry)) (now (e .entry)) n set k c at) 128 r ⌝ }
+    ensures { λ r. ⌜ Answers (Opens (now (p .entry)) (now (e .entry)) n mask k c at) 128 r ⌝ }
 {
     if k > 31 {
         return sizes::NO_RULE;
@@ -53,7 +53,11 @@ fn rule_at(p: &Packed, e: &[u16], n: usize, set: u32, k: usize, c: usize, at: us
     if packed::left(p, r) != k {
         return sizes::NO_RULE;
     }
-    if sets::has(set, k) { sizes::NO_RULE } else { r }
+    if sets::has(mask, k) {
+        sizes::NO_RULE
+    } else {
+        r
+    }
 }
 
 // What comes next at place q of rule r.
@@ -103,12 +107,12 @@ pub fn node(
         (nonterminal k ∷ []) at from to) tooMany next ⌝ }
 {
     let c = to - from;
-    let set = same_span(cover, above, c);
-    let r = rule_at(p, e, n, set, k, c, at);
+    let mask = same_span(cover, above, c);
+    let r = rule_at(p, e, n, mask, k, c, at);
     if r > 127 {
         return sizes::TOO_MANY;
     }
-    row(p, w, e, n, c, sets::with(set, k), r, 0, at + 1, from, to)
+    row(p, w, e, n, c, sets::with(mask, k), r, 0, at + 1, from, to)
 }
 
 // The node after a row for the places of rule r from place q on; TOO_MANY if there is none.

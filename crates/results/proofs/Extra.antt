@@ -14,7 +14,7 @@ use Rattle.results.specs.Load.{loadOf}
 use Rattle.results.specs.Recognize.{State, openOf, takeOf}
 use Rattle.results.specs.Measure.{sameBuildOf}
 use Rattle.results.specs.Check.{checkOf}
-use Rattle.results.specs.Drawer.{T, start, rule, N, A, close, As}
+use Rattle.results.specs.Drawer.{T, start, newRule, place, A, close, As}
 use Rattle.results.specs.Starred.{grammarFrom, outcome}
 use Rattle.results.proofs.Computing.{computing}
 
@@ -36,17 +36,18 @@ unfolding build computing
 same-T = refl
 
 -- 0 → A, 0 → A: twin rules are two builds
-pub twins-differ : build (start 0 (rule 0 (A (rule 0 (A close))))) (As 1) (1 ∷ 0 ∷ []) (1 ∷ 1 ∷ []) ≡ answered false
+pub twins-differ : build (start 0 (newRule 0 (A (newRule 0 (A close))))) (As 1) (1 ∷ 0 ∷ []) (1 ∷ 1 ∷ []) ≡ answered false
 unfolding build computing
 twins-differ = refl
 
 -- 0 → 1 A, 1 → nothing, 1 → nothing: empty nodes do not count
-pub empty-same : build (start 0 (rule 0 (N 1 (A (rule 1 (rule 1 close)))))) (As 1) (1 ∷ 0 ∷ 0 ∷ 1 ∷ []) (1 ∷ 0 ∷ 0 ∷ 2 ∷ []) ≡ answered true
+pub empty-same : build (start 0 (newRule 0 (place 1 (A (newRule 1 (newRule 1 close)))))) (As 1) (1 ∷ 0 ∷ 0 ∷ 1 ∷ []) (1 ∷ 0 ∷ 0 ∷ 2 ∷ [])
+    ≡ answered true
 unfolding build computing
 empty-same = refl
 
 -- 31 is a nonterminal
-pub last-nonterminal : outcome (start 31 (rule 31 (N 31 (rule 31 (A close))))) (As 1) .list ≡ (1 ∷ 1 ∷ []) ∷ []
+pub last-nonterminal : outcome (start 31 (newRule 31 (place 31 (newRule 31 (A close))))) (As 1) .list ≡ (1 ∷ 1 ∷ []) ∷ []
 unfolding computing
 last-nonterminal = refl
 

@@ -6,7 +6,7 @@ use mathlib.Core.Path.{_≡_, refl}
 use Rattle.grammar.specs.Zero.{zeroGrammar}
 use Rattle.results.specs.Answer.{refusedAt}
 use Rattle.results.specs.Load.{Loading, loadOf}
-use Rattle.results.specs.Drawer.{start, rule, A, close, times}
+use Rattle.results.specs.Drawer.{start, newRule, A, close, many}
 use Rattle.results.proofs.Computing.{computing}
 
 -- a faulty book: its bytes, and the number and the offset of its refusal
@@ -20,10 +20,10 @@ faulty bytes n at = record { bytes = bytes; number = n; offset = at }
 
 -- 128 rules, and a rule of eight places, each with what comes next
 abbrev pub full : List ℕ → List ℕ
-full rest = start 0 (times 128 (rule 0) rest)
+full rest = start 0 (many 128 (newRule 0) rest)
 
 abbrev pub wide : List ℕ → List ℕ
-wide rest = start 0 (rule 0 (times 8 A rest))
+wide rest = start 0 (newRule 0 (many 8 A rest))
 
 unfoldable pub faults : List Faulty
 faults =
@@ -45,10 +45,10 @@ faults =
     -- 4: a nonterminal over 31; after 1
     ∷ faulty (0x10 ∷ 0x20 ∷ []) 4 0
     ∷ faulty (0x10 ∷ 0x00 ∷ 0x20 ∷ 0xFF ∷ []) 1 4
-    ∷ faulty (start 0 (rule 0 (0x30 ∷ 0x20 ∷ close))) 4 6
+    ∷ faulty (start 0 (newRule 0 (0x30 ∷ 0x20 ∷ close))) 4 6
     -- 5: the 129th rule; after 1 and 4
-    ∷ faulty (full (rule 0 close)) 5 514
-    ∷ faulty (full (rule 32 close)) 4 514
+    ∷ faulty (full (newRule 0 close)) 5 514
+    ∷ faulty (full (newRule 32 close)) 4 514
     ∷ faulty (full (0x20 ∷ 0x00 ∷ [])) 1 516
     -- 6: the ninth place; after 1 and 4
     ∷ faulty (wide (A close)) 6 22

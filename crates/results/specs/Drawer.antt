@@ -7,11 +7,12 @@ use lib.ListN.{replicate}
 abbrev pub start : ℕ → List ℕ → List ℕ
 start k rest = 0x10 ∷ k ∷ rest
 
-abbrev pub rule : ℕ → List ℕ → List ℕ
-rule k rest = 0x20 ∷ k ∷ 0 ∷ 0 ∷ rest
+abbrev pub newRule : ℕ → List ℕ → List ℕ
+newRule k rest = 0x20 ∷ k ∷ 0 ∷ 0 ∷ rest
 
-abbrev pub N : ℕ → List ℕ → List ℕ
-N k rest = 0x30 ∷ k ∷ rest
+-- a place with the nonterminal k, and one with the byte `A`
+abbrev pub place : ℕ → List ℕ → List ℕ
+place k rest = 0x30 ∷ k ∷ rest
 
 abbrev pub A : List ℕ → List ℕ
 A rest = 0x40 ∷ 0x41 ∷ rest
@@ -20,9 +21,9 @@ abbrev pub close : List ℕ
 close = 0x50 ∷ []
 
 -- a command so many times
-abbrev pub times : ℕ → (List ℕ → List ℕ) → List ℕ → List ℕ
-times zero f rest = rest
-times (suc n) f rest = f (times n f rest)
+abbrev pub many : ℕ → (List ℕ → List ℕ) → List ℕ → List ℕ
+many zero f rest = rest
+many (suc n) f rest = f (many n f rest)
 
 -- T, as document 01 writes it: 0 → 1 1 (4,600), 1 → nothing (0), 1 → A (25)
 abbrev pub T : List ℕ
@@ -31,28 +32,28 @@ T = 0x10 ∷ 0x00 ∷ 0x20 ∷ 0x00 ∷ 0xF8 ∷ 0x11 ∷ 0x30 ∷ 0x01 ∷ 0x30
 
 -- 0 → 0, 0 → A
 abbrev pub unit : List ℕ
-unit = start 0 (rule 0 (N 0 (rule 0 (A close))))
+unit = start 0 (newRule 0 (place 0 (newRule 0 (A close))))
 
 -- 0 → 0 A, 0 → A
 abbrev pub left : List ℕ
-left = start 0 (rule 0 (N 0 (A (rule 0 (A close)))))
+left = start 0 (newRule 0 (place 0 (A (newRule 0 (A close)))))
 
 -- 0 → 0 0, 0 → A
 abbrev pub pairs : List ℕ
-pairs = start 0 (rule 0 (N 0 (N 0 (rule 0 (A close)))))
+pairs = start 0 (newRule 0 (place 0 (place 0 (newRule 0 (A close)))))
 
 -- 0 → 0 0, 0 → A, 0 → nothing
 abbrev pub nullablePairs : List ℕ
-nullablePairs = start 0 (rule 0 (N 0 (N 0 (rule 0 (A (rule 0 close))))))
+nullablePairs = start 0 (newRule 0 (place 0 (place 0 (newRule 0 (A (newRule 0 close))))))
 
 -- start 1; 1 → 0 A, 0 → 0, 0 → nothing
 abbrev pub emptyUnit : List ℕ
-emptyUnit = start 1 (rule 1 (N 0 (A (rule 0 (N 0 (rule 0 close))))))
+emptyUnit = start 1 (newRule 1 (place 0 (A (newRule 0 (place 0 (newRule 0 close))))))
 
 -- 0 → A and seven of 1; 1 → eight of 2; 2 → eight of 3; 3 → nothing; with the rules of `more` after these
 abbrev pub bush : ℕ → List ℕ → List ℕ
 bush k more =
-    start k (rule 0 (A (times 7 (N 1) (rule 1 (times 8 (N 2) (rule 2 (times 8 (N 3) (rule 3 more))))))))
+    start k (newRule 0 (A (many 7 (place 1) (newRule 1 (many 8 (place 2) (newRule 2 (many 8 (place 3) (newRule 3 more))))))))
 
 -- 0 → A, of length -25
 abbrev pub recess : List ℕ

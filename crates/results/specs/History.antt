@@ -39,11 +39,11 @@ AllAllowed G w [] = Unit {0}
 AllAllowed G w (m ∷ calls) = Allowed G w m × AllAllowed G w calls
 
 -- first and next, as the caller of the walk sees them: a derivation handed out is the front of the output, twice as many numbers as nodes
--- are answered; `none` is what the call says where nothing is handed out
+-- are answered; `otherwise` is what the call says where nothing is handed out
 unfoldable pub saidOf : Said → Answer Handing → List ℕ → Said
-saidOf none (refused n) out = refuses n
-saidOf none (answered (handed n)) out = handsOut n (take (2 * n) out)
-saidOf none (answered nothing) out = none
+saidOf otherwise (refused n) out = refuses n
+saidOf otherwise (answered (handed n)) out = handsOut n (take (2 * n) out)
+saidOf otherwise (answered nothing) out = otherwise
 
 -- count, as the caller of the walk sees it
 unfoldable pub countSaid : Answer Figure → Said

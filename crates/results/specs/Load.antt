@@ -31,11 +31,11 @@ withStart g k = record { start = k; count = g .count; depth = g .depth; rules = 
 
 -- 20: the grammar with one rule more, which has no place yet
 unfoldable pub withRule : Grammar → ℕ → ℤ → Grammar
-withRule g k length = record {
+withRule g k hundredths = record {
   start = g .start;
   count = g .count + 1;
   depth = g .depth;
-  rules = set (g .rules) (g .count) (record { left = k; length = length; count = 0; places = replicate 8 zeroPlace });
+  rules = set (g .rules) (g .count) (record { left = k; length = hundredths; count = 0; places = replicate 8 zeroPlace });
 }
 
 -- 30 and 40: the grammar with one place more in its open rule

@@ -14,7 +14,7 @@ use Rattle.grammar.specs.declared.Symbol.the-variants.{Nonterminal, Terminal}
 use Rattle.grammar.specs.declared.Rule.{Rule}
 use Rattle.grammar.specs.declared.Grammar.{Grammar}
 use Rattle.grammar.specs.Valid.{all, validSymbol, validPlace, validRule, validGrammar}
-use Rattle.numbers.specs.Numbers.{byteIn, countOf}
+use Rattle.numbers.specs.Numbers.{byteIn, saturated}
 use Rattle.rows.specs.Flat.{symbolIn, recordsFrom, placeIn, placesIn, ruleIn, rulesIn, grammarIn, flatOf, ruleNumbers}
 use Rattle.rows.specs.Fits.{Declared}
 use Rattle.rows.specs.Valid.{each, validTagged, validPlaceAt, validRuleAt, validRow}
@@ -104,17 +104,17 @@ judged-whole f =
 
 -- a count and what is tried up to it
 counts-kept : (a : Bool) (n m : ℕ) (x : ℕ → Bool) → m < 65535
-    → (a && leb (countOf n) m && x (countOf n)) ≡ (a && leb n m && x n)
+    → (a && leb (saturated n) m && x (saturated n)) ≡ (a && leb n m && x n)
 counts-kept a n m x h = dite (decLe n 65535) small large
   where
-    small : n ≤ 65535 → (a && leb (countOf n) m && x (countOf n)) ≡ (a && leb n m && x n)
+    small : n ≤ 65535 → (a && leb (saturated n) m && x (saturated n)) ≡ (a && leb n m && x n)
     small k =
-        let e : countOf n ≡ n = omega arith in
+        let e : saturated n ≡ n = omega arith in
         ap (λ (c : ℕ). a && leb c m && x c) e
 
-    large : (n ≤ 65535 → ⊥) → (a && leb (countOf n) m && x (countOf n)) ≡ (a && leb n m && x n)
+    large : (n ≤ 65535 → ⊥) → (a && leb (saturated n) m && x (saturated n)) ≡ (a && leb n m && x n)
     large k =
-        let s : leb (countOf n) m ≡ false = lt-leb (countOf n) m (omega arith) in
+        let s : leb (saturated n) m ≡ false = lt-leb (saturated n) m (omega arith) in
         let t : leb n m ≡ false = lt-leb n m (omega arith) in
         rw (s, t, and-false a)
 

@@ -14,7 +14,7 @@ use Rattle.grammar.specs.declared.Rule.{Rule}
 use Rattle.grammar.specs.declared.Grammar.{Grammar}
 use Rattle.grammar.specs.Tagged.{tagOf, valueOf}
 use Rattle.grammar.specs.Zero.{zeroPlace, noRule}
-use Rattle.numbers.specs.Numbers.{byteIn, countOf, signedIn, unsignedOf}
+use Rattle.numbers.specs.Numbers.{byteIn, saturated, signedIn, unsignedOf}
 use Rattle.numbers.proofs.Complement.{signed-round}
 use Rattle.rows.specs.Flat.{symbolIn, recordsFrom, placeIn, placesIn, ruleIn, rulesIn, grammarIn, ruleNumbers}
 use Rattle.rows.specs.Flat.{flatPlace, flatRule, flatOf}
@@ -62,11 +62,11 @@ module _ {A : Type 0} (d : A) (flat : A → List ℕ) (keep : A → A) (read : �
 
 -- with a count that a row holds
 abbrev pub keptRule : Rule → Rule
-keptRule ρ = record { left = ρ .left; length = ρ .length; count = countOf (ρ .count); places = ρ .places }
+keptRule ρ = record { left = ρ .left; length = ρ .length; count = saturated (ρ .count); places = ρ .places }
 
 -- with counts that a row holds
 abbrev pub kept : Grammar → Grammar
-kept g = record { start = g .start; count = countOf (g .count); depth = g .depth; rules = map keptRule (g .rules) }
+kept g = record { start = g .start; count = saturated (g .count); depth = g .depth; rules = map keptRule (g .rules) }
 
 place-size : (p : Place) → length (flatPlace p) ≡ 2
 unfolding flatPlace
@@ -104,11 +104,11 @@ module _ (f : List ℕ) where
       let k : getD f at 0 ≡ ρ .left = at-index f (flatRule ρ ++ rest) at 0 at (omega arith) h in
       let m : getD f (at + 1) 0 ≡ unsignedOf (ρ .length) = at-index f (flatRule ρ ++ rest) at 1 (at + 1) refl h in
       let a : byteIn (getD f at 0) ≡ ρ .left = omega (arith, d .left) in
-      let b : signedIn (getD f (at + 1) 0) ≡ ρ .length = ap signedIn m ∙ signed-round (ρ .length) (d .length) in
-      let c : getD f (at + 2) 0 ≡ countOf (ρ .count) = at-index f (flatRule ρ ++ rest) at 2 (at + 2) refl h in
+      let b : signedIn (getD f (at + 1) 0) ≡ ρ .length = ap signedIn m ∙ signed-round (ρ .length) (d .magnitude) in
+      let c : getD f (at + 2) 0 ≡ saturated (ρ .count) = at-index f (flatRule ρ ++ rest) at 2 (at + 2) refl h in
       let e : placesIn f (at + 3) ≡ ρ .places =
       places-back (ρ .places) (at + 3) rest (d .places) (d .values)
-      (further f (ρ .left ∷ unsignedOf (ρ .length) ∷ countOf (ρ .count) ∷ []) (flatMap flatPlace (ρ .places) ++ rest) at 3 refl h)
+      (further f (ρ .left ∷ unsignedOf (ρ .length) ∷ saturated (ρ .count) ∷ []) (flatMap flatPlace (ρ .places) ++ rest) at 3 refl h)
       in
       λ i. record { left = a i; length = b i; count = c i; places = e i }
 
@@ -124,11 +124,11 @@ module _ (g : Grammar) (d : Declared g) where
   read-kept =
       let a : byteIn (g .start) ≡ g .start = omega (arith, d .start) in
       let c : byteIn (g .depth) ≡ g .depth = omega (arith, d .depth) in
-      λ i. record { start = a i; count = countOf (g .count); depth = c i; rules = rules-back i }
+      λ i. record { start = a i; count = saturated (g .count); depth = c i; rules = rules-back i }
 
 -- ---- a grammar that a row holds whole
 
-rules-kept : (l : List Rule) → ((r : ℕ) → r < length l → countOf (getD l r noRule .count) ≡ getD l r noRule .count) → map keptRule l ≡ l
+rules-kept : (l : List Rule) → ((r : ℕ) → r < length l → saturated (getD l r noRule .count) ≡ getD l r noRule .count) → map keptRule l ≡ l
 rules-kept [] h = refl
 rules-kept (ρ ∷ l) h =
     let e = h 0 (omega arith) in
@@ -137,6 +137,6 @@ rules-kept (ρ ∷ l) h =
 
 pub read-write : (g : Grammar) → Fits16 g → grammarIn (flatOf g) ≡ g
 read-write g fits =
-    let e : countOf (g .count) ≡ g .count = omega (arith, fits .count) in
+    let e : saturated (g .count) ≡ g .count = omega (arith, fits .count) in
     let t = rules-kept (g .rules) (λ r h. omega (arith, fits .counts r (omega (arith, fits .declared .rules)))) in
     read-kept g (fits .declared) ∙ λ i. record { start = g .start; count = e i; depth = g .depth; rules = t i }

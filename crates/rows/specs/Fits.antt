@@ -2,8 +2,7 @@
 -- The counts may be any numbers. A grammar whose counts are of 16 bits too is one that a flat row holds whole. Assumes nothing.
 use Prim.Native.Nat.{ℕ, _<_}
 use mathlib.Core.Path.{_≡_}
-use lib.ListN.{getD}
-use lib.ListN as ListN
+use lib.ListN.{length, getD}
 use lib.Signed.{mag}
 use Rattle.sizes.specs.Sizes.{maxRules, maxPlaces}
 use Rattle.grammar.specs.declared.Rule.{Rule}
@@ -14,14 +13,14 @@ use Rattle.grammar.specs.Zero.{zeroPlace, noRule}
 -- `mag (ρ .length) < 32768` says that the length is at least -32768 and below 32768
 pub record DeclaredRule (ρ : Rule) : Type 0 where
   pub left : ρ .left < 256
-  pub length : mag (ρ .length) < 32768
-  pub places : ListN.length (ρ .places) ≡ maxPlaces
+  pub magnitude : mag (ρ .length) < 32768
+  pub places : length (ρ .places) ≡ maxPlaces
   pub values : (q : ℕ) → q < maxPlaces → valueOf (getD (ρ .places) q zeroPlace .symbol) < 256
 
 pub record Declared (g : Grammar) : Type 0 where
   pub start : g .start < 256
   pub depth : g .depth < 256
-  pub rules : ListN.length (g .rules) ≡ maxRules
+  pub rules : length (g .rules) ≡ maxRules
   pub each : (r : ℕ) → r < maxRules → DeclaredRule (getD (g .rules) r noRule)
 
 pub record Fits16 (g : Grammar) : Type 0 where

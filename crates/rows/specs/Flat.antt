@@ -9,7 +9,7 @@ use mathlib.Core.List.{List, [], _∷_, flatMap}
 use lib.Dec.{eqb, leb}
 use lib.ListN.{getD}
 use Rattle.sizes.specs.Sizes.{maxRules, maxPlaces}
-use Rattle.numbers.specs.Numbers.{byteIn, countOf, signedIn, unsignedOf}
+use Rattle.numbers.specs.Numbers.{byteIn, saturated, signedIn, unsignedOf}
 use Rattle.grammar.specs.declared.Symbol.{Symbol}
 use Rattle.grammar.specs.declared.Symbol.the-variants.{Nonterminal, Terminal}
 use Rattle.grammar.specs.declared.Place.{Place}
@@ -69,8 +69,8 @@ flatPlace p = tagOf (p .symbol) ∷ valueOf (p .symbol) ∷ []
 
 -- the numbers of a rule
 unfoldable pub flatRule : Rule → List ℕ
-flatRule r = r .left ∷ unsignedOf (r .length) ∷ countOf (r .count) ∷ flatMap flatPlace (r .places)
+flatRule r = r .left ∷ unsignedOf (r .length) ∷ saturated (r .count) ∷ flatMap flatPlace (r .places)
 
 -- the row of a grammar
 unfoldable pub flatOf : Grammar → List ℕ
-flatOf g = g .start ∷ countOf (g .count) ∷ g .depth ∷ flatMap flatRule (g .rules)
+flatOf g = g .start ∷ saturated (g .count) ∷ g .depth ∷ flatMap flatRule (g .rules)

@@ -74,11 +74,11 @@ module _ {i j : ℕ} {full tables₀ tables : List ℕ} (l : j < 65) (L : LeastP
 
 -- ---- a span that is not empty
 
-module _ {fit : Fit} {bytes : ℕ → ℕ → Type 0} {p : List ℕ} {rules : ℕ} {fits : List ℕ} {set reach i j : ℕ}
+module _ {fit : Fit} {bytes : ℕ → ℕ → Type 0} {p : List ℕ} {rules : ℕ} {fits : List ℕ} {members reach i j : ℕ}
     {full tables₀ rows₀ live₀ tables rows live : List ℕ} (o : rules ≤ 128) (h : i < j) (l : j < 65)
-    (X : Solved p rules set 0 tables₀ i j full) (L : LeastPut full i j tables₀ tables)
-    (P : SuffixesPut p rules fits tables full set reach i j rows₀ live₀ rows live)
-    (G : Given fit bytes p rules fits j) (C : CellTrue p bytes i j set) (O : Opened fit bytes p rules i j tables₀ rows₀)
+    (X : Solved p rules members 0 tables₀ i j full) (L : LeastPut full i j tables₀ tables)
+    (P : SuffixesPut p rules fits tables full members reach i j rows₀ live₀ rows live)
+    (G : Given fit bytes p rules fits j) (C : CellTrue p bytes i j members) (O : Opened fit bytes p rules i j tables₀ rows₀)
     (R : Reached tables₀ reach i j) (T : LiveFrom p rules i j rows₀ live₀) where
   numbers : (k : ℕ) → Least (Tree (Packing p) bytes k i j) (fullIn full k)
   numbers k =
@@ -95,14 +95,14 @@ module _ {fit : Fit} {bytes : ℕ → ℕ → Type 0} {p : List ℕ} {rules : �
       leastcut-later (fullIn full) i z
       (leastcut-same c j (λ k a b u v n. part-same l L k a b v n (omega arith)) (O .sofar .starts r q c x y (omega arith) w))
 
-  -- a nonterminal that is not in the set has no number
-  absent : (r q k : ℕ) → Untouched p r set → List·Memᴰ (nonterminal k) (tailIn p r q) → tooMany ≡ fullIn full k
+  -- a nonterminal that is not among the members has no number
+  absent : (r q k : ℕ) → Untouched p r members → List·Memᴰ (nonterminal k) (tailIn p r q) → tooMany ≡ fullIn full k
   absent r q k U m =
       let (s, x, y, f, g) = places-have p r (countIn p r - q) q m in
-      let e : has k set ≡ false = subst (λ (z : ℕ). has z set ≡ false) g (U .none s (omega arith) f) in
+      let e : has k members ≡ false = subst (λ (z : ℕ). has z members ≡ false) g (U .none s (omega arith) f) in
       lowest-unique (lowest-none (λ u t. absurd (C k e (t .0) (t .1)))) (numbers k)
 
-  untouched : (r : ℕ) → r < rules → Untouched p r set → StartRight fit p r tables full i j rows₀
+  untouched : (r : ℕ) → r < rules → Untouched p r members → StartRight fit p r tables full i j rows₀
   untouched r x U q y =
       leastcut-places (λ k a c m. within-full (λ _. tooMany) (fullIn full) (costIn tables) i j k a c (absent r q k U m))
       (leastcut-same i j
@@ -122,8 +122,8 @@ module _ {fit : Fit} {bytes : ℕ → ℕ → Type 0} {p : List ℕ} {rules : �
       (P .exact fit (G .told) ends r x (λ c u v f. T .told r c x (omega arith) v f) (later r x) (untouched r x) q y))
 
 -- what is told of the live starts is told still
-module _ {p : List ℕ} {rules : ℕ} {fits tables full : List ℕ} {set reach i j : ℕ} {rows₀ live₀ rows live : List ℕ}
-    (o : rules ≤ 128) (l : j < 65) (P : SuffixesPut p rules fits tables full set reach i j rows₀ live₀ rows live) where
+module _ {p : List ℕ} {rules : ℕ} {fits tables full : List ℕ} {members reach i j : ℕ} {rows₀ live₀ rows live : List ℕ}
+    (o : rules ≤ 128) (l : j < 65) (P : SuffixesPut p rules fits tables full members reach i j rows₀ live₀ rows live) where
   told-again : LiveFrom p rules i j rows₀ live₀ → LiveFrom p rules i j rows live
   told-again L = record { told = λ r c x y z f. go r c x y z f (ℕ-discrete c i) }
     where
@@ -135,12 +135,12 @@ module _ {p : List ℕ} {rules : ℕ} {fits tables full : List ℕ} {set reach i
           (L .told r c x y z (P .grown r c f))
 
 -- as the code does it
-pub span-put : (p : List ℕ) (rules : ℕ) (fits : List ℕ) (set reach i j : ℕ)
+pub span-put : (p : List ℕ) (rules : ℕ) (fits : List ℕ) (members reach i j : ℕ)
     {full tables₀ rows₀ live₀ tables₁ rows₁ live₁ tables rows live : List ℕ} → rules ≤ 128 → i < j → j < 65
-    → SpanOpened p rules fits reach i j tables₀ rows₀ live₀ tables₁ rows₁ live₁ → Solved p rules set 0 tables₁ i j full
-    → LeastPut full i j tables₁ tables → SuffixesPut p rules fits tables full set reach i j rows₁ live₁ rows live
-    → SpanPut p rules fits set reach i j tables₀ rows₀ live₀ tables rows live
-span-put p rules fits set reach i j {rows₁ = rows₁} {live₁} {rows = rows} {live} o h l S X L P = record {
+    → SpanOpened p rules fits reach i j tables₀ rows₀ live₀ tables₁ rows₁ live₁ → Solved p rules members 0 tables₁ i j full
+    → LeastPut full i j tables₁ tables → SuffixesPut p rules fits tables full members reach i j rows₁ live₁ rows live
+    → SpanPut p rules fits members reach i j tables₀ rows₀ live₀ tables rows live
+span-put p rules fits members reach i j {rows₁ = rows₁} {live₁} {rows = rows} {live} o h l S X L P = record {
   long = L .long;
   wide = P .long;
   size = P .size;

@@ -26,13 +26,13 @@ pub record SpanOpened (p : List ℕ) (rules : ℕ) (fits : List ℕ) (reach i j 
       → Sofar fit (Standing can) p rules (i + 1) j tables₀ rows₀ → Opened fit (Standing can) p rules i j tables rows
 
 -- the span from i to j is done
-pub record SpanPut (p : List ℕ) (rules : ℕ) (fits : List ℕ) (set reach i j : ℕ) (tables₀ rows₀ live₀ tables rows live : List ℕ)
+pub record SpanPut (p : List ℕ) (rules : ℕ) (fits : List ℕ) (members reach i j : ℕ) (tables₀ rows₀ live₀ tables rows live : List ℕ)
     : Type 0 where
   pub long : length tables ≡ tablesSize
   pub wide : length rows ≡ allRows
   pub size : length live ≡ maxRules
   pub told : LiveFrom p rules (i + 1) j rows₀ live₀ → LiveFrom p rules i j rows live
-  pub exact : (fit : Fit) (can : ℕ → ℕ → Bool) → Given fit (Standing can) p rules fits j → CellTrue p (Standing can) i j set
+  pub exact : (fit : Fit) (can : ℕ → ℕ → Bool) → Given fit (Standing can) p rules fits j → CellTrue p (Standing can) i j members
       → Reached tables₀ reach i j → LiveFrom p rules (i + 1) j rows₀ live₀
       → Sofar fit (Standing can) p rules (i + 1) j tables₀ rows₀ → Sofar fit (Standing can) p rules i j tables rows
 

@@ -25,9 +25,9 @@ Packing p = cfgIn 0 p
 abbrev pub PastLast : List ℕ → ℕ → Type 0
 PastLast p m = (r : ℕ) → m ≤ r → r < maxRules → nonterminals ≤ leftIn p r
 
--- a nonterminal that is not in the set has no tree over the span from i to j
+-- a nonterminal that is not among the members has no tree over the span from i to j
 abbrev pub CellTrue : List ℕ → (ℕ → ℕ → Type 0) → ℕ → ℕ → ℕ → Type 0
-CellTrue p bytes i j set = (k : ℕ) → has k set ≡ false → (t : Forest) → Tree (Packing p) bytes k i j t → ⊥
+CellTrue p bytes i j members = (k : ℕ) → has k members ≡ false → (t : Forest) → Tree (Packing p) bytes k i j t → ⊥
 
 -- the same for each cell of the chart up to n
 abbrev pub ChartTrue : List ℕ → (ℕ → ℕ → Type 0) → List ℕ → ℕ → Type 0

@@ -58,12 +58,12 @@ module _ {p : List ℕ} {rules : ℕ} {fits chart tables full rows : List ℕ} {
         (λ z u v. C .early .beyond z (omega arith) (omega arith) v));
   }
 
-  module _ {e set v n s : ℕ} {buf₀ buf₁ buf : List ℕ} (C : EndChosen tables full k i a (b + 1) j rows (side * (q + 1)) budget e)
-      (d : e ≤ j) (S : SameSpan (j - i) mask (e - a) set) (g : v ≡ getD rows (side * (q + 1) + e) 0)
-      (N : NodeFirst p rules fits chart tables k a e set (budget - v) at buf₀ buf₁ n)
+  module _ {e inner v n s : ℕ} {buf₀ buf₁ buf : List ℕ} (C : EndChosen tables full k i a (b + 1) j rows (side * (q + 1)) budget e)
+      (d : e ≤ j) (S : SameSpan (j - i) mask (e - a) inner) (g : v ≡ getD rows (side * (q + 1) + e) 0)
+      (N : NodeFirst p rules fits chart tables k a e inner (budget - v) at buf₀ buf₁ n)
       (R : RowFirst p rules fits chart tables full rows r (q + 1) e i j mask (budget - n) (at + n) buf₁ buf s) where
     module _ {w : List ℕ} (B : Below p rules fits chart tables full rows r i j mask w) (c : q < countIn p r) where
-      wider-first : FirstAt (Tree (Packing p) w (e - a) set k a e (budget - v)) buf₁ at n
+      wider-first : FirstAt (Tree (Packing p) w (e - a) inner k a e (budget - v)) buf₁ at n
       wider-first =
           let f = C .fits d in
           let u = C .start in
@@ -90,7 +90,7 @@ module _ {p : List ℕ} {rules : ℕ} {fits chart tables full rows : List ℕ} {
           numbers = F .code ++ L .code;
           after = cover-widens (B .solved) h (all-rests B q c h (omega arith)) o own refl last child n (omega arith) d
               (λ z x y. C .early .beyond z (omega arith) y (omega arith)) S
-              (subst (λ (z : ℕ). Min (Tree (Packing p) w (e - a) set k a e (budget - z)) (F .code)) g (F .first)) (F .size) (L .first);
+              (subst (λ (z : ℕ). Min (Tree (Packing p) w (e - a) inner k a e (budget - z)) (F .code)) g (F .first)) (F .size) (L .first);
           size = omega (arith, length-append (F .code) (L .code), F .size, L .size);
           here = stands-join buf₁ buf at n (F .code) (L .code) (F .size) (first-stands F) (first-stands L) (R .kept .before);
         }

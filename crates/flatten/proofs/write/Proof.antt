@@ -28,7 +28,7 @@ returns : tie.Need-returns Inv-loop μ-loop
 returns c =
     grammar-done _ (replicate flatSize 0) _ _ _ (length-replicate {A = ℕ} flatSize 0)
     (simp length-map at (c .before .before .before .before .good .0 .1 .1 .1 .1 .1 .0 .1 .0 .1)) (omega arith) (omega arith)
-    (c .before .before .count-of .ensures) (c .before .loop .inv .1)
+    (c .before .before .saturate .ensures) (c .before .loop .inv .1)
 
 pub write-spec : {M : Type 1} → statement M
 write-spec = tie.close (tie.spec

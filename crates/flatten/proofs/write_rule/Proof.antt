@@ -31,7 +31,7 @@ returns c = (
   rule-done _ _ (c .before .before .before .before .before .pre .0) _ _ _ _ _ (c .before .before .before .before .before .pre .1)
       (simp length-map at (c .before .before .before .before .before .good .0 .1 .1 .1 .1 .1 .0 .1 .0 .1))
       (record { sfits = c .before .before .before .before .before .good .0 .1 .1 .1 .0 .1 }) (omega arith) (omega arith)
-      (c .before .before .before .unsigned .ensures) (c .before .before .count-of .ensures) (c .before .loop .inv .1),
+      (c .before .before .before .unsigned .ensures) (c .before .before .saturate .ensures) (c .before .loop .inv .1),
   c .before .loop .inv .1 .long,
 )
 

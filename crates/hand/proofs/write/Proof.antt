@@ -27,7 +27,7 @@ returns : tie.Need-returns Inv-loop μ-loop
 returns c =
     let l = c .before .before in
     write-done _ _ _ _ (l .loop .inv) (simp length-map at (l .before .before .good .0 .1 .1 .0 .1 .0 .1)) (omega arith)
-    (c .count-of .ensures)
+    (c .saturate .ensures)
 
 pub write-spec : {M : Type 1} → statement M
 write-spec = tie.close (tie.spec

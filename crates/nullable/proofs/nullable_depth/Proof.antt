@@ -10,10 +10,10 @@ use Rattle.nullable.proofs.nullable_depth.Statement.{statement}
 use Rattle.nullable.proofs.nullable_depth.Tie as tie
 
 abbrev Inv-loop : tie.InvT-loop
-Inv-loop set n₀ k₀ n k = (k ≤ 32) × (n ≤ k) × (n ≡ countBelow k set)
+Inv-loop known n₀ k₀ n k = (k ≤ 32) × (n ≤ k) × (n ≡ countBelow k known)
 
 abbrev μ-loop : tie.MeasureT-loop
-μ-loop set n₀ k₀ n k = 32 - k
+μ-loop known n₀ k₀ n k = 32 - k
 
 loop-again : tie.Need-loop-again Inv-loop μ-loop
 loop-again c = ⊎-elim

@@ -11,10 +11,10 @@ use Rattle.nullable.proofs.nullable_pass.Statement.{statement}
 use Rattle.nullable.proofs.nullable_pass.Tie as tie
 
 abbrev Inv-loop : tie.InvT-loop
-Inv-loop set g n s₀ i₀ s i = (i ≤ n) × (n ≤ 128) × (length (g .rules) ≡ 128) × (s ≡ pass (take i (g .rules)) set)
+Inv-loop known g n s₀ i₀ s i = (i ≤ n) × (n ≤ 128) × (length (g .rules) ≡ 128) × (s ≡ pass (take i (g .rules)) known)
 
 abbrev μ-loop : tie.MeasureT-loop
-μ-loop set g n s₀ i₀ s i = n - i
+μ-loop known g n s₀ i₀ s i = n - i
 
 loop-holds : tie.Need-loop-holds Inv-loop μ-loop
 loop-holds c = (omega arith, valid-count _ (c .pre), simp length-map at (c .good .0 .1 .1 .1 .1 .1 .0 .1 .0 .1), search pass-first)

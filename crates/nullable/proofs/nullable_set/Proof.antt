@@ -10,10 +10,10 @@ use Rattle.nullable.proofs.nullable_set.Statement.{statement}
 use Rattle.nullable.proofs.nullable_set.Tie as tie
 
 abbrev Inv-loop : tie.InvT-loop
-Inv-loop g set₀ next₀ set next = (length (g .rules) ≡ 128) × Searched g set next
+Inv-loop g known₀ next₀ known next = (length (g .rules) ≡ 128) × Searched g known next
 
 abbrev μ-loop : tie.MeasureT-loop
-μ-loop g set₀ next₀ set next = 2 ^ 32 - set
+μ-loop g known₀ next₀ known next = 2 ^ 32 - known
 
 pub nullable-set-spec : {M : Type 1} → statement M
 nullable-set-spec = tie.close (tie.spec

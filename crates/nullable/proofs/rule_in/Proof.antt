@@ -6,7 +6,7 @@ use mathlib.Core.Path.{_≡_, refl}
 use native.Mathlib.Omega.{arith}
 use lib.ListN.{length, take, length-map}
 use Rattle.grammar.specs.Valid.{all}
-use Rattle.nullable.specs.Nullable.{placeIn}
+use Rattle.nullable.specs.Nullable.{placeKnown}
 use Rattle.grammar.proofs.Bounds.{rule-parts}
 use Rattle.grammar.proofs.Laws.{all-next}
 use Rattle.nullable.proofs.Pass.{rule-place-valid, rule-stops, rule-whole}
@@ -14,10 +14,10 @@ use Rattle.nullable.proofs.rule_in.Statement.{statement}
 use Rattle.nullable.proofs.rule_in.Tie as tie
 
 abbrev Inv-loop : tie.InvT-loop
-Inv-loop set rule n q₀ q = (q ≤ n) × (n ≤ 8) × (length (rule .places) ≡ 8) × (all (placeIn set) (take q (rule .places)) ≡ true)
+Inv-loop known rule n q₀ q = (q ≤ n) × (n ≤ 8) × (length (rule .places) ≡ 8) × (all (placeKnown known) (take q (rule .places)) ≡ true)
 
 abbrev μ-loop : tie.MeasureT-loop
-μ-loop set rule n q₀ q = n - q
+μ-loop known rule n q₀ q = n - q
 
 loop-holds : tie.Need-loop-holds Inv-loop μ-loop
 unfolding all
