@@ -87,7 +87,7 @@ module _ (bytes : List ℕ) (at c n : ℕ) (N : n ≡ operands c) (rules places 
   operands-short h a = record { means = λ g p q. rw (lt-ltb (length bytes) (at + 1 + operands c) (omega arith)); bounded = tt }
 
   module _ (h : n ≤ length bytes - (at + 1)) where
-    pub operands-room : at + 1 + operands c ≤ length bytes
+    operands-room : at + 1 + operands c ≤ length bytes
     operands-room = omega arith
 
     module _ (a : ℕ) (i : a ≡ getD bytes (at + 1) 0) (large : Bool) (e : large ≡ tooLarge c a) where
