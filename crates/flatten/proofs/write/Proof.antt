@@ -3,7 +3,8 @@
 use Prim.Native.Nat.{ℕ, _≤_, _-_}
 use native.Mathlib.Omega.{arith}
 use mathlib.Core.Path.{refl}
-use lib.ListN.{length-set, length-map, length-replicate, replicate}
+use lib.ListN.{length-set, length-replicate, replicate}
+use Rattle.grammar.proofs.Declared.{rules-long}
 use Rattle.grammar.specs.Zero.{noRule}
 use Rattle.rows.specs.Flat.{flatRule, flatSize, ruleNumbers}
 use Rattle.flatten.proofs.Written.{Written, written-start, written-step, grammar-done}
@@ -20,14 +21,14 @@ loop-again : tie.Need-loop-again Inv-loop μ-loop
 loop-again c = (
   omega arith,
   written-step _ _ _ _ noRule _ _ _ _
-      (omega (arith, simp length-map at (c .before .before .before .before .before .before .before .good .0 .1 .1 .1 .1 .1 .0 .1 .0 .1)))
+      (omega (arith, rules-long _ _ (c .before .before .before .before .before .before .before .good .0)))
       (c .write-rule .ensures .1) (c .write-rule .ensures .0) (c .before .before .before .before .loop .inv .1),
 )
 
 returns : tie.Need-returns Inv-loop μ-loop
 returns c =
     grammar-done _ (replicate flatSize 0) _ _ _ (length-replicate {A = ℕ} flatSize 0)
-    (simp length-map at (c .before .before .before .before .good .0 .1 .1 .1 .1 .1 .0 .1 .0 .1)) (omega arith) (omega arith)
+    (rules-long _ _ (c .before .before .before .before .good .0)) (omega arith) (omega arith)
     (c .before .before .count-of .ensures) (c .before .loop .inv .1)
 
 pub write-spec : {M : Type 1} → statement M

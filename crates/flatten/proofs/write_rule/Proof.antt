@@ -2,7 +2,8 @@
 -- The measure is what is left of the 8 places. Assumes nothing.
 use Prim.Native.Nat.{_≤_, _+_, _-_}
 use native.Mathlib.Omega.{arith}
-use lib.ListN.{length-set, length-map}
+use lib.ListN.{length-set}
+use Rattle.grammar.proofs.Declared.{length-fits, places-long}
 use Rattle.grammar.specs.Zero.{zeroPlace}
 use Rattle.rows.specs.Flat.{flatPlace}
 use Rattle.flatten.proofs.Written.{Written, written-start, written-step, rule-done}
@@ -21,7 +22,7 @@ loop-again c = (
   written-step _ _ _ _ zeroPlace _ _ _ _
       (omega (
         arith,
-        simp length-map at (c .before .before .before .before .before .before .before .before .good .0 .1 .1 .1 .1 .1 .0 .1 .0 .1),
+        places-long _ _ (c .before .before .before .before .before .before .before .before .good .0),
       ))
       (c .write-place .ensures .1) (c .write-place .ensures .0) (c .before .before .before .before .loop .inv .1),
 )
@@ -29,8 +30,8 @@ loop-again c = (
 returns : tie.Need-returns Inv-loop μ-loop
 returns c = (
   rule-done _ _ (c .before .before .before .before .before .pre .0) _ _ _ _ _ (c .before .before .before .before .before .pre .1)
-      (simp length-map at (c .before .before .before .before .before .good .0 .1 .1 .1 .1 .1 .0 .1 .0 .1))
-      (record { sfits = c .before .before .before .before .before .good .0 .1 .1 .1 .0 .1 }) (omega arith) (omega arith)
+      (places-long _ _ (c .before .before .before .before .before .good .0))
+      (length-fits _ _ (c .before .before .before .before .before .good .0)) (omega arith) (omega arith)
       (c .before .before .before .unsigned .ensures) (c .before .before .count-of .ensures) (c .before .loop .inv .1),
   c .before .loop .inv .1 .long,
 )
