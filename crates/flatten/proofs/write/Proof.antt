@@ -21,14 +21,14 @@ loop-again : tie.Need-loop-again Inv-loop μ-loop
 loop-again c = (
   omega arith,
   written-step _ _ _ _ noRule _ _ _ _
-      (omega (arith, rules-long _ _ (c .before .before .before .before .before .before .before .good .0)))
+      (omega (arith, rules-long (c .before .before .before .before .before .before .before .args .t1) _ (c .before .before .before .before .before .before .before .good .0)))
       (c .write-rule .ensures .1) (c .write-rule .ensures .0) (c .before .before .before .before .loop .inv .1),
 )
 
 returns : tie.Need-returns Inv-loop μ-loop
 returns c =
     grammar-done _ (replicate flatSize 0) _ _ _ (length-replicate {A = ℕ} flatSize 0)
-    (rules-long _ _ (c .before .before .before .before .good .0)) (omega arith) (omega arith)
+    (rules-long (c .before .before .before .before .args .t1) _ (c .before .before .before .before .good .0)) (omega arith) (omega arith)
     (c .before .before .count-of .ensures) (c .before .loop .inv .1)
 
 pub write-spec : {M : Type 1} → statement M

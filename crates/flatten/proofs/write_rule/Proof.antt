@@ -22,7 +22,7 @@ loop-again c = (
   written-step _ _ _ _ zeroPlace _ _ _ _
       (omega (
         arith,
-        places-long _ _ (c .before .before .before .before .before .before .before .before .good .0),
+        places-long (c .before .before .before .before .before .before .before .before .args .t1) _ (c .before .before .before .before .before .before .before .before .good .0),
       ))
       (c .write-place .ensures .1) (c .write-place .ensures .0) (c .before .before .before .before .loop .inv .1),
 )
@@ -30,8 +30,8 @@ loop-again c = (
 returns : tie.Need-returns Inv-loop μ-loop
 returns c = (
   rule-done _ _ (c .before .before .before .before .before .pre .0) _ _ _ _ _ (c .before .before .before .before .before .pre .1)
-      (places-long _ _ (c .before .before .before .before .before .good .0))
-      (length-fits _ _ (c .before .before .before .before .before .good .0)) (omega arith) (omega arith)
+      (places-long (c .before .before .before .before .before .args .t1) _ (c .before .before .before .before .before .good .0))
+      (length-fits (c .before .before .before .before .before .args .t1) _ (c .before .before .before .before .before .good .0)) (omega arith) (omega arith)
       (c .before .before .before .unsigned .ensures) (c .before .before .count-of .ensures) (c .before .loop .inv .1),
   c .before .loop .inv .1 .long,
 )

@@ -25,7 +25,7 @@ loop-again : tie.Need-loop-again Inv-loop μ-loop
 loop-again c =
     let b = c .before .before .before in
     let rules = b .before .args .t1 .rules in
-    let full = rules-long _ _ (b .before .good .0) in
+    let full = rules-long (b .before .args .t1) _ (b .before .good .0) in
     let read = toZ-ofZ {w = w16} {z = c .length-of .result} (record { sfits = c .length-of .ok }) ∙ c .length-of .ensures in (
       omega arith,
       search needs,
@@ -36,7 +36,7 @@ loop-again c =
 returns : tie.Need-returns Inv-loop μ-loop
 returns c =
     let b = c .before in
-    let full = rules-long _ _ (b .before .good .0) in
+    let full = rules-long (b .before .args .t1) _ (b .before .good .0) in
     lengths-done (b .loop .l) (b .before .args .t1 .rules) (b .loop .r) (b .loop .inv .1) full (omega arith) (omega arith) (b .loop .inv .2)
 
 pub lengths-of-spec : {M : Type 1} → statement M

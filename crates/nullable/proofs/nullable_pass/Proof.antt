@@ -18,7 +18,7 @@ abbrev μ-loop : tie.MeasureT-loop
 μ-loop set g n s₀ i₀ s i = n - i
 
 loop-holds : tie.Need-loop-holds Inv-loop μ-loop
-loop-holds c = (omega arith, valid-count _ (c .pre), rules-long _ _ (c .good .0), search pass-first)
+loop-holds c = (omega arith, valid-count _ (c .pre), search rules-long, search pass-first)
 
 pub nullable-pass-spec : {M : Type 1} → statement M
 nullable-pass-spec = tie.close (tie.spec

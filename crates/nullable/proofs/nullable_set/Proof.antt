@@ -19,5 +19,5 @@ abbrev μ-loop : tie.MeasureT-loop
 pub nullable-set-spec : {M : Type 1} → statement M
 nullable-set-spec = tie.close (tie.spec
     Inv-loop μ-loop (λ c κs. search needs)
-    (λ c. (rules-long _ _ (c .before .good .0), search searched-first)) (λ c κs. search needs)
+    (λ c. (search rules-long, search searched-first)) (λ c κs. search needs)
     (λ c. search searched-falls) (λ c. (omega arith, search searched-next)) (λ c. search searched-exact))

@@ -22,7 +22,7 @@ abbrev μ-loop : tie.MeasureT-loop
 
 loop-holds : tie.Need-loop-holds Inv-loop μ-loop
 unfolding all
-loop-holds c = (omega arith, rule-parts _ (c .pre) .1, places-long _ _ (c .good .0), refl)
+loop-holds c = (omega arith, rule-parts _ (c .pre) .1, search places-long, refl)
 
 pub rule-in-spec : {M : Type 1} → statement M
 rule-in-spec = tie.close (tie.spec

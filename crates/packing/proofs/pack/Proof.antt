@@ -30,7 +30,7 @@ loop-again c = (
 
 returns : tie.Need-returns Inv-loop μ-loop
 returns c =
-    rows-done _ _ _ _ (rules-long _ _ (c .before .before .good .0)) (c .before .before .pre) (omega arith)
+    rows-done _ _ _ _ (search rules-long) (c .before .before .pre) (omega arith)
     (omega arith) (c .before .loop .inv .2)
 
 pub pack-spec : {M : Type 1} → statement M

@@ -24,7 +24,7 @@ loop-again c = (
 
 returns : tie.Need-returns Inv-loop μ-loop
 returns c =
-    row-done _ _ _ (c .before .before .args .p .now) _ (places-long _ _ (c .before .before .good .0))
+    row-done _ _ _ (c .before .before .args .p .now) _ (search places-long)
     (c .before .before .pre .1) (omega arith) (c .before .loop .inv .2)
 
 pub pack-rule-spec : {M : Type 1} → statement M

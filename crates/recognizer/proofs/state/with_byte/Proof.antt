@@ -19,12 +19,12 @@ abbrev μ-loop : tie.MeasureT-loop
 loop-again : tie.Need-loop-again Inv-loop μ-loop
 loop-again c =
     let l = c .before .before in
-    (omega arith, bytes-step _ (bytes-long _ _ (l .before .good .0)) _ _ (omega arith) (l .loop .inv .1))
+    (omega arith, bytes-step _ (bytes-long (l .before .args .t1) _ (l .before .good .0)) _ _ (omega arith) (l .loop .inv .1))
 
 returns : tie.Need-returns Inv-loop μ-loop
 returns c =
     let l = c .before in (
-      bytes-done _ (bytes-long _ _ (l .before .good .0)) (l .loop .i) (l .before .args .t1 .count) _ _
+      bytes-done _ (bytes-long (l .before .args .t1) _ (l .before .good .0)) (l .loop .i) (l .before .args .t1 .count) _ _
           (omega arith) (omega arith) (omega arith) (l .loop .inv .1),
       refl,
     )
