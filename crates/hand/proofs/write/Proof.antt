@@ -19,15 +19,15 @@ abbrev μ-loop : tie.MeasureT-loop
 
 loop-again : tie.Need-loop-again Inv-loop μ-loop
 loop-again c =
-    let l = c .before .before in
-    copied-step _ _ _ _ _ (l .loop .inv) (omega (arith, bytes-long (l .before .before .args .t1) _ (l .before .before .good .0))) (omega arith)
-    (omega arith) refl
+    let at-loop = c .before .before in
+    let entry = at-loop .before .before in
+    copied-step _ _ _ _ _ (at-loop .loop .inv) (omega (arith, bytes-long (entry .args .t1) _ (entry .good .0))) (omega arith) (omega arith) refl
 
 returns : tie.Need-returns Inv-loop μ-loop
 returns c =
-    let l = c .before .before in
-    write-done _ _ _ _ (l .loop .inv) (bytes-long (l .before .before .args .t1) _ (l .before .before .good .0)) (omega arith)
-    (c .count-of .ensures)
+    let at-loop = c .before .before in
+    let entry = at-loop .before .before in
+    write-done _ _ _ _ (at-loop .loop .inv) (bytes-long (entry .args .t1) _ (entry .good .0)) (omega arith) (c .count-of .ensures)
 
 pub write-spec : {M : Type 1} → statement M
 write-spec = tie.close (tie.spec
