@@ -66,7 +66,7 @@ module _ (g : Grammar) (v : validGrammar g ≡ true) where
   set-depth-valid d = let p = grammar-parts g v in valid-grammar-of (setDepth g d) (p .0) (p .1) (p .2)
 
   module _ (r : Rule) (w : validRule r ≡ true) where
-    -- one rule more, behind those that are used
+    -- one rule more, after those that are used
     pub next-rule-valid : g .count < 128 → validGrammar (setCount (setRule g (g .count) r) (g .count + 1)) ≡ true
     next-rule-valid m =
         let p = grammar-parts g v in

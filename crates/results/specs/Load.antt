@@ -30,7 +30,7 @@ openRule g = getD (g .rules) (g .count - 1) noRule
 unfoldable pub withStart : Grammar → ℕ → Grammar
 withStart g k = setStart g k
 
--- 20: the grammar with one rule more, behind those it has: of this left side and length, and with no place yet
+-- 20: the grammar with one rule more, after those it has: of this left side and length, and with no place yet
 unfoldable pub withRule : Grammar → ℕ → ℤ → Grammar
 withRule g k hundredths = setCount (setRule g (g .count) (openedRule k hundredths)) (g .count + 1)
 
