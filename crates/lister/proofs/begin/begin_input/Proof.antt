@@ -21,7 +21,7 @@ returns-2 c =
     let after-fill = after-lengths .before .before .before in
     let passed = after-fill .before .before .before in
     let entry = passed .before .before .before .before .before .before in
-    let full = rules-long (entry .args .t1) _ (entry .good .0) in
+    let full = rules-long (entry .args .g) _ (entry .good .0) in
     input-begun _ _ _ _ (passed .before .before .judge .ensures) (passed .enum-told .given .1) _ _ (after-fill .fill-fits .ensures .0) _
     (c .before .before .before .before .before .before .before .wide-byte2 .ensures .0) _
     (after-lengths .lengths-of .ensures) full _ _ _ _ _ (c .before .before .begin-filled .ensures)
