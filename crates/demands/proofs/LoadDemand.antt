@@ -7,13 +7,14 @@ use mathlib.Core.Logic.{inl, inr}
 use mathlib.Core.Path.{_≡_, refl, sym, ap, _∙_, subst}
 use lib.ListN.{length, getD}
 use Rattle.grammar.specs.declared.Grammar.{Grammar}
-use Rattle.grammar.specs.Valid.{validGrammar}
+use Rattle.grammar.specs.Setters.{setDepth}
 use Rattle.grammar.specs.Zero.{zeroGrammar}
+use Rattle.grammar.proofs.Setters.{set-depth-valid}
 use Rattle.results.specs.Load.{Fault, Step, stop, next, done, step, refusedLoad, acceptedLoad, run, loadOf}
 use Rattle.results.proofs.Loading.Run.{step-past, run-stop, run-next, run-done, step-forward}
 use Rattle.results.proofs.Loading.Commands.{Invariant, step-kept, step-done}
 use Rattle.demands.specs.LoadOrder.{CommandOrder}
-use Rattle.demands.specs.LoadDemand.{Reached, begin, further, withDepth, LoadRefused, LoadAccepted, LoadDemand}
+use Rattle.demands.specs.LoadDemand.{Reached, begin, further, LoadRefused, LoadAccepted, LoadDemand}
 use Rattle.demands.proofs.LoadOrder.{step-order}
 use Rattle.demands.proofs.LoadFault.{step-fault}
 use Rattle.demands.proofs.LoadUnused.{Tidy, tidy-invariant}
@@ -41,10 +42,9 @@ module _ (bytes : List ℕ) where
 
   module _ (d : ℕ) where
     -- the nullable depth is not looked at
-    depth-tidy : (g : Grammar) → Tidy g → Tidy (withDepth d g)
-    unfolding validGrammar
+    depth-tidy : (g : Grammar) → Tidy g → Tidy (setDepth g d)
     depth-tidy g T = record {
-      valid = T .valid;
+      valid = set-depth-valid g (T .valid) d;
       behind = record { size = T .behind .size; unused = T .behind .unused; places = T .behind .places };
     }
 
@@ -61,7 +61,7 @@ module _ (bytes : List ℕ) where
           ends = e ∙ ap done (E .same);
           fifty = E .command;
           last = omega (arith, E .last);
-          grammar = ap (withDepth d) (E .same);
+          grammar = ap (λ (h : Grammar). setDepth h d) (E .same);
           valid = T .valid;
           behind = T .behind;
         }

@@ -1,17 +1,19 @@
 -- Loading: each command keeps what is unused in the grammar read so far zero. Assumes nothing.
-use Prim.Native.Nat.{ℕ, _+_, _-_, _≤_, _<_}
+use Prim.Native.Nat.{ℕ, _-_, _≤_, _<_}
 use native.Mathlib.Omega.{arith}
 use mathlib.Core.Bool.{true}
 use mathlib.Core.Path.{_≡_, refl, _∙_}
 use lib.IntN.{ℤ, pos}
-use lib.ListN.{getD, set, replicate, length-set}
+use lib.ListN.{getD, length-set}
 use lib.Seq.{drop-set-lt}
 use Rattle.grammar.specs.declared.Symbol.{Symbol}
 use Rattle.grammar.specs.declared.Rule.{Rule}
 use Rattle.grammar.specs.declared.Grammar.{Grammar}
+use Rattle.grammar.specs.Setters.{openedRule, placedRule}
 use Rattle.grammar.specs.Valid.{validGrammar}
 use Rattle.grammar.specs.Zero.{zeroPlace, zeroRule, zeroGrammar, noRule}
 use Rattle.grammar.proofs.Bounds.{valid-count}
+use Rattle.grammar.proofs.Setters.{set-rule-size}
 use Rattle.results.specs.Load.{openRule, withStart, withRule, withPlace}
 use Rattle.results.proofs.Loading.Lists.{set-each, replicate-each, drop-next}
 use Rattle.results.proofs.Loading.Commands.{Invariant}
@@ -20,15 +22,10 @@ use Rattle.demands.specs.LoadDemand.{ZeroPlaces, ZeroBehind}
 
 -- ---- rules
 
-opened-zero : (k : ℕ) (z : ℤ) → ZeroPlaces (record { left = k; length = z; count = 0; places = replicate 8 zeroPlace })
+opened-zero : (k : ℕ) (z : ℤ) → ZeroPlaces (openedRule k z)
 opened-zero k z = record { size = refl; unused = refl }
 
-placed-zero : (r : Rule) (s : Symbol) → ZeroPlaces r → ZeroPlaces (record {
-  left = r .left;
-  length = r .length;
-  count = r .count + 1;
-  places = set (r .places) (r .count) (record { symbol = s });
-})
+placed-zero : (r : Rule) (s : Symbol) → ZeroPlaces r → ZeroPlaces (placedRule r s)
 placed-zero r s Z = record {
   size = length-set (r .places) (r .count) _ ∙ Z .size;
   unused = drop-next (r .places) (r .count) 8 _ zeroPlace (Z .unused);
@@ -47,7 +44,7 @@ module _ (g : Grammar) (Z : ZeroBehind g) where
   rule-zero : (k : ℕ) (z : ℤ) → ZeroBehind (withRule g k z)
   unfolding withRule
   rule-zero k z = record {
-    size = length-set (g .rules) (g .count) _ ∙ Z .size;
+    size = set-rule-size g (g .count) (openedRule k z) ∙ Z .size;
     unused = drop-next (g .rules) (g .count) 128 _ zeroRule (Z .unused);
     places = set-each ZeroPlaces noRule 128 (g .rules) (g .count) _ (Z .places) (opened-zero k z);
   }
@@ -55,7 +52,7 @@ module _ (g : Grammar) (Z : ZeroBehind g) where
   place-zero : (s : Symbol) → 0 < g .count → g .count ≤ 128 → ZeroBehind (withPlace g s)
   unfolding withPlace openRule
   place-zero s m h = record {
-    size = length-set (g .rules) (g .count - 1) _ ∙ Z .size;
+    size = set-rule-size g (g .count - 1) (placedRule (openRule g) s) ∙ Z .size;
     unused = drop-set-lt (g .count) (g .rules) (g .count - 1) _ (omega arith) ∙ Z .unused;
     places = set-each ZeroPlaces noRule 128 (g .rules) (g .count - 1) _ (Z .places)
         (placed-zero (getD (g .rules) (g .count - 1) noRule) s (Z .places (g .count - 1) (omega arith)));

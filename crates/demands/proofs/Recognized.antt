@@ -8,7 +8,7 @@ use native.Mathlib.Decide.{decLt}
 use native.Mathlib.Omega.{arith}
 use lib.Dec.{eqb}
 use lib.ListN.{length, take, drop, length-drop, take-append-drop}
-use lib.Seq.{slice, append-snoc, take-all, length-take-le, take-append-seam}
+use lib.Seq.{slice, append-snoc, take-all, length-take-le}
 use borrow.Author.Tests.{le-ltb, eq-eqb}
 use Rattle.sizes.specs.Sizes.{cells}
 use Rattle.sets.specs.Set.{has}
@@ -28,17 +28,13 @@ use Rattle.demands.specs.Recognized.{Recognized}
 use Rattle.results.proofs.Decide.{decide-first}
 use Rattle.results.proofs.Answers.{answered-inj}
 use Rattle.results.proofs.Goes.{open-passed, take-passed}
+use Rattle.results.proofs.State.{state-taken}
 
 -- taking two rows one after the other
 pub fed-append : (g : Grammar) (r : Recognition) (u v : List ℕ) → fed g r (u ++ v) ≡ fed g (fed g r u) v
 unfolding fed
 fed-append g r [] v = refl
 fed-append g r (m ∷ u) v = fed-append g (takeOf g (r .state) m (r .chart)) u v
-
--- the bytes that the state after u has taken are u
-taken : (u : List ℕ) → take (stateOf u .count) (stateOf u .bytes) ≡ u
-unfolding stateOf
-taken u = take-append-seam u _
 
 -- the result after taking the bytes u, n of them, with this chart
 abbrev pub result : Grammar → List ℕ → ℕ → List ℕ → Recognition
@@ -66,7 +62,7 @@ module _ (g : Grammar) (found : List ℕ) where
         let v = u ++ (m ∷ []) in
         let n : length u + 1 ≡ length v = omega (arith, length-snoc u m) in
         take-passed g (stateOf u) m c valid l (omega (arith, filled-length (grammarOf g) u found room))
-        ∙ ap (λ (x : List ℕ). result g (x ++ (m ∷ [])) (length u + 1) (extended (grammarOf g) (x ++ (m ∷ [])) c)) (taken u)
+        ∙ ap (λ (x : List ℕ). result g (x ++ (m ∷ [])) (length u + 1) (extended (grammarOf g) (x ++ (m ∷ [])) c)) (state-taken u)
         ∙ ap (λ (i : ℕ). result g v i (extended (grammarOf g) v c)) n
         ∙ ap (result g v (length v)) (sym (filled-snoc (grammarOf g) u m found))
 

@@ -7,6 +7,7 @@ use mathlib.Core.Path.{_≡_}
 use lib.ListN.{length, getD, drop, replicate}
 use Rattle.grammar.specs.declared.Rule.{Rule}
 use Rattle.grammar.specs.declared.Grammar.{Grammar}
+use Rattle.grammar.specs.Setters.{setDepth}
 use Rattle.grammar.specs.Valid.{validGrammar}
 use Rattle.grammar.specs.Zero.{zeroPlace, zeroRule, zeroGrammar, noRule}
 use Rattle.results.specs.Answer.{refusedAt, loaded}
@@ -40,10 +41,6 @@ pub record ZeroBehind (g : Grammar) : Type 0 where
   pub unused : drop (g .count) (g .rules) ≡ replicate (128 - g .count) zeroRule
   pub places : (i : ℕ) → i < 128 → ZeroPlaces (getD (g .rules) i noRule)
 
--- the grammar with d as its nullable depth (blank depth)
-abbrev pub withDepth : ℕ → Grammar → Grammar
-withDepth d g = record { start = g .start; count = g .count; depth = d; rules = g .rules }
-
 -- a refused book: the number and the offset of its first fault, and a grammar of zeros
 pub record LoadRefused (bytes : List ℕ) (r : Loading) : Type 0 where
   pub number : ℕ
@@ -70,7 +67,7 @@ pub record LoadAccepted (bytes : List ℕ) (d : ℕ) (r : Loading) : Type 0 wher
   pub fifty : getD bytes at 0 ≡ 0x50
   pub last : at + 1 ≡ length bytes
   -- the grammar is what the commands say, check 8 lets it through, and what is unused in it is zero
-  pub grammar : r .grammar ≡ withDepth d read
+  pub grammar : r .grammar ≡ setDepth read d
   pub valid : validGrammar (r .grammar) ≡ true
   pub behind : ZeroBehind (r .grammar)
 

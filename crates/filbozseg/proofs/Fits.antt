@@ -6,7 +6,7 @@ use mathlib.Core.List.{List}
 use mathlib.Core.Path.{_≡_, refl, _∙_}
 use lib.Dec.{eqb, ltb}
 use lib.IntN.{ℤ, pos, negℤ}
-use lib.ListN.{length, getD, set, replicate, length-set}
+use lib.ListN.{length, getD, length-set}
 use lib.Signed.{mag}
 use borrow.Author.Tests.{ltb-true, ltb-false}
 use Rattle.rows.specs.Fits.{DeclaredRule, Fits16}
@@ -15,8 +15,10 @@ use Rattle.grammar.specs.declared.Symbol.the-variants.{Nonterminal, Terminal}
 use Rattle.grammar.specs.declared.Place.{Place}
 use Rattle.grammar.specs.declared.Rule.{Rule}
 use Rattle.grammar.specs.declared.Grammar.{Grammar}
+use Rattle.grammar.specs.Setters.{openedRule, placedRule, setDepth}
 use Rattle.grammar.specs.Tagged.{valueOf}
 use Rattle.grammar.specs.Zero.{zeroPlace, zeroRule, zeroGrammar, noRule}
+use Rattle.grammar.proofs.Setters.{set-rule-size}
 use Rattle.results.specs.Load.{signed, openRule, withStart, withRule, withPlace, after, commandChecks, Step, stop, next, done, step}
 use Rattle.results.proofs.Decide.{decide-either}
 use Rattle.results.proofs.Loading.Lists.{set-each, replicate-each}
@@ -34,8 +36,7 @@ record Small (g : Grammar) : Type 0 where
   pub rules : length (g .rules) ≡ 128
   pub each : (r : ℕ) → r < 128 → SmallRule (getD (g .rules) r noRule)
 
-small-fits : (g : Grammar) (d : ℕ) → Small g → d < 256
-    → Fits16 (record { start = g .start; count = g .count; depth = d; rules = g .rules })
+small-fits : (g : Grammar) (d : ℕ) → Small g → d < 256 → Fits16 (setDepth g d)
 small-fits g d S h = record {
   declared = record { start = S .start; depth = h; rules = S .rules; each = λ r m. S .each r m .declared };
   count = omega (arith, S .count);
@@ -43,8 +44,7 @@ small-fits g d S h = record {
 }
 
 -- a rule of no places
-opened-small : (k : ℕ) (z : ℤ) → k < 256 → mag z < 32768
-    → SmallRule (record { left = k; length = z; count = 0; places = replicate 8 zeroPlace })
+opened-small : (k : ℕ) (z : ℤ) → k < 256 → mag z < 32768 → SmallRule (openedRule k z)
 opened-small k z h m = record {
   declared = record {
     left = h;
@@ -84,7 +84,7 @@ module _ (g : Grammar) (S : Small g) where
   rule-small k z h m l = record {
     start = S .start;
     count = omega arith;
-    rules = length-set (g .rules) (g .count) _ ∙ S .rules;
+    rules = set-rule-size g (g .count) (openedRule k z) ∙ S .rules;
     each = set-each SmallRule noRule 128 (g .rules) (g .count) _ (S .each) (opened-small k z h m);
   }
 
@@ -95,19 +95,14 @@ module _ (g : Grammar) (S : Small g) where
       record {
         start = S .start;
         count = S .count;
-        rules = length-set (g .rules) (g .count - 1) _ ∙ S .rules;
+        rules = set-rule-size g (g .count - 1) (placedRule ρ s) ∙ S .rules;
         each = set-each SmallRule noRule 128 (g .rules) (g .count - 1) _ (S .each) (placed R);
       }
     where
       ρ : Rule
       ρ = getD (g .rules) (g .count - 1) noRule
 
-      placed : SmallRule ρ → SmallRule (record {
-        left = ρ .left;
-        length = ρ .length;
-        count = ρ .count + 1;
-        places = set (ρ .places) (ρ .count) (record { symbol = s });
-      })
+      placed : SmallRule ρ → SmallRule (placedRule ρ s)
       placed R = record {
         declared = record {
           left = R .declared .left;

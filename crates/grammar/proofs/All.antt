@@ -1,12 +1,12 @@
 -- Tests joined by `&&`, and the test `all` over the front of a list. A read past the end of the list gives d. Assumes nothing.
-use Prim.Native.Nat.{ℕ, zero, suc, _+_, _<_}
+use Prim.Native.Nat.{ℕ, zero, suc, _+_, _-_, _<_}
 use native.Mathlib.Nat.{le-of-suc-le-suc, not-suc-le-zero}
 use native.Mathlib.Numerals.{add-one}
 use native.Mathlib.Omega.{arith}
 use mathlib.Core.Bool.{Bool, true, false, _&&_, and-false}
 use mathlib.Core.List.{List, [], _∷_}
 use mathlib.Core.Path.{_≡_, refl}
-use lib.ListN.{take, getD}
+use lib.ListN.{take, getD, set}
 use Rattle.grammar.specs.Valid.{all}
 
 pub true-false : {b : Bool} → b ≡ true → b ≡ false → ⊥
@@ -54,3 +54,27 @@ module _ {A : Type 0} (test : A → Bool) (d : A) where
         go : (b : Bool) → test (getD l q d) ≡ b → test (getD l q d) ≡ true
         go true t = t
         go false t = absurd (true-false e (all-refuses l n q h t))
+
+module _ {A : Type 0} (test : A → Bool) where
+  -- the front of a list with one element set at its end
+  pub all-set : (l : List A) (q : ℕ) (v : A) → all test (take q l) ≡ true → test v ≡ true → all test (take (suc q) (set l q v)) ≡ true
+  unfolding all
+  all-set [] q v h e = refl
+  all-set (a ∷ l) zero v h e = and-both (test v) true e refl
+  all-set (a ∷ l) (suc q) v h e =
+      let p = and-parts (test a) (all test (take q l)) h in
+      and-both (test a) (all test (take (suc q) (set l q v))) (p .0) (all-set l q v (p .1) e)
+
+  all-front : (l : List A) (q : ℕ) → all test (take (suc q) l) ≡ true → all test (take q l) ≡ true
+  unfolding all
+  all-front l zero h = refl
+  all-front [] (suc q) h = refl
+  all-front (a ∷ l) (suc q) h =
+      let p = and-parts (test a) (all test (take (suc q) l)) h in
+      and-both (test a) (all test (take q l)) (p .0) (all-front l q (p .1))
+
+  -- the last of the first n elements is set
+  pub all-last : (l : List A) (n : ℕ) (v : A) → 0 < n → all test (take n l) ≡ true → test v ≡ true
+      → all test (take n (set l (n - 1) v)) ≡ true
+  all-last l zero v z h e = absurd (omega arith)
+  all-last l (suc q) v z h e = let p : suc q - 1 ≡ q = omega arith in rw p (all-set l q v (all-front l q h) e)

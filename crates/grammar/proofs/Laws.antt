@@ -6,13 +6,13 @@ use mathlib.Core.Bool.{Bool, true, false, not, and-false}
 use mathlib.Core.List.{List}
 use mathlib.Core.Path.{_≡_, refl, sym, ap, _∙_}
 use lib.Dec.{leb}
-use lib.IntN.{pos}
 use lib.ListN.{replicate, take, getD}
 use borrow.Author.Tests.{lt-leb, le-leb, not-true, not-false}
 use Rattle.grammar.specs.declared.Symbol.the-variants.{Nonterminal}
 use Rattle.grammar.specs.declared.Place.{Place}
 use Rattle.grammar.specs.declared.Rule.{Rule}
 use Rattle.grammar.specs.declared.Grammar.{Grammar}
+use Rattle.grammar.specs.Setters.{setPlaces, setRules}
 use Rattle.grammar.specs.Valid.{all, validSymbol, validPlace, validRule, validGrammar}
 use Rattle.grammar.specs.Zero.{zeroPlace, zeroRule, zeroGrammar, noRule}
 use Rattle.grammar.proofs.All.{all-more, all-refuses}
@@ -21,14 +21,14 @@ use Rattle.grammar.proofs.All.{all-more, all-refuses}
 
 -- a rule of zeros whose places all hold p
 abbrev pub ruleAll : Place → Rule
-ruleAll p = record { left = 0; length = pos 0; count = 0; places = replicate 8 p }
+ruleAll p = setPlaces zeroRule (replicate 8 p)
 
 pub zero-rule-of : (p : Place) → p ≡ zeroPlace → ruleAll p ≡ zeroRule
 zero-rule-of p e = ap ruleAll e
 
 -- a grammar of zeros whose rules are all r
 abbrev pub grammarAll : Rule → Grammar
-grammarAll r = record { start = 0; count = 0; depth = 0; rules = replicate 128 r }
+grammarAll r = setRules zeroGrammar (replicate 128 r)
 
 pub zero-grammar-of : (r : Rule) → r ≡ zeroRule → grammarAll r ≡ zeroGrammar
 zero-grammar-of r e = ap grammarAll e

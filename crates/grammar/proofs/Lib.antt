@@ -3,4 +3,6 @@ pub mod All
 pub mod Laws
 pub mod Bounds
 pub mod RuleAt
+pub mod Setters
+pub mod Declared
 pub mod Fits

@@ -1,5 +1,6 @@
 -- The declared types of a grammar, and what they mean.
 pub mod Zero
+pub mod Setters
 pub mod Valid
 pub mod View
 pub mod Number

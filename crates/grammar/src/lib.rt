@@ -1,4 +1,5 @@
 // The declared types of a grammar (document 01: a loaded book), check 8 over any struct handed in, and the refusals.
+pub mod building;
 mod records;
 pub mod tagged;
 

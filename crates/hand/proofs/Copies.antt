@@ -7,7 +7,8 @@ use mathlib.Core.Path.{_≡_, refl, sym, _∙_}
 use lib.ListN.{length, getD, take, set, length-set, length-map, List·getD-map}
 use lib.Seq.{take-suc, take-suc-set, take-all}
 use Rattle.sizes.specs.Sizes.{maxInput}
-use Rattle.results.specs.Recognize.{State}
+use Rattle.results.specs.Recognize.{State, stateWith}
+use Rattle.results.proofs.State.{state-same}
 use Rattle.numbers.specs.Numbers.{byteIn, saturated}
 use Rattle.hand.specs.Hand.{handSize, bytesIn, countIn, stateOfRow, rowOf}
 
@@ -57,6 +58,6 @@ write-done s i l k c n h e =
     ∙ (λ j. t j ++ (e j ∷ []))
 
 -- the state of what was read
-pub read-of : (h l : List ℕ) (n : ℕ) → l ≡ bytesIn h → n ≡ countIn h → _≡_ {A = State} (record { bytes = l; count = n }) (stateOfRow h)
+pub read-of : (h l : List ℕ) (n : ℕ) → l ≡ bytesIn h → n ≡ countIn h → stateWith l n ≡ stateOfRow h
 unfolding stateOfRow
-read-of h l n e f = λ i. record { bytes = e i; count = f i }
+read-of h l n e f = state-same (stateWith l n) (stateOfRow h) e f

@@ -12,7 +12,8 @@ use lib.ListN.{length, getD, take}
 use lib.Seq.{take-at, getD-at}
 use borrow.Author.Tests.{lt-ltb, le-leb}
 use Rattle.grammar.specs.Valid.{all}
-use Rattle.results.specs.Recognize.{State, stateCheck}
+use Rattle.results.specs.Recognize.{State, setTaken, stateCheck}
+use Rattle.results.proofs.State.{state-same}
 use Rattle.hand.specs.Declared.{Declared}
 use Rattle.sizes.specs.Sizes.{maxInput}
 use Rattle.numbers.specs.Numbers.{byteIn, saturated}
@@ -41,7 +42,7 @@ bytes-all (a ∷ l) (suc n) b = rw (le-leb a 255 (omega (arith, b 0)), bytes-all
 
 -- the state with a count that a row holds
 abbrev pub kept : State → State
-kept s = record { bytes = s .bytes; count = saturated (s .count) }
+kept s = setTaken s (saturated (s .count))
 
 module _ (s : State) (d : Declared s) where
   bytes-back : bytesIn (rowOf s) ≡ s .bytes
@@ -61,13 +62,13 @@ module _ (s : State) (d : Declared s) where
 
   pub read-kept : stateOfRow (rowOf s) ≡ kept s
   unfolding stateOfRow
-  read-kept = λ i. record { bytes = bytes-back i; count = count-back i }
+  read-kept = state-same (stateOfRow (rowOf s)) (kept s) bytes-back count-back
 
   -- a state whose count is one of 16 bits is read back as it was written
   pub read-write : s .count < 65536 → stateOfRow (rowOf s) ≡ s
   read-write h =
       let e : saturated (s .count) ≡ s .count = omega arith in
-      read-kept ∙ λ i. record { bytes = s .bytes; count = e i }
+      read-kept ∙ ap (setTaken s) e
 
   -- what is written is refused exactly if the state is
   pub write-judged : stateCheck (stateOfRow (rowOf s)) .fails ≡ stateCheck s .fails

@@ -10,7 +10,7 @@ use lib.ListN.{getD, take}
 use Rattle.sizes.specs.Sizes.{maxInput}
 use Rattle.numbers.specs.Numbers.{byteIn, saturated}
 use Rattle.grammar.specs.Valid.{all}
-use Rattle.results.specs.Recognize.{State}
+use Rattle.results.specs.Recognize.{State, stateWith}
 
 -- the numbers of a row: the bytes, then the count
 abbrev pub handSize : ℕ
@@ -36,7 +36,7 @@ countIn h = cond (all isByte (take (getD h maxInput 0) (take maxInput h))) (getD
 
 -- the state of a row
 unfoldable pub stateOfRow : List ℕ → State
-stateOfRow h = record { bytes = bytesIn h; count = countIn h }
+stateOfRow h = stateWith (bytesIn h) (countIn h)
 
 -- what check 14 has to let through, told of the row's own numbers: at most 64 are used, and these are bytes
 unfoldable pub validHand : List ℕ → Bool

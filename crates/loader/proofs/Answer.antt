@@ -9,12 +9,12 @@ use Rattle.sets.specs.Set.{card}
 use Rattle.grammar.specs.declared.Grammar.{Grammar}
 use Rattle.grammar.specs.declared.Refusal.{Refusal}
 use Rattle.grammar.specs.Number.{numberOf}
+use Rattle.grammar.specs.Setters.{setDepth}
 use Rattle.grammar.specs.View.{wholeOf}
 use Rattle.grammar.specs.Zero.{zeroGrammar}
 use Rattle.grammar.proofs.RuleAt.{rule-past}
 use Rattle.results.specs.Load.{acceptedLoad, refusedLoad}
 use Rattle.loader.specs.Answer.{Refuses, Accepts}
-use Rattle.setters.specs.Setters.{setDepth}
 use Rattle.nullable.specs.Nullable.{Exact}
 use Rattle.loader.specs.declared.Outcome.the-variants.{Accepted, Refused}
 use Rattle.nullable.proofs.Depth.{exact-depth}

@@ -1,6 +1,6 @@
 -- The loop of loading: what holds of what has been read so far, that each command keeps it, and what the end and a fault make of it.
 -- Assumes nothing.
-use Prim.Native.Nat.{ℕ, suc, _+_, _-_, _^_, _≤_, _<_}
+use Prim.Native.Nat.{ℕ, suc, _+_, _*_, _-_, _^_, _≤_, _<_}
 use native.Mathlib.Omega.{arith}
 use mathlib.Core.Bool.{true, false}
 use mathlib.Core.List.{List}
@@ -10,24 +10,24 @@ use lib.ListN.{length, getD}
 use borrow.Author.Tests.{lt-ltb}
 use mir.Syntax.{w64}
 use mir.Val.{Fits}
+use Rattle.numbers.specs.Numbers.{signedIn}
 use Rattle.grammar.specs.declared.Symbol.{Symbol}
 use Rattle.grammar.specs.declared.Rule.{Rule}
 use Rattle.grammar.specs.declared.Grammar.{Grammar}
 use Rattle.grammar.specs.declared.Refusal.{Refusal}
 use Rattle.grammar.specs.Number.{numberOf}
+use Rattle.grammar.specs.Setters.{openedRule, placedRule, setStart, setCount, setRule}
 use Rattle.grammar.specs.Valid.{validGrammar}
 use Rattle.grammar.specs.Zero.{zeroGrammar, noRule}
 use Rattle.grammar.proofs.Bounds.{valid-count}
-use Rattle.results.specs.Load.{next, step, run, loadOf, openRule}
+use Rattle.results.specs.Load.{signed, next, step, run, loadOf, openRule}
 use Rattle.results.proofs.Loading.Run.{run-stop, run-next, run-done, step-forward, run-fuel}
-use Rattle.results.proofs.Loading.Commands.{step-kept}
+use Rattle.results.proofs.Loading.Commands.{start-set, rule-set, place-set, step-kept}
 use Rattle.results.proofs.Loading.Valid.{valid-invariant, size-invariant}
 use Rattle.loader.specs.Answer.{loadingOf, Refuses, Accepts}
 use Rattle.commands.specs.Command.{stepOf, Bounded, Begun, Reads}
 use Rattle.commands.specs.Turn.{TurnAt}
 use Rattle.commands.proofs.Steps.{turn-step}
-use Rattle.setters.specs.Setters.{setStart, setCount, setRule, openedRule, placedRule}
-use Rattle.setters.proofs.Setters.{start-set, rule-set, place-set}
 use Rattle.loader.specs.declared.Loaded.{Loaded}
 use Rattle.commands.specs.declared.Command.{Command}
 use Rattle.commands.specs.declared.Command.the-variants as C
@@ -83,6 +83,11 @@ progress-first bytes g e = subst (Progress bytes 0 (record { started = false; op
   size = size-invariant .zero;
 })
 
+-- the length of a rule, as the code reads it
+signed-bytes : (low high : ℕ) → signedIn (low + 256 * high) ≡ signed low high
+unfolding signed signedIn
+signed-bytes low high = refl
+
 -- something has been read
 some : (n : ℕ) → 0 < n → true ≡ ltb 0 n
 some n h = sym (lt-ltb 0 n h)
@@ -123,13 +128,14 @@ module _ (bytes : List ℕ) (at : ℕ) (t : Turn) (g : Grammar) (P : Progress by
         progress-next (C.Start k) _ _ _ _ e refl (bounded (C.Start k) e)
         (record { started = some (at + 2) (omega arith); opened = P .turn .opened }) (start-set g k)
 
-    pub progress-rule : (k low high : ℕ) (r : Rule) → c ≡ C.Rule k low high → r ≡ openedRule k low high
+    pub progress-rule : (k low high : ℕ) (r : Rule) → c ≡ C.Rule k low high → r ≡ openedRule k (signedIn (low + 256 * high))
         → Progress bytes (at + 4) (record { started = t .started; opened = true }) (setCount (setRule g (g .count) r) (g .count + 1))
     progress-rule k low high r e o =
         let b = subst (Begun t) e (R .begun) in
         progress-next (C.Rule k low high) _ _ _ _ e refl (bounded (C.Rule k low high) e .0)
         (record { started = b ∙ some (at + 4) (omega arith); opened = some (g .count + 1) (omega arith) })
-        (ap (λ (m : Rule). setCount (setRule g (g .count) m) (g .count + 1)) o ∙ rule-set g k low high)
+        (ap (λ (m : Rule). setCount (setRule g (g .count) m) (g .count + 1)) (o ∙ ap (openedRule k) (signed-bytes low high))
+        ∙ rule-set g k (signed low high))
 
     pub progress-place : (s : Symbol) (r : Rule) → c ≡ C.Place s → r ≡ placedRule (getD (g .rules) q noRule) s
         → Progress bytes (at + 2) t (setRule g q r)

@@ -3,6 +3,7 @@ use commands::Command;
 use commands::Turn;
 use grammar::Grammar;
 use grammar::Refusal;
+use grammar::building;
 ghost use mathlib.Core.Bool.{true};
 ghost use mathlib.Core.Path.{_≡_};
 ghost use Rattle.cfg.specs.Nullable.{Depth};
@@ -60,7 +61,7 @@ pub fn load(bytes: &[u8]) -> Loaded
     let mut at = 0;
     loop {
         let n = g.count;
-        let q = setters::last_of(n);
+        let q = building::last_of(n);
         let open = g.rules[q];
         let command = scanner::command_at(bytes, at, turn, n, open.count);
         match command {
@@ -70,13 +71,13 @@ pub fn load(bytes: &[u8]) -> Loaded
                 at += 2;
             }
             Command::Rule(k, low, high) => {
-                g.rules[n] = setters::opened(k, low, high);
+                g.rules[n] = building::opened(k, low, high);
                 g.count = n + 1;
                 turn.opened = true;
                 at += 4;
             }
             Command::Place(s) => {
-                g.rules[q] = setters::placed(open, s);
+                g.rules[q] = building::placed(open, s);
                 at += 2;
             }
             Command::End => {

@@ -1,11 +1,11 @@
 -- What opening and taking give, by the checks that the code makes: one law for each way through the code. Assumes nothing.
-use Prim.Native.Nat.{ℕ, _+_, _-_, _≤_, _<_}
+use Prim.Native.Nat.{ℕ, _+_, _≤_, _<_}
 use mathlib.Core.Bool.{Bool, true, false, not}
 use mathlib.Core.List.{List, [], _∷_, _++_}
 use mathlib.Core.Path.{_≡_, refl, sym, ap, _∙_, subst}
 use native.Mathlib.Omega.{arith}
-use lib.ListN.{length, take, replicate, length-append}
-use lib.Seq.{take-at, length-take-le}
+use lib.ListN.{length, take}
+use lib.Seq.{length-take-le}
 use borrow.Author.Tests.{not-true, not-false, lt-ltb, le-ltb, eq-eqb, ne-eqb}
 use Rattle.sizes.specs.Sizes.{cells}
 use Rattle.sets.specs.Set.{has}
@@ -20,6 +20,7 @@ use Rattle.packed.specs.Packed.{cfgIn}
 use Rattle.packed.proofs.Laws.{cfg-in-bounded}
 use Rattle.results.specs.Answer.{Answer, refused, answered, decide}
 use Rattle.results.specs.Recognize.{State, Recognition, stateOf, openIn, openOf, takeIn, takeOf}
+use Rattle.results.proofs.State.{state-count, state-within, state-taken}
 use Rattle.columns.specs.Columns.{columnOf}
 
 -- the three parts of what a call gives
@@ -32,9 +33,7 @@ given-same a a' h h' c c' e f g = λ i. given (e i) (f i) (g i)
 -- the count of a state that has taken w is within its bytes
 module _ (k : State) (w : List ℕ) (next : k ≡ stateOf w) where
   pub count-fits : k .count ≤ length (k .bytes)
-  unfolding stateOf
-  count-fits = subst (λ (s : State). s .count ≤ length (s .bytes)) (sym next)
-      (omega (arith, length-append w (replicate (64 - length w) 0)))
+  count-fits = subst (λ (s : State). s .count ≤ length (s .bytes)) (sym next) (state-within w)
 
   pub count-part : k .count ≡ length (take (k .count) (k .bytes))
   count-part = sym (length-take-le (k .count) (k .bytes) count-fits)
@@ -114,13 +113,10 @@ module _ (g : Grammar) (chart : List ℕ) where
 
     module _ (a : Answer Bool) (k : State) (next : k ≡ stateOf input) (count : k .count ≡ h .count + 1) where
       size : length input ≡ k .count
-      unfolding stateOf
-      size = sym (ap (λ (s : State). s .count) next)
+      size = sym (ap (λ (s : State). s .count) next ∙ state-count input)
 
       bytes : take (k .count) (k .bytes) ≡ input
-      unfolding stateOf
-      bytes = ap (λ (x : List ℕ). take (k .count) x) (ap (λ (s : State). s .bytes) next)
-          ∙ take-at input (replicate (64 - length input) 0) (k .count) size
+      bytes = ap (λ (s : State). take (s .count) (s .bytes)) next ∙ state-taken input
 
       pub take-right : (p chart' : List ℕ) → validGrammar g ≡ true → h .count < 64 → cells ≤ length chart
           → ((r : ℕ) → rule (cfgIn (g .start) p) r ≡ rule (grammarOf g) r)

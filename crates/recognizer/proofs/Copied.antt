@@ -7,7 +7,8 @@ use native.Mathlib.Omega.{arith}
 use lib.ListN.{length, getD, take, drop, set, replicate, length-append}
 use lib.Seq.{take-suc, length-take-le}
 use Rattle.columns.proofs.Filling.{set-next}
-use Rattle.results.specs.Recognize.{State, stateOf}
+use Rattle.results.specs.Recognize.{stateWith, stateOf}
+use Rattle.results.proofs.State.{state-is}
 
 drop-replicate : (k m a : ℕ) → drop k (replicate m a) ≡ replicate (m - k) a
 drop-replicate zero m a =
@@ -30,8 +31,7 @@ module _ (old : List ℕ) (long : length old ≡ 64) where
       (sym (take-suc old i 0 (omega arith)) ∙ ap (λ (x : ℕ). take x old) (sym (add-one i)))
 
   pub bytes-done : (i n b : ℕ) (bytes : List ℕ) → i ≤ n → n ≤ i → n < 64 → bytes ≡ take i old ++ drop i (replicate 64 0)
-      → _≡_ {A = State} (record { bytes = set bytes n b; count = n + 1 }) (stateOf (take n old ++ (b ∷ [])))
-  unfolding stateOf
+      → stateWith (set bytes n b) (n + 1) ≡ stateOf (take n old ++ (b ∷ []))
   bytes-done i n b bytes h l m e =
       let d : i ≡ n = omega arith in
       let s : length (take n old ++ (b ∷ [])) ≡ n + 1 =
@@ -41,5 +41,4 @@ module _ (old : List ℕ) (long : length old ≡ 64) where
       ∙ set-next (take n old) (replicate 64 0) n b (length-take-le n old (omega arith)) m
       ∙ ap (λ (x : List ℕ). (take n old ++ (b ∷ [])) ++ x) (drop-replicate (n + 1) 64 0)
       ∙ ap (λ (x : ℕ). (take n old ++ (b ∷ [])) ++ replicate (64 - x) 0) (sym s) in
-      let t : n + 1 ≡ length (take n old ++ (b ∷ [])) = sym s in
-      λ j. record { bytes = q j; count = t j }
+      state-is (take n old ++ (b ∷ [])) (set bytes n b) (n + 1) q (sym s)

@@ -8,10 +8,12 @@ use lib.ListN.{replicate}
 use Rattle.sizes.specs.Sizes.{cells}
 use Rattle.grammar.specs.declared.Symbol.the-variants.{Nonterminal, Terminal}
 use Rattle.grammar.specs.declared.Place.{Place}
-use Rattle.grammar.specs.Zero.{zeroPlace, zeroRule}
+use Rattle.grammar.specs.declared.Rule.{Rule}
+use Rattle.grammar.specs.Setters.{openedRule, setPlaceCount, setPlaces, setCount, setDepth, setRules}
+use Rattle.grammar.specs.Zero.{zeroPlace, zeroRule, zeroGrammar}
 use Rattle.results.specs.Answer.{Answer, answered}
 use Rattle.results.specs.Load.{loadOf}
-use Rattle.results.specs.Recognize.{State, openOf, takeOf}
+use Rattle.results.specs.Recognize.{State, stateWith, openOf, takeOf}
 use Rattle.results.specs.Measure.{sameBuildOf}
 use Rattle.results.specs.Check.{checkOf}
 use Rattle.results.specs.Drawer.{T, start, newRule, place, A, close, As}
@@ -51,32 +53,29 @@ pub last-nonterminal : outcome (start 31 (newRule 31 (place 31 (newRule 31 (A cl
 unfolding computing
 last-nonterminal = refl
 
--- the places of its first rule
+-- the places of its first rule, and its rules
 abbrev pub gapPlaces : List Place
 gapPlaces = record { symbol = Nonterminal 1 } ∷ record { symbol = Terminal 65 } ∷ replicate 6 zeroPlace
 
--- the whole of a loaded grammar
-pub loaded-gap : loadOf gap 1 .grammar ≡ record {
-  start = 0;
-  count = 2;
-  depth = 1;
-  rules = record { left = 0; length = pos 100; count = 2; places = gapPlaces }
-      ∷ record { left = 1; length = negℤ (pos 30); count = 0; places = replicate 8 zeroPlace } ∷ replicate 126 zeroRule;
-}
+abbrev pub gapRules : List Rule
+gapRules = setPlaceCount (setPlaces (openedRule 0 (pos 100)) gapPlaces) 2 ∷ openedRule 1 (negℤ (pos 30)) ∷ replicate 126 zeroRule
+
+-- the whole of a loaded grammar: what is not set is zero
+pub loaded-gap : loadOf gap 1 .grammar ≡ setDepth (setCount (setRules zeroGrammar gapRules) 2) 1
 unfolding computing
 loaded-gap = refl
 
 -- a dirty state is clean after a take
 unfoldable pub taken : State
-taken = takeOf (grammarFrom T) (record { bytes = 65 ∷ replicate 63 9; count = 1 }) 66 (replicate cells 0) .state
+taken = takeOf (grammarFrom T) (stateWith (65 ∷ replicate 63 9) 1) 66 (replicate cells 0) .state
 
-pub taken-clean : taken ≡ record { bytes = 65 ∷ 66 ∷ replicate 62 0; count = 2 }
+pub taken-clean : taken ≡ stateWith (65 ∷ 66 ∷ replicate 62 0) 2
 unfolding taken computing
 taken-clean = refl
 
 -- a refused take gives back the state as it was, dirty or not: here 15
 abbrev pub dirty : State
-dirty = record { bytes = replicate 64 9; count = 64 }
+dirty = stateWith (replicate 64 9) 64
 
 unfoldable pub refusedTake : State
 refusedTake = takeOf (grammarFrom T) dirty 66 (replicate cells 0) .state
@@ -89,7 +88,7 @@ refused-take-kept = refl
 unfoldable pub refusedOpening : State
 refusedOpening = openOf (grammarFrom T) (replicate (cells - 1) 0) .state
 
-pub refused-opening-zeros : refusedOpening ≡ record { bytes = replicate 64 0; count = 0 }
+pub refused-opening-zeros : refusedOpening ≡ stateWith (replicate 64 0) 0
 unfolding refusedOpening computing
 refused-opening-zeros = refl
 

@@ -3,6 +3,7 @@ pub mod Decide
 pub mod Answers
 pub mod Passed
 pub mod Goes
+pub mod State
 pub mod Computing
 pub mod Table
 pub mod Faults

@@ -5,12 +5,13 @@ use mathlib.Core.Bool.{Bool, cond, _&&_, _||_, not}
 use mathlib.Core.List.{List, [], _∷_}
 use lib.Dec.{eqb, ltb}
 use lib.IntN.{ℤ, pos, negℤ}
-use lib.ListN.{length, getD, set, replicate}
+use lib.ListN.{length, getD}
 use Rattle.grammar.specs.declared.Symbol.{Symbol}
 use Rattle.grammar.specs.declared.Symbol.the-variants.{Nonterminal, Terminal}
 use Rattle.grammar.specs.declared.Rule.{Rule}
 use Rattle.grammar.specs.declared.Grammar.{Grammar}
-use Rattle.grammar.specs.Zero.{zeroPlace, zeroGrammar, noRule}
+use Rattle.grammar.specs.Setters.{openedRule, placedRule, setStart, setCount, setDepth, setRule}
+use Rattle.grammar.specs.Zero.{zeroGrammar, noRule}
 use Rattle.results.specs.Answer.{LoadAnswer, refusedAt, loaded, Check, check, decide}
 
 -- how many bytes after the command byte are its operands
@@ -27,30 +28,15 @@ openRule g = getD (g .rules) (g .count - 1) noRule
 
 -- 10: the grammar with this start symbol
 unfoldable pub withStart : Grammar → ℕ → Grammar
-withStart g k = record { start = k; count = g .count; depth = g .depth; rules = g .rules }
+withStart g k = setStart g k
 
--- 20: the grammar with one rule more, which has no place yet
+-- 20: the grammar with one rule more, after those it has: of this left side and length, and with no place yet
 unfoldable pub withRule : Grammar → ℕ → ℤ → Grammar
-withRule g k hundredths = record {
-  start = g .start;
-  count = g .count + 1;
-  depth = g .depth;
-  rules = set (g .rules) (g .count) (record { left = k; length = hundredths; count = 0; places = replicate 8 zeroPlace });
-}
+withRule g k hundredths = setCount (setRule g (g .count) (openedRule k hundredths)) (g .count + 1)
 
 -- 30 and 40: the grammar with one place more in its open rule
 unfoldable pub withPlace : Grammar → Symbol → Grammar
-withPlace g s = let r = openRule g in record {
-  start = g .start;
-  count = g .count;
-  depth = g .depth;
-  rules = set (g .rules) (g .count - 1) (record {
-    left = r .left;
-    length = r .length;
-    count = r .count + 1;
-    places = set (r .places) (r .count) (record { symbol = s });
-  });
-}
+withPlace g s = setRule g (g .count - 1) (placedRule (openRule g) s)
 
 -- the grammar after the command c, whose operands are a, and b and d where it has three
 unfoldable pub after : ℕ → ℕ → ℕ → ℕ → Grammar → Grammar
@@ -112,7 +98,7 @@ refusedLoad f = record { answer = refusedAt (f .number) (f .offset); grammar = z
 
 -- a loaded book, with d as its nullable depth (blank depth)
 unfoldable pub acceptedLoad : ℕ → Grammar → Loading
-acceptedLoad d g = record { answer = loaded; grammar = record { start = g .start; count = g .count; depth = d; rules = g .rules } }
+acceptedLoad d g = record { answer = loaded; grammar = setDepth g d }
 
 -- at most n commands, from an offset and a grammar on. A book has at most as many commands as bytes, so after these it has ended
 unfoldable pub run : ℕ → List ℕ → ℕ → ℕ → Grammar → Loading

@@ -18,9 +18,17 @@ pub record State : Type 0 where
   pub bytes : List ℕ
   pub count : ℕ
 
+-- the state of these bytes, of which n have been taken
+abbrev pub stateWith : List ℕ → ℕ → State
+stateWith bytes n = record { bytes = bytes; count = n }
+
+-- the state with another count
+abbrev pub setTaken : State → ℕ → State
+setTaken h n = record { bytes = h .bytes; count = n }
+
 -- the state that has taken w: what is unused is zero
 unfoldable pub stateOf : List ℕ → State
-stateOf w = record { bytes = w ++ replicate (maxInput - length w) 0; count = length w }
+stateOf w = stateWith (w ++ replicate (maxInput - length w) 0) (length w)
 
 -- what opening and taking give: the answer, yes if complete, the state, and what the chart holds at the end
 pub record Recognition : Type 0 where

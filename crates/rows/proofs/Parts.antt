@@ -14,7 +14,8 @@ use Rattle.grammar.specs.declared.Symbol.{Symbol}
 use Rattle.grammar.specs.declared.Symbol.the-variants.{Nonterminal, Terminal}
 use Rattle.grammar.specs.declared.Place.{Place}
 use Rattle.grammar.specs.declared.Rule.{Rule}
-use Rattle.grammar.specs.declared.Grammar.{Grammar}
+use Rattle.grammar.specs.Setters.{ruleWith, grammarWith}
+use Rattle.grammar.proofs.Setters.{rule-same, grammar-same}
 use Rattle.numbers.specs.Numbers.{byteIn, signedIn}
 use Rattle.rows.specs.Flat.{symbolIn, placeIn, placesIn, ruleIn, rulesIn, grammarIn}
 
@@ -47,13 +48,11 @@ read-place-of f at s e = λ i. record { symbol = e i }
 -- the length went through a local
 pub read-rule-of : (f : List ℕ) (at l k : ℕ) (z : ℤ) (p : List Place) → l ≡ byteIn (getD f at 0) → z ≡ signedIn (getD f (at + 1) 0)
     → SFits w16 z → k ≡ getD f (at + 2) 0 → p ≡ placesIn f (at + 3)
-    → _≡_ {A = Rule} (record { left = l; length = toZ w16 (ofZ w16 z); count = k; places = p }) (ruleIn f at)
+    → ruleWith l (toZ w16 (ofZ w16 z)) k p ≡ ruleIn f at
 unfolding ruleIn
-read-rule-of f at l k z p el ez s ek ep =
-    let e : toZ w16 (ofZ w16 z) ≡ signedIn (getD f (at + 1) 0) = toZ-ofZ s ∙ ez in
-    λ i. record { left = el i; length = e i; count = ek i; places = ep i }
+read-rule-of f at l k z p el ez s ek ep = rule-same (ruleWith l (toZ w16 (ofZ w16 z)) k p) (ruleIn f at) el (toZ-ofZ s ∙ ez) ek ep
 
 pub read-grammar-of : (f : List ℕ) (s k d : ℕ) (r : List Rule) → s ≡ byteIn (getD f 0 0) → k ≡ getD f 1 0 → d ≡ byteIn (getD f 2 0)
-    → r ≡ rulesIn f → _≡_ {A = Grammar} (record { start = s; count = k; depth = d; rules = r }) (grammarIn f)
+    → r ≡ rulesIn f → grammarWith s k d r ≡ grammarIn f
 unfolding grammarIn
-read-grammar-of f s k d r es ek ed er = λ i. record { start = es i; count = ek i; depth = ed i; rules = er i }
+read-grammar-of f s k d r es ek ed er = grammar-same (grammarWith s k d r) (grammarIn f) es ek ed er

@@ -12,8 +12,10 @@ use Rattle.grammar.specs.declared.Symbol.the-variants.{Nonterminal, Terminal}
 use Rattle.grammar.specs.declared.Place.{Place}
 use Rattle.grammar.specs.declared.Rule.{Rule}
 use Rattle.grammar.specs.declared.Grammar.{Grammar}
+use Rattle.grammar.specs.Setters.{setPlaceCount, setCount, setRules}
 use Rattle.grammar.specs.Tagged.{tagOf, valueOf}
 use Rattle.grammar.specs.Zero.{zeroPlace, noRule}
+use Rattle.grammar.proofs.Setters.{rule-same, grammar-same}
 use Rattle.numbers.specs.Numbers.{byteIn, saturated, signedIn, unsignedOf}
 use Rattle.numbers.proofs.Complement.{signed-round}
 use Rattle.rows.specs.Flat.{symbolIn, recordsFrom, placeIn, placesIn, ruleIn, rulesIn, grammarIn, ruleNumbers}
@@ -62,11 +64,11 @@ module _ {A : Type 0} (d : A) (flat : A → List ℕ) (keep : A → A) (read : �
 
 -- with a count that a row holds
 abbrev pub keptRule : Rule → Rule
-keptRule ρ = record { left = ρ .left; length = ρ .length; count = saturated (ρ .count); places = ρ .places }
+keptRule ρ = setPlaceCount ρ (saturated (ρ .count))
 
 -- with counts that a row holds
 abbrev pub kept : Grammar → Grammar
-kept g = record { start = g .start; count = saturated (g .count); depth = g .depth; rules = map keptRule (g .rules) }
+kept g = setCount (setRules g (map keptRule (g .rules))) (saturated (g .count))
 
 place-size : (p : Place) → length (flatPlace p) ≡ 2
 unfolding flatPlace
@@ -110,7 +112,7 @@ module _ (f : List ℕ) where
       places-back (ρ .places) (at + 3) rest (d .places) (d .values)
       (further f (ρ .left ∷ unsignedOf (ρ .length) ∷ saturated (ρ .count) ∷ []) (flatMap flatPlace (ρ .places) ++ rest) at 3 refl h)
       in
-      λ i. record { left = a i; length = b i; count = c i; places = e i }
+      rule-same (ruleIn f at) (keptRule ρ) a b c e
 
 module _ (g : Grammar) (d : Declared g) where
   rules-back : rulesIn (flatOf g) ≡ map keptRule (g .rules)
@@ -124,7 +126,7 @@ module _ (g : Grammar) (d : Declared g) where
   read-kept =
       let a : byteIn (g .start) ≡ g .start = omega (arith, d .start) in
       let c : byteIn (g .depth) ≡ g .depth = omega (arith, d .depth) in
-      λ i. record { start = a i; count = saturated (g .count); depth = c i; rules = rules-back i }
+      grammar-same (grammarIn (flatOf g)) (kept g) a refl c rules-back
 
 -- ---- a grammar that a row holds whole
 
@@ -133,10 +135,10 @@ rules-kept [] h = refl
 rules-kept (ρ ∷ l) h =
     let e = h 0 (omega arith) in
     let t = rules-kept l (λ r k. h (suc r) (omega arith)) in
-    λ i. record { left = ρ .left; length = ρ .length; count = e i; places = ρ .places } ∷ t i
+    λ i. setPlaceCount ρ (e i) ∷ t i
 
 pub read-write : (g : Grammar) → Fits16 g → grammarIn (flatOf g) ≡ g
 read-write g fits =
     let e : saturated (g .count) ≡ g .count = omega (arith, fits .count) in
     let t = rules-kept (g .rules) (λ r h. omega (arith, fits .counts r (omega (arith, fits .declared .rules)))) in
-    read-kept g (fits .declared) ∙ λ i. record { start = g .start; count = e i; depth = g .depth; rules = t i }
+    read-kept g (fits .declared) ∙ λ i. setCount (setRules g (t i)) (e i)

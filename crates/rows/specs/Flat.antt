@@ -15,6 +15,7 @@ use Rattle.grammar.specs.declared.Symbol.the-variants.{Nonterminal, Terminal}
 use Rattle.grammar.specs.declared.Place.{Place}
 use Rattle.grammar.specs.declared.Rule.{Rule}
 use Rattle.grammar.specs.declared.Grammar.{Grammar}
+use Rattle.grammar.specs.Setters.{ruleWith, grammarWith}
 use Rattle.grammar.specs.Tagged.{tagOf, valueOf}
 
 -- the numbers of a rule, and of a row
@@ -46,12 +47,7 @@ placesIn f at = recordsFrom (placeIn f) 2 at maxPlaces
 
 -- the rule at an index
 unfoldable pub ruleIn : List ℕ → ℕ → Rule
-ruleIn f at = record {
-  left = byteIn (getD f at 0);
-  length = signedIn (getD f (at + 1) 0);
-  count = getD f (at + 2) 0;
-  places = placesIn f (at + 3);
-}
+ruleIn f at = ruleWith (byteIn (getD f at 0)) (signedIn (getD f (at + 1) 0)) (getD f (at + 2) 0) (placesIn f (at + 3))
 
 -- the 128 rules
 unfoldable pub rulesIn : List ℕ → List Rule
@@ -59,7 +55,7 @@ rulesIn f = recordsFrom (ruleIn f) ruleNumbers 3 maxRules
 
 -- the grammar of a row
 unfoldable pub grammarIn : List ℕ → Grammar
-grammarIn f = record { start = byteIn (getD f 0 0); count = getD f 1 0; depth = byteIn (getD f 2 0); rules = rulesIn f }
+grammarIn f = grammarWith (byteIn (getD f 0 0)) (getD f 1 0) (byteIn (getD f 2 0)) (rulesIn f)
 
 -- ---- the row of a grammar
 

@@ -7,15 +7,16 @@ use mathlib.Core.List.{List}
 use mathlib.Core.Path.{_≡_, refl, ap, _∙_, subst}
 use lib.Dec.{eqb, ltb}
 use lib.IntN.{ℤ}
-use lib.ListN.{length, getD, length-set}
-use lib.Seq.{getD-set-same}
+use lib.ListN.{length, getD}
 use borrow.Author.Tests.{ltb-false}
 use Rattle.grammar.specs.declared.Symbol.{Symbol}
 use Rattle.grammar.specs.declared.Symbol.the-variants.{Nonterminal, Terminal}
 use Rattle.grammar.specs.declared.Rule.{Rule}
 use Rattle.grammar.specs.declared.Grammar.{Grammar}
-use Rattle.grammar.specs.Zero.{zeroGrammar, noRule}
+use Rattle.grammar.specs.Setters.{openedRule, placedRule}
+use Rattle.grammar.specs.Zero.{zeroGrammar}
 use Rattle.grammar.proofs.All.{true-false}
+use Rattle.grammar.proofs.Setters.{set-rule-size, set-rule-at}
 use Rattle.results.specs.Load.{operands, signed, openRule, withStart, withRule, withPlace, after, unknown, outOfTurn, commandChecks}
 use Rattle.results.specs.Load.{Step, stop, next, done, step}
 use Rattle.results.proofs.Decide.{decide-either}
@@ -43,7 +44,7 @@ module _ (at : ℕ) (g : Grammar) (N : Near at g) where
   rule-open k z h =
       let e : g .count + 1 - 1 ≡ g .count = omega arith in
       let s = N .size in
-      rw e (ap (λ (r : Rule). r .count) (getD-set-same (g .rules) (g .count) _ noRule (omega arith)))
+      rw e (ap (λ (r : Rule). r .count) (set-rule-at g (g .count) (openedRule k z) (omega arith)))
 
   rule-near : (k : ℕ) (z : ℤ) → g .count < 128 → Near (at + 1 + 3) (withRule g k z)
   unfolding withRule
@@ -51,21 +52,21 @@ module _ (at : ℕ) (g : Grammar) (N : Near at g) where
       let e = rule-open k z h in
       let o = N .places in
       let n = N .near in
-      record { few = omega arith; size = length-set (g .rules) (g .count) _ ∙ N .size; places = omega arith; near = omega arith }
+      record { few = omega arith; size = set-rule-size g (g .count) (openedRule k z) ∙ N .size; places = omega arith; near = omega arith }
 
   place-open : (s : Symbol) → openRule (withPlace g s) .count ≡ openRule g .count + 1
   unfolding withPlace openRule
   place-open s =
       let f = N .few in
       let z = N .size in
-      ap (λ (r : Rule). r .count) (getD-set-same (g .rules) (g .count - 1) _ noRule (omega arith))
+      ap (λ (r : Rule). r .count) (set-rule-at g (g .count - 1) (placedRule (openRule g) s) (omega arith))
 
   place-near : (s : Symbol) → openRule g .count < 8 → Near (at + 1 + 1) (withPlace g s)
   unfolding withPlace
   place-near s h =
       let e = place-open s in
       let n = N .near in
-      record { few = N .few; size = length-set (g .rules) (g .count - 1) _ ∙ N .size; places = omega arith; near = omega arith }
+      record { few = N .few; size = set-rule-size g (g .count - 1) (placedRule (openRule g) s) ∙ N .size; places = omega arith; near = omega arith }
 
   -- one command that is not 50, which its checks let through
   after-near : (c a b d : ℕ) → eqb c 0x50 ≡ false → unknown c ≡ false → outOfTurn c at g ≡ false

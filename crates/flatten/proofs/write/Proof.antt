@@ -3,7 +3,8 @@
 use Prim.Native.Nat.{ℕ, _≤_, _-_}
 use native.Mathlib.Omega.{arith}
 use mathlib.Core.Path.{refl}
-use lib.ListN.{length-set, length-map, length-replicate, replicate}
+use lib.ListN.{length-set, length-replicate, replicate}
+use Rattle.grammar.proofs.Declared.{rules-long}
 use Rattle.grammar.specs.Zero.{noRule}
 use Rattle.rows.specs.Flat.{flatRule, flatSize, ruleNumbers}
 use Rattle.flatten.proofs.Written.{Written, written-start, written-step, grammar-done}
@@ -17,18 +18,19 @@ abbrev μ-loop : tie.MeasureT-loop
 μ-loop f₀ g r₀ f r = 128 - r
 
 loop-again : tie.Need-loop-again Inv-loop μ-loop
-loop-again c = (
-  omega arith,
-  written-step _ _ _ _ noRule _ _ _ _
-      (omega (arith, simp length-map at (c .before .before .before .before .before .before .before .good .0 .1 .1 .1 .1 .1 .0 .1 .0 .1)))
-      (c .write-rule .ensures .1) (c .write-rule .ensures .0) (c .before .before .before .before .loop .inv .1),
-)
+loop-again c =
+    let at-loop = c .before .before .before .before in
+    let entry = at-loop .before .before .before in (
+      omega arith,
+      written-step _ _ _ _ noRule _ _ _ _ (omega (arith, rules-long (entry .args .t1) _ (entry .good .0)))
+          (c .write-rule .ensures .1) (c .write-rule .ensures .0) (at-loop .loop .inv .1),
+    )
 
 returns : tie.Need-returns Inv-loop μ-loop
 returns c =
-    grammar-done _ (replicate flatSize 0) _ _ _ (length-replicate {A = ℕ} flatSize 0)
-    (simp length-map at (c .before .before .before .before .good .0 .1 .1 .1 .1 .1 .0 .1 .0 .1)) (omega arith) (omega arith)
-    (c .before .before .saturate .ensures) (c .before .loop .inv .1)
+    let entry = c .before .before .before .before in
+    grammar-done _ (replicate flatSize 0) _ _ _ (length-replicate {A = ℕ} flatSize 0) (rules-long (entry .args .t1) _ (entry .good .0))
+    (omega arith) (omega arith) (c .before .before .saturate .ensures) (c .before .loop .inv .1)
 
 pub write-spec : {M : Type 1} → statement M
 write-spec = tie.close (tie.spec

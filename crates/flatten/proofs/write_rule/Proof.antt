@@ -2,7 +2,8 @@
 -- The measure is what is left of the 8 places. Assumes nothing.
 use Prim.Native.Nat.{_≤_, _+_, _-_}
 use native.Mathlib.Omega.{arith}
-use lib.ListN.{length-set, length-map}
+use lib.ListN.{length-set}
+use Rattle.grammar.proofs.Declared.{length-fits, places-long}
 use Rattle.grammar.specs.Zero.{zeroPlace}
 use Rattle.rows.specs.Flat.{flatPlace}
 use Rattle.flatten.proofs.Written.{Written, written-start, written-step, rule-done}
@@ -16,24 +17,23 @@ abbrev μ-loop : tie.MeasureT-loop
 μ-loop at f₀ rule z q₀ f q = 8 - q
 
 loop-again : tie.Need-loop-again Inv-loop μ-loop
-loop-again c = (
-  omega arith,
-  written-step _ _ _ _ zeroPlace _ _ _ _
-      (omega (
-        arith,
-        simp length-map at (c .before .before .before .before .before .before .before .before .good .0 .1 .1 .1 .1 .1 .0 .1 .0 .1),
-      ))
-      (c .write-place .ensures .1) (c .write-place .ensures .0) (c .before .before .before .before .loop .inv .1),
-)
+loop-again c =
+    let at-loop = c .before .before .before .before in
+    let entry = at-loop .before .before .before .before in (
+      omega arith,
+      written-step _ _ _ _ zeroPlace _ _ _ _ (omega (arith, places-long (entry .args .t1) _ (entry .good .0)))
+          (c .write-place .ensures .1) (c .write-place .ensures .0) (at-loop .loop .inv .1),
+    )
 
 returns : tie.Need-returns Inv-loop μ-loop
-returns c = (
-  rule-done _ _ (c .before .before .before .before .before .pre .0) _ _ _ _ _ (c .before .before .before .before .before .pre .1)
-      (simp length-map at (c .before .before .before .before .before .good .0 .1 .1 .1 .1 .1 .0 .1 .0 .1))
-      (record { sfits = c .before .before .before .before .before .good .0 .1 .1 .1 .0 .1 }) (omega arith) (omega arith)
-      (c .before .before .before .unsigned .ensures) (c .before .before .saturate .ensures) (c .before .loop .inv .1),
-  c .before .loop .inv .1 .long,
-)
+returns c =
+    let at-loop = c .before in
+    let entry = at-loop .before .before .before .before in (
+      rule-done _ _ (entry .pre .0) _ _ _ _ _ (entry .pre .1) (places-long (entry .args .t1) _ (entry .good .0))
+          (length-fits (entry .args .t1) _ (entry .good .0)) (omega arith) (omega arith)
+          (at-loop .before .before .unsigned .ensures) (at-loop .before .saturate .ensures) (at-loop .loop .inv .1),
+      at-loop .loop .inv .1 .long,
+    )
 
 pub write-rule-spec : {M : Type 1} → statement M
 write-rule-spec = tie.close (tie.spec

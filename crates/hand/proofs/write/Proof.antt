@@ -3,9 +3,9 @@
 use Prim.Native.Nat.{_-_}
 use native.Mathlib.Omega.{arith}
 use mathlib.Core.Path.{refl}
-use lib.ListN.{length-map}
 use borrow.Author.Needs.{needs}
 use Rattle.sizes.specs.Sizes.{maxInput}
+use Rattle.recognizer.proofs.Declared.{bytes-long}
 use Rattle.hand.specs.Hand.{handSize}
 use Rattle.hand.proofs.Copies.{Copied, copied-start, copied-step, write-done}
 use Rattle.hand.proofs.write.Statement.{statement}
@@ -19,15 +19,15 @@ abbrev μ-loop : tie.MeasureT-loop
 
 loop-again : tie.Need-loop-again Inv-loop μ-loop
 loop-again c =
-    let l = c .before .before in
-    copied-step _ _ _ _ _ (l .loop .inv) (omega (arith, simp length-map at (l .before .before .good .0 .1 .1 .0 .1 .0 .1))) (omega arith)
-    (omega arith) refl
+    let at-loop = c .before .before in
+    let entry = at-loop .before .before in
+    copied-step _ _ _ _ _ (at-loop .loop .inv) (omega (arith, bytes-long (entry .args .t1) _ (entry .good .0))) (omega arith) (omega arith) refl
 
 returns : tie.Need-returns Inv-loop μ-loop
 returns c =
-    let l = c .before .before in
-    write-done _ _ _ _ (l .loop .inv) (simp length-map at (l .before .before .good .0 .1 .1 .0 .1 .0 .1)) (omega arith)
-    (c .saturate .ensures)
+    let at-loop = c .before .before in
+    let entry = at-loop .before .before in
+    write-done _ _ _ _ (at-loop .loop .inv) (bytes-long (entry .args .t1) _ (entry .good .0)) (omega arith) (c .saturate .ensures)
 
 pub write-spec : {M : Type 1} → statement M
 write-spec = tie.close (tie.spec

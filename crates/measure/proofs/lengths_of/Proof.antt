@@ -5,9 +5,10 @@ use native.Mathlib.Omega.{arith}
 use mathlib.Core.List.{map}
 use mathlib.Core.Path.{_≡_, ap, _∙_}
 use lib.IntN.{ℤ}
-use lib.ListN.{length, take, set, length-map}
+use lib.ListN.{length, take, set}
 use mir.Facts.{toZ-ofZ}
 use mir.Syntax.{w16}
+use Rattle.grammar.proofs.Declared.{rules-long}
 use Rattle.measure.specs.Measure.{lengthOfRule}
 use Rattle.measure.proofs.Lengths.{lengths-step, lengths-done}
 use borrow.Author.Needs.{needs}
@@ -24,7 +25,7 @@ loop-again : tie.Need-loop-again Inv-loop μ-loop
 loop-again c =
     let b = c .before .before .before in
     let rules = b .before .args .t1 .rules in
-    let full = simp length-map at (b .before .good .0 .1 .1 .1 .1 .1 .0 .1 .0 .1) in
+    let full = rules-long (b .before .args .t1) _ (b .before .good .0) in
     let read = toZ-ofZ {w = w16} {z = c .length-of .result} (record { sfits = c .length-of .ok }) ∙ c .length-of .ensures in (
       omega arith,
       search needs,
@@ -35,7 +36,7 @@ loop-again c =
 returns : tie.Need-returns Inv-loop μ-loop
 returns c =
     let b = c .before in
-    let full = simp length-map at (b .before .good .0 .1 .1 .1 .1 .1 .0 .1 .0 .1) in
+    let full = rules-long (b .before .args .t1) _ (b .before .good .0) in
     lengths-done (b .loop .l) (b .before .args .t1 .rules) (b .loop .r) (b .loop .inv .1) full (omega arith) (omega arith) (b .loop .inv .2)
 
 pub lengths-of-spec : {M : Type 1} → statement M

@@ -3,9 +3,10 @@
 use Prim.Native.Nat.{_≤_, _-_}
 use mathlib.Core.Path.{_≡_}
 use native.Mathlib.Omega.{arith}
-use lib.ListN.{length, take, length-map}
+use lib.ListN.{length, take}
 use Rattle.nullable.specs.Nullable.{pass}
 use Rattle.grammar.proofs.Bounds.{valid-count, valid-each}
+use Rattle.grammar.proofs.Declared.{rules-long}
 use Rattle.nullable.proofs.Pass.{pass-first, pass-again, pass-last}
 use Rattle.nullable.proofs.nullable_pass.Statement.{statement}
 use Rattle.nullable.proofs.nullable_pass.Tie as tie
@@ -17,7 +18,7 @@ abbrev μ-loop : tie.MeasureT-loop
 μ-loop known g n s₀ i₀ s i = n - i
 
 loop-holds : tie.Need-loop-holds Inv-loop μ-loop
-loop-holds c = (omega arith, valid-count _ (c .pre), simp length-map at (c .good .0 .1 .1 .1 .1 .1 .0 .1 .0 .1), search pass-first)
+loop-holds c = (omega arith, valid-count _ (c .pre), search rules-long, search pass-first)
 
 pub nullable-pass-spec : {M : Type 1} → statement M
 nullable-pass-spec = tie.close (tie.spec

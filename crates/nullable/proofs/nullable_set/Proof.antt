@@ -4,7 +4,8 @@ use Prim.Native.Nat.{_-_, _^_}
 use native.Mathlib.Omega.{arith}
 use mathlib.Core.Path.{_≡_}
 use borrow.Author.Needs.{needs}
-use lib.ListN.{length, length-map}
+use lib.ListN.{length}
+use Rattle.grammar.proofs.Declared.{rules-long}
 use Rattle.nullable.proofs.Exact.{Searched, searched-first, searched-next, searched-falls, searched-exact}
 use Rattle.nullable.proofs.nullable_set.Statement.{statement}
 use Rattle.nullable.proofs.nullable_set.Tie as tie
@@ -18,5 +19,5 @@ abbrev μ-loop : tie.MeasureT-loop
 pub nullable-set-spec : {M : Type 1} → statement M
 nullable-set-spec = tie.close (tie.spec
     Inv-loop μ-loop (λ c κs. search needs)
-    (λ c. (simp length-map at (c .before .good .0 .1 .1 .1 .1 .1 .0 .1 .0 .1), search searched-first)) (λ c κs. search needs)
+    (λ c. (search rules-long, search searched-first)) (λ c κs. search needs)
     (λ c. search searched-falls) (λ c. (omega arith, search searched-next)) (λ c. search searched-exact))

@@ -4,11 +4,12 @@ use Prim.Native.Nat.{_≤_, _-_}
 use mathlib.Core.Bool.{true}
 use mathlib.Core.Path.{_≡_, refl}
 use native.Mathlib.Omega.{arith}
-use lib.ListN.{length, take, length-map}
+use lib.ListN.{length, take}
 use Rattle.grammar.specs.Valid.{all}
 use Rattle.nullable.specs.Nullable.{placeKnown}
 use Rattle.grammar.proofs.Bounds.{rule-parts}
 use Rattle.grammar.proofs.Laws.{all-next}
+use Rattle.grammar.proofs.Declared.{places-long}
 use Rattle.nullable.proofs.Pass.{rule-place-valid, rule-stops, rule-whole}
 use Rattle.nullable.proofs.rule_in.Statement.{statement}
 use Rattle.nullable.proofs.rule_in.Tie as tie
@@ -21,7 +22,7 @@ abbrev μ-loop : tie.MeasureT-loop
 
 loop-holds : tie.Need-loop-holds Inv-loop μ-loop
 unfolding all
-loop-holds c = (omega arith, rule-parts _ (c .pre) .1, simp length-map at (c .good .0 .1 .1 .1 .1 .1 .0 .1 .0 .1), refl)
+loop-holds c = (omega arith, rule-parts _ (c .pre) .1, search places-long, refl)
 
 pub rule-in-spec : {M : Type 1} → statement M
 rule-in-spec = tie.close (tie.spec

@@ -2,8 +2,8 @@
 -- The measure is what is left of the count. Assumes nothing.
 use Prim.Native.Nat.{_≤_, _-_}
 use native.Mathlib.Omega.{arith}
-use lib.ListN.{length-map}
 use Rattle.grammar.proofs.Bounds.{valid-count, valid-each}
+use Rattle.grammar.proofs.Declared.{rules-long}
 use Rattle.packing.proofs.Rows.{Rows, rows-start, rows-step, rows-done}
 use Rattle.packing.proofs.pack.Statement.{statement}
 use Rattle.packing.proofs.pack.Tie as tie
@@ -30,7 +30,7 @@ loop-again c = (
 
 returns : tie.Need-returns Inv-loop μ-loop
 returns c =
-    rows-done _ _ _ _ (simp length-map at (c .before .before .good .0 .1 .1 .1 .1 .1 .0 .1 .0 .1)) (c .before .before .pre) (omega arith)
+    rows-done _ _ _ _ (search rules-long) (c .before .before .pre) (omega arith)
     (omega arith) (c .before .loop .inv .2)
 
 pub pack-spec : {M : Type 1} → statement M

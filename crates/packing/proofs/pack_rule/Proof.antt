@@ -2,8 +2,8 @@
 -- The measure is what is left of the count. Assumes nothing.
 use Prim.Native.Nat.{_≤_, _-_}
 use native.Mathlib.Omega.{arith}
-use lib.ListN.{length-map}
 use Rattle.grammar.proofs.Bounds.{rule-parts}
+use Rattle.grammar.proofs.Declared.{places-long}
 use Rattle.packing.proofs.Row.{Row, row-start, row-step, row-done}
 use Rattle.packing.proofs.pack_rule.Statement.{statement}
 use Rattle.packing.proofs.pack_rule.Tie as tie
@@ -24,7 +24,7 @@ loop-again c = (
 
 returns : tie.Need-returns Inv-loop μ-loop
 returns c =
-    row-done _ _ _ (c .before .before .args .p .now) _ (simp length-map at (c .before .before .good .0 .1 .1 .1 .1 .1 .0 .1 .0 .1))
+    row-done _ _ _ (c .before .before .args .p .now) _ (search places-long)
     (c .before .before .pre .1) (omega arith) (c .before .loop .inv .2)
 
 pub pack-rule-spec : {M : Type 1} → statement M

@@ -1,5 +1,5 @@
 -- What every command of a book keeps of the grammar read so far, a step keeps; and what the last command of a book is. Assumes nothing.
-use Prim.Native.Nat.{ℕ, _+_, _≤_, _<_}
+use Prim.Native.Nat.{ℕ, _+_, _-_, _≤_, _<_}
 use native.Mathlib.Omega.{arith}
 use mathlib.Core.Bool.{Bool, true, false, cond, _&&_, _||_}
 use mathlib.Core.List.{List}
@@ -11,12 +11,28 @@ use borrow.Author.Tests.{ltb-true, ltb-false, le-leb, eqb-true, eqb-false, not-f
 use Rattle.grammar.specs.declared.Symbol.{Symbol}
 use Rattle.grammar.specs.declared.Symbol.the-variants.{Nonterminal, Terminal}
 use Rattle.grammar.specs.declared.Grammar.{Grammar}
+use Rattle.grammar.specs.Setters.{openedRule, placedRule, setStart, setCount, setRule}
 use Rattle.grammar.specs.Valid.{validSymbol}
 use Rattle.grammar.specs.Zero.{zeroGrammar}
 use Rattle.grammar.proofs.All.{true-false}
 use Rattle.results.specs.Load.{signed, openRule, withStart, withRule, withPlace, after, outOfTurn, commandChecks}
 use Rattle.results.specs.Load.{Step, stop, next, done, step}
 use Rattle.results.proofs.Decide.{decide-either}
+
+-- ---- what a command changes
+
+module _ (g : Grammar) where
+  pub start-set : (k : ℕ) → setStart g k ≡ withStart g k
+  unfolding withStart
+  start-set k = refl
+
+  pub rule-set : (k : ℕ) (z : ℤ) → setCount (setRule g (g .count) (openedRule k z)) (g .count + 1) ≡ withRule g k z
+  unfolding withRule
+  rule-set k z = refl
+
+  pub place-set : (s : Symbol) → setRule g (g .count - 1) (placedRule (openRule g) s) ≡ withPlace g s
+  unfolding withPlace
+  place-set s = refl
 
 -- ---- what a step keeps
 

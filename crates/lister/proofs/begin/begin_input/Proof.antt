@@ -1,7 +1,7 @@
 -- `lister::begin::begin_input` meets its contract: of the checks only 9 can fail, and else the chart is filled. Assumes nothing.
 use native.Mathlib.Omega.{arith}
-use lib.ListN.{length-map}
 use borrow.Author.Needs.{needs}
+use Rattle.grammar.proofs.Declared.{rules-long}
 use Rattle.prepare.proofs.Judging.{judged-ready}
 use Rattle.lister.proofs.Judged.{input-refused, judged-filled, input-begun}
 use Rattle.lister.proofs.begin.begin_input.Statement.{statement}
@@ -20,8 +20,8 @@ returns-2 c =
     let after-lengths = c .before .before .before .before .before .before .before .before .before in
     let after-fill = after-lengths .before .before .before in
     let passed = after-fill .before .before .before in
-    let s = passed .before .before .before .before .before .before in
-    let full = simp length-map at (s .good .0 .1 .1 .1 .1 .1 .0 .1 .0 .1) in
+    let entry = passed .before .before .before .before .before .before in
+    let full = rules-long (entry .args .g) _ (entry .good .0) in
     input-begun _ _ _ _ (passed .before .before .judge .ensures) (passed .enum-told .given .1) _ _ (after-fill .fill-fits .ensures .0) _
     (c .before .before .before .before .before .before .before .wide-byte2 .ensures .0) _
     (after-lengths .lengths-of .ensures) full _ _ _ _ _ (c .before .before .begin-filled .ensures)

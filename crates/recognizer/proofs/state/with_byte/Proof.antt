@@ -1,7 +1,8 @@
 -- `recognizer::state::with_byte` meets its contract. The loop's invariant: the bytes passed are copied, and zeros stand behind them.
 -- The measure is what is left of the count. Assumes nothing.
+use Rattle.recognizer.proofs.Declared.{bytes-long}
 use Rattle.recognizer.proofs.Copied.{bytes-step, bytes-done}
-use lib.ListN.{take, drop, replicate, length-map}
+use lib.ListN.{take, drop, replicate}
 use native.Mathlib.Omega.{arith}
 use mathlib.Core.Path.{_≡_, refl}
 use mathlib.Core.List.{_++_}
@@ -18,12 +19,12 @@ abbrev μ-loop : tie.MeasureT-loop
 loop-again : tie.Need-loop-again Inv-loop μ-loop
 loop-again c =
     let l = c .before .before in
-    (omega arith, bytes-step _ (simp length-map at (l .before .good .0 .1 .1 .0 .1 .0 .1)) _ _ (omega arith) (l .loop .inv .1))
+    (omega arith, bytes-step _ (bytes-long (l .before .args .t1) _ (l .before .good .0)) _ _ (omega arith) (l .loop .inv .1))
 
 returns : tie.Need-returns Inv-loop μ-loop
 returns c =
     let l = c .before in (
-      bytes-done _ (simp length-map at (l .before .good .0 .1 .1 .0 .1 .0 .1)) (l .loop .i) (l .before .args .t1 .count) _ _
+      bytes-done _ (bytes-long (l .before .args .t1) _ (l .before .good .0)) (l .loop .i) (l .before .args .t1 .count) _ _
           (omega arith) (omega arith) (omega arith) (l .loop .inv .1),
       refl,
     )

@@ -1,23 +1,23 @@
-// The rules of the grammar that is read: a rule as command 20 opens it, and with the place that commands 30 and 40 add. They are written
-// into the grammar in place; what such a store changes is said by the setters of specs/.
-use grammar::Place;
-use grammar::Rule;
-use grammar::Symbol;
-ghost use Prim.Native.Nat.{_-_, _<_};
+// The rules of a grammar that is read: a rule as command 20 opens it, and with the place that commands 30 and 40 add. The loader stores them
+// in the grammar in place; the setters of specs/ say what such a store changes.
+use super::Place;
+use super::Rule;
+use super::Symbol;
+use super::zero_rule;
+ghost use Prim.Native.Nat.{_+_, _*_, _-_, _<_};
 ghost use mathlib.Core.Path.{_≡_};
-ghost use Rattle.setters.specs.Setters.{openedRule, placedRule};
+ghost use Rattle.numbers.specs.Numbers.{signedIn};
+ghost use Rattle.grammar.specs.Setters.{openedRule, placedRule};
 
 // A rule with no places yet; its length is the signed number of a low and a high byte.
 pub fn opened(left: u8, low: u8, high: u8) -> Rule
-    ensures { λ r. ⌜ r ≡ openedRule left low high ⌝ }
+    ensures { λ r. ⌜ r ≡ openedRule left (signedIn (low + 256 * high)) ⌝ }
 {
     let length = numbers::signed((low as u16) + 256 * (high as u16));
-    Rule {
-        left: left,
-        length: length,
-        count: 0,
-        places: [grammar::zero_place(); sizes::MAX_PLACES],
-    }
+    let mut r = zero_rule();
+    r.left = left;
+    r.length = length;
+    r
 }
 
 // The rule with one place more.

@@ -1,0 +1,87 @@
+-- The laws of the setters: two records are one if their fields are; what check 8 says after a field is set; how many rules there are.
+-- Assumes nothing.
+use Prim.Native.Nat.{ℕ, _+_, _-_, _≤_, _<_}
+use native.Mathlib.Numerals.{add-one}
+use native.Mathlib.Omega.{arith}
+use mathlib.Core.Bool.{true}
+use mathlib.Core.Path.{_≡_, refl, ap₂, _∙_}
+use lib.IntN.{ℤ}
+use lib.ListN.{length, getD, take, length-set}
+use lib.Seq.{getD-set-same}
+use borrow.Author.Tests.{le-leb}
+use mir.Syntax.{w16}
+use mir.Val.{SFits, toZ, ofZ}
+use mir.Facts.{toZ-ofZ}
+use Rattle.grammar.specs.declared.Symbol.{Symbol}
+use Rattle.grammar.specs.declared.Rule.{Rule}
+use Rattle.grammar.specs.declared.Grammar.{Grammar}
+use Rattle.grammar.specs.Setters.{setLeft, setLength, openedRule, placedRule, setStart, setCount, setDepth, setRule}
+use Rattle.grammar.specs.Valid.{all, validSymbol, validPlace, validRule, validGrammar}
+use Rattle.grammar.specs.Zero.{zeroRule, noRule}
+use Rattle.grammar.proofs.All.{all-set, all-last}
+use Rattle.grammar.proofs.Bounds.{rule-parts, grammar-parts}
+
+-- ---- records of the same fields
+
+pub rule-same : (r s : Rule) → r .left ≡ s .left → r .length ≡ s .length → r .count ≡ s .count → r .places ≡ s .places → r ≡ s
+rule-same r s left length count places = λ i. record { left = left i; length = length i; count = count i; places = places i }
+
+pub grammar-same : (g h : Grammar) → g .start ≡ h .start → g .count ≡ h .count → g .depth ≡ h .depth → g .rules ≡ h .rules → g ≡ h
+grammar-same g h start count depth rules = λ i. record { start = start i; count = count i; depth = depth i; rules = rules i }
+
+-- ---- rules
+
+-- a rule that was zero, and whose length went through a local
+pub opened-of : (r : Rule) (k : ℕ) (y z : ℤ) → r ≡ zeroRule → z ≡ y → SFits w16 z
+    → setLength (setLeft r k) (toZ w16 (ofZ w16 z)) ≡ openedRule k y
+opened-of r k y z e f s = ap₂ (λ (x : Rule) (l : ℤ). setLength (setLeft x k) l) e (toZ-ofZ s ∙ f)
+
+valid-rule-of : (r : Rule) → r .left ≤ 31 → r .count ≤ 8 → all validPlace (take (r .count) (r .places)) ≡ true → validRule r ≡ true
+unfolding validRule
+valid-rule-of r h k e = simp (le-leb (r .left) 31 h, le-leb (r .count) 8 k, e)
+
+pub opened-valid : (k : ℕ) (z : ℤ) → k ≤ 31 → validRule (openedRule k z) ≡ true
+unfolding all
+opened-valid k z h = valid-rule-of (openedRule k z) h (omega arith) refl
+
+pub placed-valid : (r : Rule) (s : Symbol) → validRule r ≡ true → r .count < 8 → validSymbol s ≡ true → validRule (placedRule r s) ≡ true
+placed-valid r s v h e =
+    let p = rule-parts r v in
+    let a = all-set validPlace (r .places) (r .count) (record { symbol = s }) (p .2) e in
+    valid-rule-of (placedRule r s) (p .0) (omega arith) (rw add-one a)
+
+-- ---- grammars
+
+valid-grammar-of : (g : Grammar) → g .start ≤ 31 → g .count ≤ 128 → all validRule (take (g .count) (g .rules)) ≡ true
+    → validGrammar g ≡ true
+unfolding validGrammar
+valid-grammar-of g h k e = simp (le-leb (g .start) 31 h, le-leb (g .count) 128 k, e)
+
+module _ (g : Grammar) (v : validGrammar g ≡ true) where
+  pub set-start-valid : (k : ℕ) → k ≤ 31 → validGrammar (setStart g k) ≡ true
+  set-start-valid k h = let p = grammar-parts g v in valid-grammar-of (setStart g k) h (p .1) (p .2)
+
+  -- the nullable depth is not looked at
+  pub set-depth-valid : (d : ℕ) → validGrammar (setDepth g d) ≡ true
+  set-depth-valid d = let p = grammar-parts g v in valid-grammar-of (setDepth g d) (p .0) (p .1) (p .2)
+
+  module _ (r : Rule) (w : validRule r ≡ true) where
+    -- one rule more, after those that are used
+    pub next-rule-valid : g .count < 128 → validGrammar (setCount (setRule g (g .count) r) (g .count + 1)) ≡ true
+    next-rule-valid m =
+        let p = grammar-parts g v in
+        let a = all-set validRule (g .rules) (g .count) r (p .2) w in
+        valid-grammar-of (setCount (setRule g (g .count) r) (g .count + 1)) (p .0) (omega arith) (rw add-one a)
+
+    -- the last rule that is used
+    pub last-rule-valid : 0 < g .count → validGrammar (setRule g (g .count - 1) r) ≡ true
+    last-rule-valid m =
+        let p = grammar-parts g v in
+        valid-grammar-of (setRule g (g .count - 1) r) (p .0) (p .1) (all-last validRule (g .rules) (g .count) r m (p .2) w)
+
+module _ (g : Grammar) (i : ℕ) (r : Rule) where
+  pub set-rule-size : length (setRule g i r .rules) ≡ length (g .rules)
+  set-rule-size = length-set (g .rules) i r
+
+  pub set-rule-at : i < length (g .rules) → getD (setRule g i r .rules) i noRule ≡ r
+  set-rule-at h = getD-set-same (g .rules) i r noRule h

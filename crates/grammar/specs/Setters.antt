@@ -1,0 +1,63 @@
+-- A rule and a grammar with one field changed. Definitions and proofs outside this crate make and change both by these and by the zeros, and
+-- spell no record out, so that a new field moves nothing else. Assumes nothing.
+use Prim.Native.Nat.{ℕ, _+_}
+use mathlib.Core.List.{List}
+use lib.IntN.{ℤ}
+use lib.ListN.{set}
+use Rattle.grammar.specs.declared.Symbol.{Symbol}
+use Rattle.grammar.specs.declared.Place.{Place}
+use Rattle.grammar.specs.declared.Rule.{Rule}
+use Rattle.grammar.specs.declared.Grammar.{Grammar}
+use Rattle.grammar.specs.Zero.{zeroRule}
+
+-- ---- a rule
+
+-- the rule of these fields: what a row of numbers holds of it
+abbrev pub ruleWith : ℕ → ℤ → ℕ → List Place → Rule
+ruleWith k hundredths n places = record { left = k; length = hundredths; count = n; places = places }
+
+-- with another left side, length, number of places, list of places, or place q
+abbrev pub setLeft : Rule → ℕ → Rule
+setLeft r k = record { left = k; length = r .length; count = r .count; places = r .places }
+
+abbrev pub setLength : Rule → ℤ → Rule
+setLength r hundredths = record { left = r .left; length = hundredths; count = r .count; places = r .places }
+
+abbrev pub setPlaceCount : Rule → ℕ → Rule
+setPlaceCount r n = record { left = r .left; length = r .length; count = n; places = r .places }
+
+abbrev pub setPlaces : Rule → List Place → Rule
+setPlaces r places = record { left = r .left; length = r .length; count = r .count; places = places }
+
+abbrev pub setPlace : Rule → ℕ → Place → Rule
+setPlace r q p = setPlaces r (set (r .places) q p)
+
+-- a rule of this left side and length, with no place yet
+abbrev pub openedRule : ℕ → ℤ → Rule
+openedRule k hundredths = setLength (setLeft zeroRule k) hundredths
+
+-- the rule with one place more
+abbrev pub placedRule : Rule → Symbol → Rule
+placedRule r s = setPlaceCount (setPlace r (r .count) (record { symbol = s })) (r .count + 1)
+
+-- ---- a grammar
+
+-- the grammar of these fields: what a row of numbers holds of it
+abbrev pub grammarWith : ℕ → ℕ → ℕ → List Rule → Grammar
+grammarWith k n d rules = record { start = k; count = n; depth = d; rules = rules }
+
+-- with another start symbol, number of rules, nullable depth, list of rules, or rule i
+abbrev pub setStart : Grammar → ℕ → Grammar
+setStart g k = record { start = k; count = g .count; depth = g .depth; rules = g .rules }
+
+abbrev pub setCount : Grammar → ℕ → Grammar
+setCount g n = record { start = g .start; count = n; depth = g .depth; rules = g .rules }
+
+abbrev pub setDepth : Grammar → ℕ → Grammar
+setDepth g d = record { start = g .start; count = g .count; depth = d; rules = g .rules }
+
+abbrev pub setRules : Grammar → List Rule → Grammar
+setRules g rules = record { start = g .start; count = g .count; depth = g .depth; rules = rules }
+
+abbrev pub setRule : Grammar → ℕ → Rule → Grammar
+setRule g i r = setRules g (set (g .rules) i r)

@@ -1,2 +1,0 @@
--- The laws of the setters.
-pub mod Setters

@@ -1,2 +1,0 @@
--- Records with one part changed.
-pub mod Setters
