@@ -48,7 +48,8 @@ module _ (G : Cfg) (w chart : List ℕ) where
   unfolding countIn
   count-later = let m = length (L G w) in by (eqb m 0) (treeIn G w chart) (figure m)
     where
-      by : (b c : Bool) (f : Figure) → OnlyLater {A = Figure} (elim b [ true ↦ cond c (refused 13) (answered (counted 0)) | false ↦ answered f ])
+      by : (b c : Bool) (f : Figure)
+          → OnlyLater {A = Figure} (elim b [ true ↦ cond c (refused 13) (answered (counted 0)) | false ↦ answered f ])
       by true c f = larger-later c (counted 0)
       by false c f = λ n e. absurd (answered-apart e)
 

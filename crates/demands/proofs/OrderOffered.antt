@@ -47,7 +47,8 @@ module _ (g : Grammar) (w : List ℕ) where
   }
 
   -- two rows in turn are both of them together
-  both : {A : Type 0} (a b : List ℕ) (answer : Answer A) → Decided (cause12 (Offered a) ∷ cause12 (Offered b) ∷ []) refused NoRefusal answer
+  both : {A : Type 0} (a b : List ℕ) (answer : Answer A)
+      → Decided (cause12 (Offered a) ∷ cause12 (Offered b) ∷ []) refused NoRefusal answer
       → Decided (cause12 (Offered a × Offered b) ∷ []) refused NoRefusal answer
   unfolding Decided
   both a b answer D = (

@@ -1,4 +1,4 @@
--- A list of causes of refusals in their order, and that the first of them that applies decides an answer. Assumes nothing.
+-- Causes of refusals in their order, of which the first that applies decides. Assumes nothing.
 use mathlib.Core.List.{List, [], _∷_}
 use mathlib.Core.Path.{_≡_}
 
@@ -10,8 +10,7 @@ pub record Cause (A : Type 0) : Type 1 where
 abbrev pub cause : {A : Type 0} → Type 0 → A → Cause A
 cause p a = record { applies = p; refusal = a }
 
--- the first cause that applies decides: if it is the first of the list, the answer is its refusal; if that does not apply, the others
--- decide in the same way; and where none applies, `passed` holds of the answer
+-- the answer is the refusal of the first cause that applies; where none applies, `passed` holds of it
 unfoldable pub Decided : {A B : Type 0} → List (Cause A) → (A → B) → (B → Type 0) → B → Type 0
 Decided [] refuse passed answer = passed answer
 Decided (c ∷ causes) refuse passed answer =

@@ -42,16 +42,19 @@ stopped n at = stop (record { number = n; offset = at })
 abbrev pub stops : Bool → ℕ → ℕ → Cause Fault
 stops b n at = cause (b ≡ true) (record { number = n; offset = at })
 
--- the command c at an offset, whose first operand is a, read with the grammar g so far. Without any of these causes loading does not stop
+-- the causes at the command c at an offset, whose first operand is a, read with the grammar g so far
+abbrev pub commandCauses : List ℕ → ℕ → ℕ → ℕ → Grammar → List (Cause Fault)
+commandCauses bytes at c a g =
+    stops (ended bytes at) 1 (length bytes)
+    ∷ stops (unknown c) 2 at
+    ∷ stops (outOfTurn c at g) 3 at
+    ∷ stops (endsInside bytes at c) 1 (length bytes)
+    ∷ stops (nonterminalOver c a) 4 at
+    ∷ stops (rulesOver c g) 5 at
+    ∷ stops (placesOver c g) 6 at
+    ∷ stops (furtherByte bytes at c) 7 (at + 1)
+    ∷ []
+
+-- the first of them that applies decides; without any loading does not stop here
 abbrev pub CommandOrder : List ℕ → ℕ → ℕ → ℕ → Grammar → Step → Type 0
-CommandOrder bytes at c a g = Decided (
-  stops (ended bytes at) 1 (length bytes)
-  ∷ stops (unknown c) 2 at
-  ∷ stops (outOfTurn c at g) 3 at
-  ∷ stops (endsInside bytes at c) 1 (length bytes)
-  ∷ stops (nonterminalOver c a) 4 at
-  ∷ stops (rulesOver c g) 5 at
-  ∷ stops (placesOver c g) 6 at
-  ∷ stops (furtherByte bytes at c) 7 (at + 1)
-  ∷ []
-) stop (λ result. (f : Fault) → result ≡ stop f → ⊥)
+CommandOrder bytes at c a g = Decided (commandCauses bytes at c a g) stop (λ result. (f : Fault) → result ≡ stop f → ⊥)

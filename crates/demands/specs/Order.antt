@@ -1,4 +1,4 @@
--- For each call: the refusal given is the first that applies, in document 01's order; the list of an order has its causes by their numbers.
+-- For each call: the refusal given is the first that applies, in document 01's order. Causes have the numbers of their refusals.
 -- Assumes nothing.
 use Prim.Native.Nat.{ℕ, _<_}
 use mathlib.Core.Bool.{Bool, false}
@@ -13,7 +13,7 @@ use Rattle.results.specs.Answer.{Answer, refused, Handing}
 use Rattle.results.specs.Recognize.{State}
 use Rattle.demands.specs.Cause.{Cause, cause, Decided}
 
--- the grammar handed in
+-- the grammar is not valid
 abbrev pub cause8 : Grammar → Cause ℕ
 cause8 g = cause (validGrammar g ≡ false) 8
 
