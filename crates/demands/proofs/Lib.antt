@@ -4,6 +4,7 @@ pub mod Kept
 pub mod Later
 pub mod Untouched
 pub mod Filled
+pub mod Decided
 pub mod Order
 pub mod LoadOrder
 pub mod LoadFault

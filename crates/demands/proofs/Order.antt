@@ -1,108 +1,103 @@
 -- Opening, taking and the calls on an input: of the refusals 8 to 11, 14 and 15 the first that applies is given, and none without cause.
 -- Assumes nothing.
 use Prim.Native.Nat.{ℕ, _<_}
-use mathlib.Core.Bool.{not}
+use mathlib.Core.Bool.{Bool, true, false, _||_, not}
 use mathlib.Core.List.{List, [], _∷_, _++_}
-use mathlib.Core.Path.{_≡_, ap}
-use native.Mathlib.Omega.{arith}
-use lib.Dec.{eqb}
+use mathlib.Core.Logic.{_⊎_, inl, inr, ⊎-map}
+use mathlib.Core.Path.{_≡_, refl, ap}
+use lib.Dec.{eqb, ltb}
 use lib.ListN.{length}
-use borrow.Author.Tests.{lt-ltb, le-ltb, eq-eqb}
-use Rattle.sizes.specs.Sizes.{cells}
+use borrow.Author.Tests.{not-true, ltb-true, eqb-true, lt-ltb, eq-eqb}
+use Rattle.sizes.specs.Sizes.{maxInput, cells, outputSize}
 use Rattle.cfg.specs.Grammar.{Cfg}
 use Rattle.grammar.specs.declared.Grammar.{Grammar}
-use Rattle.results.specs.Answer.{refused, check, decide}
-use Rattle.results.specs.Recognize.{State, Recognition, grammarCheck, stateCheck, chartCheck, openOf, takeOf}
-use Rattle.results.specs.Check.{inputCheck, inputChecks, Checking, onInput, checkOf}
+use Rattle.grammar.specs.Valid.{validGrammar}
+use Rattle.grammar.specs.View.{grammarOf}
+use Rattle.results.specs.Answer.{check}
+use Rattle.results.specs.Recognize.{State, Recognition, grammarCheck, openIn, openOf, takeIn, takeOf}
+use Rattle.results.specs.Check.{inputCheck, Checking, onInput, checkIn, checkOf}
 use Rattle.results.specs.Measure.{lengthOf, sameBuildOf}
-use Rattle.results.specs.Enumerate.{outputCheck, Enumeration, onOutput, firstOf, nextOf, countOf}
-use Rattle.results.specs.Ready.{Ready, ReadyOut}
-use Rattle.demands.specs.Order.{OpenOrder, TakeOrder, InputOrder, OutputOrder}
-use Rattle.results.proofs.Decide.{decide-first}
-use Rattle.results.proofs.Passed.{input-fails, input-passes, ready→pass}
-use Rattle.demands.proofs.Later.{open-later, take-later, check-later, length-later, same-build-later, count-later}
-use Rattle.demands.proofs.Later.{first-later, next-later}
+use Rattle.results.specs.Enumerate.{Enumeration, onOutput, firstOf, nextOf, countOf}
+use Rattle.demands.specs.Cause.{cause}
+use Rattle.demands.specs.Order.{cause8, cause9, NoRefusal, OnlyLater, OpenOrder, TakeOrder, InputOrder, OutputOrder}
+use Rattle.results.proofs.Answers.{answered-apart}
+use Rattle.results.proofs.Passed.{input-fails}
+use Rattle.demands.proofs.Decided.{Tells, decided}
+use Rattle.demands.proofs.Later.{length-later, same-build-later, count-later, first-later, next-later}
+
+-- ---- each check tells its cause
+
+less : (a b n : ℕ) → Tells (check (ltb a b) n) (cause (a < b) n)
+less a b n = record { exact = (ltb-true a b, lt-ltb a b); same = refl }
+
+equal : (a b n : ℕ) → Tells (check (eqb a b) n) (cause (a ≡ b) n)
+equal a b n = record { exact = (eqb-true a b, eq-eqb a b); same = refl }
+
+tells8 : (g : Grammar) → Tells (grammarCheck g) (cause8 g)
+tells8 g = record { exact = (not-true (validGrammar g), ap not); same = refl }
+
+tells9 : (w : List ℕ) → Tells (inputCheck w) (cause9 w)
+tells9 w = record {
+  exact = (λ e. ⊎-map (eqb-true (length w) 0) (ltb-true maxInput (length w)) (either _ _ e), input-fails w);
+  same = refl;
+}
+  where
+    either : (a b : Bool) → (a || b) ≡ true → (a ≡ true) ⊎ (b ≡ true)
+    either true b e = inl refl
+    either false b e = inr e
+
+-- ---- opening and taking
 
 pub open-order : (g : Grammar) (chart : List ℕ) → OpenOrder g chart (openOf g chart .answer)
-unfolding openOf
-open-order g chart = record {
-  eight = λ v. ap (λ (x : Recognition). x .answer) (decide-first _ _ [] (grammarCheck g) _ tt (ap not v));
-  ten = λ v r. ap (λ (x : Recognition). x .answer)
-      (decide-first _ _ (grammarCheck g ∷ []) (chartCheck chart) _ (ap not v, tt) (lt-ltb (length chart) cells r));
-  passed = open-later g chart;
-}
+unfolding openOf openIn
+open-order g chart =
+    decided _ _ (λ (x : Recognition). x .answer) NoRefusal (λ n e. answered-apart e) _ _ (tells8 g, (less (length chart) cells 10, tt))
 
 pub take-order : (g : Grammar) (h : State) (m : ℕ) (chart : List ℕ) → TakeOrder g h chart (takeOf g h m chart .answer)
-unfolding takeOf
-take-order g h m chart = record {
-  eight = λ v. ap (λ (x : Recognition). x .answer) (decide-first _ _ [] (grammarCheck g) _ tt (ap not v));
-  fourteen = λ v l. ap (λ (x : Recognition). x .answer)
-      (decide-first _ _ (grammarCheck g ∷ []) (stateCheck h) _ (ap not v, tt) (lt-ltb 64 (h .count) l));
-  ten = λ v l r. ap (λ (x : Recognition). x .answer)
-      (decide-first _ _ (grammarCheck g ∷ stateCheck h ∷ []) (chartCheck chart) _ (ap not v, (le-ltb 64 (h .count) l, tt))
-      (lt-ltb (length chart) cells r));
-  fifteen = λ v l r. ap (λ (x : Recognition). x .answer)
-      (decide-first _ _ (grammarCheck g ∷ stateCheck h ∷ chartCheck chart ∷ []) (check (eqb (h .count) 64) 15) _
-      (ap not v, (le-ltb 64 (h .count) (omega arith), (le-ltb (length chart) cells r, tt))) (eq-eqb (h .count) 64 l));
-  passed = take-later g h m chart;
-}
+unfolding takeOf takeIn
+take-order g h m chart =
+    decided _ _ (λ (x : Recognition). x .answer) NoRefusal (λ n e. answered-apart e) _ _
+    (tells8 g, (less maxInput (h .count) 14, (less (length chart) cells 10, (equal (h .count) maxInput 15, tt))))
 
 -- ---- the calls that write no output
 
 module _ (g : Grammar) (w chart : List ℕ) where
-  input-order : {A : Type 0} (go : Cfg → Checking A)
-      → (Ready g w chart → (n : ℕ) → onInput g w chart go .answer ≡ refused n → 11 < n)
+  input-order : {A : Type 0} (go : Cfg → Checking A) → OnlyLater (go (grammarOf g) .answer)
       → InputOrder g w chart (onInput g w chart go .answer)
   unfolding onInput
-  input-order {A} go f = record {
-    eight = λ v. ap (λ (x : Checking A). x .answer) (decide-first _ _ [] (grammarCheck g) _ tt (ap not v));
-    nine = λ v l. ap (λ (x : Checking A). x .answer)
-        (decide-first _ _ (grammarCheck g ∷ []) (inputCheck w) _ (ap not v, tt) (input-fails w l));
-    ten = λ v s l r. ap (λ (x : Checking A). x .answer)
-        (decide-first _ _ (grammarCheck g ∷ inputCheck w ∷ []) (chartCheck chart) _ (ap not v, (input-passes w s l, tt))
-        (lt-ltb (length chart) cells r));
-    passed = f;
-  }
+  input-order {A} go later =
+      decided _ _ (λ (x : Checking A). x .answer) OnlyLater later _ _ (tells8 g, (tells9 w, (less (length chart) cells 10, tt)))
 
   pub check-order : (offered : List ℕ) → InputOrder g w chart (checkOf g w offered chart .answer)
-  unfolding checkOf
-  check-order offered = input-order _ (λ r n e. absurd (check-later g w chart r n offered e))
+  unfolding checkOf checkIn
+  check-order offered = input-order _ (λ n e. absurd (answered-apart e))
 
   pub length-order : (offered : List ℕ) → InputOrder g w chart (lengthOf g w offered chart .answer)
   unfolding lengthOf
-  length-order offered = input-order _ (λ r n e. omega (arith, length-later g w chart r n offered e))
+  length-order offered = input-order _ (length-later _ _ w offered chart)
 
   pub same-build-order : (a b : List ℕ) → InputOrder g w chart (sameBuildOf g w a b chart .answer)
   unfolding sameBuildOf
-  same-build-order a b = input-order _ (λ r n e. omega (arith, same-build-later g w chart r n a b e))
+  same-build-order a b = input-order _ (same-build-later _ w a b chart)
 
   pub count-order : InputOrder g w chart (countOf g w chart .answer)
   unfolding countOf
-  count-order = input-order _ (λ r n e. omega (arith, count-later g w chart r n e))
+  count-order = input-order _ (count-later _ w chart)
 
 -- ---- first and next
 
 module _ (g : Grammar) (w chart out : List ℕ) where
-  output-order : (go : Unit {0} → Enumeration)
-      → let result = decide (inputChecks g w chart ++ (outputCheck out ∷ []))
-      (λ n. record { answer = refused n; chart = chart; output = out }) go in
-      (ReadyOut g w chart out → (n : ℕ) → result .answer ≡ refused n → 11 < n) → OutputOrder g w chart out (result .answer)
-  output-order go f = record {
-    eight = λ v. ap (λ (x : Enumeration). x .answer) (decide-first _ _ [] (grammarCheck g) _ tt (ap not v));
-    nine = λ v l. ap (λ (x : Enumeration). x .answer)
-        (decide-first _ _ (grammarCheck g ∷ []) (inputCheck w) _ (ap not v, tt) (input-fails w l));
-    ten = λ v s l r. ap (λ (x : Enumeration). x .answer)
-        (decide-first _ _ (grammarCheck g ∷ inputCheck w ∷ []) (chartCheck chart) _ (ap not v, (input-passes w s l, tt))
-        (lt-ltb (length chart) cells r));
-    eleven = λ r l. ap (λ (x : Enumeration). x .answer)
-        (decide-first _ _ (inputChecks g w chart) (outputCheck out) [] (ready→pass g w chart r) (lt-ltb (length out) 1024 l));
-    passed = f;
-  }
+  output-order : (go : Cfg → Enumeration) → OnlyLater (go (grammarOf g) .answer)
+      → OutputOrder g w chart out (onOutput g w chart out go .answer)
+  unfolding onOutput
+  output-order go later =
+      decided _ _ (λ (x : Enumeration). x .answer) OnlyLater later _ _
+      (tells8 g, (tells9 w, (less (length chart) cells 10, (less (length out) outputSize 11, tt))))
 
   pub first-order : OutputOrder g w chart out (firstOf g w chart out .answer)
-  unfolding firstOf onOutput
-  first-order = output-order _ (λ r n e. omega (arith, first-later g w chart out r n e))
+  unfolding firstOf
+  first-order = output-order _ (first-later _ w chart out)
 
   pub next-order : (offered : List ℕ) → OutputOrder g w chart out (nextOf g w offered chart out .answer)
-  unfolding nextOf onOutput
-  next-order offered = output-order _ (λ r n e. omega (arith, next-later g w chart out r n offered e))
+  unfolding nextOf
+  next-order offered = output-order _ (next-later _ w offered chart out)

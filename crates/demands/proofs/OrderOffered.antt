@@ -2,21 +2,24 @@
 use Prim.Native.Nat.{ℕ}
 use mathlib.Core.Bool.{Bool, true, false}
 use mathlib.Core.List.{List, [], _∷_}
-use mathlib.Core.Logic.{_⊎_, inl, inr}
+use mathlib.Core.Logic.{_⊎_, inl, inr, ⊎-elim}
 use mathlib.Core.Path.{_≡_, refl, sym, ap, _∙_}
 use Rattle.cfg.specs.Grammar.{Cfg}
 use Rattle.cfg.specs.Derivation.{Derivation, limit}
 use Rattle.grammar.specs.declared.Grammar.{Grammar}
 use Rattle.grammar.specs.View.{grammarOf}
-use Rattle.results.specs.Answer.{refused, check, decide}
+use Rattle.grammar.proofs.All.{true-false}
+use Rattle.results.specs.Answer.{Answer, refused, check}
 use Rattle.results.specs.Check.{Checking, onInput}
 use Rattle.results.specs.Measure.{unlisted, lengthIn, lengthOf, sameBuildIn, sameBuildOf}
 use Rattle.results.specs.Enumerate.{Enumeration, nextIn, nextOf}
 use Rattle.results.specs.Ready.{Ready, ReadyOut}
+use Rattle.demands.specs.Cause.{Cause, cause, Decided}
+use Rattle.demands.specs.Order.{NoRefusal}
 use Rattle.demands.specs.OrderAfter.{OfferedOrder}
-use Rattle.results.proofs.Decide.{decide-first, decide-passed}
 use Rattle.results.proofs.Answers.{answered-apart}
 use Rattle.results.proofs.Goes.{onInput-passed, next-passed}
+use Rattle.demands.proofs.Decided.{Tells, decided}
 use Rattle.demands.proofs.Later.{handing-refused}
 use Rattle.demands.proofs.Listed.{derivation→offered, offered→derivation}
 
@@ -25,71 +28,63 @@ module _ (g : Grammar) (w : List ℕ) where
   abbrev pub Offered : List ℕ → Type 0
   Offered e = Derivation (grammarOf g) limit w e
 
-  unlisted-cases : (e : List ℕ) → (unlisted (grammarOf g) w e ≡ true) ⊎ (unlisted (grammarOf g) w e ≡ false)
-  unlisted-cases e = by (unlisted (grammarOf g) w e) refl
+  -- which is decided
+  offered-or : (e : List ℕ) → (unlisted (grammarOf g) w e ≡ true) ⊎ Offered e
+  offered-or e = by (unlisted (grammarOf g) w e) refl
     where
-      by : (b : Bool) → unlisted (grammarOf g) w e ≡ b → (unlisted (grammarOf g) w e ≡ true) ⊎ (unlisted (grammarOf g) w e ≡ false)
+      by : (b : Bool) → unlisted (grammarOf g) w e ≡ b → (unlisted (grammarOf g) w e ≡ true) ⊎ Offered e
       by true p = inl p
-      by false p = inr p
+      by false p = inr (offered→derivation g w e p)
 
-  module _ {B : Type 0} (refuse : ℕ → B) (go : Unit {0} → B) where
-    -- one offered derivation
-    one-twelve : (e : List ℕ) → (Offered e → ⊥) → decide (check (unlisted (grammarOf g) w e) 12 ∷ []) refuse go ≡ refuse 12
-    one-twelve e f = by (unlisted-cases e)
-      where
-        by : (unlisted (grammarOf g) w e ≡ true) ⊎ (unlisted (grammarOf g) w e ≡ false)
-            → decide (check (unlisted (grammarOf g) w e) 12 ∷ []) refuse go ≡ refuse 12
-        by (inl p) = decide-first refuse go [] (check (unlisted (grammarOf g) w e) 12) [] tt p
-        by (inr p) = absurd (f (offered→derivation g w e p))
+  -- what is offered is none
+  abbrev cause12 : Type 0 → Cause ℕ
+  cause12 offered = cause (offered → ⊥) 12
 
-    one-passed : (e : List ℕ) → Offered e → decide (check (unlisted (grammarOf g) w e) 12 ∷ []) refuse go ≡ go tt
-    one-passed e d = decide-passed refuse go (check (unlisted (grammarOf g) w e) 12 ∷ []) (derivation→offered g w e d, tt)
+  tells12 : (e : List ℕ) → Tells (check (unlisted (grammarOf g) w e) 12) (cause12 (Offered e))
+  tells12 e = record {
+    exact = (λ p d. true-false p (derivation→offered g w e d), λ f. ⊎-elim (λ p. p) (λ d. absurd (f d)) (offered-or e));
+    same = refl;
+  }
 
-    -- two offered derivations
-    abbrev two : List ℕ → List ℕ → B
-    two a b = decide (check (unlisted (grammarOf g) w a) 12 ∷ check (unlisted (grammarOf g) w b) 12 ∷ []) refuse go
+  -- two rows in turn are both of them together
+  both : {A : Type 0} (a b : List ℕ) (answer : Answer A)
+      → Decided (cause12 (Offered a) ∷ cause12 (Offered b) ∷ []) refused NoRefusal answer
+      → Decided (cause12 (Offered a × Offered b) ∷ []) refused NoRefusal answer
+  unfolding Decided
+  both a b answer D = (
+    λ f. ⊎-elim (λ p. D .0 (tells12 a .exact .0 p)) (λ d. D .1 (λ n. n d) .0 (λ e. f (d, e))) (offered-or a),
+    λ f. D .1 (λ n. f (λ d. n (d .0))) .1 (λ n. f (λ d. n (d .1))),
+  )
 
-    two-twelve : (a b : List ℕ) → (Offered a × Offered b → ⊥) → two a b ≡ refuse 12
-    two-twelve a b f = by (unlisted-cases a) (unlisted-cases b)
-      where
-        by : (unlisted (grammarOf g) w a ≡ true) ⊎ (unlisted (grammarOf g) w a ≡ false)
-            → (unlisted (grammarOf g) w b ≡ true) ⊎ (unlisted (grammarOf g) w b ≡ false) → two a b ≡ refuse 12
-        by (inl p) q = decide-first refuse go [] (check (unlisted (grammarOf g) w a) 12) (check (unlisted (grammarOf g) w b) 12 ∷ []) tt p
-        by (inr p) (inl q) =
-            decide-first refuse go (check (unlisted (grammarOf g) w a) 12 ∷ []) (check (unlisted (grammarOf g) w b) 12) [] (p, tt) q
-        by (inr p) (inr q) = absurd (f (offered→derivation g w a p, offered→derivation g w b q))
-
-    two-passed : (a b : List ℕ) → Offered a × Offered b → two a b ≡ go tt
-    two-passed a b d =
-        decide-passed refuse go (check (unlisted (grammarOf g) w a) 12 ∷ check (unlisted (grammarOf g) w b) 12 ∷ [])
-        (derivation→offered g w a (d .0), (derivation→offered g w b (d .1), tt))
+  -- the order after the checks before
+  after : {A ready offered : Type 0} {answer later : Answer A} → (ready → answer ≡ later)
+      → Decided (cause12 offered ∷ []) refused NoRefusal later → OfferedOrder ready offered answer
+  unfolding Decided
+  after p D = record { twelve = λ r f. p r ∙ D .0 f; passed = λ r d n e. D .1 (λ f. f d) n (sym (p r) ∙ e) }
 
 module _ (g : Grammar) (w chart : List ℕ) where
-  -- the answer after the checks 8 to 10
-  after : {A : Type 0} (go : Cfg → Checking A) → Ready g w chart → onInput g w chart go .answer ≡ go (grammarOf g) .answer
-  after {A} go r = ap (λ (x : Checking A). x .answer) (onInput-passed g w chart go r)
+  input-answer : {A : Type 0} (go : Cfg → Checking A) → Ready g w chart → onInput g w chart go .answer ≡ go (grammarOf g) .answer
+  input-answer {A} go r = ap (λ (x : Checking A). x .answer) (onInput-passed g w chart go r)
 
   pub length-twelve : (offered : List ℕ)
       → OfferedOrder (Ready g w chart) (Offered g w offered) (lengthOf g w offered chart .answer)
   unfolding lengthOf lengthIn
-  length-twelve offered = record {
-    twelve = λ r f. after _ r ∙ one-twelve g w refused _ offered f;
-    passed = λ r d n e. answered-apart (sym (one-passed g w refused _ offered d) ∙ sym (after _ r) ∙ e);
-  }
+  length-twelve offered =
+      after g w (input-answer _)
+      (decided refused _ (λ x. x) NoRefusal (λ n e. answered-apart e) _ _ (tells12 g w offered, tt))
 
   pub same-build-twelve : (a b : List ℕ)
       → OfferedOrder (Ready g w chart) (Offered g w a × Offered g w b) (sameBuildOf g w a b chart .answer)
   unfolding sameBuildOf sameBuildIn
-  same-build-twelve a b = record {
-    twelve = λ r f. after _ r ∙ two-twelve g w refused _ a b f;
-    passed = λ r d n e. answered-apart (sym (two-passed g w refused _ a b d) ∙ sym (after _ r) ∙ e);
-  }
+  same-build-twelve a b =
+      after g w (input-answer _)
+      (both g w a b _
+      (decided refused _ (λ x. x) NoRefusal (λ n e. answered-apart e) _ _ (tells12 g w a, (tells12 g w b, tt))))
 
 pub next-twelve : (g : Grammar) (w chart out offered : List ℕ)
     → OfferedOrder (ReadyOut g w chart out) (Offered g w offered) (nextOf g w offered chart out .answer)
 unfolding nextIn
-next-twelve g w chart out offered = record {
-  twelve = λ r f. ap (λ (x : Enumeration). x .answer) (next-passed g w chart out r offered ∙ one-twelve g w _ _ offered f);
-  passed = λ r d n e. answered-apart (handing-refused _ _ _ _ n
-      (sym (ap (λ (x : Enumeration). x .answer) (next-passed g w chart out r offered ∙ one-passed g w _ _ offered d)) ∙ e));
-}
+next-twelve g w chart out offered =
+    after g w (λ r. ap (λ (x : Enumeration). x .answer) (next-passed g w chart out r offered))
+    (decided _ _ (λ (x : Enumeration). x .answer) NoRefusal (λ n e. answered-apart (handing-refused _ _ _ _ n e)) _ _
+    (tells12 g w offered, tt))

@@ -1,5 +1,6 @@
 -- The statements that the theorems over the decided results share.
 pub mod Kept
+pub mod Cause
 pub mod Order
 pub mod LoadOrder
 pub mod LoadDemand

@@ -1,13 +1,14 @@
 -- Loading, at one command: the refusal given is the first that applies, in document 01's order: 1 where the book has ended, then 2, 3, 1,
 -- 4, then 5 or 6, and 7 after 50. Assumes nothing.
 use Prim.Native.Nat.{ℕ, _+_}
-use mathlib.Core.Bool.{Bool, true, false, _&&_, _||_, not}
-use mathlib.Core.List.{List}
+use mathlib.Core.Bool.{Bool, true, _&&_, _||_, not}
+use mathlib.Core.List.{List, [], _∷_}
 use mathlib.Core.Path.{_≡_}
 use lib.Dec.{eqb, ltb}
 use lib.ListN.{length}
 use Rattle.grammar.specs.declared.Grammar.{Grammar}
 use Rattle.results.specs.Load.{operands, openRule, unknown, outOfTurn, Fault, Step, stop}
+use Rattle.demands.specs.Cause.{Cause, cause, Decided}
 
 -- 1: the book has ended where a command or 50 is due
 abbrev pub ended : List ℕ → ℕ → Bool
@@ -37,24 +38,23 @@ furtherByte bytes at c = eqb c 0x50 && ltb (at + 1) (length bytes)
 abbrev pub stopped : ℕ → ℕ → Step
 stopped n at = stop (record { number = n; offset = at })
 
--- the command c at an offset, whose first operand is a, read with the grammar g so far. Each field: the conditions before it do not hold
--- and its own does
-pub record CommandOrder (bytes : List ℕ) (at c a : ℕ) (g : Grammar) (result : Step) : Type 0 where
-  pub due : ended bytes at ≡ true → result ≡ stopped 1 (length bytes)
-  pub two : ended bytes at ≡ false → unknown c ≡ true → result ≡ stopped 2 at
-  pub three : ended bytes at ≡ false → unknown c ≡ false → outOfTurn c at g ≡ true → result ≡ stopped 3 at
-  pub one : ended bytes at ≡ false → unknown c ≡ false → outOfTurn c at g ≡ false → endsInside bytes at c ≡ true
-      → result ≡ stopped 1 (length bytes)
-  pub four : ended bytes at ≡ false → unknown c ≡ false → outOfTurn c at g ≡ false → endsInside bytes at c ≡ false
-      → nonterminalOver c a ≡ true → result ≡ stopped 4 at
-  pub five : ended bytes at ≡ false → unknown c ≡ false → outOfTurn c at g ≡ false → endsInside bytes at c ≡ false
-      → nonterminalOver c a ≡ false → rulesOver c g ≡ true → result ≡ stopped 5 at
-  pub six : ended bytes at ≡ false → unknown c ≡ false → outOfTurn c at g ≡ false → endsInside bytes at c ≡ false
-      → nonterminalOver c a ≡ false → rulesOver c g ≡ false → placesOver c g ≡ true → result ≡ stopped 6 at
-  pub seven : ended bytes at ≡ false → unknown c ≡ false → outOfTurn c at g ≡ false → endsInside bytes at c ≡ false
-      → nonterminalOver c a ≡ false → rulesOver c g ≡ false → placesOver c g ≡ false → furtherByte bytes at c ≡ true
-      → result ≡ stopped 7 (at + 1)
-  -- none of these: loading does not stop here
-  pub passed : ended bytes at ≡ false → unknown c ≡ false → outOfTurn c at g ≡ false → endsInside bytes at c ≡ false
-      → nonterminalOver c a ≡ false → rulesOver c g ≡ false → placesOver c g ≡ false → furtherByte bytes at c ≡ false
-      → (f : Fault) → result ≡ stop f → ⊥
+-- a cause that stops loading with this number and this offset
+abbrev pub stops : Bool → ℕ → ℕ → Cause Fault
+stops b n at = cause (b ≡ true) (record { number = n; offset = at })
+
+-- the causes at the command c at an offset, whose first operand is a, read with the grammar g so far
+abbrev pub commandCauses : List ℕ → ℕ → ℕ → ℕ → Grammar → List (Cause Fault)
+commandCauses bytes at c a g =
+    stops (ended bytes at) 1 (length bytes)
+    ∷ stops (unknown c) 2 at
+    ∷ stops (outOfTurn c at g) 3 at
+    ∷ stops (endsInside bytes at c) 1 (length bytes)
+    ∷ stops (nonterminalOver c a) 4 at
+    ∷ stops (rulesOver c g) 5 at
+    ∷ stops (placesOver c g) 6 at
+    ∷ stops (furtherByte bytes at c) 7 (at + 1)
+    ∷ []
+
+-- the first of them that applies decides; without any loading does not stop here
+abbrev pub CommandOrder : List ℕ → ℕ → ℕ → ℕ → Grammar → Step → Type 0
+CommandOrder bytes at c a g = Decided (commandCauses bytes at c a g) stop (λ result. (f : Fault) → result ≡ stop f → ⊥)

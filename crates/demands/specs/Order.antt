@@ -1,8 +1,8 @@
--- For each call: the refusal given is the first that applies, in document 01's order. Each field is one refusal: those before it do not
--- apply and it does; the last field says that without any of them no refusal of these is given. Assumes nothing.
-use Prim.Native.Nat.{ℕ, _≤_, _<_}
-use mathlib.Core.Bool.{Bool, true, false}
-use mathlib.Core.List.{List}
+-- For each call: the refusal given is the first that applies, in document 01's order. Causes have the numbers of their refusals.
+-- Assumes nothing.
+use Prim.Native.Nat.{ℕ, _<_}
+use mathlib.Core.Bool.{Bool, false}
+use mathlib.Core.List.{List, [], _∷_}
 use mathlib.Core.Logic.{_⊎_}
 use mathlib.Core.Path.{_≡_}
 use lib.ListN.{length}
@@ -11,33 +11,52 @@ use Rattle.grammar.specs.declared.Grammar.{Grammar}
 use Rattle.grammar.specs.Valid.{validGrammar}
 use Rattle.results.specs.Answer.{Answer, refused, Handing}
 use Rattle.results.specs.Recognize.{State}
-use Rattle.results.specs.Ready.{Ready, ReadyOut}
+use Rattle.demands.specs.Cause.{Cause, cause, Decided}
 
--- opening: 8, 10
-pub record OpenOrder (g : Grammar) (chart : List ℕ) (answer : Answer Bool) : Type 0 where
-  pub eight : validGrammar g ≡ false → answer ≡ refused 8
-  pub ten : validGrammar g ≡ true → length chart < cells → answer ≡ refused 10
-  pub passed : validGrammar g ≡ true → cells ≤ length chart → (n : ℕ) → answer ≡ refused n → ⊥
+-- the grammar is not valid
+abbrev pub cause8 : Grammar → Cause ℕ
+cause8 g = cause (validGrammar g ≡ false) 8
 
--- taking: 8, 14, 10, 15
-pub record TakeOrder (g : Grammar) (h : State) (chart : List ℕ) (answer : Answer Bool) : Type 0 where
-  pub eight : validGrammar g ≡ false → answer ≡ refused 8
-  pub fourteen : validGrammar g ≡ true → maxInput < h .count → answer ≡ refused 14
-  pub ten : validGrammar g ≡ true → h .count ≤ maxInput → length chart < cells → answer ≡ refused 10
-  pub fifteen : validGrammar g ≡ true → h .count ≡ maxInput → cells ≤ length chart → answer ≡ refused 15
-  pub passed : validGrammar g ≡ true → h .count < maxInput → cells ≤ length chart → (n : ℕ) → answer ≡ refused n → ⊥
+-- the input: no bytes, or more than 64
+abbrev pub cause9 : List ℕ → Cause ℕ
+cause9 w = cause ((length w ≡ 0) ⊎ (maxInput < length w)) 9
 
--- check, length, same build and count: 8, 9, 10
-pub record InputOrder {A : Type 0} (g : Grammar) (w chart : List ℕ) (answer : Answer A) : Type 0 where
-  pub eight : validGrammar g ≡ false → answer ≡ refused 8
-  pub nine : validGrammar g ≡ true → (length w ≡ 0) ⊎ (maxInput < length w) → answer ≡ refused 9
-  pub ten : validGrammar g ≡ true → 1 ≤ length w → length w ≤ maxInput → length chart < cells → answer ≡ refused 10
-  pub passed : Ready g w chart → (n : ℕ) → answer ≡ refused n → 11 < n
+-- the chart is shorter than 4,225 cells
+abbrev pub cause10 : List ℕ → Cause ℕ
+cause10 chart = cause (length chart < cells) 10
 
--- first and next: 8, 9, 10, 11
-pub record OutputOrder (g : Grammar) (w chart out : List ℕ) (answer : Answer Handing) : Type 0 where
-  pub eight : validGrammar g ≡ false → answer ≡ refused 8
-  pub nine : validGrammar g ≡ true → (length w ≡ 0) ⊎ (maxInput < length w) → answer ≡ refused 9
-  pub ten : validGrammar g ≡ true → 1 ≤ length w → length w ≤ maxInput → length chart < cells → answer ≡ refused 10
-  pub eleven : Ready g w chart → length out < outputSize → answer ≡ refused 11
-  pub passed : ReadyOut g w chart out → (n : ℕ) → answer ≡ refused n → 11 < n
+-- the output is shorter than 1,024 numbers
+abbrev pub cause11 : List ℕ → Cause ℕ
+cause11 out = cause (length out < outputSize) 11
+
+-- the state has a count over 64
+abbrev pub cause14 : State → Cause ℕ
+cause14 h = cause (maxInput < h .count) 14
+
+-- the state has taken 64 bytes
+abbrev pub cause15 : State → Cause ℕ
+cause15 h = cause (h .count ≡ maxInput) 15
+
+-- nothing is refused
+abbrev pub NoRefusal : {A : Type 0} → Answer A → Type 0
+NoRefusal answer = (n : ℕ) → answer ≡ refused n → ⊥
+
+-- of refusals only those after the checks 8 to 11 are given
+abbrev pub OnlyLater : {A : Type 0} → Answer A → Type 0
+OnlyLater answer = (n : ℕ) → answer ≡ refused n → 11 < n
+
+-- opening
+abbrev pub OpenOrder : Grammar → List ℕ → Answer Bool → Type 0
+OpenOrder g chart = Decided (cause8 g ∷ cause10 chart ∷ []) refused NoRefusal
+
+-- taking
+abbrev pub TakeOrder : Grammar → State → List ℕ → Answer Bool → Type 0
+TakeOrder g h chart = Decided (cause8 g ∷ cause14 h ∷ cause10 chart ∷ cause15 h ∷ []) refused NoRefusal
+
+-- check, length, same build and count
+abbrev pub InputOrder : {A : Type 0} → Grammar → List ℕ → List ℕ → Answer A → Type 0
+InputOrder g w chart = Decided (cause8 g ∷ cause9 w ∷ cause10 chart ∷ []) refused OnlyLater
+
+-- first and next
+abbrev pub OutputOrder : Grammar → List ℕ → List ℕ → List ℕ → Answer Handing → Type 0
+OutputOrder g w chart out = Decided (cause8 g ∷ cause9 w ∷ cause10 chart ∷ cause11 out ∷ []) refused OnlyLater

@@ -1,7 +1,6 @@
 -- The law of `decide`: the first check that fails decides; where all are passed, the call goes on. Assumes nothing.
 use mathlib.Core.Bool.{Bool, true, false}
 use mathlib.Core.List.{List, [], _∷_, _++_}
-use mathlib.Core.Logic.{_⊎_, inl, inr}
 use mathlib.Core.Path.{_≡_, refl}
 use Rattle.results.specs.Answer.{Check, decide}
 
@@ -48,7 +47,3 @@ module _ {A B : Type 0} (refuse : A → B) (go : Unit {0} → B) where
     -- the same for refusals of any number
     pub decide-either : (checks : List (Check A)) → ((a : A) → P (refuse a)) → (Pass checks → P (go tt)) → P (decide checks refuse go)
     decide-either checks r g = decide-cases checks (each (λ c e. r (c .refusal)) checks) g
-
-  -- the result is a refusal, or no check fails
-  pub decide-or : (checks : List (Check A)) → ((a : A) × (decide checks refuse go ≡ refuse a)) ⊎ Pass checks
-  decide-or checks = decide-either (λ (b : B). ((a : A) × (b ≡ refuse a)) ⊎ Pass checks) checks (λ a. inl (a, refl)) (λ p. inr p)
