@@ -8,18 +8,18 @@ use native.Mathlib.Decide.{ℕ-discrete, decLt}
 use native.Mathlib.Numerals.{add-one}
 use native.Mathlib.Omega.{arith}
 use lib.ListN.{length, getD, set, length-set}
-use lib.Seq.{getD-set-same, getD-set-other}
+use Rattle.laws.proofs.Bools.{true-false}
+use Rattle.laws.proofs.Lists.{set-below}
 use Rattle.sets.specs.Set.{has, insert}
 use Rattle.sets.specs.Pairs.{Meeting}
 use Rattle.sets.proofs.Laws.{has-empty, has-insert, has-insert-same}
 use Rattle.chart.specs.Cell.{cuts}
 use Rattle.packed.specs.Packed.{countIn}
 use Rattle.fit.specs.Fit.{entryIn}
-use Rattle.grammar.proofs.All.{true-false}
 use Rattle.cells.specs.Flags.{Fit, Sets, tail, inner-leaf, inner-node, InnerAt}
 use Rattle.cells.proofs.Bits.{has-if-same, has-if-other}
+use Rattle.cells.proofs.First.{none-cuts}
 use Rattle.begins.specs.Begins.{Known, Near, CanBegin, BeginsAt, Begins, BeginsNear, AllBegin}
-use Rattle.begins.proofs.Place.{none-cuts}
 
 -- ---- whether a rule can have an inner cut
 
@@ -122,22 +122,13 @@ module _ (p : List ℕ) (rules i n : ℕ) (t ends starts : List ℕ) (reach : �
 
   pub all-step : (m v word : ℕ) (insides : List ℕ) → m < 128 → word ≡ entryIn t i m
       → BeginsNear p m i n word ends starts reach (getD live m 0) (getD lasts m 0) v → AllTo m insides → AllTo (m + 1) (set insides m v)
-  all-step m v word insides b f near to = record { long = length-set insides m v ∙ to .long; done = λ r l. go r l (ℕ-discrete r m) }
-    where
-      one : BeginsNear p m i n (entryIn t i m) ends starts reach (getD live m 0) (getD lasts m 0) v
-      one = subst (λ (y : ℕ). BeginsNear p m i n y ends starts reach (getD live m 0) (getD lasts m 0) v) f near
-
-      go : (r : ℕ) → r < m + 1 → Dec (r ≡ m)
-          → BeginsNear p r i n (entryIn t i r) ends starts reach (getD live r 0) (getD lasts r 0) (getD (set insides m v) r 0)
-      go r l (yes d) =
-          subst (λ (y : ℕ). BeginsNear p y i n (entryIn t i y) ends starts reach (getD live y 0) (getD lasts y 0)
-          (getD (set insides m v) y 0)) (sym d)
-          (subst (λ (y : ℕ). BeginsNear p m i n (entryIn t i m) ends starts reach (getD live m 0) (getD lasts m 0) y)
-          (sym (getD-set-same insides m v 0 (omega (arith, to .long)))) one)
-      go r l (no d) =
-          let u : r ≢ m = d in
-          subst (λ (y : ℕ). BeginsNear p r i n (entryIn t i r) ends starts reach (getD live r 0) (getD lasts r 0) y)
-          (sym (getD-set-other insides m r v 0 d)) (to .done r (omega arith))
+  all-step m v word insides b f near to = record {
+    long = length-set insides m v ∙ to .long;
+    done = set-below (λ (r x : ℕ). BeginsNear p r i n (entryIn t i r) ends starts reach (getD live r 0) (getD lasts r 0) x) 0 insides m v
+        (omega (arith, to .long))
+        (subst (λ (y : ℕ). BeginsNear p m i n y ends starts reach (getD live m 0) (getD lasts m 0) v) f near)
+        (to .done);
+  }
 
   pub all-done : (m : ℕ) (insides : List ℕ) → rules ≤ m → AllTo m insides → AllBegin p rules i n t ends starts reach live lasts insides
   all-done m insides h to = record { long = to .long; each = λ r l. to .done r (omega arith) }

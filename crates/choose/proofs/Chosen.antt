@@ -10,6 +10,7 @@ use borrow.Author.Tests.{leb-true, leb-false}
 use lib.Dec.{leb}
 use lib.ListN.{getD}
 use Rattle.sizes.specs.Sizes.{maxRules}
+use Rattle.laws.proofs.Bools.{clash}
 use Rattle.costs.specs.Cut.{within}
 use Rattle.costs.proofs.Within.{within-whole, within-part}
 use Rattle.packed.specs.Packed.{leftIn}
@@ -22,12 +23,9 @@ use Rattle.choose.specs.Chosen.{RuleBeyond, RuleTested, RulesPassed, Rul
 module _ {p : List ℕ} {k : ℕ} {full tables : List ℕ} {i j budget : ℕ} where
   pub tested-other : {r l : ℕ} → l ≡ leftIn p r → l ≢ k → RuleTested p k full tables i j budget r false
   tested-other e n = record {
-    yes = λ q. absurd (false≢true q);
+    yes = λ q. clash cc;
     no = λ _. record { cost = λ q. absurd (n (e ∙ q)) };
   }
-    where
-      false≢true : false ≡ true → ⊥
-      false≢true q = let z : _≡_ {A = ℕ} 0 1 = cc in omega arith
 
   pub tested-cost : {r l v n : ℕ} → l ≡ leftIn p r → l ≡ k → RuleOver p r full tables i j v → n ≡ v
       → RuleTested p k full tables i j budget r (leb n budget)

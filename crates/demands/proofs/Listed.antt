@@ -4,13 +4,13 @@ use Prim.Native.Nat.{ℕ}
 use mathlib.Core.Bool.{Bool, true, false, not}
 use mathlib.Core.List.{List, [], _∷_, List·Memᴰ, List·Memᴰ·head, List·Memᴰ·not-nil}
 use mathlib.Core.Path.{_≡_, refl, ap, subst}
+use Rattle.laws.proofs.Bools.{true-false}
 use Rattle.cfg.specs.Grammar.{Cfg}
 use Rattle.cfg.specs.Derivation.{Derivation, limit}
 use Rattle.cfg.specs.Listing.{L}
 use Rattle.listing.proofs.Exact.{listed→derivation, derivation→listed}
 use Rattle.grammar.specs.declared.Grammar.{Grammar}
 use Rattle.grammar.specs.View.{grammarOf}
-use Rattle.grammar.proofs.All.{true-false}
 use Rattle.results.specs.Check.{listed}
 use Rattle.results.specs.Measure.{unlisted}
 use Rattle.results.proofs.Demand3.Rows.{listed-member, member-listed}

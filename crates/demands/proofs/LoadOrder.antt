@@ -3,9 +3,9 @@ use Prim.Native.Nat.{ℕ, _+_}
 use mathlib.Core.Bool.{Bool, true, false, cond}
 use mathlib.Core.List.{List, [], _∷_}
 use mathlib.Core.Path.{_≡_, sym, _∙_}
-use native.Mathlib.Omega.{arith}
 use lib.Dec.{eqb}
 use lib.ListN.{length, getD}
+use Rattle.laws.proofs.Bools.{clash}
 use Rattle.grammar.specs.declared.Grammar.{Grammar}
 use Rattle.results.specs.Answer.{Check, decide}
 use Rattle.results.specs.Load.{operands, after, Fault, fault, unknown, outOfTurn, commandChecks, Step, stop, next, done, step}
@@ -14,8 +14,8 @@ use Rattle.results.proofs.Decide.{decide-first, decide-passed}
 
 -- what comes after the checks is no stop
 goes-on : (b : Bool) (at : ℕ) (g h : Grammar) (f : Fault) → cond b (done g) (next at h) ≡ stop f → ⊥
-goes-on true at g h f e = let z : _≡_ {A = ℕ} 0 1 = cc in omega arith
-goes-on false at g h f e = let z : _≡_ {A = ℕ} 0 1 = cc in omega arith
+goes-on true at g h f e = clash cc
+goes-on false at g h f e = clash cc
 
 -- the checks of a command, by their numbers
 module _ (bytes : List ℕ) (at c a : ℕ) (g : Grammar) where

@@ -7,13 +7,13 @@ use mathlib.Core.Path.{_≡_, sym, ap, _∙_, subst}
 use native.Mathlib.Decide.{ℕ-discrete}
 use native.Mathlib.Omega.{arith}
 use lib.ListN.{length, getD, set, length-set}
-use lib.Seq.{getD-set-same, getD-set-other}
+use Rattle.laws.proofs.Bools.{true-false, clash}
+use Rattle.laws.proofs.Lists.{set-below}
 use Rattle.sets.specs.Set.{has, insert}
 use Rattle.sets.proofs.Laws.{has-insert, has-insert-same}
 use Rattle.cfg.specs.Grammar.{nonterminal, terminal}
 use Rattle.packed.specs.Packed.{countIn, symbolIn, isNonterminalIn, valueIn, terminalIn}
 use Rattle.packed.proofs.Fitting.{symbol-nonterminal, symbol-terminal}
-use Rattle.grammar.proofs.All.{true-false}
 use Rattle.empty.specs.Empty.{Kinds, KindAt, KindsAll}
 
 module _ (p : List ℕ) (r q last v : ℕ) where
@@ -27,8 +27,7 @@ module _ (p : List ℕ) (r q last v : ℕ) where
   pub kind-terminal : (t : Bool) → t ≡ isNonterminalIn p r q → t ≡ false → KindAt p r q last v v
   kind-terminal t e g = kind-skip (λ k d _ _.
       let s : symbolIn p r q ≡ terminal (terminalIn p r q) = symbol-terminal p r q (sym e ∙ g) in
-      let z : _≡_ {A = ℕ} 0 1 = cc in
-      omega arith)
+      clash cc)
 
   module _ (t : Bool) (e : t ≡ isNonterminalIn p r q) (g : t ≡ true) (k : ℕ) (f : k ≡ valueIn p r q) where
     same : (j : ℕ) → symbolIn p r q ≡ nonterminal j → j ≡ k
@@ -75,14 +74,10 @@ module _ (p : List ℕ) (rules : ℕ) (lasts : List ℕ) where
   all-start kinds e = record { long = e; done = λ r l. absurd (omega arith) }
 
   pub all-step : (m v : ℕ) (kinds : List ℕ) → m < 128 → Kinds p m (getD lasts m 0) v → AllTo m kinds → AllTo (m + 1) (set kinds m v)
-  all-step m v kinds b one to = record { long = length-set kinds m v ∙ to .long; done = λ r l. go r l (ℕ-discrete r m) }
-    where
-      go : (r : ℕ) → r < m + 1 → Dec (r ≡ m) → Kinds p r (getD lasts r 0) (getD (set kinds m v) r 0)
-      go r l (yes d) = subst (λ (y : ℕ). Kinds p y (getD lasts y 0) (getD (set kinds m v) y 0)) (sym d)
-          (subst (λ (y : ℕ). Kinds p m (getD lasts m 0) y) (sym (getD-set-same kinds m v 0 (omega (arith, to .long)))) one)
-      go r l (no d) =
-          let u : r ≢ m = d in
-          subst (λ (y : ℕ). Kinds p r (getD lasts r 0) y) (sym (getD-set-other kinds m r v 0 d)) (to .done r (omega arith))
+  all-step m v kinds b one to = record {
+    long = length-set kinds m v ∙ to .long;
+    done = set-below (λ (r x : ℕ). Kinds p r (getD lasts r 0) x) 0 kinds m v (omega (arith, to .long)) one (to .done);
+  }
 
   pub all-done : (m : ℕ) (kinds : List ℕ) → rules ≤ m → AllTo m kinds → KindsAll p rules lasts kinds
   all-done m kinds h to = record { long = to .long; each = λ r l. to .done r (omega arith) }

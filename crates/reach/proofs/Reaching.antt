@@ -2,11 +2,11 @@
 use Prim.Native.Nat.{ℕ, _+_, _*_, _≤_, _<_}
 use mathlib.Core.Bool.{false, true≢false}
 use mathlib.Core.List.{List}
-use mathlib.Core.Path.{_≡_, sym, ap, subst, _∙_}
+use mathlib.Core.Path.{_≡_, sym, ap, _∙_}
 use native.Mathlib.Decide.{ℕ-discrete}
 use native.Mathlib.Omega.{arith}
 use lib.ListN.{length, set, getD, length-set}
-use lib.Seq.{getD-set-same, getD-set-other}
+use Rattle.laws.proofs.Lists.{set-below}
 use Rattle.sets.specs.Set.{has, insert}
 use Rattle.sets.proofs.Laws.{has-insert-same, has-insert-other}
 use Rattle.chart.specs.Cell.{cell}
@@ -50,15 +50,8 @@ module _ (chart : List ℕ) (n : ℕ) where
       → ReachesBefore chart n (m + 1) (set reach m w)
   reaches-step {m} reach {w} h l S P = record {
     long = length-set reach m w ∙ S .long;
-    from = λ i x. go i x (ℕ-discrete i m);
+    from = set-below (λ (i x : ℕ). ReachFrom chart i n x) 0 reach m w (omega (arith, S .long)) P (S .from);
   }
-    where
-      go : (i : ℕ) → i < m + 1 → Dec (i ≡ m) → ReachFrom chart i n (getD (set reach m w) i 0)
-      go i x (yes d) =
-          rw d (subst (ReachFrom chart m n) (sym (getD-set-same reach m w 0 (omega (arith, S .long)))) P)
-      go i x (no d) =
-          let y : ¬ (i ≡ m) = d in
-          subst (ReachFrom chart i n) (sym (getD-set-other reach m i w 0 d)) (S .from i (omega arith))
 
   pub reaches-end : {m : ℕ} {reach : List ℕ} → m ≤ n → n ≤ m → ReachesBefore chart n m reach → Reaches chart n reach
   reaches-end {m} h l S = let e : m ≡ n = omega arith in rw e at S

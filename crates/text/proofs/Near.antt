@@ -10,12 +10,12 @@ use lib.IntN.{ℤ}
 use lib.ListN.{length, getD, length-set}
 use lib.Seq.{getD-set-same}
 use borrow.Author.Tests.{ltb-false}
+use Rattle.laws.proofs.Bools.{true-false}
 use Rattle.grammar.specs.declared.Symbol.{Symbol}
 use Rattle.grammar.specs.declared.Symbol.the-variants.{Nonterminal, Terminal}
 use Rattle.grammar.specs.declared.Rule.{Rule}
 use Rattle.grammar.specs.declared.Grammar.{Grammar}
 use Rattle.grammar.specs.Zero.{zeroGrammar, noRule}
-use Rattle.grammar.proofs.All.{true-false}
 use Rattle.results.specs.Load.{operands, signed, openRule, withStart, withRule, withPlace, after, unknown, outOfTurn, commandChecks}
 use Rattle.results.specs.Load.{Step, stop, next, done, step}
 use Rattle.results.proofs.Decide.{decide-either}

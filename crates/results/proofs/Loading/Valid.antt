@@ -8,12 +8,12 @@ use mathlib.Core.Path.{_≡_, refl, _∙_}
 use lib.IntN.{ℤ}
 use lib.ListN.{length, take, getD, set, replicate, length-set}
 use borrow.Author.Tests.{le-leb}
+use Rattle.laws.proofs.Bools.{and-parts, and-both}
 use Rattle.grammar.specs.declared.Symbol.{Symbol}
 use Rattle.grammar.specs.declared.Rule.{Rule}
 use Rattle.grammar.specs.declared.Grammar.{Grammar}
 use Rattle.grammar.specs.Valid.{all, validSymbol, validPlace, validRule, validGrammar}
 use Rattle.grammar.specs.Zero.{zeroPlace, noRule}
-use Rattle.grammar.proofs.All.{and-parts, and-both}
 use Rattle.grammar.proofs.Bounds.{rule-parts, grammar-parts, valid-each}
 use Rattle.results.specs.Load.{openRule, withStart, withRule, withPlace}
 use Rattle.results.proofs.Loading.Commands.{Invariant}
