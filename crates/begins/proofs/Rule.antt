@@ -3,7 +3,7 @@ use Prim.Native.Nat.{ℕ, suc, _+_, _≤_, _<_}
 use mathlib.Core.Bool.{Bool, true, false, cond}
 use mathlib.Core.List.{List}
 use mathlib.Core.Logic.{_↔_, _≢_}
-use mathlib.Core.Path.{_≡_, refl, sym, ap, _∙_, subst}
+use mathlib.Core.Path.{_≡_, sym, ap, _∙_, subst}
 use native.Mathlib.Decide.{ℕ-discrete, decLt}
 use native.Mathlib.Numerals.{add-one}
 use native.Mathlib.Omega.{arith}
@@ -11,24 +11,16 @@ use lib.ListN.{length, getD, set, length-set}
 use Rattle.laws.proofs.Bools.{true-false}
 use Rattle.laws.proofs.Lists.{set-below}
 use Rattle.sets.specs.Set.{has, insert}
-use Rattle.sets.specs.Pairs.{Meeting}
 use Rattle.sets.proofs.Laws.{has-empty, has-insert, has-insert-same}
 use Rattle.chart.specs.Cell.{cuts}
 use Rattle.packed.specs.Packed.{countIn}
 use Rattle.fit.specs.Fit.{entryIn}
+use Rattle.reach.specs.Reach.{CanBegin}
+use Rattle.reach.proofs.Passing.{cannot-inside}
 use Rattle.cells.specs.Flags.{Fit, Sets, tail, inner-leaf, inner-node, InnerAt}
 use Rattle.cells.proofs.Bits.{has-if-same, has-if-other}
 use Rattle.cells.proofs.First.{none-cuts}
-use Rattle.begins.specs.Begins.{Known, Near, CanBegin, BeginsAt, Begins, BeginsNear, AllBegin}
-
--- ---- whether a rule can have an inner cut
-
-module _ (i n reach live : ℕ) where
-  pub can-meet : (x : ℕ) (f : Bool) → i + 1 < n → x ≡ insert (i + 1) reach → Meeting 64 x live f → CanBegin i n reach live f
-  can-meet x f l e meeting = record { before = λ _. subst (λ (y : ℕ). Meeting 64 y live f) e meeting; at-end = λ h. absurd (omega arith) }
-
-  pub can-always : n ≤ i + 1 → CanBegin i n reach live true
-  can-always h = record { before = λ l. absurd (omega arith); at-end = λ _. refl }
+use Rattle.begins.specs.Begins.{Known, Near, BeginsAt, Begins, BeginsNear, AllBegin}
 
 -- ---- all places of a rule
 
@@ -77,11 +69,7 @@ module _ (p : List ℕ) (r i n fits : ℕ) (ends starts : List ℕ) (last : ℕ)
 
     module _ (f : Bool) (order : i < n) (can : CanBegin i n reach live f) (not : f ≡ false) where
       inside : i + 1 < n
-      inside = go (decLt (i + 1) n)
-        where
-          go : Dec (i + 1 < n) → i + 1 < n
-          go (yes l) = l
-          go (no l) = absurd (true-false (can .at-end (omega arith)) not)
+      inside = cannot-inside can not
 
       -- a later start from which the rest is cut, and which is the next one or an end, would make the sets meet
       never : (fit : Fit) (sets : Sets) → Known fit sets p r i n fits ends starts last → Near sets p r i n starts reach live
