@@ -3,7 +3,7 @@ use Prim.Native.Nat.{ℕ, _+_, _-_, _≤_, _<_}
 use mathlib.Core.List.{List, [], _∷_}
 use mathlib.Core.Logic.{_≢_}
 use mathlib.Core.Path.{_≡_, refl, sym, ap, subst, _∙_}
-use native.Mathlib.Decide.{ℕ-discrete, decLt}
+use native.Mathlib.Decide.{ℕ-discrete}
 use native.Mathlib.Omega.{arith}
 use lib.ListN.{length}
 use Rattle.sizes.specs.Sizes.{maxRules, maxNodes}
@@ -25,7 +25,7 @@ use Rattle.suffixes.specs.Within.{tailIn}
 use Rattle.nodes.specs.Numbers.{NodePut}
 use Rattle.descend.specs.Descend.{Given, RowFirst, Opened}
 use Rattle.descend.proofs.Codes.{kept-none, kept-open}
-use Rattle.descend.proofs.Given.{passed-dearer}
+use Rattle.descend.proofs.Given.{passed-dearer, rule-before}
 use Rattle.descend.proofs.Opened.{places-of, under, chosen-of, below, row-within}
 use Rattle.beyond.specs.Beyond.{NoRules, LaterRule}
 use Rattle.beyond.proofs.Codes.{stands-join, first-stands, put-stands, next-none, next-some}
@@ -57,12 +57,8 @@ later-absent {p} {rules} {fits} {chart} {tables} {r} {k} {i} {j} {budget = budge
       (λ q u z. absurd (none G q u z))));
 }
   where
-    before : {w : List ℕ} (q : ℕ) → Dec (q < rules) → Given p rules fits chart tables w → q < 128 → leftIn p q < 32 → q < rules
-    before q (yes y) G a c = y
-    before q (no y) G a c = let z = G .past q (omega arith) a in absurd (omega arith)
-
     none : {w : List ℕ} → Given p rules fits chart tables w → (q : ℕ) → r < q → Of (Packing p) q k → ⊥
-    none G q u o = let (a, b, c, d) = of-in 0 p q k o in N q (omega arith) (before q (decLt q rules) G a c) b
+    none G q u o = let (a, b, c, d) = of-in 0 p q k o in N q (omega arith) (rule-before p rules (G .past) q a c) b
 
 -- ---- a rule within the budget, or none
 

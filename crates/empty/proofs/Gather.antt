@@ -2,13 +2,11 @@
 use Prim.Native.Nat.{ℕ, _+_, _≤_, _<_}
 use mathlib.Core.Bool.{Bool, true, false}
 use mathlib.Core.List.{List}
-use mathlib.Core.Logic.{_≢_}
 use mathlib.Core.Path.{_≡_, sym, ap, _∙_, subst}
-use native.Mathlib.Decide.{ℕ-discrete}
 use native.Mathlib.Omega.{arith}
 use lib.ListN.{length, getD, set, length-set}
 use Rattle.laws.proofs.Bools.{true-false, clash}
-use Rattle.laws.proofs.Lists.{set-below}
+use Rattle.laws.proofs.Lists.{set-below, below-step}
 use Rattle.sets.specs.Set.{has, insert}
 use Rattle.sets.proofs.Laws.{has-insert, has-insert-same}
 use Rattle.cfg.specs.Grammar.{nonterminal, terminal}
@@ -54,12 +52,10 @@ module _ (p : List ℕ) (r last : ℕ) where
   kinds-start = record { done = λ q k l. absurd (omega arith) }
 
   pub kinds-step : (m v x : ℕ) → KindAt p r m last v x → KindsTo m v → KindsTo (m + 1) x
-  kinds-step m v x at to = record { done = λ q k l. go q k l (ℕ-discrete q m) }
-    where
-      go : (q k : ℕ) → q < m + 1 → Dec (q ≡ m) → symbolIn p r q ≡ nonterminal k → k < 32 → has (q + 1) last ≡ true → has k x ≡ true
-      go q k l (yes d) = subst (λ (y : ℕ). symbolIn p r y ≡ nonterminal k → k < 32 → has (y + 1) last ≡ true → has k x ≡ true) (sym d)
-          (at .here k)
-      go q k l (no d) = λ e b h. let u : q ≢ m = d in at .keeps k (to .done q k (omega arith) e b h)
+  kinds-step m v x at to = record {
+    done = λ q k. below-step (λ (q : ℕ). symbolIn p r q ≡ nonterminal k → k < 32 → has (q + 1) last ≡ true → has k x ≡ true) m
+        (λ q l e b h. at .keeps k (to .done q k l e b h)) (at .here k) q;
+  }
 
   pub kinds-done : (m v : ℕ) → countIn p r ≤ m → KindsTo m v → Kinds p r last v
   kinds-done m v h to = record { all = λ q k l. to .done q k (omega arith) }

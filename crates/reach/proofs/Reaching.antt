@@ -6,7 +6,7 @@ use mathlib.Core.Path.{_≡_, sym, ap, _∙_}
 use native.Mathlib.Decide.{ℕ-discrete}
 use native.Mathlib.Omega.{arith}
 use lib.ListN.{length, set, getD, length-set}
-use Rattle.laws.proofs.Lists.{set-below}
+use Rattle.laws.proofs.Lists.{set-below, below-step}
 use Rattle.sets.specs.Set.{has, insert}
 use Rattle.sets.proofs.Laws.{has-insert-same, has-insert-other}
 use Rattle.chart.specs.Cell.{cell}
@@ -33,11 +33,10 @@ module _ (chart : List ℕ) (i : ℕ) where
 
     -- one without
     pub from-none : {v : ℕ} → getD chart (65 * i + m) 0 ≡ 0 → v ≡ w → ReachFrom chart i (m + 1) v
-    from-none e y = rw y (record { empty = λ c h l f. go c h l f (ℕ-discrete c m) })
-      where
-        go : (c : ℕ) → i < c → c < m + 1 → has c w ≡ false → Dec (c ≡ m) → cell chart i c ≡ 0
-        go c h l f (yes d) = rw d e
-        go c h l f (no d) = let x : ¬ (c ≡ m) = d in S .empty c h (omega arith) f
+    from-none e y = rw y (record {
+      empty = λ c h l f. below-step (λ (c : ℕ). i < c → has c w ≡ false → cell chart i c ≡ 0) m
+          (λ c l h f. S .empty c h l f) (λ h f. e) c l h f;
+    })
 
   pub from-end : {m n w : ℕ} → n ≤ m → ReachFrom chart i m w → ReachFrom chart i n w
   from-end h S = record { empty = λ c l k f. S .empty c l (omega arith) f }
