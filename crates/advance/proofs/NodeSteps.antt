@@ -15,18 +15,18 @@ use Rattle.enumeration.specs.Order.{After, Last}
 use Rattle.choices.specs.Opened.{OpenedNode}
 use Rattle.choices.proofs.Stands.{node-rule, node-below}
 use Rattle.choices.proofs.NextNode.{below-moves}
-use Rattle.packed.proofs.Laws.{of-in}
+use Rattle.packed.proofs.Laws.{of-in, cfg-in-bounded}
 use Rattle.standing.specs.Standing.{StandsAt}
 use Rattle.standing.proofs.Stands.{stands-first, stands-behind}
 use Rattle.tables.specs.Exact.{Packing}
 use Rattle.suffixes.specs.Within.{tailIn}
 use Rattle.descend.specs.Descend.{Given, Kept}
 use Rattle.descend.proofs.Codes.{kept-none}
+use Rattle.descend.proofs.Opened.{places-of}
 use Rattle.placed.specs.Looked.{RuleRead}
 use Rattle.placed.specs.Reached.{Ends}
 use Rattle.advance.specs.Advance.{NodeNext, LastNext, Turned, RowNext}
 use Rattle.beyond.specs.Beyond.{AfterAt, NextAt, LaterRule}
-use Rattle.beyond.proofs.LaterRules.{places-of, of-used}
 use Rattle.beyond.proofs.Codes.{tree-nonempty, stands-join, stands-same, kept-same, kept-behind, kept-then, next-some}
 
 -- the second number of a tree that stands in a buffer
@@ -118,7 +118,7 @@ module _ {p : List ℕ} {rules : ℕ} {fits chart tables : List ℕ} {k i j mask
       opened = node-below known h of T rule-here
 
       set-own : own ≡ insert k mask
-      set-own = u (of-used p r k of)
+      set-own = u (cfg-in-bounded 0 p r k of)
 
       below-row : Row (Packing p) w (j - i) own (tailIn p r 0) i j (budget - 1) (opened .0)
       below-row =

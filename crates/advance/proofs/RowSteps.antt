@@ -1,19 +1,17 @@
 -- The steps of a row, with premises as its code gives them. Assumes nothing.
-use Prim.Native.Nat.{ℕ, _+_, _*_, _-_, _≤_, _<_}
+use Prim.Native.Nat.{ℕ, _+_, _-_, _≤_, _<_}
 use mathlib.Core.List.{List, _++_}
 use mathlib.Core.Path.{_≡_, sym, subst}
 use native.Mathlib.Omega.{arith}
 use lib.ListN.{length, length-append}
 use Rattle.sizes.specs.Sizes.{maxNodes}
 use Rattle.cfg.specs.Tree.{Forest, nodes, code}
-use Rattle.listing.proofs.Unique.{length-code}
 use Rattle.enumeration.specs.Rows.{Row}
 use Rattle.enumeration.specs.Order.{Last}
 use Rattle.choices.specs.Opened.{OpenedRow}
-use Rattle.choices.proofs.NextRow.{end-ends, leaf-moves, leaf-ends, rest-stands, rest-moves}
+use Rattle.choices.proofs.NextRow.{end-ends, leaf-moves, leaf-ends, rest-moves}
 use Rattle.packed.proofs.Laws.{places-end}
 use Rattle.standing.specs.Standing.{StandsAt}
-use Rattle.standing.proofs.Stands.{stands-second}
 use Rattle.tables.specs.Exact.{Packing}
 use Rattle.suffixes.specs.Within.{tailIn}
 use Rattle.descend.specs.Descend.{Given}
@@ -28,7 +26,7 @@ use Rattle.advance.specs.Advance.{RowNext, ChildNext}
 use Rattle.beyond.proofs.Codes.{stands-join, stands-same, kept-same, kept-behind, kept-then, next-none, next-some, next-same}
 use Rattle.placed.proofs.Places.{row-as, next-as, none-stands}
 use Rattle.advance.proofs.Ending.{ends-byte, ends-others, ends-row, ends-here}
-use Rattle.placed.proofs.Reading.{both-stand, child-here, size-here, Passed}
+use Rattle.placed.proofs.Reading.{child-here, size-here, Passed, passed-here}
 
 module _ {p : List ℕ} {rules : ℕ} {fits chart tables : List ℕ} {r i j mask q a budget at : ℕ} {buf₀ : List ℕ} (l : a ≤ j)
     (room : at + budget ≤ maxNodes) where
@@ -103,19 +101,9 @@ module _ {p : List ℕ} {rules : ℕ} {fits chart tables : List ℕ} {r i j mask
             → (P : Passed p w (j - i) mask r q k a j budget b s buf₀ at f) × Ends p w (j - i) mask r j (q + 1) b (budget - s) (P .rest)
         go (c, x, y, o', D) =
             let h = ends-here buf₀ at S o' d in
-            let o = subst (λ (z : ℕ). OpenedRow (Packing p) w (j - i) mask k (tailIn p r (q + 1)) a j budget f z x y) h o' in
-            let z = size-here Z S o room in
-            let size : length (code x) ≡ 2 * s = omega (arith, length-code x) in (
-              record {
-                first = x;
-                rest = y;
-                opened = o;
-                count = z;
-                size = size;
-                row = rest-stands known o z;
-                stands = stands-second buf₀ at (code x) (code y) s size (both-stand buf₀ at S o);
-              },
-              subst (λ (v : ℕ). Ends p w (j - i) mask r j (q + 1) b (budget - v) y) (sym z)
+            let o = subst (λ (z : ℕ). OpenedRow (Packing p) w (j - i) mask k (tailIn p r (q + 1)) a j budget f z x y) h o' in (
+              passed-here known Z S o room,
+              subst (λ (v : ℕ). Ends p w (j - i) mask r j (q + 1) b (budget - v) y) (sym (size-here Z S o room))
                   (subst (λ (z : ℕ). Ends p w (j - i) mask r j (q + 1) z (budget - nodes x) y) h D),
             )
 

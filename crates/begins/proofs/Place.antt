@@ -5,24 +5,17 @@ use mathlib.Core.List.{List}
 use mathlib.Core.Path.{_≡_, refl, sym, ap, _∙_, subst}
 use native.Mathlib.Numerals.{add-one}
 use native.Mathlib.Omega.{arith}
-use borrow.Author.Tests.{ne-eqb}
+use Rattle.laws.proofs.Bools.{true-false, bool-ext, clash}
 use Rattle.sets.specs.Set.{has}
 use Rattle.sets.specs.Pairs.{Meeting}
-use Rattle.cfg.specs.Grammar.{Symbol, nonterminal, terminal}
+use Rattle.cfg.specs.Grammar.{nonterminal, terminal}
 use Rattle.chart.specs.Cell.{cuts}
-use Rattle.chart.proofs.Cut.{bool-ext}
 use Rattle.packed.specs.Packed.{countIn, isNonterminalIn, valueIn, terminalIn, symbolIn}
 use Rattle.packed.proofs.Fitting.{symbol-nonterminal, symbol-terminal}
-use Rattle.packed.proofs.Laws.{places-end}
-use Rattle.grammar.proofs.All.{true-false}
 use Rattle.cells.specs.Flags.{Fit, Sets, tail, inner-leaf, inner-node, InnerAt}
+use Rattle.cells.proofs.First.{none-cuts}
 use Rattle.spans.specs.Spans.{endsOf, startsOf}
 use Rattle.begins.specs.Begins.{Known, Follows, BeginsAt}
-
--- no places cut no span that is not empty
-pub none-cuts : (fit : Fit) (sets : Sets) (p : List ℕ) (r q a n : ℕ) → countIn p r ≤ q → a < n → cuts fit sets (tail p r q) a n ≡ false
-unfolding cuts
-none-cuts fit sets p r q a n h l = ap (λ (s : List Symbol). cuts fit sets s a n) (places-end p r q h) ∙ ne-eqb a n (omega arith)
 
 -- ---- the places behind one
 
@@ -56,8 +49,7 @@ module _ (p : List ℕ) (r q i n fits : ℕ) (ends starts : List ℕ) (last k : 
       → (b : ℕ) × (i < b) × (b < n) × (has k (sets i b) ≡ true) × (cuts fit sets (tail p r (suc q)) b n ≡ true)
   node-only fit sets (inner-leaf u d l x y) =
       let h : symbolIn p r q ≡ nonterminal k = node in
-      let z : _≡_ {A = ℕ} 0 1 = cc in
-      absurd (omega arith)
+      clash cc
   node-only fit sets (inner-node j b d l m x y) =
       let h : symbolIn p r q ≡ nonterminal k = node in
       let c : j ≡ k = cc in
@@ -116,8 +108,7 @@ module _ (p : List ℕ) (r q i n fits : ℕ) (ends starts : List ℕ) (last : �
       (e ∙ known .here q used tag ∙ ap (fit i) c ∙ x, y)
   leaf-only fit sets known (inner-node j b d l m x y) =
       let h : symbolIn p r q ≡ terminal (terminalIn p r q) = leaf in
-      let z : _≡_ {A = ℕ} 0 1 = cc in
-      absurd (omega arith)
+      clash cc
 
   pub leaf-follows : (f : Bool) → i < n → t ≡ true
       → ((fit : Fit) (j : ℕ) → j ≤ i + 1 → Follows fit p r (q + 1) (i + 1) j n starts last f)

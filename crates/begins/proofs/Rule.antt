@@ -3,32 +3,24 @@ use Prim.Native.Nat.{ℕ, suc, _+_, _≤_, _<_}
 use mathlib.Core.Bool.{Bool, true, false, cond}
 use mathlib.Core.List.{List}
 use mathlib.Core.Logic.{_↔_, _≢_}
-use mathlib.Core.Path.{_≡_, refl, sym, ap, _∙_, subst}
+use mathlib.Core.Path.{_≡_, sym, ap, _∙_, subst}
 use native.Mathlib.Decide.{ℕ-discrete, decLt}
 use native.Mathlib.Numerals.{add-one}
 use native.Mathlib.Omega.{arith}
 use lib.ListN.{length, getD, set, length-set}
-use lib.Seq.{getD-set-same, getD-set-other}
+use Rattle.laws.proofs.Bools.{true-false}
+use Rattle.laws.proofs.Lists.{set-below}
 use Rattle.sets.specs.Set.{has, insert}
-use Rattle.sets.specs.Pairs.{Meeting}
 use Rattle.sets.proofs.Laws.{has-empty, has-insert, has-insert-same}
 use Rattle.chart.specs.Cell.{cuts}
 use Rattle.packed.specs.Packed.{countIn}
 use Rattle.fit.specs.Fit.{entryIn}
-use Rattle.grammar.proofs.All.{true-false}
+use Rattle.reach.specs.Reach.{CanBegin}
+use Rattle.reach.proofs.Passing.{cannot-inside}
 use Rattle.cells.specs.Flags.{Fit, Sets, tail, inner-leaf, inner-node, InnerAt}
 use Rattle.cells.proofs.Bits.{has-if-same, has-if-other}
-use Rattle.begins.specs.Begins.{Known, Near, CanBegin, BeginsAt, Begins, BeginsNear, AllBegin}
-use Rattle.begins.proofs.Place.{none-cuts}
-
--- ---- whether a rule can have an inner cut
-
-module _ (i n reach live : ℕ) where
-  pub can-meet : (x : ℕ) (f : Bool) → i + 1 < n → x ≡ insert (i + 1) reach → Meeting 64 x live f → CanBegin i n reach live f
-  can-meet x f l e meeting = record { before = λ _. subst (λ (y : ℕ). Meeting 64 y live f) e meeting; at-end = λ h. absurd (omega arith) }
-
-  pub can-always : n ≤ i + 1 → CanBegin i n reach live true
-  can-always h = record { before = λ l. absurd (omega arith); at-end = λ _. refl }
+use Rattle.cells.proofs.First.{none-cuts}
+use Rattle.begins.specs.Begins.{Known, Near, BeginsAt, Begins, BeginsNear, AllBegin}
 
 -- ---- all places of a rule
 
@@ -77,11 +69,7 @@ module _ (p : List ℕ) (r i n fits : ℕ) (ends starts : List ℕ) (last : ℕ)
 
     module _ (f : Bool) (order : i < n) (can : CanBegin i n reach live f) (not : f ≡ false) where
       inside : i + 1 < n
-      inside = go (decLt (i + 1) n)
-        where
-          go : Dec (i + 1 < n) → i + 1 < n
-          go (yes l) = l
-          go (no l) = absurd (true-false (can .at-end (omega arith)) not)
+      inside = cannot-inside can not
 
       -- a later start from which the rest is cut, and which is the next one or an end, would make the sets meet
       never : (fit : Fit) (sets : Sets) → Known fit sets p r i n fits ends starts last → Near sets p r i n starts reach live
@@ -122,22 +110,13 @@ module _ (p : List ℕ) (rules i n : ℕ) (t ends starts : List ℕ) (reach : �
 
   pub all-step : (m v word : ℕ) (insides : List ℕ) → m < 128 → word ≡ entryIn t i m
       → BeginsNear p m i n word ends starts reach (getD live m 0) (getD lasts m 0) v → AllTo m insides → AllTo (m + 1) (set insides m v)
-  all-step m v word insides b f near to = record { long = length-set insides m v ∙ to .long; done = λ r l. go r l (ℕ-discrete r m) }
-    where
-      one : BeginsNear p m i n (entryIn t i m) ends starts reach (getD live m 0) (getD lasts m 0) v
-      one = subst (λ (y : ℕ). BeginsNear p m i n y ends starts reach (getD live m 0) (getD lasts m 0) v) f near
-
-      go : (r : ℕ) → r < m + 1 → Dec (r ≡ m)
-          → BeginsNear p r i n (entryIn t i r) ends starts reach (getD live r 0) (getD lasts r 0) (getD (set insides m v) r 0)
-      go r l (yes d) =
-          subst (λ (y : ℕ). BeginsNear p y i n (entryIn t i y) ends starts reach (getD live y 0) (getD lasts y 0)
-          (getD (set insides m v) y 0)) (sym d)
-          (subst (λ (y : ℕ). BeginsNear p m i n (entryIn t i m) ends starts reach (getD live m 0) (getD lasts m 0) y)
-          (sym (getD-set-same insides m v 0 (omega (arith, to .long)))) one)
-      go r l (no d) =
-          let u : r ≢ m = d in
-          subst (λ (y : ℕ). BeginsNear p r i n (entryIn t i r) ends starts reach (getD live r 0) (getD lasts r 0) y)
-          (sym (getD-set-other insides m r v 0 d)) (to .done r (omega arith))
+  all-step m v word insides b f near to = record {
+    long = length-set insides m v ∙ to .long;
+    done = set-below (λ (r x : ℕ). BeginsNear p r i n (entryIn t i r) ends starts reach (getD live r 0) (getD lasts r 0) x) 0 insides m v
+        (omega (arith, to .long))
+        (subst (λ (y : ℕ). BeginsNear p m i n y ends starts reach (getD live m 0) (getD lasts m 0) v) f near)
+        (to .done);
+  }
 
   pub all-done : (m : ℕ) (insides : List ℕ) → rules ≤ m → AllTo m insides → AllBegin p rules i n t ends starts reach live lasts insides
   all-done m insides h to = record { long = to .long; each = λ r l. to .done r (omega arith) }

@@ -7,8 +7,7 @@ use mathlib.Core.Logic.{_↔_}
 use mathlib.Core.Path.{_≡_}
 use lib.ListN.{length, getD}
 use Rattle.sizes.specs.Sizes.{maxRules}
-use Rattle.sets.specs.Set.{has, insert}
-use Rattle.sets.specs.Pairs.{Meeting}
+use Rattle.sets.specs.Set.{has}
 use Rattle.chart.specs.Cell.{cuts}
 use Rattle.packed.specs.Packed.{countIn, isNonterminalIn, terminalIn}
 use Rattle.fit.specs.Fit.{entryIn}
@@ -32,11 +31,6 @@ pub record Known (fit : Fit) (sets : Sets) (p : List ℕ) (r i n fits : ℕ) (en
 pub record Near (sets : Sets) (p : List ℕ) (r i n : ℕ) (starts : List ℕ) (reach live : ℕ) : Type 0 where
   pub reaches : (k b : ℕ) → i < b → b < n → has k (sets i b) ≡ true → has b reach ≡ true
   pub lives : (q a : ℕ) → 0 < q → q < countIn p r → has a (startsOf starts r q) ≡ true → has a live ≡ true
-
--- f says whether a rule can have an inner cut of the span from i to n: not, where no end from i, and not i + 1, is one of its starts
-pub record CanBegin (i n reach live : ℕ) (f : Bool) : Type 0 where
-  pub before : i + 1 < n → Meeting 64 (insert (i + 1) reach) live f
-  pub at-end : n ≤ i + 1 → f ≡ true
 
 -- f says whether the places q.. of rule r cut the span from a to n, where the starts from j on are told
 pub record Follows (fit : Fit) (p : List ℕ) (r q a j n : ℕ) (starts : List ℕ) (last : ℕ) (f : Bool) : Type 0 where

@@ -4,24 +4,14 @@ use super::places::begins;
 use fit::FitTable;
 use fit::wide_word;
 use packed::Packed;
+use reach::Live;
+use reach::can_begin;
 use spans::words::Ends;
-use spans::words::Live;
 use spans::words::Starts;
 ghost use mathlib.Core.Path.{_≡_};
 ghost use Prim.Native.Nat.{_<_, _≤_};
 ghost use lib.ListN.{length};
-ghost use Rattle.begins.specs.Begins.{CanBegin, BeginsNear, AllBegin};
-
-// Whether a rule can have an inner cut of the span from i to n at all.
-fn can_begin(i: usize, n: usize, reach: u64, live: u64) -> bool
-    requires { ⌜ (i < n) × (n ≤ 64) ⌝ }
-    ensures { λ f. ⌜ CanBegin i n reach live f ⌝ }
-{
-    if i + 1 < n {
-        return sets::wide::meets(sets::wide::with(reach, i + 1), live);
-    }
-    true
-}
+ghost use Rattle.begins.specs.Begins.{BeginsNear, AllBegin};
 
 // The places of rule r at which such a cut begins, by the sets of all ends and of all starts too: a rule that can have none is passed over.
 fn begins_near(

@@ -1,15 +1,23 @@
 -- How a cut of a span begins: with a piece inside the span, an empty piece, or the whole. Assumes nothing.
 use Prim.Native.Nat.{ℕ, suc, _≤_, _<_}
-use mathlib.Core.Bool.{true}
+use mathlib.Core.Bool.{true, false}
 use mathlib.Core.List.{List, _∷_}
-use mathlib.Core.Path.{_≡_, refl, sym, subst}
+use mathlib.Core.Path.{_≡_, refl, sym, ap, subst, _∙_}
 use native.Mathlib.Decide.{ℕ-discrete}
 use native.Mathlib.Omega.{arith}
+use borrow.Author.Tests.{ne-eqb}
 use Rattle.sets.specs.Set.{has}
 use Rattle.cfg.specs.Grammar.{Symbol, nonterminal, terminal}
 use Rattle.chart.specs.Cell.{cuts}
 use Rattle.chart.proofs.Cut.{Cut, cut-leaf, cut-node, InSets, cuts→cut, cut→cuts}
-use Rattle.cells.specs.Flags.{Fit, Sets, InnerCut, inner-leaf, inner-node}
+use Rattle.packed.specs.Packed.{countIn}
+use Rattle.packed.proofs.Laws.{places-end}
+use Rattle.cells.specs.Flags.{Fit, Sets, tail, InnerCut, inner-leaf, inner-node}
+
+-- no places cut no span that is not empty
+pub none-cuts : (fit : Fit) (sets : Sets) (p : List ℕ) (r q a n : ℕ) → countIn p r ≤ q → a < n → cuts fit sets (tail p r q) a n ≡ false
+unfolding cuts
+none-cuts fit sets p r q a n h l = ap (λ (s : List Symbol). cuts fit sets s a n) (places-end p r q h) ∙ ne-eqb a n (omega arith)
 
 module _ (fit : Fit) (sets : Sets) (n : ℕ) where
   pub data FirstCut (s : Symbol) (rest : List Symbol) (a : ℕ) : Type 0 where

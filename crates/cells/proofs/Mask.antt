@@ -8,16 +8,15 @@ use native.Mathlib.Decide.{decLt, ℕ-discrete}
 use native.Mathlib.Numerals.{add-one}
 use native.Mathlib.Omega.{arith}
 use lib.Dec.{eqb}
+use Rattle.laws.proofs.Bools.{and-both, and-parts, true-false, bool-ext}
 use Rattle.sets.specs.Set.{has, insert}
 use Rattle.sets.proofs.Laws.{has-empty}
 use Rattle.cfg.specs.Grammar.{Symbol, nonterminal, terminal}
 use Rattle.chart.specs.Cell.{cuts}
-use Rattle.chart.proofs.Cut.{bool-ext}
 use Rattle.packed.specs.Packed.{countIn, symbolIn}
 use Rattle.packed.proofs.Laws.{places-step, places-end}
 use Rattle.cells.specs.Flags.{Fit, Sets, tail}
 use Rattle.cells.specs.Passes.{placeCuts, Words, RuleMask}
-use Rattle.grammar.proofs.All.{and-both, and-parts, true-false}
 use Rattle.cells.proofs.Bits.{has-if-same, has-if-other}
 use Rattle.cells.proofs.First.{FirstCut, first-inner, first-empty, first-whole, cuts-first, first-cuts}
 

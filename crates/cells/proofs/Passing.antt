@@ -7,11 +7,11 @@ use native.Mathlib.Decide.{ℕ-discrete}
 use native.Mathlib.Omega.{arith}
 use lib.Dec.{ltb}
 use borrow.Author.Tests.{lt-ltb, ltb-true}
+use Rattle.laws.proofs.Bools.{and-both, and-parts}
 use Rattle.sets.specs.Set.{has, insert}
 use Rattle.sets.proofs.Laws.{has-insert-other, insert-le, insert-same→has}
 use Rattle.packed.specs.Packed.{leftIn}
 use Rattle.cells.specs.Passes.{Within, addedIn}
-use Rattle.grammar.proofs.All.{and-both, and-parts}
 
 module _ (p : List ℕ) (r v own : ℕ) where
   pub added-le : own ≤ addedIn p r v own

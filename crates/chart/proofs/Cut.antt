@@ -8,6 +8,7 @@ use native.Mathlib.Decide.{ℕ-discrete}
 use native.Mathlib.Omega.{arith}
 use lib.Dec.{eqb}
 use borrow.Author.Tests.{eq-eqb, eqb-true}
+use Rattle.laws.proofs.Bools.{bool-ext}
 use Rattle.sets.specs.Set.{has}
 use Rattle.cfg.specs.Grammar.{Symbol, nonterminal, terminal, Terminal}
 use Rattle.chart.specs.Cell.{piece, someFrom, cuts}
@@ -103,11 +104,6 @@ module _ (fit : ℕ → Terminal → Bool) (sets : ℕ → ℕ → ℕ) (n : ℕ
       (true-after (nonterminal k) places a b q (cut→cuts m c))
 
 -- ---- the test looks only at bytes before n, and at spans from i on and up to n
-
-pub bool-ext : (b c : Bool) → (b ≡ true → c ≡ true) → (c ≡ true → b ≡ true) → b ≡ c
-bool-ext true c f g = sym (f refl)
-bool-ext false true f g = g refl
-bool-ext false false f g = refl
 
 module _ {fit fit' : ℕ → Terminal → Bool} {sets sets' : ℕ → ℕ → ℕ} (i n : ℕ) (h : i ≤ n) where
   pub cuts-cong : ((a : ℕ) (t : Terminal) → a < n → fit a t ≡ fit' a t)

@@ -7,13 +7,13 @@ use mathlib.Core.Path.{_≡_, refl, sym, ap, _∙_}
 use native.Mathlib.Omega.{arith}
 use lib.ListN.{length, getD, drop, replicate}
 use lib.Seq.{ext-getD}
+use Rattle.laws.proofs.Bools.{bool-ext}
 use Rattle.sets.specs.Set.{has}
 use Rattle.sets.proofs.Laws.{set-ext}
 use Rattle.cfg.specs.Grammar.{Cfg, Terminal, rule, Of}
 use Rattle.sizes.specs.Sizes.{cells}
 use Rattle.chart.specs.Cell.{fitsAt}
 use Rattle.chart.specs.Column.{column, putColumn, written, opened, extended, extendedBy, filled}
-use Rattle.chart.proofs.Cut.{bool-ext}
 use Rattle.chart.proofs.Derived.{Bounded}
 use Rattle.chart.specs.Closed.{Closed}
 use Rattle.chart.proofs.Least.{column-length, column-lt, column-closed, column-least}

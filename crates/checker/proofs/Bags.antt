@@ -8,11 +8,11 @@ use native.Mathlib.Omega.{arith}
 use lib.Dec.{eqb}
 use lib.ListN.{length, getD}
 use borrow.Author.Tests.{eq-eqb, ne-eqb, eqb-true}
+use Rattle.laws.proofs.Bools.{and-parts, and-both}
 use Rattle.cfg.specs.Grammar.{Symbol}
 use Rattle.cfg.specs.Tree.{Forest, yield, code, Fits, fits-end, fits-leaf, fits-node}
 use Rattle.cfg.specs.Derivation.{Derivation, limit}
 use Rattle.grammar.specs.Valid.{all}
-use Rattle.grammar.proofs.All.{and-parts, and-both}
 use Rattle.packed.specs.Packed.{cfgIn}
 use Rattle.packed.proofs.Laws.{of-in}
 use Rattle.results.specs.Measure.{rulesUsed, occurrences, sameBag}

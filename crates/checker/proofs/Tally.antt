@@ -4,12 +4,13 @@ use mathlib.Core.Bool.{Bool, true, false, cond}
 use mathlib.Core.List.{List, [], _∷_}
 use mathlib.Core.Logic.{_≢_}
 use mathlib.Core.Path.{_≡_, refl, sym, ap, _∙_}
-use native.Mathlib.Decide.{ℕ-discrete, decLt}
+use native.Mathlib.Decide.{ℕ-discrete}
 use native.Mathlib.Omega.{arith}
 use lib.Dec.{eqb}
-use lib.ListN.{length, getD, drop, set, replicate, length-drop, length-set, length-replicate, getD-replicate, List·getD-eq-default}
+use lib.ListN.{length, getD, drop, set, replicate, length-drop, length-set, length-replicate}
 use lib.Seq.{getD-set-same, getD-set-other}
 use borrow.Author.Tests.{eq-eqb, ne-eqb}
+use Rattle.laws.proofs.Lists.{zeros-at}
 use Rattle.results.specs.Measure.{rulesUsed, occurrences}
 use Rattle.checker.specs.Build.{usedAt, Tallied}
 use Rattle.preorder.proofs.Nodes.{at-two}
@@ -90,17 +91,9 @@ module _ (e : List ℕ) where
   counted-of n h =
       record {
         long = length-replicate {A = ℕ} n 0 ∙ h;
-        few = λ k. zeros k;
-        counts = λ k l. let z = zeros k in omega arith;
+        few = λ k. omega (arith, zeros-at n k);
+        counts = λ k l. omega (arith, zeros-at n k);
       }
-    where
-      zeros : (k : ℕ) → getD (replicate n 0) k 0 ≤ 0
-      zeros k = go (decLt k n)
-        where
-          go : Dec (k < n) → getD (replicate n 0) k 0 ≤ 0
-          go (yes l) = omega (arith, getD-replicate {A = ℕ} n k 0 0 l)
-          go (no l) =
-              omega (arith, List·getD-eq-default {A = ℕ} (replicate n 0) 0 {n = k} (omega (arith, length-replicate {A = ℕ} n 0)))
 
   pub counted-start : Counted 0 (replicate 129 0)
   counted-start = counted-of 129 (λ i. 129)

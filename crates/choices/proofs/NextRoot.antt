@@ -5,6 +5,7 @@ use mathlib.Core.List.{List, [], _∷_, _++_, List·Memᴰ}
 use mathlib.Core.Path.{_≡_, refl, sym, ap, subst, _∙_}
 use native.Mathlib.Omega.{arith}
 use lib.ListN.{length, getD, length-append}
+use lib.Seq.{getD-append-seam}
 use Rattle.sets.specs.Set.{empty}
 use Rattle.cfg.specs.Grammar.{Cfg}
 use Rattle.cfg.specs.Tree.{Forest, code}
@@ -20,12 +21,7 @@ use Rattle.choices.proofs.Root.{row-same}
 
 -- ---- places in a list
 
--- what stands behind x
-at-length : (x : List (List ℕ)) (d : List ℕ) (y : List (List ℕ)) → getD (x ++ d ∷ y) (length x) [] ≡ d
-at-length [] d y = refl
-at-length (a ∷ x) d y = at-length x d y
-
--- and the next one
+-- what comes after x and d
 behind-length : (x : List (List ℕ)) (d e : List ℕ) (y : List (List ℕ)) → getD (x ++ d ∷ e ∷ y) (suc (length x)) [] ≡ e
 behind-length [] d e y = refl
 behind-length (a ∷ x) d e y = behind-length x d e y
@@ -79,7 +75,7 @@ module _ (G G' : Cfg) (same : SameRules G G') (w : List ℕ) {k : ℕ} (start : 
       let (x, y, q) = root-follows m a in (
         length x,
         omega (arith, ap length q, length-append x (d ∷ e ∷ y)),
-        ap (λ (l : List (List ℕ)). getD l (length x) []) q ∙ at-length x d (e ∷ y),
+        ap (λ (l : List (List ℕ)). getD l (length x) []) q ∙ getD-append-seam x d (e ∷ y) [],
         ap (λ (l : List (List ℕ)). getD l (suc (length x)) []) q ∙ behind-length x d e y,
       )
 
@@ -89,5 +85,5 @@ module _ (G G' : Cfg) (same : SameRules G G') (w : List ℕ) {k : ℕ} (start : 
       let (x, q) = root-ends m l in (
         length x,
         omega (arith, ap length q, length-append x (d ∷ [])),
-        ap (λ (l : List (List ℕ)). getD l (length x) []) q ∙ at-length x d [],
+        ap (λ (l : List (List ℕ)). getD l (length x) []) q ∙ getD-append-seam x d [] [],
       )

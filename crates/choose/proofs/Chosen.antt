@@ -4,12 +4,13 @@ use mathlib.Core.Bool.{Bool, true, false}
 use mathlib.Core.List.{List}
 use mathlib.Core.Logic.{_≢_}
 use mathlib.Core.Path.{_≡_, sym, ap, _∙_}
-use native.Mathlib.Decide.{ℕ-discrete}
 use native.Mathlib.Omega.{arith}
 use borrow.Author.Tests.{leb-true, leb-false}
 use lib.Dec.{leb}
 use lib.ListN.{getD}
 use Rattle.sizes.specs.Sizes.{maxRules}
+use Rattle.laws.proofs.Bools.{clash}
+use Rattle.laws.proofs.Lists.{below-step}
 use Rattle.costs.specs.Cut.{within}
 use Rattle.costs.proofs.Within.{within-whole, within-part}
 use Rattle.packed.specs.Packed.{leftIn}
@@ -22,12 +23,9 @@ use Rattle.choose.specs.Chosen.{RuleBeyond, RuleTested, RulesPassed, Rul
 module _ {p : List ℕ} {k : ℕ} {full tables : List ℕ} {i j budget : ℕ} where
   pub tested-other : {r l : ℕ} → l ≡ leftIn p r → l ≢ k → RuleTested p k full tables i j budget r false
   tested-other e n = record {
-    yes = λ q. absurd (false≢true q);
+    yes = λ q. clash cc;
     no = λ _. record { cost = λ q. absurd (n (e ∙ q)) };
   }
-    where
-      false≢true : false ≡ true → ⊥
-      false≢true q = let z : _≡_ {A = ℕ} 0 1 = cc in omega arith
 
   pub tested-cost : {r l v n : ℕ} → l ≡ leftIn p r → l ≡ k → RuleOver p r full tables i j v → n ≡ v
       → RuleTested p k full tables i j budget r (leb n budget)
@@ -42,11 +40,11 @@ module _ {p : List ℕ} {k : ℕ} {full tables : List ℕ} {i j budget : ℕ} wh
   module _ {rules from r : ℕ} where
     pub passed-more : {b : Bool} → RuleTested p k full tables i j budget r b → b ≡ false
         → RulesPassed p rules from k full tables i j budget r → RulesPassed p rules from k full tables i j budget (r + 1)
-    passed-more W e P = record { start = omega (arith, P .start); beyond = λ s u l m. go s u l m (ℕ-discrete s r) }
-      where
-        go : (s : ℕ) → from ≤ s → s < r + 1 → s < rules → Dec (s ≡ r) → RuleBeyond p k full tables i j budget s
-        go s u l m (yes q) = rw q (W .no e)
-        go s u l m (no n) = let x : ¬ (s ≡ r) = n in P .beyond s u (omega arith) m
+    passed-more W e P = record {
+      start = omega (arith, P .start);
+      beyond = λ s u l m. below-step (λ (s : ℕ). from ≤ s → s < rules → RuleBeyond p k full tables i j budget s) r
+          (λ s l u m. P .beyond s u l m) (λ u m. W .no e) s l u m;
+    }
 
     pub rule-found : {b : Bool} → RuleTested p k full tables i j budget r b → b ≡ true → RulesPassed p rules from k full tables i j budget r
         → RuleChosen p rules from k full tables i j budget r
@@ -83,11 +81,10 @@ module _ {tables full : List ℕ} {k i a from j : ℕ} {rows : List ℕ} {at bud
   module _ {b v n : ℕ} (e : v ≡ within i j (fullIn full) (costIn tables) k a b) (f : n ≡ v + getD rows (at + b) 0) where
     pub ends-more : budget < n → EndsPassed tables full k i a from j rows at budget b
         → EndsPassed tables full k i a from j rows at budget (b + 1)
-    ends-more l P = record { beyond = λ c x y z. go c x y z (ℕ-discrete c b) }
-      where
-        go : (c : ℕ) → from ≤ c → c < b + 1 → c ≤ j → Dec (c ≡ b) → budget < sumAt tables full k i a j rows at c
-        go c x y z (yes q) = rw q (omega arith)
-        go c x y z (no d) = let w : ¬ (c ≡ b) = d in P .beyond c x (omega arith) z
+    ends-more l P = record {
+      beyond = λ c x y z. below-step (λ (c : ℕ). from ≤ c → c ≤ j → budget < sumAt tables full k i a j rows at c) b
+          (λ c y x z. P .beyond c x y z) (λ x z. omega arith) c y x z;
+    }
 
     pub end-found : from ≤ b → n ≤ budget → EndsPassed tables full k i a from j rows at budget b
         → EndChosen tables full k i a from j rows at budget b

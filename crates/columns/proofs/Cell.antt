@@ -9,11 +9,12 @@ use native.Mathlib.Decide.{decLt}
 use native.Mathlib.Omega.{arith}
 use lib.ListN.{length}
 use Rattle.sizes.specs.Sizes.{cells}
+use Rattle.laws.proofs.Bools.{bool-ext}
 use Rattle.sets.specs.Set.{has}
 use Rattle.sets.proofs.Laws.{set-ext}
 use Rattle.cfg.specs.Grammar.{Symbol, Of}
 use Rattle.chart.specs.Cell.{cell, cuts}
-use Rattle.chart.proofs.Cut.{Cut, InSets, cut-mono, cuts→cut, cut→cuts, cuts-cong, bool-ext}
+use Rattle.chart.proofs.Cut.{Cut, InSets, cut-mono, cuts→cut, cut→cuts, cuts-cong}
 use Rattle.chart.proofs.Cells.{inColumn, column-lt}
 use Rattle.chart.proofs.Inside.{Piece, ClosedBy, column-closed-by, column-inside}
 use Rattle.chart.proofs.Written.{written-cell, written-cell-other}

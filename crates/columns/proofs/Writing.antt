@@ -1,5 +1,5 @@
 -- A column, written cell by cell from the last start down: how one cell goes on, and where it begins and ends. Assumes nothing.
-use Prim.Native.Nat.{ℕ, zero, suc, _+_, _*_, _-_, _^_, _≤_, _<_}
+use Prim.Native.Nat.{ℕ, _+_, _*_, _-_, _^_, _≤_, _<_}
 use mathlib.Core.Bool.{true, false}
 use mathlib.Core.List.{List}
 use mathlib.Core.Logic.{_≢_, inl}
@@ -9,11 +9,11 @@ use native.Mathlib.Omega.{arith}
 use lib.ListN.{length, getD, set, replicate, length-set, length-replicate}
 use lib.Seq.{ext-getD, getD-set-same, getD-set-other}
 use Rattle.sizes.specs.Sizes.{cells}
+use Rattle.laws.proofs.Bools.{true-false, bool-ext}
+use Rattle.laws.proofs.Lists.{zeros-at}
 use Rattle.sets.specs.Set.{has}
 use Rattle.sets.proofs.Laws.{has-empty}
-use Rattle.grammar.proofs.All.{true-false}
 use Rattle.chart.specs.Cell.{cell, index}
-use Rattle.chart.proofs.Cut.{bool-ext}
 use Rattle.chart.proofs.Written.{index-inj, written-length, written-other, written-cell-other}
 use Rattle.packed.specs.Packed.{Used, cfgIn}
 use Rattle.fit.specs.Fit.{entryIn, FitTold}
@@ -131,13 +131,8 @@ cell-written p rules n i v reached t ends reach lasts kinds insides flags made c
 
 -- ---- where a column begins and ends
 
-zero-word : (m y : ℕ) → _≡_ {A = ℕ} (getD (replicate m 0) y 0) 0
-zero-word zero y = refl
-zero-word (suc m) zero = refl
-zero-word (suc m) (suc y) = zero-word m y
-
 pub zero-has : (k x j : ℕ) → has j (getD (replicate k 0) x 0) ≡ true → ⊥
-zero-has k x j h = true-false h (ap (has j) (zero-word k x) ∙ has-empty j)
+zero-has k x j h = true-false h (ap (has j) (zeros-at k x) ∙ has-empty j)
 
 module _ (p : List ℕ) (fit : Fit) (found : List ℕ) (rules n own : ℕ) (lasts : List ℕ) (small : n ≤ 64)
     (room : cells ≤ length found) (used : Used p rules) (word : own < 2 ^ 32) (closed : EmptyClosed p rules own lasts) where

@@ -1,7 +1,7 @@
 -- Trees without superfluous recursion, a node at a time: below a node over the whole span its own nonterminal joins the mask, so the cost
 -- of a rule under that larger mask is the least number of nodes of such a tree with that rule. Assumes nothing.
 use Prim.Native.Nat.{ℕ, suc, _+_, _-_, _≤_, _<_}
-use mathlib.Core.Bool.{Bool, true, false}
+use mathlib.Core.Bool.{Bool, false}
 use mathlib.Core.List.{List, [], _∷_, append-nil}
 use mathlib.Core.Logic.{dite}
 use mathlib.Core.Option.{Option·some-injective}
@@ -10,6 +10,7 @@ use native.Mathlib.Decide.{ℕ-discrete}
 use native.Mathlib.Omega.{arith}
 use lib.ListN.{length}
 use Rattle.sizes.specs.Sizes.{tooMany}
+use Rattle.laws.proofs.Bools.{bool-false}
 use Rattle.sets.specs.Set.{has, insert}
 use Rattle.sets.proofs.Laws.{has-insert, has-insert-same, has-insert-other}
 use Rattle.cfg.specs.Grammar.{Cfg, Symbol, nonterminal, Terminal, Of, Rule}
@@ -37,10 +38,6 @@ tree-node (fits-node {r = r} {below = below} o g fits-end) = (r, o, below, g, re
 under-fits : {G : Cfg} {r k : ℕ} {below : Forest} (o : Of G r k) → Fits G (nonterminal k ∷ []) (node r below end)
     → Fits G (o .the .places) below
 under-fits {G} {below = below} o (fits-node p g fits-end) = subst (λ (places : List Symbol). Fits G places below) (of-places G p o) g
-
-bool-false : (b : Bool) → (b ≡ true → ⊥) → b ≡ false
-bool-false true f = absurd (f refl)
-bool-false false f = refl
 
 module _ {G : Cfg} {bytes : ℕ → ℕ → Type 0} {M n r k a b : ℕ} {below : Forest} (o : Of G r k) (e : b ≡ a + n) where
   -- from the forest below to the node

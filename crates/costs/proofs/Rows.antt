@@ -13,10 +13,11 @@ use Rattle.sets.specs.Set.{has}
 use Rattle.cfg.specs.Grammar.{Cfg, Symbol, nonterminal, Terminal}
 use Rattle.cfg.specs.Tree.{Forest, end, leaf, node, yield, nodes, Fits, fits-end, fits-leaf, fits-node}
 use Rattle.cfg.specs.Derivation.{Has, has-here, has-below, has-beside, has-after}
+use Rattle.cfg.proofs.Has.{has-within}
 use Rattle.costs.specs.Cut.{Cut, cut-end, cut-leaf, cut-node, LeastCut, within}
 use Rattle.costs.specs.Span.{Tells, Reads, reads-end, reads-byte, Free, Row, Tree, FreeRow, FreeTree, Least, Inside, Full}
 use Rattle.costs.specs.Solve.{Sound}
-use Rattle.costs.proofs.Span.{reads-length, reads-append, reads-split, has-small, least-by, least-reached, least-below}
+use Rattle.costs.proofs.Span.{reads-length, reads-append, reads-split, least-by, least-reached, least-below}
 use Rattle.costs.proofs.Within.{within-cases}
 
 -- ---- a tree in front of a forest
@@ -66,7 +67,7 @@ free-first G M n r below rest F = record { none = none }
 -- a forest over less than n bytes has no node over n bytes
 pub free-short : {G : Cfg} {bytes : ℕ → ℕ → Type 0} {places : List Symbol} {a b : ℕ} (M n : ℕ) (f : Forest)
     → Row G bytes places a b f → b < a + n → Free G M n f
-free-short M n f R l = record { none = λ k e h. omega (arith, has-small h, reads-length (R .reads)) }
+free-short M n f R l = record { none = λ k e h. omega (arith, has-within h, reads-length (R .reads)) }
 
 module _ (G : Cfg) {fit : ℕ → Terminal → Bool} {bytes : ℕ → ℕ → Type 0} (tells : Tells fit bytes) (M i j : ℕ) (full : ℕ → ℕ)
     (least : ℕ → ℕ → ℕ → ℕ) (inside : Inside G bytes i j least) where

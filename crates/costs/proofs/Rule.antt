@@ -9,6 +9,7 @@ use mathlib.Core.Path.{_≡_, refl, sym, ap, _∙_}
 use native.Mathlib.Omega.{arith}
 use lib.ListN.{length, getElem?}
 use Rattle.sizes.specs.Sizes.{tooMany}
+use Rattle.laws.proofs.Bools.{clash}
 use Rattle.cfg.specs.Grammar.{Symbol, nonterminal, terminal, Terminal}
 use Rattle.costs.specs.Lowest.{Lowest, seen-first, seen-at}
 use Rattle.costs.specs.Cut.{Cut, LeastCut, within}
@@ -21,7 +22,7 @@ use Rattle.costs.proofs.Whole.{cut-nothing, nothing-cut, bare→cut, By
 -- ---- the places but one
 
 pub place-within : (places : List Symbol) (q : ℕ) {s : Symbol} → getElem? places q ≡ some s → q < length places
-place-within [] q e = let z : _≡_ {A = ℕ} 0 1 = cc in absurd (omega arith)
+place-within [] q e = clash cc
 place-within (x ∷ places) zero e = omega arith
 place-within (x ∷ places) (suc q) e = omega (arith, place-within places q e)
 
@@ -30,15 +31,15 @@ same-child : {j k : ℕ} → some (nonterminal j) ≡ some (nonterminal k) → j
 same-child e = cc
 
 no-child : {k : ℕ} {t : Terminal} → some (nonterminal k) ≡ some (terminal t) → ⊥
-no-child e = let z : _≡_ {A = ℕ} 0 1 = cc in omega arith
+no-child e = clash cc
 
 -- all places together are one of them and the others
 pub others-total : (cost : ℕ → ℕ) (places : List Symbol) (q : ℕ) {k : ℕ} → getElem? places q ≡ some (nonterminal k)
     → others cost places q + cost k ≡ together cost places
 unfolding others together single
-others-total cost [] q e = let z : _≡_ {A = ℕ} 0 1 = cc in absurd (omega arith)
+others-total cost [] q e = clash cc
 others-total cost (nonterminal n ∷ places) zero {k} e = let p : n ≡ k = cc in let y : cost n ≡ cost k = ap cost p in omega arith
-others-total cost (terminal t ∷ places) zero e = let z : _≡_ {A = ℕ} 0 1 = cc in absurd (omega arith)
+others-total cost (terminal t ∷ places) zero e = clash cc
 others-total cost (nonterminal n ∷ places) (suc q) e = omega (arith, others-total cost places q e)
 others-total cost (terminal t ∷ places) (suc q) e = omega (arith, others-total cost places q e)
 

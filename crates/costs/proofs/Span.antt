@@ -6,12 +6,11 @@ use mathlib.Core.List.{List, [], _∷_, _++_}
 use mathlib.Core.Logic.{_↔_}
 use mathlib.Core.Path.{_≡_, refl, sym, ap, _∙_, subst}
 use native.Mathlib.Omega.{arith}
-use lib.ListN.{length, getD, length-append}
+use lib.ListN.{length, getD}
 use lib.Seq.{slice, slice-empty, slice-cons}
 use Rattle.sizes.specs.Sizes.{tooMany}
 use Rattle.cfg.specs.Grammar.{Cfg, fits}
 use Rattle.cfg.specs.Tree.{Forest, yield, nodes, Parse}
-use Rattle.cfg.specs.Derivation.{Has, has-here, has-below, has-beside, has-after}
 use Rattle.chart.specs.Cell.{fitsAt}
 use Rattle.chart.proofs.Slices.{slice-nil, slice-head}
 use Rattle.chart.proofs.Trees.{fits-at, at-fits}
@@ -46,14 +45,6 @@ module _ {bytes : ℕ → ℕ → Type 0} where
   pub reads-nil : {a : ℕ} {u : List ℕ} → Reads bytes a a u → u ≡ []
   reads-nil (reads-end e) = refl
   reads-nil (reads-byte p r) = absurd (omega (arith, reads-length r))
-
--- a node covers no more than the forest that it is in
-pub has-small : {G : Cfg} {k n : ℕ} {f : Forest} → Has G k n f → n ≤ length (yield f)
-unfolding yield
-has-small (has-here {below = below} {rest} o e) = omega (arith, length-append (yield below) (yield rest))
-has-small (has-below {below = below} {rest} h) = omega (arith, has-small h, length-append (yield below) (yield rest))
-has-small (has-beside {below = below} {rest} h) = omega (arith, has-small h, length-append (yield below) (yield rest))
-has-small (has-after h) = omega (arith, has-small h)
 
 -- ---- the bytes of one input
 

@@ -4,9 +4,7 @@ use mathlib.Core.List.{List}
 use mathlib.Core.Path.{_≡_, ap₂, _∙_}
 use lib.ListN.{length}
 use Rattle.sizes.specs.Sizes.{maxInput, cells}
-use Rattle.cfg.specs.Grammar.{rule}
-use Rattle.chart.specs.Column.{filled, complete}
-use Rattle.chart.proofs.Truth.{filled-length}
+use Rattle.chart.specs.Column.{complete}
 use Rattle.costs.specs.Span.{bytesOf}
 use Rattle.fit.specs.Fit.{Told}
 use Rattle.grammar.specs.declared.Grammar.{Grammar}
@@ -24,7 +22,7 @@ use Rattle.prepare.proofs.Packing.{list-packed}
 use Rattle.results.specs.Answer.{Answer, Figure, refused}
 use Rattle.results.specs.Enumerate.{treeIn, countIn, countOf}
 use Rattle.tables.specs.Exact.{ChartTrue}
-use Rattle.first.proofs.Chart.{chart-packed}
+use Rattle.first.proofs.Chart.{Filling, filled-chart}
 use Rattle.counting.specs.Answer.{countOr, countFilled}
 
 module _ (g : Grammar) (w chart : List ℕ) (j : Judged) (judging : Judging g (length w) (length chart) j) where
@@ -32,14 +30,13 @@ module _ (g : Grammar) (w chart : List ℕ) (j : Judged) (judging : Judging g (l
   unfolding countOf
   count-refused r h = call-refused g w chart _ j judging r h
 
-  module _ (is : j ≡ Passed) (p chart' : List ℕ) (filling : (chart' ≡ filled (grammarOf g) w chart)
-      × ((r : ℕ) → rule (cfgIn (g .start) p) r ≡ rule (grammarOf g) r)) where
+  module _ (is : j ≡ Passed) (p chart' : List ℕ) (filling : Filling g p w chart chart') where
     -- what answering over the filled chart asks
     pub filled-ready : {fits : List ℕ} → Told p w fits
         → (length w ≤ maxInput) × (cells ≤ length chart') × Told p w fits × ChartTrue p (bytesOf w) chart' (length w)
     filled-ready told =
-        let (v, a, b) = judged-ready g (length w) (length chart) j judging is in
-        (a, rw (filling .0, filled-length (grammarOf g) w chart b) b, told, chart-packed g p w chart chart' a b filling)
+        let (a, b, t) = filled-chart g p w chart chart' (judged-ready g (length w) (length chart) j judging is) filling in
+        (a, b, told, t)
 
     module _ (s : ℕ) (start : s ≡ g .start) where
       -- over the grammar that was packed

@@ -1,42 +1,30 @@
 -- What is counted once the tables are made, and over the filled chart, by the tests that the code makes. Assumes nothing.
 use Prim.Native.Nat.{ℕ, _≤_, _<_}
 use mathlib.Core.Bool.{Bool, true, false}
-use mathlib.Core.List.{List, [], _∷_}
-use mathlib.Core.Path.{_≡_, refl, sym, ap, _∙_}
+use mathlib.Core.List.{List, []}
+use mathlib.Core.Path.{_≡_, refl, sym, _∙_}
 use native.Mathlib.Omega.{arith}
 use lib.Dec.{leb}
-use lib.ListN.{length, getD, drop, List·getD-append}
-use borrow.Author.Tests.{leb-true, leb-false, ne-eqb}
+use lib.ListN.{length}
+use borrow.Author.Tests.{leb-true, ne-eqb}
 use Rattle.sizes.specs.Sizes.{maxRules, maxNodes}
 use Rattle.sets.specs.Set.{has}
 use Rattle.cfg.specs.Listing.{L}
 use Rattle.chart.specs.Cell.{cell}
 use Rattle.chart.specs.Column.{complete}
-use Rattle.choices.proofs.Root.{root-barren, root-exceeds}
 use Rattle.costs.specs.Span.{bytesOf}
 use Rattle.descend.specs.Descend.{Given}
 use Rattle.packed.specs.Packed.{cfgIn}
-use Rattle.results.specs.Answer.{Answer, Figure, refused, answered, handed, counted}
-use Rattle.results.specs.Enumerate.{Enumeration, headOf, handingOut, figure}
-use Rattle.results.proofs.Answers.{answered-apart}
+use Rattle.results.specs.Answer.{Answer, Figure, refused, answered, counted}
+use Rattle.results.specs.Enumerate.{figure}
 use Rattle.tables.specs.Layout.{costIn}
-use Rattle.tables.specs.Exact.{Packing, ChartTrue}
-use Rattle.initial.specs.Written.{enumerationOf, FirstWritten}
-use Rattle.initial.proofs.Root.{same, start}
+use Rattle.tables.specs.Exact.{ChartTrue}
+use Rattle.initial.specs.Written.{FirstWritten}
+use Rattle.initial.proofs.Root.{empty-incomplete}
+use Rattle.initial.proofs.Writing.{empty-larger}
 use Rattle.counting.specs.Answer.{countOr, countTree, countFilled}
-use Rattle.counting.specs.Made.{Stands, CountedOn, CountedMade}
-
--- ---- the first element stands where it was handed out
-
-handed-stands : (l : List (List ℕ)) (chart out₀ out : List ℕ) (m : ℕ)
-    → enumerationOf (answered (handed m)) chart out ≡ handingOut (headOf l) (refused 13) chart out₀ → Stands l 0 out
-unfolding handingOut headOf
-handed-stands [] chart out₀ out m e = absurd (answered-apart (ap (λ (x : Enumeration). x .answer) e))
-handed-stands (d ∷ l) chart out₀ out m e = record {
-  there = omega arith;
-  here = λ y h.
-      ap (λ (x : Enumeration). getD (x .output) y 0) e ∙ List·getD-append d (drop (length d) out₀) 0 y h;
-}
+use Rattle.counting.specs.Made.{CountedOn, CountedMade}
+use Rattle.counting.proofs.Handed.{handed-first}
 
 -- ---- over tables that are made
 
@@ -53,17 +41,15 @@ module _ (p : List ℕ) (rules : ℕ) (fits chart tables : List ℕ) (s n : ℕ)
       → (a : Answer Figure) → CountedOn p rules fits chart tables s n buf a → CountedMade p rules fits chart tables s n a
   made-counted fresh buf m h W a C = record {
     exact = λ w to given.
-        let S = handed-stands (L (cfgIn s p) w) chart fresh buf m
-        (W .exact (leb-true (costIn tables s 0 n) maxNodes (sym told ∙ h)) w to given) in
+        let S = handed-first (L (cfgIn s p) w) chart fresh buf m
+        (W .exact (leb-true (costIn tables s 0 n) maxNodes (sym told ∙ h)) w to given) .stands in
         counted-some (L (cfgIn s p) w) (S .there) a (C .exact w to given S);
   }
 
   pub made-many : b ≡ false → CountedMade p rules fits chart tables s n (refused 13)
   made-many h = record {
     exact = λ w to given.
-        counted-none (L (cfgIn s p) w)
-        (root-exceeds (Packing p) (cfgIn s p) (same p w s) w (start p w s) to (given .exact .least s 0 n (omega arith) (omega arith))
-        (omega (arith, leb-false (costIn tables s 0 n) maxNodes (sym told ∙ h)))) (refused 13);
+        counted-none (L (cfgIn s p) w) (empty-larger p rules fits chart tables s n w to given (sym told ∙ h)) (refused 13);
   }
 
 -- ---- the tables of an input are right for it
@@ -80,9 +66,7 @@ module _ (p w : List ℕ) (s : ℕ) (chart : List ℕ) (b : Bool) (told : b ≡ 
   unfolding complete cfgIn
   count-none cells h =
       let absent : has s (cell chart 0 (length w)) ≡ false = sym told ∙ h in
-      let empty = root-barren (Packing p) (cfgIn s p) (same p w s) w (start p w s) refl
-      (cells 0 (length w) (omega arith) (omega arith) s absent) in
-      rw absent (counted-none (L (cfgIn s p) w) empty (answered (counted 0)))
+      rw absent (counted-none (L (cfgIn s p) w) (empty-incomplete p w s chart cells absent) (answered (counted 0)))
 
   pub count-complete : b ≡ true → (x : Answer Figure) → x ≡ countTree (L (cfgIn s p) w) → x ≡ countFilled (cfgIn s p) w chart
   unfolding complete cfgIn

@@ -1,2 +1,3 @@
 -- Laws of counting.
+pub mod Handed
 pub mod Loop

@@ -3,7 +3,7 @@
 use Prim.Native.Nat.{ℕ, suc, _+_, _≤_, _<_}
 use mathlib.Core.List.{List, []}
 use mathlib.Core.Logic.{dite}
-use mathlib.Core.Option.{none, some}
+use mathlib.Core.Option.{Option·some-injective, Option·none-ne-some}
 use mathlib.Core.Path.{_≡_, refl, sym, ap, subst, _∙_}
 use native.Mathlib.Decide.{decLt}
 use native.Mathlib.Omega.{arith}
@@ -23,18 +23,12 @@ use Rattle.counting.specs.Made.{Stands, CountedOn}
 
 -- ---- one advance
 
-some-inj : {A : Type 0} {a b : A} → some a ≡ some b → a ≡ b
-some-inj e = cc
-
-none-apart : {A : Type 0} {a : A} → none ≡ some a → ⊥
-none-apart e = let z : _≡_ {A = ℕ} 0 1 = cc in omega arith
-
 module _ (l : List (List ℕ)) (rising : Rising l) (i : ℕ) (there : i < length l) (buf : List ℕ) (m : ℕ)
     (A : Advanced l (getD l i []) buf m) where
   -- no nodes: element i is the last one
   pub last-element : m ≡ 0 → length l ≡ i + 1
   last-element h = dite (decLt (suc i) (length l))
-      (λ k. absurd (none-apart (sym (A .none-left h) ∙ after-next l rising i k)))
+      (λ k. absurd (Option·none-ne-some _ (sym (A .none-left h) ∙ after-next l rising i k)))
       (λ k. omega arith)
 
   -- some: the one after it stands
@@ -44,11 +38,11 @@ module _ (l : List (List ℕ)) (rising : Rising l) (i : ℕ) (there : i < length
       go : Following l (getD l i []) buf m → Stands l (i + 1) buf
       go F = dite (decLt (suc i) (length l))
           (λ k. let e : suc i ≡ i + 1 = omega arith in
-          let is = some-inj (sym (F .after) ∙ after-next l rising i k) in record {
+          let is = Option·some-injective _ _ (sym (F .after) ∙ after-next l rising i k) in record {
             there = omega arith;
             here = subst (λ (x : ℕ). Begins buf (getD l x [])) e (subst (Begins buf) is (F .here));
           })
-          (λ k. let all : suc i ≡ length l = omega arith in absurd (none-apart (sym (after-last l rising i all) ∙ F .after)))
+          (λ k. let all : suc i ≡ length l = omega arith in absurd (Option·none-ne-some _ (sym (after-last l rising i all) ∙ F .after)))
 
 -- ---- what is said
 

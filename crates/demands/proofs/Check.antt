@@ -4,12 +4,12 @@ use Prim.Native.Nat.{ℕ}
 use mathlib.Core.Bool.{Bool, true, false}
 use mathlib.Core.List.{List}
 use mathlib.Core.Logic.{_↔_}
-use mathlib.Core.Path.{_≡_, refl, sym, ap, _∙_}
+use mathlib.Core.Path.{_≡_, sym, ap, _∙_}
+use Rattle.laws.proofs.Bools.{true-false, bool-false}
 use Rattle.cfg.specs.Derivation.{Derivation, limit}
 use Rattle.cfg.specs.Listing.{L}
 use Rattle.grammar.specs.declared.Grammar.{Grammar}
 use Rattle.grammar.specs.View.{grammarOf}
-use Rattle.grammar.proofs.All.{true-false}
 use Rattle.listing.proofs.Exact.{listed→derivation, derivation→listed}
 use Rattle.results.specs.Answer.{answered}
 use Rattle.results.specs.Check.{Checking, listed, checkIn, checkOf}
@@ -35,9 +35,5 @@ module _ (g : Grammar) (w chart : List ℕ) (ready : Ready g w chart) (offered :
   pub check-no : (checkOf g w offered chart .answer ≡ answered false) ↔ (Derivation (grammarOf g) limit w offered → ⊥)
   check-no = (
     λ e d. true-false (derivation-listed .1 d) (answered-inj (sym said ∙ e)),
-    λ f. said ∙ ap answered (by (listed offered (L (grammarOf g) w)) (λ e. f (derivation-listed .0 e))),
+    λ f. said ∙ ap answered (bool-false (listed offered (L (grammarOf g) w)) (λ e. f (derivation-listed .0 e))),
   )
-    where
-      by : (b : Bool) → (b ≡ true → ⊥) → b ≡ false
-      by true n = absurd (n refl)
-      by false n = refl

@@ -2,15 +2,16 @@
 -- there is none. Assumes nothing.
 use Prim.Native.Nat.{ℕ}
 use mathlib.Core.Bool.{Bool, true, false, not}
-use mathlib.Core.List.{List, [], _∷_, List·Memᴰ, List·Memᴰ·head, List·Memᴰ·not-nil}
+use mathlib.Core.List.{List, [], List·Memᴰ, List·Memᴰ·not-nil}
 use mathlib.Core.Path.{_≡_, refl, ap, subst}
+use Rattle.laws.proofs.Bools.{true-false}
+use Rattle.laws.proofs.Lists.{no-member}
 use Rattle.cfg.specs.Grammar.{Cfg}
 use Rattle.cfg.specs.Derivation.{Derivation, limit}
 use Rattle.cfg.specs.Listing.{L}
 use Rattle.listing.proofs.Exact.{listed→derivation, derivation→listed}
 use Rattle.grammar.specs.declared.Grammar.{Grammar}
 use Rattle.grammar.specs.View.{grammarOf}
-use Rattle.grammar.proofs.All.{true-false}
 use Rattle.results.specs.Check.{listed}
 use Rattle.results.specs.Measure.{unlisted}
 use Rattle.results.proofs.Demand3.Rows.{listed-member, member-listed}
@@ -34,11 +35,7 @@ module _ (g : Grammar) (w e : List ℕ) where
 
 module _ (G : Cfg) (w : List ℕ) where
   pub none→empty : ((e : List ℕ) → Derivation G limit w e → ⊥) → L G w ≡ []
-  none→empty f = by (L G w) (λ e m. f e (listed→derivation G limit w e m))
-    where
-      by : (l : List (List ℕ)) → ((e : List ℕ) → List·Memᴰ e l → ⊥) → l ≡ []
-      by [] h = refl
-      by (d ∷ l) h = absurd (h d (List·Memᴰ·head refl))
+  none→empty f = no-member (L G w) (λ e m. f e (listed→derivation G limit w e m))
 
   pub empty→none : L G w ≡ [] → (e : List ℕ) → Derivation G limit w e → ⊥
   empty→none q e d = List·Memᴰ·not-nil (subst (List·Memᴰ e) q (derivation→listed G limit w e d))

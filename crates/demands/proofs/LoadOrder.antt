@@ -3,9 +3,9 @@ use Prim.Native.Nat.{ℕ, _+_}
 use mathlib.Core.Bool.{Bool, true, false, cond}
 use mathlib.Core.List.{List, _∷_}
 use mathlib.Core.Path.{_≡_}
-use native.Mathlib.Omega.{arith}
 use lib.Dec.{eqb}
 use lib.ListN.{length, getD}
+use Rattle.laws.proofs.Bools.{clash}
 use Rattle.grammar.specs.declared.Grammar.{Grammar}
 use Rattle.results.specs.Load.{Fault, fault, commandChecks, Step, stop, next, done, step}
 use Rattle.demands.specs.LoadOrder.{ended, CommandOrder}
@@ -13,8 +13,8 @@ use Rattle.demands.proofs.Decided.{decided, all-failing}
 
 -- what comes after the checks is no stop
 goes-on : (b : Bool) (at : ℕ) (g h : Grammar) (f : Fault) → cond b (done g) (next at h) ≡ stop f → ⊥
-goes-on true at g h f e = let z : _≡_ {A = ℕ} 0 1 = cc in omega arith
-goes-on false at g h f e = let z : _≡_ {A = ℕ} 0 1 = cc in omega arith
+goes-on true at g h f e = clash cc
+goes-on false at g h f e = clash cc
 
 pub step-order : (bytes : List ℕ) (at : ℕ) (g : Grammar)
     → CommandOrder bytes at (getD bytes at 0) (getD bytes (at + 1) 0) g (step bytes at g)

@@ -1,6 +1,6 @@
 -- Opening and then taking any row of bytes: the state, the answer and the chart. Assumes nothing.
 use Prim.Native.Nat.{ℕ, _+_, _≤_, _<_}
-use mathlib.Core.Bool.{Bool, true, false, not}
+use mathlib.Core.Bool.{true, false, not}
 use mathlib.Core.List.{List, [], _∷_, _++_, append-nil}
 use mathlib.Core.Logic.{_↔_, _⊎_}
 use mathlib.Core.Path.{_≡_, refl, sym, ap, _∙_}
@@ -11,6 +11,7 @@ use lib.ListN.{length, take, drop, length-drop, take-append-drop}
 use lib.Seq.{slice, append-snoc, take-all, length-take-le}
 use borrow.Author.Tests.{le-ltb, eq-eqb}
 use Rattle.sizes.specs.Sizes.{cells}
+use Rattle.laws.proofs.Bools.{true-false, bool-false}
 use Rattle.sets.specs.Set.{has}
 use Rattle.cfg.specs.Tree.{Forest, Parse, HasTree}
 use Rattle.chart.specs.Cell.{cell}
@@ -20,7 +21,6 @@ use Rattle.chart.proofs.Truth.{filled-true, filled-zero, complete-tree, filled-
 use Rattle.grammar.specs.declared.Grammar.{Grammar}
 use Rattle.grammar.specs.Valid.{validGrammar}
 use Rattle.grammar.specs.View.{grammarOf}
-use Rattle.grammar.proofs.All.{true-false}
 use Rattle.grammar.proofs.Bounds.{valid-bounded}
 use Rattle.results.specs.Answer.{refused, answered, check}
 use Rattle.results.specs.Recognize.{stateOf, Recognition, grammarCheck, stateCheck, chartCheck, openIn, openOf, takeIn, takeOf, fed}
@@ -126,11 +126,7 @@ module _ (g : Grammar) (found : List ℕ) where
 
       no-tree-of : (answered (complete (grammarOf g) (length ms) (filled (grammarOf g) ms found)) ≡ answered false)
           ↔ (HasTree (grammarOf g) ms → ⊥)
-      no-tree-of = (λ e t. true-false (has-tree .1 t) (answered-inj e), λ f. ap answered (by _ (λ e. f (has-tree .0 e))))
-        where
-          by : (b : Bool) → (b ≡ true → ⊥) → b ≡ false
-          by true f = absurd (f refl)
-          by false f = refl
+      no-tree-of = (λ e t. true-false (has-tree .1 t) (answered-inj e), λ f. ap answered (bool-false _ (λ e. f (has-tree .0 e))))
 
     -- ---- the theorem
 

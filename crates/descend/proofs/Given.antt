@@ -2,11 +2,12 @@
 -- Assumes nothing.
 use Prim.Native.Nat.{ℕ, _-_, _≤_, _<_}
 use mathlib.Core.List.{List}
+use mathlib.Core.Logic.{dite}
 use mathlib.Core.Path.{sym, subst}
 use native.Mathlib.Decide.{decLt}
 use native.Mathlib.Omega.{arith}
 use lib.ListN.{length, getD}
-use Rattle.sizes.specs.Sizes.{tooMany}
+use Rattle.sizes.specs.Sizes.{maxRules, nonterminals, tooMany}
 use Rattle.cfg.specs.Grammar.{Symbol, Of}
 use Rattle.chart.specs.Cell.{cell, fitsAt}
 use Rattle.costs.specs.Lowest.{Lowest}
@@ -18,7 +19,7 @@ use Rattle.choices.specs.SpanCosts.{SpanCosts}
 use Rattle.packed.specs.Packed.{leftIn, countIn, placesIn}
 use Rattle.packed.proofs.Laws.{of-in}
 use Rattle.tables.specs.Layout.{costIn, fullIn}
-use Rattle.tables.specs.Exact.{Packing}
+use Rattle.tables.specs.Exact.{Packing, PastLast}
 use Rattle.suffixes.specs.Within.{tailIn, rowAt, Inside as Suffix}
 use Rattle.suffixes.specs.Rows.{RowsPut}
 use Rattle.solve.specs.Solve.{Solved, RuleOver}
@@ -33,6 +34,10 @@ node-used p w {k = k} X l =
     let (r, o, f, g, q) = tree-node (T .0 .fitted) in
     let (h, e, m, s) = of-in 0 p r k o in
     omega arith
+
+-- a number that has a rule is not past the last one that has
+pub rule-before : (p : List ℕ) (rules : ℕ) → PastLast p rules → (s : ℕ) → s < maxRules → leftIn p s < nonterminals → s < rules
+rule-before p rules past s u d = dite (decLt s rules) (λ q. q) (λ e. let z = past s (omega arith) u in absurd (omega arith))
 
 module _ {p : List ℕ} {rules : ℕ} {fits chart tables w : List ℕ} (G : Given p rules fits chart tables w) {i j : ℕ} (h : i ≤ j)
     (l : j ≤ length w) where
@@ -60,18 +65,11 @@ module _ {p : List ℕ} {rules : ℕ} {fits chart tables w : List ℕ} (G : Give
       → (v : ℕ) × Lowest (NodeCost (fitsAt w) (fullIn full) (costIn tables) (o .the .places) i j) v × (budget < v)
   passed-dearer {k = k} {full = full} P s n m o =
       let (u, c, d, f) = of-in 0 p s k o in
-      let (v, R, b) = P .beyond s n m (before u d) .cost c in (
+      let (v, R, b) = P .beyond s n m (rule-before p rules (G .past) s u d) .cost c in (
         v,
         subst (λ (z : List Symbol). Lowest (NodeCost (fitsAt w) (fullIn full) (costIn tables) z i j) v) (sym f) (rule-lowest R d),
         b,
       )
-    where
-      before : s < 128 → leftIn p s < 32 → s < rules
-      before u d = go (decLt s rules)
-        where
-          go : Dec (s < rules) → s < rules
-          go (yes q) = q
-          go (no e) = let z = G .past s (omega arith) u in absurd (omega arith)
 
   pub rows-right : {r : ℕ} {full rows : List ℕ} → RowsPut p r fits tables full i j rows → (q c : ℕ) → q ≤ countIn p r → i ≤ c → c ≤ j
       → Suffix (fitsAt w) tables full i j (tailIn p r q) c (getD rows (rowAt 0 q c) 0)

@@ -2,5 +2,6 @@
 pub mod Opening
 pub mod Codes
 pub mod Given
+pub mod Opened
 pub mod RowSteps
 pub mod NodeSteps

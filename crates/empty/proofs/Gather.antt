@@ -2,18 +2,16 @@
 use Prim.Native.Nat.{ℕ, _+_, _≤_, _<_}
 use mathlib.Core.Bool.{Bool, true, false}
 use mathlib.Core.List.{List}
-use mathlib.Core.Logic.{_≢_}
 use mathlib.Core.Path.{_≡_, sym, ap, _∙_, subst}
-use native.Mathlib.Decide.{ℕ-discrete}
 use native.Mathlib.Omega.{arith}
 use lib.ListN.{length, getD, set, length-set}
-use lib.Seq.{getD-set-same, getD-set-other}
+use Rattle.laws.proofs.Bools.{true-false, clash}
+use Rattle.laws.proofs.Lists.{set-below, below-step}
 use Rattle.sets.specs.Set.{has, insert}
 use Rattle.sets.proofs.Laws.{has-insert, has-insert-same}
 use Rattle.cfg.specs.Grammar.{nonterminal, terminal}
 use Rattle.packed.specs.Packed.{countIn, symbolIn, isNonterminalIn, valueIn, terminalIn}
 use Rattle.packed.proofs.Fitting.{symbol-nonterminal, symbol-terminal}
-use Rattle.grammar.proofs.All.{true-false}
 use Rattle.empty.specs.Empty.{Kinds, KindAt, KindsAll}
 
 module _ (p : List ℕ) (r q last v : ℕ) where
@@ -27,8 +25,7 @@ module _ (p : List ℕ) (r q last v : ℕ) where
   pub kind-terminal : (t : Bool) → t ≡ isNonterminalIn p r q → t ≡ false → KindAt p r q last v v
   kind-terminal t e g = kind-skip (λ k d _ _.
       let s : symbolIn p r q ≡ terminal (terminalIn p r q) = symbol-terminal p r q (sym e ∙ g) in
-      let z : _≡_ {A = ℕ} 0 1 = cc in
-      omega arith)
+      clash cc)
 
   module _ (t : Bool) (e : t ≡ isNonterminalIn p r q) (g : t ≡ true) (k : ℕ) (f : k ≡ valueIn p r q) where
     same : (j : ℕ) → symbolIn p r q ≡ nonterminal j → j ≡ k
@@ -55,12 +52,10 @@ module _ (p : List ℕ) (r last : ℕ) where
   kinds-start = record { done = λ q k l. absurd (omega arith) }
 
   pub kinds-step : (m v x : ℕ) → KindAt p r m last v x → KindsTo m v → KindsTo (m + 1) x
-  kinds-step m v x at to = record { done = λ q k l. go q k l (ℕ-discrete q m) }
-    where
-      go : (q k : ℕ) → q < m + 1 → Dec (q ≡ m) → symbolIn p r q ≡ nonterminal k → k < 32 → has (q + 1) last ≡ true → has k x ≡ true
-      go q k l (yes d) = subst (λ (y : ℕ). symbolIn p r y ≡ nonterminal k → k < 32 → has (y + 1) last ≡ true → has k x ≡ true) (sym d)
-          (at .here k)
-      go q k l (no d) = λ e b h. let u : q ≢ m = d in at .keeps k (to .done q k (omega arith) e b h)
+  kinds-step m v x at to = record {
+    done = λ q k. below-step (λ (q : ℕ). symbolIn p r q ≡ nonterminal k → k < 32 → has (q + 1) last ≡ true → has k x ≡ true) m
+        (λ q l e b h. at .keeps k (to .done q k l e b h)) (at .here k) q;
+  }
 
   pub kinds-done : (m v : ℕ) → countIn p r ≤ m → KindsTo m v → Kinds p r last v
   kinds-done m v h to = record { all = λ q k l. to .done q k (omega arith) }
@@ -75,14 +70,10 @@ module _ (p : List ℕ) (rules : ℕ) (lasts : List ℕ) where
   all-start kinds e = record { long = e; done = λ r l. absurd (omega arith) }
 
   pub all-step : (m v : ℕ) (kinds : List ℕ) → m < 128 → Kinds p m (getD lasts m 0) v → AllTo m kinds → AllTo (m + 1) (set kinds m v)
-  all-step m v kinds b one to = record { long = length-set kinds m v ∙ to .long; done = λ r l. go r l (ℕ-discrete r m) }
-    where
-      go : (r : ℕ) → r < m + 1 → Dec (r ≡ m) → Kinds p r (getD lasts r 0) (getD (set kinds m v) r 0)
-      go r l (yes d) = subst (λ (y : ℕ). Kinds p y (getD lasts y 0) (getD (set kinds m v) y 0)) (sym d)
-          (subst (λ (y : ℕ). Kinds p m (getD lasts m 0) y) (sym (getD-set-same kinds m v 0 (omega (arith, to .long)))) one)
-      go r l (no d) =
-          let u : r ≢ m = d in
-          subst (λ (y : ℕ). Kinds p r (getD lasts r 0) y) (sym (getD-set-other kinds m r v 0 d)) (to .done r (omega arith))
+  all-step m v kinds b one to = record {
+    long = length-set kinds m v ∙ to .long;
+    done = set-below (λ (r x : ℕ). Kinds p r (getD lasts r 0) x) 0 kinds m v (omega (arith, to .long)) one (to .done);
+  }
 
   pub all-done : (m : ℕ) (kinds : List ℕ) → rules ≤ m → AllTo m kinds → KindsAll p rules lasts kinds
   all-done m kinds h to = record { long = to .long; each = λ r l. to .done r (omega arith) }

@@ -9,13 +9,13 @@ use native.Mathlib.Omega.{arith}
 use lib.ListN.{length, getD, set, length-set}
 use lib.Seq.{getD-set-same, getD-set-other}
 use borrow.Author.Tests.{eq-eqb}
+use Rattle.laws.proofs.Bools.{true-false}
 use Rattle.sets.proofs.Laws.{has-empty}
 use Rattle.cfg.specs.Grammar.{Symbol}
 use Rattle.chart.specs.Cell.{cuts}
 use Rattle.chart.proofs.Rounds.{sub-empty}
 use Rattle.packed.specs.Packed.{placesIn, symbolIn}
 use Rattle.packed.proofs.Laws.{places-start}
-use Rattle.grammar.proofs.All.{true-false}
 use Rattle.cells.specs.Flags.{Fit, Sets, Cutting, InnerCut, inner-leaf, inner-node, owned}
 use Rattle.cells.specs.Passes.{Within, ClosedAt, Settled, RuleMask, addedIn}
 use Rattle.cells.proofs.Owned.{owned-here, owned-mono}

@@ -1,11 +1,11 @@
 -- Superfluous recursion, and being free of a mask, for a row from those of its parts and back: a leaf before a row, a node before a row, a
 -- node and the row below it. No node covers more than the row that it stands in, so a narrow row is free of every mask. Assumes nothing.
-use Prim.Native.Nat.{ℕ, _≤_, _<_}
+use Prim.Native.Nat.{ℕ, _<_}
 use mathlib.Core.Bool.{Bool, true, false, true≢false}
 use mathlib.Core.Path.{_≡_, refl, sym, ap, subst, _∙_}
 use native.Mathlib.Decide.{ℕ-discrete}
 use native.Mathlib.Omega.{arith}
-use lib.ListN.{length, length-append}
+use lib.ListN.{length}
 use Rattle.sets.specs.Set.{has, insert}
 use Rattle.sets.proofs.Laws.{has-empty, has-insert-same, has-insert-other, has-insert}
 use Rattle.cfg.specs.Grammar.{Cfg, Of}
@@ -13,14 +13,8 @@ use Rattle.cfg.specs.Tree.{Forest, end, leaf, node, yield}
 use Rattle.cfg.specs.Derivation.{Has, has-here, has-below, has-beside, has-after}
 use Rattle.cfg.specs.Derivation.{Superfluous, super-here, super-below, super-beside, super-after}
 use Rattle.cfg.proofs.Of.{of-same-left}
+use Rattle.cfg.proofs.Has.{has-within}
 use Rattle.enumeration.specs.Rows.{Free}
-
-pub has-within : {G : Cfg} {k n : ℕ} {t : Forest} → Has G k n t → n ≤ length (yield t)
-unfolding yield
-has-within (has-here {below = below} {rest} o e) = omega (arith, length-append (yield below) (yield rest))
-has-within (has-below {below = below} {rest} h) = omega (arith, has-within h, length-append (yield below) (yield rest))
-has-within (has-beside {below = below} {rest} h) = omega (arith, has-within h, length-append (yield below) (yield rest))
-has-within (has-after h) = omega (arith, has-within h)
 
 module _ (G : Cfg) where
   -- a forest over fewer bytes is free of every mask

@@ -5,6 +5,7 @@ use mathlib.Core.List.{List, [], _∷_, _++_, List·Memᴰ, List·Memᴰ·head, 
 use mathlib.Core.List.{Memᴰ·append-right}
 use mathlib.Core.Logic.{_⊎_, inl, inr}
 use mathlib.Core.Path.{_≡_, refl, sym, ap, subst, _∙_}
+use Rattle.laws.proofs.Lists.{no-member}
 use Rattle.cfg.specs.Tree.{Forest, code}
 use Rattle.cfg.specs.Derivation.{_≺_}
 use Rattle.listing.proofs.Order.{≺-irreflexive, ≺-asymmetric}
@@ -90,11 +91,7 @@ module _ {P : Forest → Type 0} {l : List (List ℕ)} (L : Lists P l) where
   lists-first {e} m = sorted-first (L .sorted) (code-listed (m .found)) (never (λ f. f ≺ e) (m .least))
 
   pub lists-none : None P → l ≡ []
-  lists-none n = go l (λ e i. let c = L .coded e i in n (c .forest) (c .member))
-    where
-      go : (m : List (List ℕ)) → ((e : List ℕ) → List·Memᴰ e m → ⊥) → m ≡ []
-      go [] k = refl
-      go (a ∷ m) k = absurd (k a (List·Memᴰ·head refl))
+  lists-none n = no-member l (λ e i. let c = L .coded e i in n (c .forest) (c .member))
 
   pub lists-next : {d e : List ℕ} → List·Memᴰ d l → After P d e → (x y : List (List ℕ)) × (l ≡ x ++ d ∷ e ∷ y)
   lists-next {d} {e} i a =

@@ -4,9 +4,7 @@ use mathlib.Core.List.{List}
 use mathlib.Core.Path.{_≡_, sym, _∙_}
 use lib.ListN.{length}
 use Rattle.sizes.specs.Sizes.{cells, outputSize}
-use Rattle.cfg.specs.Grammar.{rule}
-use Rattle.chart.specs.Column.{filled, complete}
-use Rattle.chart.proofs.Truth.{filled-length}
+use Rattle.chart.specs.Column.{complete}
 use Rattle.costs.specs.Span.{bytesOf}
 use Rattle.fit.specs.Fit.{Told}
 use Rattle.grammar.specs.declared.Grammar.{Grammar}
@@ -25,20 +23,16 @@ use Rattle.results.specs.Enumerate.{treeIn, onOutput, firstIn, firstOf}
 use Rattle.tables.specs.Exact.{ChartTrue}
 use Rattle.initial.specs.Written.{enumerationOf}
 use Rattle.first.specs.Answer.{firstFilled}
-use Rattle.first.proofs.Chart.{chart-packed}
-
--- the chart was filled, and the packed bytes have the rules of the grammar
-abbrev Filling : Grammar → List ℕ → List ℕ → List ℕ → List ℕ → Type 0
-Filling g p w chart chart' =
-    (chart' ≡ filled (grammarOf g) w chart) × ((r : ℕ) → rule (cfgIn (g .start) p) r ≡ rule (grammarOf g) r)
+use Rattle.first.proofs.Chart.{Filling, filled-chart}
 
 -- what answering over the filled chart asks
 pub filled-ready : (g : Grammar) (p w fits chart chart' : List ℕ) (k : ℕ) (j : Judged) → JudgingOutput g (length w) (length chart) k j
     → j ≡ Passed → Filling g p w chart chart' × Told p w fits
     → (length w ≤ 64) × (cells ≤ length chart') × (outputSize ≤ k) × Told p w fits × ChartTrue p (bytesOf w) chart' (length w)
 filled-ready g p w fits chart chart' k j judging is (filling, told) =
-    let ((v, a, b), c) = output-ready g (length w) (length chart) k j judging is in
-    (a, rw (filling .0, filled-length (grammarOf g) w chart b) b, c, told, chart-packed g p w chart chart' a b filling)
+    let (ready, c) = output-ready g (length w) (length chart) k j judging is in
+    let (a, b, t) = filled-chart g p w chart chart' ready filling in
+    (a, b, c, told, t)
 
 module _ (g : Grammar) (w chart out : List ℕ) (j : Judged) (judging : JudgingOutput g (length w) (length chart) (length out) j) where
   pub first-refused : (r : Refusal) → j ≡ Refused r → enumerationOf (refused (numberOf r)) chart out ≡ firstOf g w chart out

@@ -3,19 +3,18 @@ use Prim.Native.Nat.{ℕ, _≤_}
 use mathlib.Core.Bool.{Bool, true, false}
 use mathlib.Core.List.{List}
 use mathlib.Core.Path.{_≡_, refl, sym, _∙_}
-use native.Mathlib.Omega.{arith}
 use lib.Dec.{leb}
 use lib.ListN.{length}
-use borrow.Author.Tests.{leb-true, leb-false}
+use borrow.Author.Tests.{leb-true}
 use Rattle.sizes.specs.Sizes.{maxRules, maxNodes}
 use Rattle.descend.specs.Descend.{Given}
 use Rattle.packed.specs.Packed.{cfgIn}
 use Rattle.results.specs.Answer.{Answer, Handing, refused, answered, handed}
 use Rattle.tables.specs.Layout.{costIn}
 use Rattle.initial.specs.Written.{enumerationOf, firstTree, FirstWritten}
-use Rattle.initial.proofs.Writing.{least-at}
+use Rattle.initial.proofs.Writing.{empty-larger}
 use Rattle.first.specs.Made.{FirstMade}
-use Rattle.first.proofs.Root.{first-many}
+use Rattle.first.proofs.Root.{first-empty}
 
 module _ (p : List ℕ) (rules : ℕ) (fits chart tables : List ℕ) (s n : ℕ) (out₀ : List ℕ) where
   module _ (b : Bool) (told : b ≡ leb (costIn tables s 0 n) maxNodes) where
@@ -26,8 +25,7 @@ module _ (p : List ℕ) (rules : ℕ) (fits chart tables : List ℕ) (s n : ℕ)
     pub made-many : b ≡ false → FirstMade p rules fits chart tables s n out₀ out₀ (refused 13)
     made-many h = record {
       exact = λ w to given.
-          first-many p w s chart out₀ n (costIn tables s 0 n) to (least-at p rules fits chart tables s n w to given)
-          (omega (arith, leb-false (costIn tables s 0 n) maxNodes (sym told ∙ h)));
+          first-empty p w s chart out₀ (refused 13) (empty-larger p rules fits chart tables s n w to given (sym told ∙ h));
     }
 
 -- ---- the tables of an input are right for it

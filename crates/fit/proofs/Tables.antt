@@ -1,14 +1,15 @@
 -- The fit table, place by place and rule by rule: what the steps of the code give. Assumes nothing.
-use Prim.Native.Nat.{ℕ, zero, suc, _+_, _*_, _≤_, _<_}
+use Prim.Native.Nat.{ℕ, _+_, _*_, _≤_, _<_}
 use mathlib.Core.Bool.{Bool, true, false}
 use mathlib.Core.List.{List}
 use mathlib.Core.Logic.{_≢_, _⊎_, inl, inr}
 use mathlib.Core.Path.{_≡_, refl, sym, ap, _∙_, subst}
 use native.Mathlib.Decide.{ℕ-discrete, decLt}
 use native.Mathlib.Omega.{arith}
-use lib.ListN.{length, getD, replicate, length-replicate}
+use lib.ListN.{length, replicate, length-replicate}
 use borrow.Author.Tests.{le-ltb}
 use Rattle.sizes.specs.Sizes.{maxRules}
+use Rattle.laws.proofs.Lists.{zeros-at}
 use Rattle.sets.specs.Set.{has}
 use Rattle.sets.proofs.Laws.{has-empty}
 use Rattle.cfg.specs.Grammar.{Symbol, nonterminal, terminal}
@@ -77,14 +78,9 @@ module _ (p w : List ℕ) (n r : ℕ) (t₀ : List ℕ) where
 
 -- ---- all rules
 
-zero-word : (m x : ℕ) → _≡_ {A = ℕ} (getD (replicate m 0) x 0) 0
-zero-word zero x = refl
-zero-word (suc m) zero = refl
-zero-word (suc m) (suc x) = zero-word m x
-
 zero-fit : (m i r q : ℕ) → fitIn (replicate m 0) i r q ≡ false
 unfolding fitIn
-zero-fit m i r q = ap (has q) (zero-word m (maxRules * i + r)) ∙ has-empty q
+zero-fit m i r q = ap (has q) (zeros-at m (maxRules * i + r)) ∙ has-empty q
 
 -- nothing fits behind the input
 past-fits : (w : List ℕ) (s : Symbol) (i : ℕ) → length w ≤ i → fitsPlace w s i ≡ false

@@ -1,29 +1,13 @@
--- Tests joined by `&&`, and the test `all` over the front of a list. A read past the end of the list gives d. Assumes nothing.
+-- The test `all` over the front of a list. A read past the end of the list gives d. Assumes nothing.
 use Prim.Native.Nat.{ℕ, zero, suc, _+_, _-_, _<_}
 use native.Mathlib.Nat.{le-of-suc-le-suc, not-suc-le-zero}
 use native.Mathlib.Numerals.{add-one}
-use native.Mathlib.Omega.{arith}
-use mathlib.Core.Bool.{Bool, true, false, _&&_, and-false}
+use mathlib.Core.Bool.{Bool, true, false, and-false}
 use mathlib.Core.List.{List, [], _∷_}
 use mathlib.Core.Path.{_≡_, refl}
 use lib.ListN.{take, getD, set}
+use Rattle.laws.proofs.Bools.{true-false, and-parts, and-both}
 use Rattle.grammar.specs.Valid.{all}
-
-pub true-false : {b : Bool} → b ≡ true → b ≡ false → ⊥
-true-false e f = let z : _≡_ {A = ℕ} 0 1 = cc in omega arith
-
-pub and-parts : (a b : Bool) → (a && b) ≡ true → (a ≡ true) × (b ≡ true)
-and-parts true b e = (refl, e)
-and-parts false b e = absurd (true-false e refl)
-
-pub and-parts₃ : (a b c : Bool) → (a && b && c) ≡ true → (a ≡ true) × (b ≡ true) × (c ≡ true)
-and-parts₃ a b c e =
-    let p = and-parts (a && b) c e in
-    let q = and-parts a b (p .0) in
-    (q .0, q .1, p .1)
-
-pub and-both : (a b : Bool) → a ≡ true → b ≡ true → (a && b) ≡ true
-and-both a b e f = rw (e, f)
 
 module _ {A : Type 0} (test : A → Bool) (d : A) where
   all-suc : (l : List A) (q : ℕ) → all test (take q l) ≡ true → test (getD l q d) ≡ true → all test (take (suc q) l) ≡ true

@@ -10,6 +10,7 @@ use mathlib.Core.Path.{_≡_, sym, ap, subst, _∙_}
 use lib.Dec.{leb}
 use lib.ListN.{take, getD, getElem?}
 use borrow.Author.Tests.{leb-true}
+use Rattle.laws.proofs.Bools.{and-parts, and-parts₃, clash}
 use Rattle.cfg.specs.Grammar as Abstract
 use Rattle.cfg.specs.Grammar.{joined, Of}
 use Rattle.grammar.specs.declared.Symbol.{Symbol}
@@ -20,7 +21,7 @@ use Rattle.grammar.specs.declared.Grammar.{Grammar}
 use Rattle.grammar.specs.Valid.{all, validSymbol, validPlace, validRule, validGrammar}
 use Rattle.grammar.specs.View.{symbolOf, placeOf, ruleOf, grammarOf}
 use Rattle.grammar.specs.Zero.{noRule}
-use Rattle.grammar.proofs.All.{and-parts, and-parts₃, all-at}
+use Rattle.grammar.proofs.All.{all-at}
 use Rattle.grammar.proofs.Laws.{noRule-valid}
 
 -- ---- the parts of check 8
@@ -61,13 +62,13 @@ Meant σ = (ρ : Rule) × (validRule ρ ≡ true) × (meaning ρ ≡ σ)
 
 meant : (l : List Rule) (r : ℕ) (σ : Abstract.Rule) → all validRule l ≡ true → joined (getElem? (map ruleOf l) r) ≡ some σ → Meant σ
 unfolding all joined
-meant [] r σ v e = let z : _≡_ {A = ℕ} 0 1 = cc in absurd (omega arith)
+meant [] r σ v e = clash cc
 meant (ρ ∷ l) zero σ v e = (ρ, and-parts (validRule ρ) (all validRule l) v .0, Option·some-injective (meaning ρ) σ e)
 meant (ρ ∷ l) (suc r) σ v e = meant l r σ (and-parts (validRule ρ) (all validRule l) v .1) e
 
 symbol-bounded : (s : Symbol) (k : ℕ) → validSymbol s ≡ true → Abstract.nonterminal k ≡ symbolOf s → k < 32
 symbol-bounded (Nonterminal m) k v e = let q : k ≡ m = cc in omega (arith, leb-true m 31 v)
-symbol-bounded (Terminal m) k v e = let z : _≡_ {A = ℕ} 0 1 = cc in omega arith
+symbol-bounded (Terminal m) k v e = clash cc
 
 places-bounded : (l : List Place) (k : ℕ) → all validPlace l ≡ true → List·Memᴰ (Abstract.nonterminal k) (map placeOf l) → k < 32
 unfolding all

@@ -1,19 +1,24 @@
--- What is handed out at the root, by the list L of the packed grammar, where a tree has few enough nodes: the first tree. Assumes nothing.
+-- The list L of the packed grammar: empty where the chart is not complete, and what is handed out where a tree has few enough nodes, the
+-- first tree. Assumes nothing.
 use Prim.Native.Nat.{ℕ, _*_, _/_}
-use mathlib.Core.List.{List, _++_}
+use mathlib.Core.Bool.{false}
+use mathlib.Core.List.{List, [], _++_}
 use mathlib.Core.Path.{_≡_, refl, ap}
 use native.Mathlib.Omega.{arith}
 use lib.ListN.{length, drop}
 use Rattle.sizes.specs.Sizes.{maxNodes}
-use Rattle.sets.specs.Set.{empty}
+use Rattle.sets.specs.Set.{empty, has}
+use Rattle.cfg.specs.Listing.{L}
 use Rattle.chart.proofs.SameRules.{SameRules}
-use Rattle.choices.proofs.Root.{root-begins}
+use Rattle.chart.specs.Cell.{cell}
+use Rattle.costs.specs.Span.{bytesOf}
+use Rattle.choices.proofs.Root.{root-begins, root-barren}
 use Rattle.enumeration.specs.Order.{Min}
 use Rattle.enumeration.specs.Rows.{Tree}
 use Rattle.packed.specs.Packed.{cfgIn}
 use Rattle.results.specs.Answer.{answered, handed}
 use Rattle.results.specs.Enumerate.{headOf, handingOut}
-use Rattle.tables.specs.Exact.{Packing}
+use Rattle.tables.specs.Exact.{Packing, ChartTrue}
 use Rattle.initial.specs.Written.{enumerationOf, firstTree}
 
 module _ (p w : List ℕ) (s : ℕ) where
@@ -25,6 +30,12 @@ module _ (p w : List ℕ) (s : ℕ) where
   pub start : s ≡ cfgIn s p .start
   unfolding cfgIn
   start = refl
+
+  -- no derivation where the chart is not complete
+  pub empty-incomplete : (chart : List ℕ) → ChartTrue p (bytesOf w) chart (length w) → has s (cell chart 0 (length w)) ≡ false
+      → L (cfgIn s p) w ≡ []
+  empty-incomplete chart cells absent =
+      root-barren (Packing p) (cfgIn s p) same w start refl (cells 0 (length w) (omega arith) (omega arith) s absent)
 
   module _ (chart out : List ℕ) where
     pub first-handed : (c n : ℕ) (e out' : List ℕ) (m : ℕ) → c ≡ length w → n ≡ length w

@@ -1,14 +1,18 @@
 -- Writing the first derivation once the tables are made, and that the tables made are right for the input. Assumes nothing.
 use Prim.Native.Nat.{ℕ, _+_, _*_, _-_, _≤_, _<_}
-use mathlib.Core.List.{List}
+use mathlib.Core.Bool.{false}
+use mathlib.Core.List.{List, []}
 use mathlib.Core.Path.{_≡_, ap, _∙_}
 use native.Mathlib.Omega.{arith}
 use lib.Dec.{leb}
 use lib.ListN.{length, getD}
+use borrow.Author.Tests.{leb-false}
 use Rattle.sizes.specs.Sizes.{maxRules, maxNodes, outputSize}
 use Rattle.sets.specs.Set.{empty}
+use Rattle.cfg.specs.Listing.{L}
 use Rattle.costs.specs.Span.{bytesOf, Least, Tree as SpanTree}
 use Rattle.costs.proofs.Plain.{unmasked-least}
+use Rattle.choices.proofs.Root.{root-exceeds}
 use Rattle.descend.specs.Descend.{Given, FirstAt, NodeFirst}
 use Rattle.enumeration.specs.Rows.{Tree}
 use Rattle.fit.specs.Fit.{Told}
@@ -22,7 +26,7 @@ use Rattle.tabulate.specs.Spans.{Tabulated}
 use Rattle.initial.specs.Written.{enumerationOf, firstTree, FirstWritten}
 use Rattle.initial.proofs.Front.{front-put}
 use Rattle.initial.proofs.Input.{tabulated-input}
-use Rattle.initial.proofs.Root.{first-handed}
+use Rattle.initial.proofs.Root.{first-handed, same, start}
 
 -- v is the cost, read and widened
 pub exists-told : (u v x : ℕ) → u ≡ v → v ≡ x → leb u maxNodes ≡ leb x maxNodes
@@ -33,6 +37,13 @@ module _ (p : List ℕ) (rules : ℕ) (fits chart tables : List ℕ) (s n : ℕ)
   pub least-at : (w : List ℕ) → n ≡ length w → Given p rules fits chart tables w
       → Least (SpanTree (Packing p) (bytesOf w) s 0 n) (costIn tables s 0 n)
   least-at w to given = given .exact .least s 0 n (omega arith) (omega arith)
+
+  -- so where the start symbol's number is too large, there is no derivation
+  pub empty-larger : (w : List ℕ) → n ≡ length w → Given p rules fits chart tables w → leb (costIn tables s 0 n) maxNodes ≡ false
+      → L (cfgIn s p) w ≡ []
+  empty-larger w to given e =
+      root-exceeds (Packing p) (cfgIn s p) (same p w s) w (start p w s) to (least-at w to given)
+      (omega (arith, leb-false (costIn tables s 0 n) maxNodes e))
 
   pub written-first : (out₀ out : List ℕ) (m : ℕ) → outputSize ≤ length out₀
       → NodeFirst p rules fits chart tables s 0 n 0 maxNodes 0 out₀ out m → FirstWritten p rules fits chart tables s n out₀ out m

@@ -1,14 +1,11 @@
 -- The bound on lengths that the lines are written for. Assumes nothing.
-use Prim.Native.Nat.{ℕ, zero, suc, _+_, _/_, _≤_}
+use Prim.Native.Nat.{suc, _+_, _/_, _≤_}
 use native.Mathlib.Omega.{arith}
-use lib.IntN.{ℤ, pos, negsuc, negℤ}
+use lib.IntN.{ℤ, pos, negsuc}
 use lib.Signed.{mag}
+use Rattle.laws.proofs.Signed.{neg-size}
 use Rattle.results.specs.Measure.{rounded}
 use Rattle.digits.specs.Put.{maxTenths}
-
-neg-size : (n : ℕ) → mag (negℤ (pos n)) ≤ n
-neg-size zero = omega arith
-neg-size (suc n) = omega arith
 
 -- 16777216 hundredths are 512 times 32768
 pub tenths-size : (z : ℤ) → mag z ≤ 16777216 → mag (rounded z) ≤ maxTenths

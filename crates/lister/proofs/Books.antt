@@ -8,6 +8,7 @@ use native.Mathlib.Omega.{arith}
 use lib.IntN.{ℤ}
 use lib.ListN.{length}
 use Rattle.sizes.specs.Sizes.{maxRules}
+use Rattle.laws.proofs.Bools.{clash}
 use Rattle.measure.specs.Measure.{lengthsIn}
 use Rattle.demands.specs.LoadDemand.{LoadDemand}
 use Rattle.demands.proofs.LoadDemand.{load-demand}
@@ -46,7 +47,7 @@ number-small R.InvalidRecognizer = omega arith
 number-small R.RecognizerFull = omega arith
 
 refused-apart : {n at : ℕ} → refusedAt n at ≡ loaded → ⊥
-refused-apart e = let z : _≡_ {A = ℕ} 0 1 = cc in omega arith
+refused-apart e = clash cc
 
 module _ (book w : List ℕ) (b : Loaded) (load : loadingOf b ≡ loadOf book (b .grammar .depth)) where
   -- the text by what loading gave

@@ -11,12 +11,12 @@ use lib.ListN.{length, take, replicate, length-map, length-replicate}
 use Rattle.sizes.specs.Sizes.{maxRules, maxInput, cells, most}
 use Rattle.cfg.specs.Grammar.{rule}
 use Rattle.cfg.specs.Listing.{L}
-use Rattle.chart.specs.Column.{filled, complete}
+use Rattle.chart.specs.Column.{complete}
 use Rattle.chart.proofs.Truth.{filled-length}
 use Rattle.measure.specs.Measure.{lengthsIn, lengthOfRule}
 use Rattle.measure.proofs.Lengths.{sum-row}
 use Rattle.costs.specs.Span.{bytesOf}
-use Rattle.first.proofs.Chart.{chart-packed}
+use Rattle.first.proofs.Chart.{Filling, filled-chart}
 use Rattle.grammar.specs.declared.Grammar.{Grammar}
 use Rattle.grammar.specs.declared.Refusal.{Refusal}
 use Rattle.grammar.specs.Number.{numberOf}
@@ -103,13 +103,10 @@ empty-any g valid w short chart room =
     (omega (arith, length-replicate {A = ℕ} cells 0)) tree (refusedLine 13) noReadingLine))
 
 module _ (g : Grammar) (w chart : List ℕ) (j : Judged) (judging : Judging g (length w) (length chart) j) (is : j ≡ Passed)
-    (p chart' : List ℕ) (filling : (chart' ≡ filled (grammarOf g) w chart)
-    × ((r : ℕ) → rule (cfgIn (g .start) p) r ≡ rule (grammarOf g) r)) where
+    (p chart' : List ℕ) (filling : Filling g p w chart chart') where
   -- what is asked over the filled chart
   pub judged-filled : (length w ≤ maxInput) × (cells ≤ length chart') × ChartTrue p (bytesOf w) chart' (length w)
-  judged-filled =
-      let (v, a, b) = judged-ready g (length w) (length chart) j judging is in
-      (a, rw (filling .0, filled-length (grammarOf g) w chart b) b, chart-packed g p w chart chart' a b filling)
+  judged-filled = filled-chart g p w chart chart' (judged-ready g (length w) (length chart) j judging is) filling
 
   module _ (s : ℕ) (start : s ≡ g .start) (l : List ℤ) (lengths : l ≡ map lengthOfRule (g .rules)) where
     empty-same : cond (complete (cfgIn s p) (length w) chart') (refusedLine 13) noReadingLine ∷ [] ≡ emptyText (grammarOf g) w

@@ -1,31 +1,28 @@
 -- What is printed first, by the tests that the code makes once the chart is filled. Assumes nothing.
-use Prim.Native.Nat.{ℕ, _/_, _≤_, _<_}
+use Prim.Native.Nat.{ℕ, _≤_, _<_}
 use mathlib.Core.Bool.{Bool, true, false, not}
 use mathlib.Core.List.{List, [], _∷_, _++_, List·Memᴰ}
 use mathlib.Core.Path.{_≡_, refl, sym, ap, _∙_}
 use native.Mathlib.Omega.{arith}
 use lib.Dec.{leb}
 use lib.IntN.{ℤ}
-use lib.ListN.{length, getD, drop, length-append, length-drop, List·getD-append}
-use borrow.Author.Tests.{leb-true, leb-false, not-true, not-false}
+use lib.ListN.{length, getD, drop, length-append, length-drop}
+use borrow.Author.Tests.{leb-true, not-true, not-false}
 use Rattle.sizes.specs.Sizes.{maxRules, maxInput, maxNodes, outputSize, most}
 use Rattle.sets.specs.Set.{has}
 use Rattle.cfg.specs.Listing.{L}
 use Rattle.chart.specs.Cell.{cell}
 use Rattle.chart.specs.Column.{complete}
-use Rattle.choices.proofs.Root.{root-barren, root-exceeds}
 use Rattle.costs.specs.Span.{bytesOf}
-use Rattle.counting.specs.Made.{Stands}
+use Rattle.counting.proofs.Handed.{Handed, handed-first}
 use Rattle.descend.specs.Descend.{Given}
-use Rattle.initial.specs.Written.{enumerationOf, FirstWritten}
-use Rattle.initial.proofs.Root.{same, start}
+use Rattle.initial.specs.Written.{FirstWritten}
+use Rattle.initial.proofs.Root.{empty-incomplete}
+use Rattle.initial.proofs.Writing.{empty-larger}
 use Rattle.packed.specs.Packed.{cfgIn}
-use Rattle.results.specs.Answer.{Answer, Handing, refused, answered, handed, nothing}
-use Rattle.results.specs.Enumerate.{Enumeration, headOf, handingOut}
-use Rattle.results.proofs.Answers.{answered-apart}
 use Rattle.results.proofs.Demand3.Listed.{reading-even, reading-short}
 use Rattle.results.proofs.Demand3.Rows.{at-member}
-use Rattle.tables.specs.Exact.{Packing, ChartTrue}
+use Rattle.tables.specs.Exact.{ChartTrue}
 use Rattle.tables.specs.Layout.{costIn}
 use Rattle.text.specs.Line.{refusedLine}
 use Rattle.text.specs.Text.{textBy, listText}
@@ -46,30 +43,6 @@ text-listed lengths x [] h = absurd (omega arith)
 text-listed lengths x (e ∷ l) h = refl
 
 -- ---- what is handed out
-
--- the first derivation, handed out as m nodes
-pub record Handed (l : List (List ℕ)) (m : ℕ) (out₀ out : List ℕ) : Type 0 where
-  pub stands : Stands l 0 out
-  pub nodes : m ≡ length (getD l 0 []) / 2
-  pub left : out ≡ getD l 0 [] ++ drop (length (getD l 0 [])) out₀
-
-abbrev nodes-of : Answer Handing → ℕ
-nodes-of (refused n) = 0
-nodes-of (answered (handed n)) = n
-nodes-of (answered nothing) = 0
-
-handed-first : (l : List (List ℕ)) (chart out₀ out : List ℕ) (m : ℕ)
-    → enumerationOf (answered (handed m)) chart out ≡ handingOut (headOf l) (refused 13) chart out₀ → Handed l m out₀ out
-unfolding handingOut headOf
-handed-first [] chart out₀ out m e = absurd (answered-apart (ap (λ (x : Enumeration). x .answer) e))
-handed-first (d ∷ l) chart out₀ out m e = record {
-  stands = record {
-    there = omega arith;
-    here = λ y h. ap (λ (x : Enumeration). getD (x .output) y 0) e ∙ List·getD-append d (drop (length d) out₀) 0 y h;
-  };
-  nodes = ap (λ (x : Enumeration). nodes-of (x .answer)) e;
-  left = ap (λ (x : Enumeration). x .output) e;
-}
 
 handed-length : (d out₀ out : List ℕ) → length d ≤ 1024 → outputSize ≤ length out₀ → out ≡ d ++ drop (length d) out₀
     → length out ≡ length out₀
@@ -92,9 +65,7 @@ module _ (p w : List ℕ) (s rules : ℕ) (fits chart tables : List ℕ) (built 
     long = refl;
     sized = omega arith;
     ahead = λ lengths. text-empty lengths (refusedLine 13 ∷ []) list
-        (root-exceeds (Packing p) (cfgIn s p) (same p w s) w (start p w s) refl
-        (built .1 .exact .least s 0 (length w) (omega arith) (omega arith))
-        (omega (arith, leb-false (costIn tables s 0 (length w)) maxNodes (sym told ∙ not-true b h))));
+        (empty-larger p rules fits chart tables s (length w) w refl (built .1) (sym told ∙ not-true b h));
   }
 
   module _ (h : not b ≡ false) (short : length w ≤ maxInput) (buf₀ buf : List ℕ) (room : outputSize ≤ length buf₀) (m : ℕ)
@@ -136,9 +107,7 @@ module _ (p w : List ℕ) (s : ℕ) (chart : List ℕ) (b : Bool) (told : b ≡ 
       record {
         long = refl;
         sized = tt;
-        ahead = λ lengths. text-empty lengths _ (L (cfgIn s p) w)
-            (root-barren (Packing p) (cfgIn s p) (same p w s) w (start p w s) refl
-            (cells 0 (length w) (omega arith) (omega arith) s absent)) ∙ rw absent;
+        ahead = λ lengths. text-empty lengths _ (L (cfgIn s p) w) (empty-incomplete p w s chart cells absent) ∙ rw absent;
       }
 
   pub filled-complete : b ≡ true → (fits tables buf₀ buf : List ℕ) (d : Due) → TreeBegun p s w chart fits tables buf₀ buf d

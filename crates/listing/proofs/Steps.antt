@@ -1,11 +1,12 @@
 -- The list of rows item by item: what `listing` gives for each first item, for any budget, and what its members are. Assumes nothing.
 use Prim.Native.Nat.{ℕ, zero, suc, _≤_}
-use mathlib.Core.Bool.{Bool, true, false, not, true≢false, false≢true}
+use mathlib.Core.Bool.{true, false, not}
 use mathlib.Core.List.{List, [], _∷_, _++_, map, List·Memᴰ, List·Memᴰ·not-nil, List·Memᴰ·eq-of-singleton, List·Memᴰ·head}
-use mathlib.Core.Path.{_≡_, refl, sym, subst}
+use mathlib.Core.Path.{_≡_, refl, sym, ap, subst}
 use lib.ListN.{length, take, drop, length-append}
 use lib.Seq.{take-append-seam, drop-append-seam}
 use native.Mathlib.Omega.{arith}
+use borrow.Author.Tests.{not-true}
 use Rattle.cfg.specs.Grammar.{Cfg, Symbol, Terminal, fits, Of}
 use Rattle.cfg.specs.Listing.{over, when, from, Span, among, Numbered, rulesFrom, Item, eat, find, resume, items, upTo, listing}
 use Rattle.listing.proofs.Members.{map-cases, map-member, over-cases, over-member, when-cases, when-member}
@@ -106,14 +107,6 @@ pub record Found (G : Cfg) (b k : ℕ) (above : List Span) (todo : List Item) (w
   pub coded : e ≡ cover ∷ number ∷ rest
   pub listed : List·Memᴰ rest (listing G left (inside above k cover (o .the .places) (drop cover w) todo) (take cover w))
 
-pub not-true : (b : Bool) → not b ≡ true → b ≡ false
-not-true true h = absurd (false≢true h)
-not-true false h = refl
-
-pub not-false : (b : Bool) → b ≡ false → not b ≡ true
-not-false true h = absurd (true≢false h)
-not-false false h = refl
-
 pub listing-find-cases : (G : Cfg) (b k : ℕ) (above : List Span) (todo : List Item) (w : List ℕ) {e : List ℕ}
     → List·Memᴰ e (listing G b (find k above ∷ todo) w) → Found G b k above todo w e
 listing-find-cases G zero k above todo w {e} h = absurd (List·Memᴰ·not-nil (subst (List·Memᴰ e) (listing-find-zero G k above todo w) h))
@@ -159,7 +152,7 @@ listing-find-member G b k r above todo u v o {e} new h =
     subst (List·Memᴰ (length u ∷ r ∷ e)) (sym (listing-find G b k above todo (u ++ v)))
     (over-member (withCover G b k above todo (u ++ v)) {a = length u} first
     (when-member (not (among k (length u) above)) (λ _. over (rulesFrom k 0 (G .rules)) (withRule G b k above todo (u ++ v) (length u)))
-    (not-false (among k (length u) above) new)
+    (ap not new)
     (over-member (withRule G b k above todo (u ++ v) (length u)) (rules-member G k r o)
     (map-member (λ d. length u ∷ r ∷ d) listed))))
   where

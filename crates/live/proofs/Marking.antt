@@ -1,6 +1,6 @@
 -- The live starts of a rule and the first end that is one, by the tests that the code makes, and rows of too many. Assumes nothing.
 use Prim.Native.Nat.{ℕ, _+_, _*_, _-_, _≤_, _<_}
-use mathlib.Core.Bool.{Bool, true, false, _&&_, not, true≢false}
+use mathlib.Core.Bool.{Bool, true, false, _&&_, true≢false}
 use mathlib.Core.List.{List}
 use mathlib.Core.Path.{_≡_, refl, sym, ap, subst, _∙_}
 use native.Mathlib.Decide.{ℕ-discrete}
@@ -9,11 +9,11 @@ use lib.ListN.{length, set, getD, length-set}
 use lib.Seq.{getD-set-same, getD-set-other}
 use Rattle.sizes.specs.Sizes.{tooMany}
 use Rattle.sets.specs.Set.{has, insert}
-use Rattle.sets.specs.Pairs.{Common, FirstMember, Meeting}
+use Rattle.sets.specs.Pairs.{Common, FirstMember}
 use Rattle.sets.proofs.Laws.{has-insert, has-insert-same}
 use Rattle.packed.specs.Packed.{countIn}
 use Rattle.writes.specs.Writes.{allRows, placeAt}
-use Rattle.live.specs.Live.{Silent, liveIn, Marked, Passing, FirstEnd, NoneBefore, NonePut}
+use Rattle.live.specs.Live.{Silent, liveIn, Marked, FirstEnd, NoneBefore, NonePut}
 
 -- ---- whether a start is live
 
@@ -87,24 +87,6 @@ module _ (p : List ℕ) (r i : ℕ) where
       → NonePut p r i rows₀ rows
   none-end {q} {m} {rows₀} {rows} e h l S =
       let d : q ≡ countIn p r + 1 = omega arith in subst (λ (x : ℕ). NoneBefore p r i x rows₀ rows) d S
-
--- ---- whether a rule is passed over
-
-module _ (i j reach live : ℕ) where
-  pub passing-not : {b : Bool} → b ≡ false → Passing i j reach live b
-  passing-not e = record {
-    inside = λ f. absurd (true≢false (sym f ∙ e));
-    near = λ f. absurd (true≢false (sym f ∙ e));
-    apart = λ f. absurd (true≢false (sym f ∙ e));
-  }
-
-  module _ {b m : Bool} (l : i + 1 < j) (n : b ≡ has (i + 1) live) (f : b ≡ false) (M : Meeting 64 reach live m) where
-    apart : not m ≡ true → (c : ℕ) → has c live ≡ true → (x : Bool) → has c reach ≡ x → has c reach ≡ false
-    apart e c g false y = y
-    apart e c g true y = absurd (true≢false (sym e ∙ ap not (M .all c y g)))
-
-    pub passing-apart : Passing i j reach live (not m)
-    passing-apart = record { inside = λ e. l; near = λ e. sym n ∙ f; apart = λ e c g. apart e c g (has c reach) refl }
 
 -- ---- the first end that is in both sets
 

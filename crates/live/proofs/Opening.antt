@@ -7,11 +7,12 @@ use native.Mathlib.Omega.{arith}
 use lib.ListN.{length, getD}
 use Rattle.sizes.specs.Sizes.{tooMany}
 use Rattle.sets.specs.Set.{has}
+use Rattle.reach.specs.Reach.{CanBegin}
 use Rattle.tables.specs.Layout.{costIn}
 use Rattle.suffixes.specs.Within.{EndsPassed}
 use Rattle.suffixes.specs.Rows.{StartPut}
 use Rattle.writes.specs.Writes.{placeAt, Nothing}
-use Rattle.live.specs.Live.{LiveTold, Reached, Marked, Passing, FirstEnd, NonePut, RulePut}
+use Rattle.live.specs.Live.{LiveTold, Reached, Marked, FirstEnd, NonePut, RulePut}
 use Rattle.live.proofs.Passed.{passed-over}
 
 module _ (p : List ℕ) (r : ℕ) (fits tables full : List ℕ) (i j : ℕ) (rows₀ live₀ : List ℕ) where
@@ -35,7 +36,7 @@ module _ (p : List ℕ) (r : ℕ) (fits tables full : List ℕ) (i j : ℕ) (row
   }
 
   pub rule-passed : (reach : ℕ) {b : Bool} {rows : List ℕ} → i < j → length live₀ ≡ 128 → Nothing full
-      → Passing i j reach (getD live₀ r 0) b → b ≡ true → NonePut p r i rows₀ rows
+      → CanBegin i j reach (getD live₀ r 0) b → b ≡ false → NonePut p r i rows₀ rows
       → RulePut p r fits tables full reach i j rows₀ live₀ rows live₀
   rule-passed reach {rows = rows} l h N P t S = record {
     long = S .long;

@@ -8,15 +8,20 @@ use native.Mathlib.Decide.{decLt}
 use native.Mathlib.Omega.{arith}
 use lib.ListN.{getD}
 use Rattle.sizes.specs.Sizes.{tooMany}
+use Rattle.laws.proofs.Bools.{true-false, bool-false}
+use Rattle.sets.specs.Set.{has}
+use Rattle.sets.proofs.Laws.{has-insert, has-insert-same}
 use Rattle.cfg.specs.Grammar.{Symbol, nonterminal}
 use Rattle.costs.specs.Cut.{Fit, Cost, Cut, cut-end, cut-leaf, cut-node, within}
 use Rattle.costs.proofs.Lowest.{lowest-none}
 use Rattle.costs.proofs.Within.{within-whole, within-part}
 use Rattle.packed.specs.Packed.{countIn, placesFrom}
+use Rattle.reach.specs.Reach.{CanBegin}
+use Rattle.reach.proofs.Passing.{cannot-inside, cannot-meet}
 use Rattle.tables.specs.Layout.{costIn, fullIn}
 use Rattle.suffixes.specs.Within.{tailIn, Inside, LaterStarts}
 use Rattle.writes.specs.Writes.{Nothing}
-use Rattle.live.specs.Live.{liveIn, LiveTold, Reached, Passing}
+use Rattle.live.specs.Live.{liveIn, LiveTold, Reached}
 
 -- one place and those behind it: from i on and from each later start before j either the place or those behind it cost too many
 module _ {fit : Fit} {cost : Cost} {i j : ℕ} {places : List Symbol}
@@ -40,7 +45,7 @@ module _ {fit : Fit} {cost : Cost} {i j : ℕ} {places : List Symbol}
   place-passed u (cut-node {k} {v = v} c h l d e) = let x = node k c v h l d (decLt i c) (decLt c j) in omega arith
 
 module _ (p : List ℕ) (r : ℕ) (tables full : List ℕ) (reach i j : ℕ) (rows live : List ℕ) (l : i < j) {b : Bool} (fit : Fit)
-    (P : Passing i j reach (getD live r 0) b) (t : b ≡ true) (N : Nothing full) (R : Reached tables reach i j)
+    (P : CanBegin i j reach (getD live r 0) b) (t : b ≡ false) (N : Nothing full) (R : Reached tables reach i j)
     (L : LiveTold p r i j rows live) (S : LaterStarts fit p r tables full i i j rows (585 * r)) where
   abbrev costs : Cost
   costs = within i j (fullIn full) (costIn tables)
@@ -58,7 +63,7 @@ module _ (p : List ℕ) (r : ℕ) (tables full : List ℕ) (reach i j : ℕ) (ro
       → tooMany ≤ costs k i c + v
   inner q k c v z h m n d false f = let y = silent q c v z h m n f d in omega arith
   inner q k c v z h m n d true f =
-      let y = R k c m n (P .apart t c f) in
+      let y = R k c m n (bool-false (has c reach) (λ g. true-false f (cannot-meet P t c (has-insert c (i + 1) reach g)))) in
       let e : costs k i c ≡ costIn tables k i c = within-part i j (fullIn full) (costIn tables) k i c (omega arith) in
       omega arith
 
@@ -76,8 +81,8 @@ module _ (p : List ℕ) (r : ℕ) (tables full : List ℕ) (reach i j : ℕ) (ro
       in
       place-passed
       (λ v. suffix n (suc q) (omega arith) v)
-      (λ v x. silent (suc q) (suc i) v (omega arith) (omega arith) (omega arith) (let y = P .inside t in omega arith)
-      (let y : i + 1 ≡ suc i = omega arith in rw y at (P .near t)) (move (suc i) v x))
+      (λ v x. silent (suc q) (suc i) v (omega arith) (omega arith) (omega arith) (let y = cannot-inside P t in omega arith)
+      (let y : i + 1 ≡ suc i = omega arith in rw y at (cannot-meet P t (i + 1) (has-insert-same (i + 1) reach))) (move (suc i) v x))
       (λ k c v h m x. inner (suc q) k c v (omega arith) (omega arith) h m (move c v x) (liveIn live r c) refl)
       whole u d
 

@@ -40,12 +40,6 @@ pub record Marked (p : List ℕ) (r i : ℕ) (rows live₀ live : List ℕ) : Ty
   pub grown : Grown live₀ live
   pub here : liveIn live r i ≡ false → Silent p r i rows
 
--- if b, the byte at i ends inside the span and at no live start, and nothing in `reach` is one
-pub record Passing (i j reach live : ℕ) (b : Bool) : Type 0 where
-  pub inside : b ≡ true → i + 1 < j
-  pub near : b ≡ true → has (i + 1) live ≡ false
-  pub apart : b ≡ true → (c : ℕ) → has c live ≡ true → has c reach ≡ false
-
 -- v is behind i, and no end behind i and before v is in both sets
 pub record FirstEnd (i reach live v : ℕ) : Type 0 where
   pub behind : i < v

@@ -1,5 +1,6 @@
 // The live starts of each rule up to one end: those from which places behind the rule's first cost less than too many.
 use packed::Packed;
+use reach::Live;
 use tables::layout::ROWS_SIZE;
 use tables::least::TOO_MANY;
 use writes::AllRows;
@@ -9,9 +10,6 @@ ghost use Prim.Native.Nat.{_<_};
 ghost use lib.ListN.{length};
 ghost use Rattle.sizes.specs.Sizes.{maxInput, maxRules, side};
 ghost use Rattle.live.specs.Live.{Silent, Marked};
-
-// A set of positions for each rule.
-pub type Live = [u64; sizes::MAX_RULES];
 
 // Whether a place of rule r behind its first costs less than too many from i on.
 fn stands(p: &Packed, r: usize, i: usize, rows: &AllRows) -> bool

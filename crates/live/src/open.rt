@@ -1,10 +1,11 @@
 // The costs of one rule from i to j, without a child over the whole span: made as everywhere, or too many for all its places where no
 // piece from i ends at a live start.
-use super::mark::Live;
 use super::mark::mark;
 use cuts::within::Part;
 use fit::FitTable;
 use packed::Packed;
+use reach::Live;
+use reach::can_begin;
 use suffixes::rows::put_start;
 use tables::layout::Full;
 use tables::layout::ROWS_SIZE;
@@ -16,7 +17,7 @@ ghost use Prim.Native.Nat.{_<_};
 ghost use lib.ListN.{length};
 ghost use Rattle.sizes.specs.Sizes.{maxRules, side};
 ghost use Rattle.writes.specs.Writes.{allRows, Nothing};
-ghost use Rattle.live.specs.Live.{NonePut, Passing, FirstEnd, RulePut};
+ghost use Rattle.live.specs.Live.{NonePut, FirstEnd, RulePut};
 
 // A span from i to j, with what the chart tells of it: its cell, and the ends of nonterminals from i on.
 pub struct Over {
@@ -24,20 +25,6 @@ pub struct Over {
     pub j: usize,
     pub cell: u32,
     pub reach: u64,
-}
-
-// Whether rule r is passed over: the byte at i ends inside the span and not at a live start, and no nonterminal from i ends at one.
-fn passed_over(i: usize, j: usize, reach: u64, live: u64) -> bool
-    requires { ⌜ (i < j) × (j < side) ⌝ }
-    ensures { λ b. ⌜ Passing i j reach live b ⌝ }
-{
-    if i + 1 < j {
-        if sets::wide::has(live, i + 1) {
-            return false;
-        }
-        return !sets::wide::meets(reach, live);
-    }
-    false
 }
 
 // Writes too many for all places of rule r from i on.
@@ -105,9 +92,9 @@ pub fn open_rule(
         ⌜ RulePut (now (p .entry)) r (now (fits .entry)) (now (tables .entry)) (now (nothing .entry)) (over .reach) (over .i) (over .j)
         (now (rows .entry)) (now (live .entry)) (now (rows .exit)) (now (live .exit)) ⌝ }
 {
-    if passed_over(over.i, over.j, over.reach, live[r]) {
-        put_none(p, r, over.i, rows);
-    } else {
+    if can_begin(over.i, over.j, over.reach, live[r]) {
         put_rule(p, r, fits, tables, nothing, over, rows, live);
+    } else {
+        put_none(p, r, over.i, rows);
     }
 }

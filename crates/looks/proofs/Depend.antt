@@ -7,24 +7,17 @@ use mathlib.Core.Path.{_≡_, sym, ap, _∙_}
 use native.Mathlib.Decide.{decLt}
 use native.Mathlib.Numerals.{add-one}
 use native.Mathlib.Omega.{arith}
-use borrow.Author.Tests.{ne-eqb}
+use Rattle.laws.proofs.Bools.{true-false, bool-ext}
 use Rattle.sets.specs.Set.{has}
 use Rattle.sets.proofs.Laws.{has-empty, has-high}
 use Rattle.cfg.specs.Grammar.{Symbol, nonterminal}
 use Rattle.chart.specs.Cell.{cuts}
-use Rattle.chart.proofs.Cut.{bool-ext}
 use Rattle.packed.specs.Packed.{countIn, symbolIn}
-use Rattle.packed.proofs.Laws.{places-step, places-end}
-use Rattle.grammar.proofs.All.{true-false}
+use Rattle.packed.proofs.Laws.{places-step}
 use Rattle.cells.specs.Flags.{Fit, Sets, tail, Cutting, owned}
-use Rattle.cells.proofs.First.{FirstCut, first-inner, first-empty, first-whole, cuts-first, first-cuts}
+use Rattle.cells.proofs.First.{FirstCut, first-inner, first-empty, first-whole, cuts-first, first-cuts, none-cuts}
 use Rattle.cells.proofs.Owned.{owned-here, owned-end, cuts-owned, inner-to, inner-from}
 use Rattle.looks.specs.Looks.{Given, Agrees, Exact}
-
--- no places cut no span that is not empty
-none-cuts : (fit : Fit) (sets : Sets) (p : List ℕ) (r q a n : ℕ) → countIn p r ≤ q → a < n → cuts fit sets (tail p r q) a n ≡ false
-unfolding cuts
-none-cuts fit sets p r q a n h l = ap (λ (s : List Symbol). cuts fit sets s a n) (places-end p r q h) ∙ ne-eqb a n (omega arith)
 
 module _ (fit : Fit) (sets : Sets) (p : List ℕ) (r i n start inside last kinds : ℕ) (order : i < n)
     (given : Given fit sets p r i n start inside last kinds) where

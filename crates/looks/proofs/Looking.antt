@@ -8,11 +8,11 @@ use lib.Dec.{ltb}
 use lib.ListN.{length, getD, set, length-set}
 use lib.Seq.{getD-set-same, getD-set-other}
 use borrow.Author.Tests.{ltb-true, ne-eqb}
+use Rattle.laws.proofs.Bools.{and-parts, true-false}
 use Rattle.sets.specs.Set.{has, insert}
 use Rattle.sets.specs.Pairs.{Common}
 use Rattle.sets.proofs.Laws.{has-empty, insert-old}
 use Rattle.packed.specs.Packed.{leftIn}
-use Rattle.grammar.proofs.All.{and-parts, true-false}
 use Rattle.cells.specs.Flags.{owned}
 use Rattle.cells.specs.Passes.{RuleMask, addedIn}
 use Rattle.cells.proofs.Owned.{owned-here, owned-end, cutting-owned, inner-owned}

@@ -9,6 +9,7 @@ use native.Mathlib.Omega.{arith}
 use lib.Dec.{ltb}
 use lib.ListN.{length, getD}
 use borrow.Author.Tests.{lt-ltb}
+use Rattle.laws.proofs.Bools.{and-both}
 use Rattle.sets.specs.Set.{has, insert}
 use Rattle.sets.proofs.Laws.{has-insert, has-insert-same}
 use Rattle.cfg.specs.Grammar.{Symbol}
@@ -16,7 +17,6 @@ use Rattle.chart.specs.Cell.{cuts}
 use Rattle.chart.proofs.Rounds.{sub-empty}
 use Rattle.packed.specs.Packed.{leftIn, placesIn}
 use Rattle.packed.proofs.Laws.{places-start}
-use Rattle.grammar.proofs.All.{and-both}
 use Rattle.cells.specs.Flags.{owned}
 use Rattle.cells.specs.Passes.{Within, addedIn}
 use Rattle.cells.proofs.Owned.{owned-mono}

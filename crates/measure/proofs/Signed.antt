@@ -1,5 +1,5 @@
 -- Signed numbers of 32 bits: sizes of sums and quotients, and the rounding of hundredths to tenths. Assumes nothing.
-use Prim.Native.Nat.{ℕ, zero, suc, _+_, _-_, _/_, _≤_, _<_}
+use Prim.Native.Nat.{ℕ, suc, _+_, _-_, _/_, _≤_, _<_}
 use mathlib.Core.Bool.{Bool, true, false, cond, true≢false}
 use mathlib.Core.Path.{_≡_, refl, sym, ap, subst, _∙_}
 use native.Mathlib.Omega.{arith}
@@ -10,14 +10,10 @@ use borrow.Author.Tests.{ltb-true}
 use mir.Syntax.{w32}
 use mir.Val.{SFits, toZ, ofZ}
 use mir.Facts.{toZ-ofZ}
+use Rattle.laws.proofs.Signed.{neg-size}
 use Rattle.results.specs.Measure.{rounded}
 
 -- ---- sizes
-
--- the size of a number and of its negative differ by one at most
-neg-size : (n : ℕ) → mag (negℤ (pos n)) ≤ n
-neg-size zero = omega arith
-neg-size (suc n) = omega arith
 
 sub-size : (a b : ℕ) → mag (subℕ a (suc b)) ≤ a + b
 sub-size a b = go (ltb a (suc b)) refl

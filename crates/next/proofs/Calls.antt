@@ -5,9 +5,7 @@ use mathlib.Core.Bool.{Bool, true, false, not}
 use mathlib.Core.List.{List, [], _∷_}
 use mathlib.Core.Path.{_≡_, sym, ap, _∙_}
 use lib.ListN.{length}
-use Rattle.cfg.specs.Grammar.{rule}
 use Rattle.cfg.specs.Listing.{L}
-use Rattle.chart.specs.Column.{filled}
 use Rattle.grammar.specs.declared.Grammar.{Grammar}
 use Rattle.grammar.specs.declared.Refusal.{Refusal}
 use Rattle.grammar.specs.Number.{numberOf}
@@ -24,6 +22,7 @@ use Rattle.results.specs.Enumerate.{Enumeration, onOutput, nextIn, nextOf}
 use Rattle.results.specs.Measure.{unlisted}
 use Rattle.results.proofs.Decide.{decide-first, decide-passed}
 use Rattle.initial.specs.Written.{enumerationOf}
+use Rattle.first.proofs.Chart.{Filling}
 use Rattle.following.specs.Made.{nextTree}
 use Rattle.next.specs.Answer.{nextFilled}
 
@@ -52,8 +51,7 @@ module _ (g : Grammar) (w offered chart out : List ℕ) (j : Judged)
   unfolding nextOf onOutput
   next-refused r h = sym (output-refused g w chart _ _ out j judging r h)
 
-  module _ (is : j ≡ Passed) (p chart' : List ℕ) (filling : (chart' ≡ filled (grammarOf g) w chart)
-      × ((r : ℕ) → rule (cfgIn (g .start) p) r ≡ rule (grammarOf g) r)) (s : ℕ) (start : s ≡ g .start) where
+  module _ (is : j ≡ Passed) (p chart' : List ℕ) (filling : Filling g p w chart chart') (s : ℕ) (start : s ≡ g .start) where
     -- over the grammar that was packed
     over-packed : nextFilled (cfgIn s p) w offered chart' out ≡ nextIn (grammarOf g) w offered chart out
     unfolding nextIn unlisted

@@ -10,6 +10,7 @@ use mathlib.Core.List.{List, [], _∷_, append-nil, List·Memᴰ, List·Memᴰ·
 use mathlib.Core.Logic.{dite}
 use mathlib.Core.Path.{_≡_, refl, sym, ap, _∙_, subst}
 use lib.ListN.{length}
+use Rattle.laws.proofs.Bools.{true-false}
 use Rattle.cfg.specs.Grammar.{Cfg, Symbol}
 use Rattle.cfg.specs.Tree.{Forest, end, node, yield, height, Fits, fits-end, fits-node, Parse}
 use Rattle.cfg.specs.Nullable.{Nullable, Depth}
@@ -22,7 +23,6 @@ use Rattle.sets.proofs.Laws.{has-high}
 use Rattle.sets.proofs.Card.{card-le}
 use Rattle.grammar.specs.declared.Grammar.{Grammar}
 use Rattle.grammar.specs.View.{wholeOf}
-use Rattle.grammar.proofs.All.{true-false}
 use Rattle.nullable.specs.Nullable.{Exact}
 
 -- ---- the members of a set, as a list

@@ -9,6 +9,7 @@ use mathlib.Core.Logic.{dite}
 use mathlib.Core.Option.{Option·some-injective, Option·some-ne-none}
 use mathlib.Core.Path.{_≡_, refl, sym, ap, ap₂, _∙_, subst}
 use lib.ListN.{length, take, getD}
+use Rattle.laws.proofs.Bools.{true-false, and-parts, and-both}
 use Rattle.cfg.specs.Grammar as Abstract
 use Rattle.cfg.specs.Grammar.{Cfg, nonterminal, terminal, Of}
 use Rattle.cfg.specs.Tree.{Forest, end, node, yield, Fits, fits-end, fits-leaf, fits-node}
@@ -24,7 +25,6 @@ use Rattle.grammar.specs.declared.Grammar.{Grammar}
 use Rattle.grammar.specs.Valid.{all, validGrammar}
 use Rattle.grammar.specs.View.{symbolOf, placeOf, wholeOf}
 use Rattle.grammar.specs.Zero.{noRule}
-use Rattle.grammar.proofs.All.{true-false, and-parts, and-both}
 use Rattle.grammar.proofs.RuleAt.{rule-at, rule-past}
 use Rattle.nullable.specs.Nullable.{symbolKnown, placeKnown, ruleKnown, widen}
 use Rattle.nullable.proofs.Pass.{widen-in, widen-out}

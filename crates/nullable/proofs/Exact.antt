@@ -7,12 +7,12 @@ use mathlib.Core.Bool.{true}
 use mathlib.Core.Path.{_≡_, sym, _∙_, subst}
 use lib.ListN.{length, take, getD, length-take}
 use lib.Seq.{getD-take}
+use Rattle.laws.proofs.Bools.{true-false}
 use Rattle.sets.proofs.Laws.{has-empty}
 use Rattle.grammar.specs.declared.Grammar.{Grammar}
 use Rattle.grammar.specs.Valid.{validGrammar}
 use Rattle.grammar.specs.View.{wholeOf}
 use Rattle.grammar.specs.Zero.{noRule}
-use Rattle.grammar.proofs.All.{true-false}
 use Rattle.grammar.proofs.Bounds.{valid-count, grammar-parts}
 use Rattle.nullable.specs.Nullable.{pass, Exact}
 use Rattle.nullable.proofs.Pass.{pass-le, pass-word, pass-next, pass-same, widen-same}

@@ -9,6 +9,7 @@ use mathlib.Core.List.{List, [], _∷_}
 use mathlib.Core.Path.{_≡_, refl, sym, ap, _∙_}
 use lib.ListN.{length, take, getD}
 use borrow.Author.Tests.{not-true, leb-true}
+use Rattle.laws.proofs.Bools.{and-parts}
 use Rattle.sets.specs.Set.{has, insert}
 use Rattle.sets.proofs.Laws.{insert-le, insert-lt, insert-same→has}
 use Rattle.grammar.specs.declared.Symbol.the-variants.{Nonterminal}
@@ -16,7 +17,7 @@ use Rattle.grammar.specs.declared.Place.{Place}
 use Rattle.grammar.specs.declared.Rule.{Rule}
 use Rattle.grammar.specs.Valid.{all, validSymbol, validPlace, validRule}
 use Rattle.grammar.specs.Zero.{zeroPlace, noRule}
-use Rattle.grammar.proofs.All.{and-parts, all-at}
+use Rattle.grammar.proofs.All.{all-at}
 use Rattle.grammar.proofs.Bounds.{rule-parts}
 use Rattle.nullable.specs.Nullable.{symbolKnown, placeKnown, ruleKnown, widen, pass}
 

@@ -11,6 +11,7 @@ use borrow.Author.Tests.{lt-ltb, le-ltb, ltb-true}
 use mir.Syntax.{w16}
 use mir.Val.{Fits, SFits, toZ, ofZ}
 use mir.Facts.{toZ-pos, toZ-ofZ}
+use Rattle.laws.proofs.Bools.{clash}
 use Rattle.numbers.specs.Numbers.{signedIn, unsignedOf}
 
 -- ---- reading
@@ -73,8 +74,7 @@ module _ (P : ℤ → Type 0) where
   natural step (pos n) f t = step n (f .sfits)
   natural step (negsuc n) f t =
       let e : ltZ (negsuc n) (pos 0) ≡ false = ap (λ (y : ℤ). ltZ y (pos 0)) (sym (toZ-ofZ {w = w16} {z = negsuc n} f)) ∙ t in
-      let z : _≡_ {A = ℕ} 0 1 = cc in
-      absurd (omega arith)
+      clash cc
 
 pub flip-fits : (z : ℤ) → SFits w16 z → ltZ (toZ w16 (ofZ w16 z)) (pos 0) ≡ true → SFits w16 (flip z)
 flip-fits = negative (λ z. SFits w16 (flip z)) (λ n h. rw (flip-is n h) (record { sfits = h }))

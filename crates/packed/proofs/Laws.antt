@@ -10,6 +10,7 @@ use native.Mathlib.Omega.{arith}
 use lib.Dec.{ltb}
 use lib.ListN.{getElem?, getD}
 use borrow.Author.Tests.{lt-ltb, le-ltb, ltb-true}
+use Rattle.laws.proofs.Bools.{clash}
 use Rattle.cfg.specs.Grammar.{Rule, joined, rule, Of}
 use Rattle.chart.proofs.Derived.{Bounded}
 use Rattle.packed.specs.Packed.{leftIn, countIn, symbolIn, placesFrom, placesIn, ruleIn, packedRules, rulesIn, cfgIn, ruleBytes}
@@ -80,7 +81,7 @@ used-rule p r ρ e = go (ltb (leftIn p r) 32) refl e
   where
     go : (b : Bool) → ltb (leftIn p r) 32 ≡ b → cond b (some (rowRule p r)) none ≡ some ρ → (leftIn p r < 32) × (rowRule p r ≡ ρ)
     go true q h = (ltb-true (leftIn p r) 32 q, cc)
-    go false q h = let z : _≡_ {A = ℕ} 0 1 = cc in absurd (omega arith)
+    go false q h = clash cc
 
 -- ---- the rules by their numbers
 

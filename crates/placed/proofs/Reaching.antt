@@ -7,14 +7,12 @@ use lib.ListN.{length, getD, length-append}
 use Rattle.sizes.specs.Sizes.{maxNodes}
 use Rattle.cfg.specs.Grammar.{Symbol}
 use Rattle.cfg.specs.Tree.{Forest, code}
-use Rattle.listing.proofs.Unique.{length-code}
 use Rattle.enumeration.specs.Rows.{Row}
 use Rattle.enumeration.specs.Order.{Last}
 use Rattle.choices.specs.Opened.{OpenedRow}
 use Rattle.choices.proofs.Stands.{leaf-opened}
-use Rattle.choices.proofs.NextRow.{leaf-moves, rest-stands, rest-moves}
+use Rattle.choices.proofs.NextRow.{leaf-moves, rest-moves}
 use Rattle.standing.specs.Standing.{StandsAt}
-use Rattle.standing.proofs.Stands.{stands-second}
 use Rattle.tables.specs.Exact.{Packing}
 use Rattle.suffixes.specs.Within.{tailIn}
 use Rattle.descend.proofs.RowSteps.{tail-terminal, tail-nonterminal}
@@ -27,7 +25,7 @@ use Rattle.placed.specs.Reached.{Ends, ends-none, ends-leaf, ends-node, 
 use Rattle.beyond.specs.Beyond.{AfterAt}
 use Rattle.beyond.proofs.Codes.{stands-join}
 use Rattle.placed.proofs.Leaves.{leaves-behind, leaves-move, leaves-end}
-use Rattle.placed.proofs.Reading.{opened-here, both-stand, child-here, size-here, Passed}
+use Rattle.placed.proofs.Reading.{opened-here, child-here, Passed, passed-here}
 use Rattle.placed.proofs.Places.{row-as, after-as, none-stands}
 
 -- where the last node stands
@@ -111,17 +109,7 @@ module _ {p : List ℕ} {r q at a j budget : ℕ} {buf : List ℕ} (l : a ≤ j)
         → Passed p w cover mask r q k a j budget b s buf at f
     passed (at-node c t g d N Z u v) known R S =
         let (x, y, o) = opened-here buf at S known l (row-as p r q (tail-nonterminal p r q c t g) R) d in
-        let z = size-here Z S o room in
-        let size : length (code x) ≡ 2 * s = omega (arith, length-code x) in
-        record {
-          first = x;
-          rest = y;
-          opened = o;
-          count = z;
-          size = size;
-          row = rest-stands known o z;
-          stands = stands-second buf at (code x) (code y) s size (both-stand buf at S o);
-        }
+        passed-here known Z S o room
 
     passed-ends : {w : List ℕ} {cover mask : ℕ} {f : Forest} → Looked p r q buf at a j budget (Node k b s)
         → (P : Passed p w cover mask r q k a j budget b s buf at f)

@@ -12,10 +12,11 @@ use Rattle.listing.proofs.Unique.{length-code}
 use Rattle.enumeration.specs.Rows.{Row}
 use Rattle.choices.specs.Opened.{OpenedRow}
 use Rattle.choices.proofs.Stands.{row-opened}
+use Rattle.choices.proofs.NextRow.{rest-stands}
 use Rattle.packed.specs.Packed.{countIn, isNonterminalIn, valueIn}
 use Rattle.packed.proofs.Laws.{count-le}
 use Rattle.standing.specs.Standing.{StandsAt, Sized}
-use Rattle.standing.proofs.Stands.{stands-first}
+use Rattle.standing.proofs.Stands.{stands-first, stands-second}
 use Rattle.tables.specs.Exact.{Packing}
 use Rattle.suffixes.specs.Within.{tailIn}
 use Rattle.beyond.proofs.Codes.{tree-nonempty}
@@ -110,3 +111,20 @@ pub record Passed (p w : List ℕ) (cover mask r q k a j budget b s : ℕ) (buf 
   pub size : length (code first) ≡ 2 * s
   pub row : Row (Packing p) w cover mask (tailIn p r (q + 1)) b j (budget - s) rest
   pub stands : StandsAt buf (at + s) (code rest)
+
+-- such a node, where so many nodes stand there and the row is opened
+abbrev pub passed-here : {p w : List ℕ} {cover set r q k a j budget b s at : ℕ} {buf : List ℕ} {f x y : Forest} → j ≤ length w
+    → Sized p buf at s → StandsAt buf at (code f) → OpenedRow (Packing p) w cover set k (tailIn p r (q + 1)) a j budget f b x y
+    → at + budget ≤ maxNodes → Passed p w cover set r q k a j budget b s buf at f
+passed-here {s = s} {at} {buf} {x = x} {y} known Z S o room =
+    let z = size-here Z S o room in
+    let size : length (code x) ≡ 2 * s = omega (arith, length-code x) in
+    record {
+      first = x;
+      rest = y;
+      opened = o;
+      count = z;
+      size = size;
+      row = rest-stands known o z;
+      stands = stands-second buf at (code x) (code y) s size (both-stand buf at S o);
+    }

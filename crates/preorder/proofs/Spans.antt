@@ -12,8 +12,9 @@ use Rattle.cfg.specs.Grammar.{Cfg, Of}
 use Rattle.cfg.specs.Tree.{Forest, end, node, yield}
 use Rattle.cfg.specs.Derivation.{Has, has-here, has-below, has-beside, Superfluous, super-here, super-below}
 use Rattle.cfg.proofs.Of.{of-same-left}
+use Rattle.cfg.proofs.Has.{has-within}
 use Rattle.enumeration.specs.Rows.{Free, SameSpan}
-use Rattle.enumeration.proofs.Free.{has-within, end-free, node-plain as node-plain-over}
+use Rattle.enumeration.proofs.Free.{end-free, node-plain as node-plain-over}
 
 -- own: what matters of the mask for the node
 module _ (G : Cfg) (cover mask own k r : ℕ) (o : Of G r k) (below : Forest) where

@@ -1,12 +1,12 @@
 // The checker proper: the checker of a node calls the walker of a row of places, which calls the checker of a node.
 use crate::offered::number;
+use nodes::child_set;
 use packed::Packed;
 ghost use mathlib.Core.List.{[], _∷_};
 ghost use Prim.Native.Nat.{_*_, _+_, _-_, _<_, _≤_};
 ghost use lib.ListN.{length};
 ghost use Rattle.cfg.specs.Grammar.{nonterminal};
 ghost use Rattle.packed.specs.Packed.{placesFrom, countIn, cfgIn};
-ghost use Rattle.enumeration.specs.Rows.{SameSpan};
 ghost use Rattle.preorder.specs.Walk.{Walked, Answers, Room, Opens, Looked};
 ghost use Rattle.sizes.specs.Sizes.{tooMany};
 
@@ -23,13 +23,6 @@ struct Here {
     at: usize,
     from: usize,
     to: usize,
-}
-
-// Of the mask `above` over `cover` bytes, what matters for a node over c bytes: all of it, or nothing.
-fn same_span(cover: usize, above: u32, c: usize) -> u32
-    ensures { λ mask. ⌜ SameSpan cover above c mask ⌝ }
-{
-    if c == cover { above } else { 0 }
 }
 
 // The rule of node `at`, if the node covers c bytes and is of the nonterminal k, which is not in the mask; else that of no rule.
@@ -107,7 +100,7 @@ pub fn node(
         (nonterminal k ∷ []) at from to) tooMany next ⌝ }
 {
     let c = to - from;
-    let mask = same_span(cover, above, c);
+    let mask = child_set(cover, above, c);
     let r = rule_at(p, e, n, mask, k, c, at);
     if r > 127 {
         return sizes::TOO_MANY;

@@ -1,2 +1,3 @@
 -- Laws of these sets.
 pub mod Reaching
+pub mod Passing

@@ -2,11 +2,11 @@
 use Prim.Native.Nat.{ℕ, _+_, _*_, _≤_, _<_}
 use mathlib.Core.Bool.{false, true≢false}
 use mathlib.Core.List.{List}
-use mathlib.Core.Path.{_≡_, sym, ap, subst, _∙_}
+use mathlib.Core.Path.{_≡_, sym, ap, _∙_}
 use native.Mathlib.Decide.{ℕ-discrete}
 use native.Mathlib.Omega.{arith}
 use lib.ListN.{length, set, getD, length-set}
-use lib.Seq.{getD-set-same, getD-set-other}
+use Rattle.laws.proofs.Lists.{set-below, below-step}
 use Rattle.sets.specs.Set.{has, insert}
 use Rattle.sets.proofs.Laws.{has-insert-same, has-insert-other}
 use Rattle.chart.specs.Cell.{cell}
@@ -33,11 +33,10 @@ module _ (chart : List ℕ) (i : ℕ) where
 
     -- one without
     pub from-none : {v : ℕ} → getD chart (65 * i + m) 0 ≡ 0 → v ≡ w → ReachFrom chart i (m + 1) v
-    from-none e y = rw y (record { empty = λ c h l f. go c h l f (ℕ-discrete c m) })
-      where
-        go : (c : ℕ) → i < c → c < m + 1 → has c w ≡ false → Dec (c ≡ m) → cell chart i c ≡ 0
-        go c h l f (yes d) = rw d e
-        go c h l f (no d) = let x : ¬ (c ≡ m) = d in S .empty c h (omega arith) f
+    from-none e y = rw y (record {
+      empty = λ c h l f. below-step (λ (c : ℕ). i < c → has c w ≡ false → cell chart i c ≡ 0) m
+          (λ c l h f. S .empty c h l f) (λ h f. e) c l h f;
+    })
 
   pub from-end : {m n w : ℕ} → n ≤ m → ReachFrom chart i m w → ReachFrom chart i n w
   from-end h S = record { empty = λ c l k f. S .empty c l (omega arith) f }
@@ -50,15 +49,8 @@ module _ (chart : List ℕ) (n : ℕ) where
       → ReachesBefore chart n (m + 1) (set reach m w)
   reaches-step {m} reach {w} h l S P = record {
     long = length-set reach m w ∙ S .long;
-    from = λ i x. go i x (ℕ-discrete i m);
+    from = set-below (λ (i x : ℕ). ReachFrom chart i n x) 0 reach m w (omega (arith, S .long)) P (S .from);
   }
-    where
-      go : (i : ℕ) → i < m + 1 → Dec (i ≡ m) → ReachFrom chart i n (getD (set reach m w) i 0)
-      go i x (yes d) =
-          rw d (subst (ReachFrom chart m n) (sym (getD-set-same reach m w 0 (omega (arith, S .long)))) P)
-      go i x (no d) =
-          let y : ¬ (i ≡ m) = d in
-          subst (ReachFrom chart i n) (sym (getD-set-other reach m i w 0 d)) (S .from i (omega arith))
 
   pub reaches-end : {m : ℕ} {reach : List ℕ} → m ≤ n → n ≤ m → ReachesBefore chart n m reach → Reaches chart n reach
   reaches-end {m} h l S = let e : m ≡ n = omega arith in rw e at S

@@ -1,11 +1,13 @@
--- The ends of nonterminals from each start, as sets: an end that is not in the set has an empty cell. Assumes nothing.
-use Prim.Native.Nat.{ℕ, _<_}
-use mathlib.Core.Bool.{false}
+-- The ends of nonterminals from each start, as sets: an end that is not in the set has an empty cell; and when a rule
+-- can begin a cut, by them. Assumes nothing.
+use Prim.Native.Nat.{ℕ, _+_, _≤_, _<_}
+use mathlib.Core.Bool.{Bool, true, false}
 use mathlib.Core.List.{List}
 use mathlib.Core.Path.{_≡_}
 use lib.ListN.{length, getD}
 use Rattle.sizes.specs.Sizes.{maxInput}
-use Rattle.sets.specs.Set.{has}
+use Rattle.sets.specs.Set.{has, insert}
+use Rattle.sets.specs.Pairs.{Meeting}
 use Rattle.chart.specs.Cell.{cell}
 
 -- the set has the ends before n from i on
@@ -20,3 +22,8 @@ pub record ReachesBefore (chart : List ℕ) (n m : ℕ) (reach : List ℕ) : Typ
 -- the same for all starts before n
 abbrev pub Reaches : List ℕ → ℕ → List ℕ → Type 0
 Reaches chart n reach = ReachesBefore chart n n reach
+
+-- f says whether a rule can have an inner cut of the span from i to n: not, where no end from i, and not i + 1, is one of its starts
+pub record CanBegin (i n reach live : ℕ) (f : Bool) : Type 0 where
+  pub before : i + 1 < n → Meeting 64 (insert (i + 1) reach) live f
+  pub at-end : n ≤ i + 1 → f ≡ true

@@ -1,11 +1,14 @@
-// The ends of nonterminals from each start, as sets of positions, read from the chart.
+// The ends of nonterminals from each start, as sets of positions, read from the chart; and whether a rule can be passed over by them.
 ghost use Prim.Native.Nat.{_<_, _≤_};
 ghost use lib.ListN.{length};
 ghost use Rattle.sizes.specs.Sizes.{cells, side};
-ghost use Rattle.reach.specs.Reach.{ReachFrom, Reaches};
+ghost use Rattle.reach.specs.Reach.{ReachFrom, Reaches, CanBegin};
 
-// A set for each start.
+// A set of ends for each start.
 pub type Reach = [u64; sizes::MAX_INPUT];
+
+// A set of starts for each rule: those from which its places from 1 on can go on.
+pub type Live = [u64; sizes::MAX_RULES];
 
 // The ends before n from i on: those whose cells have a nonterminal.
 fn reach_from(chart: &[u32], i: usize, n: usize) -> u64
@@ -35,4 +38,15 @@ pub fn reaches(chart: &[u32], n: usize) -> Reach
         i += 1;
     }
     reach
+}
+
+// Whether a rule can have an inner cut of the span from i to n at all: else it is passed over.
+pub fn can_begin(i: usize, n: usize, reach: u64, live: u64) -> bool
+    requires { ⌜ (i < n) × (n < side) ⌝ }
+    ensures { λ f. ⌜ CanBegin i n reach live f ⌝ }
+{
+    if i + 1 < n {
+        return sets::wide::meets(sets::wide::with(reach, i + 1), live);
+    }
+    true
 }

@@ -1,7 +1,7 @@
 -- Answers told apart: what is refused is not answered, and what is handed out or counted is not "none" or "more". Assumes nothing.
 use Prim.Native.Nat.{ℕ}
 use mathlib.Core.Path.{_≡_}
-use native.Mathlib.Omega.{arith}
+use Rattle.laws.proofs.Bools.{clash}
 use Rattle.results.specs.Answer.{Answer, refused, answered, handed, nothing, counted, more}
 
 pub refused-inj : {A : Type 0} {m n : ℕ} → _≡_ {A = Answer A} (refused m) (refused n) → m ≡ n
@@ -11,13 +11,13 @@ pub answered-inj : {A : Type 0} {a b : A} → answered a ≡ answered b → a �
 answered-inj e = cc
 
 pub refused-apart : {A : Type 0} {n : ℕ} {a : A} → refused n ≡ answered a → ⊥
-refused-apart e = let z : _≡_ {A = ℕ} 0 1 = cc in omega arith
+refused-apart e = clash cc
 
 pub answered-apart : {A : Type 0} {a : A} {n : ℕ} → answered a ≡ refused n → ⊥
-answered-apart e = let z : _≡_ {A = ℕ} 0 1 = cc in omega arith
+answered-apart e = clash cc
 
 pub handed-apart : {n : ℕ} → answered (handed n) ≡ answered nothing → ⊥
-handed-apart e = let z : _≡_ {A = ℕ} 0 1 = cc in omega arith
+handed-apart e = clash cc
 
 pub figures-apart : (n : ℕ) → answered (counted n) ≡ answered more → ⊥
-figures-apart n e = let z : _≡_ {A = ℕ} 0 1 = cc in omega arith
+figures-apart n e = clash cc

@@ -1,25 +1,21 @@
 -- The checks 8 to 11, 14 and 15: when each of them fails and when it is passed, in plain terms. Assumes nothing.
 use Prim.Native.Nat.{ℕ, _≤_, _<_}
-use mathlib.Core.Bool.{Bool, true, false, _||_, not}
+use mathlib.Core.Bool.{true, false, not}
 use mathlib.Core.List.{List, [], _∷_, _++_}
 use mathlib.Core.Logic.{_⊎_, inl, inr}
-use mathlib.Core.Path.{_≡_, refl, ap}
+use mathlib.Core.Path.{_≡_, ap}
 use native.Mathlib.Omega.{arith}
 use lib.Dec.{eqb, ltb}
 use lib.ListN.{length}
 use borrow.Author.Tests.{ltb-false, eqb-false, not-false, lt-ltb, le-ltb, eq-eqb, ne-eqb}
 use Rattle.sizes.specs.Sizes.{cells}
+use Rattle.laws.proofs.Bools.{or-neither}
 use Rattle.grammar.specs.declared.Grammar.{Grammar}
 use Rattle.grammar.specs.Valid.{validGrammar}
 use Rattle.results.specs.Check.{inputCheck, inputChecks}
 use Rattle.results.specs.Enumerate.{outputCheck}
 use Rattle.results.specs.Ready.{Ready, ReadyOut}
 use Rattle.results.proofs.Decide.{Pass}
-
--- neither of two tests
-or-false : (a b : Bool) → (a || b) ≡ false → (a ≡ false) × (b ≡ false)
-or-false true b e = let z : _≡_ {A = ℕ} 0 1 = cc in absurd (omega arith)
-or-false false b e = (refl, e)
 
 -- ---- 9
 
@@ -33,7 +29,7 @@ module _ (w : List ℕ) where
 
   input-passed : inputCheck w .fails ≡ false → (1 ≤ length w) × (length w ≤ 64)
   input-passed e =
-      let p = or-false (eqb (length w) 0) (ltb 64 (length w)) e in
+      let p = or-neither (eqb (length w) 0) (ltb 64 (length w)) e in
       let n : ¬ (length w ≡ 0) = eqb-false (length w) 0 (p .0) in
       (omega arith, ltb-false 64 (length w) (p .1))
 

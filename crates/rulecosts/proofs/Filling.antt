@@ -6,6 +6,7 @@ use native.Mathlib.Decide.{ℕ-discrete}
 use native.Mathlib.Omega.{arith}
 use lib.ListN.{length, set, length-set}
 use lib.Seq.{getD-set-same, getD-set-other}
+use Rattle.laws.proofs.Lists.{below-step}
 use Rattle.costs.specs.Rule.{alone}
 use Rattle.packed.specs.Packed.{placesIn}
 use Rattle.tables.specs.Layout.{fullIn, aloneIn, alonesAt, tablesSize}
@@ -49,11 +50,11 @@ module _ (p empty : List ℕ) where
 
   pub filled-step : {r : ℕ} {tables₀ tables : List ℕ} → AlonesFilled p empty r tables₀ → AlonePut p r empty tables₀ tables
       → AlonesFilled p empty (r + 1) tables
-  filled-step {r} {tables₀} {tables} S P = record { long = P .long; here = λ s n h m. go s n h m (ℕ-discrete s r) }
-    where
-      go : (s n : ℕ) → s < r + 1 → n < 8 → Dec (s ≡ r) → aloneIn tables s n ≡ alone (fullIn empty) (placesIn p s) n
-      go s n h m (yes d) = rw d (P .here n m)
-      go s n h m (no d) = let c : ¬ (s ≡ r) = d in P .other s n d m ∙ S .here s n (omega arith) m
+  filled-step {r} {tables₀} {tables} S P = record {
+    long = P .long;
+    here = λ s n h m. below-step (λ (s : ℕ). aloneIn tables s n ≡ alone (fullIn empty) (placesIn p s) n) r
+        (λ s l. P .other s n (λ e. omega arith) m ∙ S .here s n l m) (P .here n m) s h;
+  }
 
   pub filled-end : {r : ℕ} {tables : List ℕ} → r ≤ 128 → 128 ≤ r → AlonesFilled p empty r tables → AlonesFilled p empty 128 tables
   filled-end {r} h l S = let e : r ≡ 128 = omega arith in rw e at S

@@ -9,6 +9,7 @@ use native.Mathlib.Numerals.{add-one}
 use native.Mathlib.Omega.{arith}
 use lib.ListN.{getElem?}
 use Rattle.sizes.specs.Sizes.{tooMany}
+use Rattle.laws.proofs.Bools.{clash}
 use Rattle.cfg.specs.Grammar.{Symbol, nonterminal, terminal, Terminal}
 use Rattle.costs.specs.Rule.{single, together, others, alone}
 use Rattle.costs.proofs.Rule.{others-total}
@@ -88,15 +89,15 @@ place-past p r q h = places-past p r (countIn p r) 0 q h
 others-past : (cost : ℕ → ℕ) (places : List Symbol) (q : ℕ) → getElem? places q ≡ none → tooMany ≤ others cost places q
 unfolding others
 others-past cost [] q e = omega arith
-others-past cost (s ∷ places) zero e = let z : _≡_ {A = ℕ} 0 1 = cc in absurd (omega arith)
+others-past cost (s ∷ places) zero e = clash cc
 others-past cost (nonterminal k ∷ places) (suc q) e = omega (arith, others-past cost places q e)
 others-past cost (terminal t ∷ places) (suc q) e = omega (arith, others-past cost places q e)
 
 others-terminal : (cost : ℕ → ℕ) (places : List Symbol) (q : ℕ) {t : Terminal} → getElem? places q ≡ some (terminal t)
     → tooMany ≤ others cost places q
 unfolding others
-others-terminal cost [] q e = let z : _≡_ {A = ℕ} 0 1 = cc in absurd (omega arith)
-others-terminal cost (nonterminal k ∷ places) zero e = let z : _≡_ {A = ℕ} 0 1 = cc in absurd (omega arith)
+others-terminal cost [] q e = clash cc
+others-terminal cost (nonterminal k ∷ places) zero e = clash cc
 others-terminal cost (terminal s ∷ places) zero e = omega arith
 others-terminal cost (nonterminal k ∷ places) (suc q) e = omega (arith, others-terminal cost places q e)
 others-terminal cost (terminal s ∷ places) (suc q) e = omega (arith, others-terminal cost places q e)

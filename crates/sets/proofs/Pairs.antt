@@ -11,6 +11,7 @@ use lib.Bits.{bitAnd, and-step, and-lt}
 use lib.Count.{under, trailingZeros}
 use lib.Dec.{eqb}
 use borrow.Author.Tests.{eq-eqb, ne-eqb}
+use Rattle.laws.proofs.Bools.{true-false, and-parts}
 use Rattle.sets.specs.Set.{has}
 use Rattle.sets.specs.Pairs.{Meeting, Lowest, FirstMember, Without}
 use Rattle.sets.proofs.Halving.{has-zero, has-suc, has-zero-true, has-zero-false, insert-fresh}
@@ -50,13 +51,6 @@ member (suc n) w l d = go (member n (w / 2) (omega (arith, pow-suc 2 n))) (has 0
         let (k, h, m) = half f in
         (suc k, omega arith, has-suc k w ∙ m)
 
-true-false : {A : Type 0} → true ≡ false → A
-true-false e = let z : _≡_ {A = ℕ} 0 1 = cc in absurd (omega arith)
-
-both : (a b : Bool) → (a && b) ≡ true → (a ≡ true) × (b ≡ true)
-both true b e = (refl, e)
-both false b e = true-false (sym e)
-
 both-in : (k v w : ℕ) → has k v ≡ true → has k w ≡ true → has k (bitAnd v w) ≡ true
 both-in k v w g h = has-and k v w ∙ rw (g, h)
 
@@ -66,13 +60,13 @@ meeting n v w f p q e = record { found = found; all = all }
   where
     found : f ≡ true → (k : ℕ) × (k < n) × (has k v ≡ true) × (has k w ≡ true)
     found g =
-        let d : bitAnd v w ≢ 0 = λ z. true-false (sym g ∙ e ∙ ap not (eq-eqb (bitAnd v w) 0 z)) in
+        let d : bitAnd v w ≢ 0 = λ z. true-false g (e ∙ ap not (eq-eqb (bitAnd v w) 0 z)) in
         let (k, h, m) = member n (bitAnd v w) (and-lt n v w p q) d in
-        let u = both (has k v) (has k w) (sym (has-and k v w) ∙ m) in
+        let u = and-parts (has k v) (has k w) (sym (has-and k v w) ∙ m) in
         (k, h, u .0, u .1)
 
     all : (k : ℕ) → has k v ≡ true → has k w ≡ true → f ≡ true
-    all k g h = e ∙ ap not (ne-eqb (bitAnd v w) 0 (λ z. true-false (sym (both-in k v w g h) ∙ ap (has k) z ∙ has-empty k)))
+    all k g h = e ∙ ap not (ne-eqb (bitAnd v w) 0 (λ z. true-false (both-in k v w g h) (ap (has k) z ∙ has-empty k)))
 
 -- ---- the least member, and a set without a member
 
@@ -110,7 +104,7 @@ lowest-is n w k l d e = go (first-is n w k l e) (decLt k n)
   where
     go : FirstMember n w k → Dec (k < n) → Lowest n w k
     go F (yes m) = record { below = m; member = F .member m; least = F .before }
-    go F (no m) = let (j, h, f) = member n w l d in true-false (sym f ∙ F .before j (omega arith))
+    go F (no m) = let (j, h, f) = member n w l d in absurd (true-false f (F .before j (omega arith)))
 
 -- a member's power of two can be taken away, and then it is none
 pub taken-away : (k w : ℕ) → has k w ≡ true → (2 ^ k ≤ w) × (has k (w - 2 ^ k) ≡ false)

@@ -3,10 +3,11 @@ use Prim.Native.Nat.{ℕ, _+_, _≤_, _<_}
 use mathlib.Core.Bool.{Bool, true, false, not, true≢false, Bool·not-not}
 use mathlib.Core.List.{List}
 use mathlib.Core.Path.{_≡_, refl, sym, ap, subst, _∙_}
-use native.Mathlib.Decide.{ℕ-discrete, decLt}
+use native.Mathlib.Decide.{decLt}
 use native.Mathlib.Omega.{arith}
 use lib.ListN.{replicate, length-replicate, getD-replicate}
 use Rattle.sizes.specs.Sizes.{tooMany}
+use Rattle.laws.proofs.Lists.{below-step}
 use Rattle.sets.specs.Set.{has}
 use Rattle.sets.proofs.Laws.{has-empty}
 use Rattle.packed.specs.Packed.{leftIn}
@@ -48,14 +49,9 @@ module _ (p : List ℕ) (cell mask : ℕ) (tables : List ℕ) (i j : ℕ) (full�
       reached = λ A. I .reached (S .reached A);
       less = λ x. let h = S .less x in omega (arith, ap total (I .same e));
       same = λ x. I .same e ∙ S .same x;
-      settled = λ x r h. go x r h (ℕ-discrete r m);
+      settled = λ x. below-step (λ (r : ℕ). Settled p r cell mask tables i j full') m
+          (λ r h. subst (Settled p r cell mask tables i j) (sym (I .same e)) (S .settled x r h)) (I .settled e);
     })
-      where
-        go : changed ≡ false → (r : ℕ) → r < m + 1 → Dec (r ≡ m) → Settled p r cell mask tables i j full'
-        go x r h (yes d) = subst (λ (y : ℕ). Settled p y cell mask tables i j full') (sym d) (I .settled e)
-        go x r h (no d) =
-            let c : ¬ (r ≡ m) = d in
-            subst (Settled p r cell mask tables i j) (sym (I .same e)) (S .settled x r (omega arith))
 
   pub passed-end : {full : List ℕ} {m rules : ℕ} {changed : Bool} → m ≤ rules → rules ≤ m
       → Passed p m cell mask tables i j full₀ full changed → Passed p rules cell mask tables i j full₀ full changed

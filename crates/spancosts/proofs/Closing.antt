@@ -6,6 +6,7 @@ use mathlib.Core.Path.{_≡_, refl, sym, subst}
 use native.Mathlib.Decide.{ℕ-discrete}
 use native.Mathlib.Omega.{arith}
 use Rattle.sizes.specs.Sizes.{tooMany}
+use Rattle.laws.proofs.Bools.{clash}
 use Rattle.sets.specs.Set.{has}
 use Rattle.cfg.specs.Grammar.{nonterminal}
 use Rattle.costs.specs.Cut.{Fit}
@@ -41,7 +42,7 @@ use Rattle.spancosts.proofs.Kept.{sofar-kept, sofar-more, ready-by, ins
 module _ (p : List ℕ) (r q k : ℕ) (e : nonterminal k ≡ symbolIn p r q) where
   place-is : (b : Bool) → isNonterminalIn p r q ≡ b → (isNonterminalIn p r q ≡ true) × (valueIn p r q ≡ k)
   place-is true f = let g = symbol-nonterminal p r q f in (f, cc)
-  place-is false f = let g = symbol-terminal p r q f in let z : _≡_ {A = ℕ} 0 1 = cc in absurd (omega arith)
+  place-is false f = let g = symbol-terminal p r q f in clash cc
 
 -- a nonterminal among the places stands in one of them
 pub places-have : (p : List ℕ) (r n a : ℕ) {k : ℕ} → List·Memᴰ (nonterminal k) (placesFrom p r a n)

@@ -1,8 +1,8 @@
 // One span: its costs that need no numbers of the whole of it, its numbers, and with them the rows from its start on.
 use fit::FitTable;
-use live::mark::Live;
 use live::open::Over;
 use packed::Packed;
+use reach::Live;
 use solve::solve;
 use starts::open_starts;
 use starts::put_starts;

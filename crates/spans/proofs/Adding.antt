@@ -7,10 +7,10 @@ use mathlib.Core.Path.{_≡_, sym, ap, _∙_, subst}
 use native.Mathlib.Decide.{ℕ-discrete}
 use native.Mathlib.Omega.{arith}
 use lib.ListN.{length, getD, set, length-set}
+use Rattle.laws.proofs.Bools.{true-false}
 use Rattle.sets.specs.Set.{has, insert}
 use Rattle.sets.proofs.Laws.{has-empty}
 use Rattle.packed.specs.Packed.{countIn}
-use Rattle.grammar.proofs.All.{true-false}
 use Rattle.spans.specs.Spans.{startsSize, startsOf}
 use Rattle.spans.specs.Ends.{RulePut}
 use Rattle.spans.proofs.Rows.{row-if-keeps, row-if-has, row-if-sound}

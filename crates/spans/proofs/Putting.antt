@@ -7,10 +7,10 @@ use mathlib.Core.Path.{_≡_, sym, ap, _∙_, subst}
 use native.Mathlib.Decide.{ℕ-discrete}
 use native.Mathlib.Omega.{arith}
 use lib.ListN.{length, getD, set, length-set}
+use Rattle.laws.proofs.Bools.{true-false}
 use Rattle.sets.specs.Set.{has, insert}
 use Rattle.sets.specs.Pairs.{Lowest, Without}
 use Rattle.sets.proofs.Laws.{has-empty, has-insert, has-insert-other, insert-new, has-high}
-use Rattle.grammar.proofs.All.{true-false}
 use Rattle.spans.proofs.Rows.{row-keeps, row-has, row-sound}
 use Rattle.spans.specs.Spans.{endsSize, endsOf}
 use Rattle.spans.specs.Ends.{EndPut, CellPut}

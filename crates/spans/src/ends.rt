@@ -1,6 +1,6 @@
 // The ends: adding those of one cell and of one column of the chart.
 use super::words::Ends;
-use super::words::Reach;
+use reach::Reach;
 ghost use mathlib.Core.Path.{_≡_};
 ghost use Prim.Native.Nat.{_+_, _<_, _≤_};
 ghost use lib.ListN.{length};

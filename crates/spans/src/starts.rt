@@ -1,7 +1,7 @@
 // The starts: adding the flags of one start.
-use super::words::Live;
 use super::words::Starts;
 use packed::Packed;
+use reach::Live;
 ghost use mathlib.Core.Bool.{cond};
 ghost use mathlib.Core.Path.{_≡_};
 ghost use Prim.Native.Nat.{_<_, _≤_};

@@ -7,16 +7,10 @@ pub const ENDS_SIZE: usize = sizes::MAX_INPUT * sizes::NONTERMINALS;
 
 pub type Ends = [u64; ENDS_SIZE];
 
-// One word for each start: the ends of all nonterminals.
-pub type Reach = [u64; sizes::MAX_INPUT];
-
 // One word for each rule and place: the set of the starts.
 pub const STARTS_SIZE: usize = sizes::MAX_RULES * sizes::MAX_PLACES;
 
 pub type Starts = [u64; STARTS_SIZE];
-
-// One word for each rule: the starts of all its places from 1 on.
-pub type Live = [u64; sizes::MAX_RULES];
 
 pub fn tied_ends() -> usize
     ensures { λ n. ⌜ n ≡ endsSize ⌝ }

@@ -6,6 +6,7 @@ use mathlib.Core.Path.{_≡_, refl, sym, ap, subst, _∙_}
 use native.Mathlib.Decide.{ℕ-discrete}
 use native.Mathlib.Omega.{arith}
 use lib.ListN.{length, getD}
+use Rattle.laws.proofs.Lists.{below-step}
 use Rattle.sets.specs.Set.{has}
 use Rattle.sets.proofs.Laws.{has-empty}
 use Rattle.costs.specs.Cut.{Fit}
@@ -130,11 +131,9 @@ module _ (p : List ℕ) (r cell : ℕ) where
 
   module _ {q : ℕ} (S : Before p r cell q) where
     one-more : (isNonterminalIn p r q ≡ true → has (valueIn p r q) cell ≡ false) → Before p r cell (q + 1)
-    one-more f = record { none = λ s h t. go s h (ℕ-discrete s q) t }
-      where
-        go : (s : ℕ) → s < q + 1 → Dec (s ≡ q) → isNonterminalIn p r s ≡ true → has (valueIn p r s) cell ≡ false
-        go s h (yes e) t = rw e (f (rw e at t))
-        go s h (no e) t = let d : ¬ (s ≡ q) = e in S .none s (omega arith) t
+    one-more f = record {
+      none = below-step (λ (s : ℕ). isNonterminalIn p r s ≡ true → has (valueIn p r s) cell ≡ false) q (S .none) f;
+    }
 
     pub before-terminal : {b : Bool} → b ≡ isNonterminalIn p r q → b ≡ false → Before p r cell (q + 1)
     before-terminal e f = one-more (λ t. absurd (true≢false (sym t ∙ sym e ∙ f)))

@@ -1,11 +1,11 @@
 // The rows of all rules from one start on: of each, of those that are not passed over, of those that the numbers of the whole span change.
 use cuts::within::Part;
 use fit::FitTable;
-use live::mark::Live;
 use live::open::Over;
 use live::open::open_rule;
 use live::open::put_rule;
 use packed::Packed;
+use reach::Live;
 use suffixes::rows::put_start;
 use tables::layout::Full;
 use tables::layout::ROWS_SIZE;

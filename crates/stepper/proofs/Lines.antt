@@ -1,7 +1,7 @@
 -- The lines that are ahead: one line of a derivation and those behind it, or the last line, by what the advance found. Assumes nothing.
 use Prim.Native.Nat.{ℕ, suc, _+_, _*_, _≤_, _<_, min}
 use mathlib.Core.List.{List, [], _∷_, _++_}
-use mathlib.Core.Option.{some}
+use mathlib.Core.Option.{Option·some-injective}
 use mathlib.Core.Path.{_≡_, refl, sym, ap, _∙_}
 use native.Mathlib.Numerals.{add-one}
 use native.Mathlib.Omega.{arith}
@@ -47,15 +47,12 @@ module _ (lengths : ℕ → ℤ) (l : List (List ℕ)) (i : ℕ) where
 
 -- ---- what comes after derivation i
 
-some-inj : {A : Type 0} {a b : A} → some a ≡ some b → a ≡ b
-some-inj e = cc
-
 -- the nodes of the derivation that stands then
 next-size : (l : List (List ℕ)) → Rising l → (i : ℕ) → suc i < length l → (buf : List ℕ) (m : ℕ)
     → Advanced l (getD l i []) buf m → 0 < m → length (getD l (suc i) []) ≡ 2 * m
 next-size l rising i h buf m A k =
     let F = A .next k in
-    ap length (sym (some-inj (sym (F .after) ∙ after-next l rising i h))) ∙ F .size
+    ap length (sym (Option·some-injective _ _ (sym (F .after) ∙ after-next l rising i h))) ∙ F .size
 
 module _ (p : List ℕ) (rules : ℕ) (fits chart tables : List ℕ) (s n i : ℕ) (buf₀ buf : List ℕ) (m : ℕ)
     (R : RootNext p rules fits chart tables s n buf₀ buf m) (low : i < most) where

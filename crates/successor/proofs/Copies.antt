@@ -1,12 +1,11 @@
 -- Numbers copied one after the other. Assumes nothing.
 use Prim.Native.Nat.{ℕ, _+_, _≤_, _<_}
 use mathlib.Core.List.{List}
-use mathlib.Core.Logic.{dite}
-use mathlib.Core.Path.{_≡_, refl, sym, subst, _∙_}
-use native.Mathlib.Decide.{ℕ-discrete}
+use mathlib.Core.Path.{_≡_, refl, subst, _∙_}
 use native.Mathlib.Omega.{arith}
 use lib.ListN.{length, getD, set, length-set}
-use lib.Seq.{getD-set-same, getD-set-other}
+use lib.Seq.{getD-set-other}
+use Rattle.laws.proofs.Lists.{set-below}
 use Rattle.successor.specs.Advanced.{Copied}
 
 pub copied-start : {from to : List ℕ} → Copied 0 from to to
@@ -16,9 +15,7 @@ pub copied-step : {i : ℕ} {from to₀ to : List ℕ} → i < length to → Cop
     → Copied (i + 1) from to₀ (set to i (getD from i 0))
 copied-step {i} {from} {to₀} {to} room C = record {
   long = length-set to i (getD from i 0) ∙ C .long;
-  front = λ x h. dite (ℕ-discrete x i)
-      (λ e. subst (λ (y : ℕ). getD (set to i (getD from i 0)) y 0 ≡ getD from y 0) (sym e) (getD-set-same to i (getD from i 0) 0 room))
-      (λ d. getD-set-other to i x (getD from i 0) 0 d ∙ C .front x (omega arith));
+  front = set-below (λ (x y : ℕ). y ≡ getD from x 0) 0 to i (getD from i 0) room refl (C .front);
   behind = λ x h. getD-set-other to i x (getD from i 0) 0 (λ e. absurd (omega arith)) ∙ C .behind x (omega arith);
 }
 

@@ -9,13 +9,13 @@ use lib.Dec.{eqb, ltb}
 use lib.IntN.{ℤ}
 use lib.ListN.{length, getD}
 use borrow.Author.Tests.{ltb-false}
+use Rattle.laws.proofs.Bools.{true-false}
 use Rattle.grammar.specs.declared.Symbol.{Symbol}
 use Rattle.grammar.specs.declared.Symbol.the-variants.{Nonterminal, Terminal}
 use Rattle.grammar.specs.declared.Rule.{Rule}
 use Rattle.grammar.specs.declared.Grammar.{Grammar}
 use Rattle.grammar.specs.Setters.{openedRule, placedRule}
 use Rattle.grammar.specs.Zero.{zeroGrammar}
-use Rattle.grammar.proofs.All.{true-false}
 use Rattle.grammar.proofs.Setters.{set-rule-size, set-rule-at}
 use Rattle.results.specs.Load.{operands, signed, openRule, withStart, withRule, withPlace, after, unknown, outOfTurn, commandChecks}
 use Rattle.results.specs.Load.{Step, stop, next, done, step}

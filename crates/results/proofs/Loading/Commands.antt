@@ -8,13 +8,13 @@ use lib.Dec.{eqb, ltb}
 use lib.IntN.{ℤ}
 use lib.ListN.{length, getD}
 use borrow.Author.Tests.{ltb-true, ltb-false, le-leb, eqb-true, eqb-false, not-false}
+use Rattle.laws.proofs.Bools.{or-neither}
 use Rattle.grammar.specs.declared.Symbol.{Symbol}
 use Rattle.grammar.specs.declared.Symbol.the-variants.{Nonterminal, Terminal}
 use Rattle.grammar.specs.declared.Grammar.{Grammar}
 use Rattle.grammar.specs.Setters.{openedRule, placedRule, setStart, setCount, setRule}
 use Rattle.grammar.specs.Valid.{validSymbol}
 use Rattle.grammar.specs.Zero.{zeroGrammar}
-use Rattle.grammar.proofs.All.{true-false}
 use Rattle.results.specs.Load.{signed, openRule, withStart, withRule, withPlace, after, outOfTurn, commandChecks}
 use Rattle.results.specs.Load.{Step, stop, next, done, step}
 use Rattle.results.proofs.Decide.{decide-either}
@@ -43,16 +43,12 @@ pub record Invariant (P : Grammar → Type 0) : Type 0 where
   pub rule : (g : Grammar) → P g → (k : ℕ) (z : ℤ) → k ≤ 31 → g .count < 128 → P (withRule g k z)
   pub place : (g : Grammar) → P g → (s : Symbol) → 0 < g .count → openRule g .count < 8 → validSymbol s ≡ true → P (withPlace g s)
 
-or-second : (a b : Bool) → (a || b) ≡ false → b ≡ false
-or-second true b e = absurd (true-false refl e)
-or-second false b e = e
-
 module _ {P : Grammar → Type 0} (I : Invariant P) where
   module _ (g : Grammar) (H : P g) where
     placed : (at : ℕ) (s : Symbol) → validSymbol s ≡ true → (eqb at 0 || eqb (g .count) 0) ≡ false → ltb 7 (openRule g .count) ≡ false
         → P (withPlace g s)
     placed at s v o p =
-        let n = eqb-false (g .count) 0 (or-second (eqb at 0) (eqb (g .count) 0) o) in
+        let n = eqb-false (g .count) 0 (or-neither (eqb at 0) (eqb (g .count) 0) o .1) in
         let l = ltb-false 7 (openRule g .count) p in
         I .place g H s (omega arith) (omega arith) v
 

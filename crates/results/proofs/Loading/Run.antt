@@ -7,6 +7,7 @@ use mathlib.Core.Path.{_≡_, refl, sym, ap, _∙_}
 use lib.Dec.{eqb}
 use lib.ListN.{length, getD}
 use borrow.Author.Tests.{le-ltb}
+use Rattle.laws.proofs.Bools.{clash}
 use Rattle.grammar.specs.declared.Grammar.{Grammar}
 use Rattle.results.specs.Answer.{Check, decide}
 use Rattle.results.specs.Load.{Loading, Fault, Step, operands, stop, next, done, step, run, refusedLoad, acceptedLoad}
@@ -47,7 +48,7 @@ decide-next (c ∷ checks) go at g e = by-check (c .fails) e (decide-next checks
   where
     by-check : (b : Bool) → elim b [ true ↦ stop (c .refusal) | false ↦ decide checks stop go ] ≡ next at g
         → (decide checks stop go ≡ next at g → go tt ≡ next at g) → go tt ≡ next at g
-    by-check true e f = let z : _≡_ {A = ℕ} 0 1 = cc in absurd (omega arith)
+    by-check true e f = clash cc
     by-check false e f = f e
 
 -- a step goes forward
@@ -56,7 +57,7 @@ unfolding step
 step-forward bytes at g at′ g′ e = go (eqb (getD bytes at 0) 0x50) (operands (getD bytes at 0)) _ (decide-next _ _ at′ g′ e)
   where
     go : (b : Bool) (n : ℕ) (h : Grammar) → cond b (done g) (next (at + 1 + n) h) ≡ next at′ g′ → at < at′
-    go true n h p = let z : _≡_ {A = ℕ} 0 1 = cc in absurd (omega arith)
+    go true n h p = clash cc
     go false n h p = let q : at + 1 + n ≡ at′ = cc in omega arith
 
 pub run-fuel : (d : ℕ) (bytes : List ℕ) (m n at : ℕ) (g : Grammar) → length bytes - at ≤ m → length bytes - at ≤ n

@@ -8,4 +8,4 @@ use Rattle.live.proofs.open.open_rule.Tie as tie
 pub open-rule-spec : {M : Type 1} → statement M
 open-rule-spec = tie.close (tie.spec
     (λ c. omega arith) (λ c. search needs) (λ c κs. search needs) (λ c κs. search needs) (λ c κs. search needs)
-    (λ c. search (needs, rule-passed)) (λ c. search needs))
+    (λ c. search needs) (λ c. search (needs, rule-passed)))

@@ -5,6 +5,7 @@ use native.Mathlib.Omega.{arith}
 use borrow.Fn.Kinds.{In}
 use borrow.Fn.PlainCycle.{Measures, is, falls, and}
 use Rattle.sets.proofs.with.Reads as with-reads
+use Rattle.nodes.proofs.child_set.Reads as child-set-reads
 use Rattle.preorder.proofs.Steps.{node-none, node-some, row-none, row-end, row-byte, row-node-none, row-node-some, byte-room}
 use Rattle.preorder.proofs.Steps.{node-room, walk-room}
 use Rattle.preorder.proofs.walk.+node+row.{statement}
@@ -16,7 +17,6 @@ use Rattle.preorder.proofs.walk.row.Reads as row
 use Rattle.preorder.proofs.walk.row.Kinds as row-kinds
 use Rattle.preorder.proofs.walk.+node+row.Lts-row as row-lts
 use Rattle.preorder.proofs.walk.look.Reads as look-reads
-use Rattle.preorder.proofs.walk.same_span.Reads as same-span-reads
 use Rattle.preorder.proofs.walk.rule_at.Reads as rule-at-reads
 
 abbrev μ-node : Measures 3 node-kinds.ps ℕ
@@ -42,8 +42,8 @@ row-below t = and 3 row-kinds.ps (falls 3 row-kinds.ps _<_ μ-row t) row.Pre
 -- what `node` calls, and what `row` calls
 abbrev node-calls : ℕ → node-lts.Claims
 node-calls t = (
-  same-span-reads.Asked,
-  same-span-reads.Learnt,
+  child-set-reads.Asked,
+  child-set-reads.Learnt,
   rule-at-reads.Asked,
   rule-at-reads.Learnt,
   with-reads.Asked,

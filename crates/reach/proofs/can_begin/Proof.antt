@@ -1,8 +1,8 @@
--- `begins::rules::can_begin` meets its contract. Assumes nothing.
+-- `reach::can_begin` meets its contract. Assumes nothing.
 use native.Mathlib.Omega.{arith}
-use Rattle.begins.proofs.Rule.{can-meet, can-always}
-use Rattle.begins.proofs.rules.can_begin.Statement.{statement}
-use Rattle.begins.proofs.rules.can_begin.Tie as tie
+use Rattle.reach.proofs.Passing.{can-meet, can-always}
+use Rattle.reach.proofs.can_begin.Statement.{statement}
+use Rattle.reach.proofs.can_begin.Tie as tie
 
 pub can-begin-spec : {M : Type 1} → statement M
 can-begin-spec = tie.close (tie.spec

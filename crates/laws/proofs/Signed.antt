@@ -1,0 +1,10 @@
+-- Sizes of signed numbers. Assumes nothing.
+use Prim.Native.Nat.{ℕ, zero, suc, _≤_}
+use native.Mathlib.Omega.{arith}
+use lib.IntN.{pos, negℤ}
+use lib.Signed.{mag}
+
+-- the size of a number and of its negative differ by one at most
+pub neg-size : (n : ℕ) → mag (negℤ (pos n)) ≤ n
+neg-size zero = omega arith
+neg-size (suc n) = omega arith
