@@ -7,6 +7,7 @@ use mathlib.Core.Path.{_≡_, refl, sym, _∙_}
 use lib.Dec.{eqb, ltb}
 use lib.ListN.{length, getD}
 use borrow.Author.Tests.{lt-ltb, le-ltb, ltb-false, ne-eqb}
+use Rattle.laws.proofs.Bools.{clash}
 use Rattle.grammar.specs.declared.Grammar.{Grammar}
 use Rattle.grammar.specs.declared.Refusal.the-variants as R
 use Rattle.grammar.specs.declared.Symbol.{Symbol}
@@ -126,7 +127,7 @@ begun c t f e = go (t .started) (rw e at f)
   where
     go : (b : Bool) → (not b || ((eqb c 0x30 || eqb c 0x40) && not (t .opened))) ≡ false → b ≡ true
     go true f = refl
-    go false f = let z : _≡_ {A = ℕ} 0 1 = cc in absurd (omega arith)
+    go false f = clash cc
 
 begun-all : (c : ℕ) (t : Turn) → late c t ≡ false → (len at rules places : ℕ) (m : Command) → Bounded len at c rules places m → Begun t m
 begun-all c t f len at rules places (Start k) B = tt

@@ -8,7 +8,7 @@ use Rattle.cfg.specs.Grammar.{Cfg}
 use Rattle.cfg.specs.Derivation.{Derivation, limit}
 use Rattle.grammar.specs.declared.Grammar.{Grammar}
 use Rattle.grammar.specs.View.{grammarOf}
-use Rattle.grammar.proofs.All.{true-false}
+use Rattle.laws.proofs.Bools.{true-false}
 use Rattle.results.specs.Answer.{Answer, refused, check}
 use Rattle.results.specs.Check.{Checking, onInput}
 use Rattle.results.specs.Measure.{unlisted, lengthIn, lengthOf, sameBuildIn, sameBuildOf}

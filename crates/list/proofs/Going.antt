@@ -9,6 +9,7 @@ use lib.IntN.{ℤ}
 use lib.ListN.{length, take, length-append, length-take}
 use lib.Seq.{length-take-le}
 use Rattle.sizes.specs.Sizes.{most}
+use Rattle.laws.proofs.Bools.{clash}
 use Rattle.text.specs.Text.{textOf}
 use Rattle.lister.specs.declared.Due.{Due}
 use Rattle.lister.specs.declared.Due.the-variants.{Nothing}
@@ -102,8 +103,8 @@ module _ (lengths : ℕ → ℤ) (p fits chart tables : List ℕ) (d₀ : Due) (
 
   -- a page could not be written
   pub handed-failed : (n : ℕ) (all : Bool) → not all ≡ true → HandedAll lengths p fits chart tables d₀ buf₀ n all
-  handed-failed n true e = record { handed = λ f. let z : _≡_ {A = ℕ} 0 1 = cc in absurd (omega arith) }
-  handed-failed n false e = record { handed = λ f. let z : _≡_ {A = ℕ} 0 1 = cc in absurd (omega arith) }
+  handed-failed n true e = record { handed = λ f. clash cc }
+  handed-failed n false e = record { handed = λ f. clash cc }
 
 -- all pages have as many bytes as the text
 pub listed : (lengths : ℕ → ℤ) (p fits chart tables : List ℕ) (d : Due) (buf : List ℕ) (n : ℕ) (all : Bool) (book w : List ℕ)

@@ -7,8 +7,10 @@ use mathlib.Core.Path.{_≡_, refl, sym, ap, subst, _∙_}
 use lib.IntN.{ℤ}
 use lib.ListN.{length, take, drop, length-take, length-drop}
 use lib.Seq.{length-take-le, take-append-le, take-append-add}
+use borrow.Author.Tests.{not-true, not-false}
 use borrow.Rule.Slice.PartMut.{midOf, postOf, putMid, same-len-mid}
 use Rattle.sizes.specs.Sizes.{most}
+use Rattle.laws.proofs.Bools.{clash}
 use Rattle.cfg.specs.Listing.{L}
 use Rattle.packed.specs.Packed.{cfgIn}
 use Rattle.lister.specs.declared.Due.{Due}
@@ -21,28 +23,20 @@ use Rattle.pages.specs.Page.{pageSize, room, isDone, Rest, Paged}
 -- ---- what is due
 
 pub done-none : (d : Due) → isDone d ≡ true → d ≡ Nothing
-done-none (Refusal n) e = let z : _≡_ {A = ℕ} 0 1 = cc in absurd (omega arith)
-done-none NoReading e = let z : _≡_ {A = ℕ} 0 1 = cc in absurd (omega arith)
-done-none (Reading s rules n i nodes) e = let z : _≡_ {A = ℕ} 0 1 = cc in absurd (omega arith)
-done-none (Total n) e = let z : _≡_ {A = ℕ} 0 1 = cc in absurd (omega arith)
-done-none More e = let z : _≡_ {A = ℕ} 0 1 = cc in absurd (omega arith)
+done-none (Refusal n) e = clash cc
+done-none NoReading e = clash cc
+done-none (Reading s rules n i nodes) e = clash cc
+done-none (Total n) e = clash cc
+done-none More e = clash cc
 done-none Nothing e = refl
 
 -- the code's test whether something is due
 module _ (d : Due) (b : Bool) (e : b ≡ isDone d) where
   pub some-due : not b ≡ true → isDone d ≡ false
-  some-due f = sym e ∙ go b f
-    where
-      go : (b : Bool) → not b ≡ true → b ≡ false
-      go true f = sym f
-      go false f = refl
+  some-due f = sym e ∙ not-true b f
 
   pub none-due : not b ≡ false → isDone d ≡ true
-  none-due f = sym e ∙ go b f
-    where
-      go : (b : Bool) → not b ≡ false → b ≡ true
-      go true f = refl
-      go false f = sym f
+  none-due f = sym e ∙ not-false b f
 
 -- something is due as long as steps are left
 pub some-left : (d : Due) → Sized d → isDone d ≡ false → 0 < stepsLeft d
@@ -51,7 +45,7 @@ some-left NoReading S e = omega arith
 some-left (Reading s rules n i nodes) S e = omega (arith, S .2)
 some-left (Total n) S e = omega arith
 some-left More S e = omega arith
-some-left Nothing S e = let z : _≡_ {A = ℕ} 0 1 = cc in absurd (omega arith)
+some-left Nothing S e = clash cc
 
 pub none-left : (d : Due) → isDone d ≡ true → stepsLeft d ≡ 0
 none-left d e = ap stepsLeft (done-none d e)
@@ -78,7 +72,7 @@ module _ (lengths : ℕ → ℤ) (p fits chart tables : List ℕ) where
       split _ _ lines (a .ahead ∙ lines-next lengths (L (cfgIn s p) (a .input)) i (a .stands .there) (a .early))
   due-line (Total n) buf lines some a = split _ [] lines a
   due-line More buf lines some a = split _ [] lines a
-  due-line Nothing buf lines some a = let z : _≡_ {A = ℕ} 0 1 = cc in absurd (omega arith)
+  due-line Nothing buf lines some a = clash cc
 
   -- ---- the page so far
 
@@ -170,6 +164,6 @@ module _ (lengths : ℕ → ℤ) (p fits chart tables : List ℕ) where
       within = F .within;
       sized = F .sized;
       fewer = omega (arith, none-left d e);
-      full = λ f. let z : _≡_ {A = ℕ} 0 1 = cc in absurd (omega arith);
+      full = λ f. clash cc;
       printed = F .printed;
     }
