@@ -24,7 +24,7 @@ use Rattle.grammar.proofs.Bounds.{rule-parts, grammar-parts}
 -- ---- records of the same fields
 
 pub rule-same : (r s : Rule) → r .left ≡ s .left → r .length ≡ s .length → r .count ≡ s .count → r .places ≡ s .places → r ≡ s
-rule-same r s left length count places = λ i. record { left = left i; length = length i; count = count i; places = places i }
+rule-same r s left hundredths count places = λ i. record { left = left i; length = hundredths i; count = count i; places = places i }
 
 pub grammar-same : (g h : Grammar) → g .start ≡ h .start → g .count ≡ h .count → g .depth ≡ h .depth → g .rules ≡ h .rules → g ≡ h
 grammar-same g h start count depth rules = λ i. record { start = start i; count = count i; depth = depth i; rules = rules i }

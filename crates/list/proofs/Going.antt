@@ -15,7 +15,7 @@ use Rattle.lister.specs.declared.Due.{Due}
 use Rattle.lister.specs.declared.Due.the-variants.{Nothing}
 use Rattle.lister.specs.Due.{Ahead, Sized, stepsLeft}
 use Rattle.pages.specs.Page.{pageSize, isDone, Paged}
-use Rattle.pages.specs.Pages.{Pages, none, further}
+use Rattle.pages.specs.Pages.{Pages, empty, further}
 use Rattle.pages.proofs.Paging.{done-none, some-left, few-left}
 use Rattle.pages.proofs.Printed.{flatten-snoc, pages-front, pages-whole}
 use Rattle.list.specs.Listed.{maxText, Next, HandedAll, Listed}
@@ -42,7 +42,7 @@ module _ (lengths : ℕ → ℤ) (p fits chart tables : List ℕ) (d₀ : Due) (
   unfolding flatten
   going-first sized = record {
     pages = [];
-    run = none;
+    run = empty;
     handed = refl;
     small = omega arith;
     enough = few-left d₀;

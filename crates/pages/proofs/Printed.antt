@@ -15,7 +15,7 @@ use Rattle.lister.specs.declared.Due.the-variants.{Nothing}
 use Rattle.lister.specs.Due.{Ahead, Sized, stepsLeft}
 use Rattle.lister.specs.Begun.{BookBegun}
 use Rattle.pages.specs.Page.{Rest, Paged}
-use Rattle.pages.specs.Pages.{Pages, none, further}
+use Rattle.pages.specs.Pages.{Pages, empty, further}
 use Rattle.pages.proofs.Paging.{some-left, few-left}
 
 pub flatten-snoc : (l : List (List ℕ)) (x : List ℕ) → flatten (l ++ (x ∷ [])) ≡ flatten l ++ x
@@ -29,7 +29,7 @@ module _ (lengths : ℕ → ℤ) (p fits chart tables : List ℕ) (d₀ : Due) (
       → (lines : List (List ℕ)) → Ahead lengths p fits chart tables buf₀ d₀ lines
       → Rest lengths p fits chart tables buf d lines (flatten pages)
   unfolding flatten
-  pages-front none lines a = record { left = lines; ahead = a; text = refl }
+  pages-front empty lines a = record { left = lines; ahead = a; text = refl }
   pages-front (further {pages} {out} {r} R some P) lines a =
       let before = pages-front R lines a in
       let after = P .printed (before .left) (before .ahead) in
@@ -44,7 +44,7 @@ module _ (lengths : ℕ → ℤ) (p fits chart tables : List ℕ) (d₀ : Due) (
   -- each page takes a step at least
   pub pages-steps : {pages : List (List ℕ)} {d : Due} {buf : List ℕ} → Sized d₀ → Pages lengths p fits chart tables d₀ buf₀ pages d buf
       → (length pages + stepsLeft d ≤ stepsLeft d₀) × Sized d
-  pages-steps sized none = (omega arith, sized)
+  pages-steps sized empty = (omega arith, sized)
   pages-steps sized (further {pages} {d} {out} {r} R some P) =
       let before = pages-steps sized R in
       (omega (arith, before .0, some-left d (before .1) some, P .fewer, length-append pages (take r out ∷ [])), P .sized)
