@@ -206,6 +206,24 @@ fn exactly_4096_and_one_more() {
     assert!(text(&boundary(true).bytes, &[b'A'; 12]).expect("small enough").starts_with(first.as_bytes()));
 }
 
+/// Texts from less than a page (64 KiB, of which the last 8 KiB may stay free) to two pages: t twin rules for each of two marks make t * t
+/// readings.
+#[test]
+fn texts_of_about_one_page() {
+    let (mut shortest, mut longest) = (usize::MAX, 0);
+    for twins in 45..=64 {
+        let mut draft = Draft::new(0);
+        draft.rule(0, &[Sym::N(1), Sym::N(1)]);
+        for _ in 0..twins {
+            draft.rule(1, &[Sym::T(b'A')]);
+        }
+        let size = text(&draft.bytes(), b"AA").expect("small enough").len();
+        (shortest, longest) = (shortest.min(size), longest.max(size));
+        prints_so_many(&draft.bytes(), b"AA", twins * twins, &format!("READINGS {}", twins * twins));
+    }
+    assert!(shortest < 57_344 && 65_536 < longest, "from {shortest} to {longest} bytes");
+}
+
 /// 512 parts, also with the longest line, and 513.
 #[test]
 fn the_limit_of_512() {

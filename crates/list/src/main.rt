@@ -1,6 +1,4 @@
 // The listing program: the book is the file `book.bin`, the plate is standard input, and the text goes to standard output.
-mod output;
-
 use lister::begin::begin;
 use output::Written;
 use output::write_pages;
@@ -10,7 +8,7 @@ ghost use mathlib.Core.Path.{_≡_};
 ghost use lib.ListN.{length};
 ghost use Rattle.io.specs.Counts.{Counts};
 ghost use Rattle.text.specs.Front.{bookFront, plateFront};
-ghost use Rattle.list.specs.Listed.{Listed};
+ghost use Rattle.output.specs.Listed.{Listed};
 
 // The bytes of a book that are read at most: no further one changes the text.
 const BOOK: usize = 8192;

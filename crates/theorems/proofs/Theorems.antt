@@ -33,9 +33,10 @@
 --   next/src/lib.rt        next         nextOf
 --   count/src/lib.rt       count        countOf
 --
--- The listing program reads, calls `begin` of lister/src/begin.rt and `fill_page` of pages/src/lib.rt, and writes. Their contracts are the
--- premises of pages-text, so every byte handed to the write is proved, in its order. The contract of `list` in list/src/main.rt adds that
--- no page is left out: unless a write fails, as many bytes are handed to the write as the text has. That the write writes them is run.
+-- The listing program reads, calls `begin` of lister/src/begin.rt and `fill_page` of pages/src/lib.rt, whose contracts are the premises of
+-- pages-text, and hands each page to `write` of output/src/lib.rt, which requires that these bytes come next in the text. `list` of
+-- list/src/main.rt promises that none is left out, unless a write fails. So every byte handed to the write is proved, in its order; that the
+-- write writes it is run.
 --
 -- `tools/trace-check` reads the table above and fails if a call lacks its equality or has a `requires`; README's table of the calls is held
 -- to this file by it too. With the last three, demand-3 is a claim about the code's first, next and count.

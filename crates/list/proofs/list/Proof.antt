@@ -6,7 +6,7 @@ use lib.IntN.{ℤ, pos}
 use lib.ListN.{length-replicate}
 use Rattle.sizes.specs.Sizes.{maxRules, cells, outputSize}
 use Rattle.tables.specs.Layout.{tablesSize}
-use Rattle.list.proofs.Going.{listed}
+use Rattle.output.proofs.Going.{listed}
 use Rattle.list.proofs.list.Statement.{statement}
 use Rattle.list.proofs.list.Tie as tie
 

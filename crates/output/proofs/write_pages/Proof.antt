@@ -1,4 +1,4 @@
--- `list::output::write_pages` meets its contract. The loop's invariant: the pages handed to the write so far are the front of the text, and
+-- `output::write_pages` meets its contract. The loop's invariant: the pages handed to the write so far are the front of the text, and
 -- the counter is enough for the others. The measure is the counter. Assumes nothing.
 use mathlib.Core.Path.{_≡_}
 use native.Mathlib.Omega.{arith}
@@ -7,9 +7,9 @@ use borrow.Author.Needs.{needs}
 use Rattle.measure.specs.Measure.{lengthsIn}
 use Rattle.pages.specs.Page.{pageSize}
 use Rattle.pages.proofs.Paging.{some-due, none-due}
-use Rattle.list.proofs.Going.{part-long, part-small, Going, going-first, going-next, going-page, handed-done, handed-down, handed-failed}
-use Rattle.list.proofs.output.write_pages.Statement.{statement}
-use Rattle.list.proofs.output.write_pages.Tie as tie
+use Rattle.output.proofs.Going.{part-long, part-small, Going, going-first, going-next, going-page, handed-done, handed-down, handed-failed}
+use Rattle.output.proofs.write_pages.Statement.{statement}
+use Rattle.output.proofs.write_pages.Tie as tie
 
 abbrev Inv-loop : tie.InvT-loop
 Inv-loop book plate p lengths fits chart tables buf₀ out₀ then₀ bytes₀ left₀ buf out then bytes left =

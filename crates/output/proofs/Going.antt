@@ -18,7 +18,7 @@ use Rattle.pages.specs.Page.{pageSize, isDone, Paged}
 use Rattle.pages.specs.Pages.{Pages, empty, further}
 use Rattle.pages.proofs.Paging.{done-none, some-left, few-left}
 use Rattle.pages.proofs.Printed.{flatten-snoc, pages-front, pages-whole}
-use Rattle.list.specs.Listed.{maxText, Next, HandedAll, Listed}
+use Rattle.output.specs.Listed.{maxText, Next, HandedAll, Listed}
 
 -- the bytes of a page
 pub part-long : (r : ℕ) (out : List ℕ) → r ≤ length out → r ≡ length (take r out)

@@ -15,7 +15,7 @@ ghost use Rattle.measure.specs.Measure.{lengthsIn};
 ghost use Rattle.pages.specs.Page.{pageSize};
 ghost use Rattle.sizes.specs.Sizes.{maxRules, cells, outputSize};
 ghost use Rattle.text.specs.Text.{textOf};
-ghost use Rattle.list.specs.Listed.{maxText, Next, HandedAll};
+ghost use Rattle.output.specs.Listed.{maxText, Next, HandedAll};
 
 // The pages at most: each has a line, and the last line follows those of the derivations.
 const PAGES: usize = sizes::MOST + 1;
