@@ -1,63 +1,63 @@
 -- The parts of a step, by the tests that the code makes of them. Assumes nothing.
 use Prim.Native.Nat.{ℕ, _≤_, _<_}
 use native.Mathlib.Omega.{arith}
-use mathlib.Core.Bool.{true, false, not}
-use mathlib.Core.Path.{_≡_}
+use mathlib.Core.Bool.{Bool, true, false, not, _||_}
+use mathlib.Core.Path.{_≡_, refl}
 use borrow.Author.Tests.{lt-ltb, le-ltb, ne-eqb}
 use Rattle.grammar.specs.declared.Refusal.the-variants as R
 use Rattle.grammar.specs.declared.Symbol.{Symbol}
-use Rattle.results.specs.Load.{operands, unknown}
-use Rattle.commands.specs.Class.{classOf}
+use Rattle.results.specs.Load.{unknown}
+use Rattle.commands.specs.Class.{byteOf}
 use Rattle.commands.specs.Command.{ruleOf, placeOf, endOf}
 use Rattle.commands.specs.Turn.{late}
-use Rattle.commands.specs.declared.Class.the-variants.{Known, Unknown}
 use Rattle.commands.specs.declared.Command.the-variants.{Rule, Place, End, Fault}
+use Rattle.commands.specs.declared.Opcode.{Opcode}
+use Rattle.commands.specs.declared.Opcode.the-variants as O
 use Rattle.commands.specs.declared.Turn.{Turn}
 
-module _ (c : ℕ) where
-  -- ---- the class of a command byte
-  pub class-10 : c ≡ 0x10 → Known 1 true ≡ classOf c
-  unfolding unknown operands
-  class-10 e = rw e
+-- ---- the class of a command byte
 
-  pub class-20 : c ≡ 0x20 → Known 3 true ≡ classOf c
-  unfolding unknown operands
-  class-20 e = rw e
+pub byte-known : (k : Opcode) → unknown (byteOf k) ≡ false
+unfolding unknown
+byte-known O.Start = refl
+byte-known O.Rule = refl
+byte-known O.Nonterminal = refl
+byte-known O.Terminal = refl
+byte-known O.End = refl
 
-  pub class-30 : c ≡ 0x30 → Known 1 true ≡ classOf c
-  unfolding unknown operands
-  class-30 e = rw e
+pub class-none : (c : ℕ) → (c ≡ 0x10 → ⊥) → (c ≡ 0x20 → ⊥) → (c ≡ 0x30 → ⊥) → (c ≡ 0x40 → ⊥) → (c ≡ 0x50 → ⊥) → unknown c ≡ true
+unfolding unknown
+class-none c n₁ n₂ n₃ n₄ n₅ = rw (ne-eqb c 0x10 n₁, ne-eqb c 0x20 n₂, ne-eqb c 0x30 n₃, ne-eqb c 0x40 n₄, ne-eqb c 0x50 n₅)
 
-  pub class-40 : c ≡ 0x40 → Known 1 false ≡ classOf c
-  unfolding unknown operands
-  class-40 e = rw e
+-- ---- the turn, of each opcode
 
-  pub class-50 : c ≡ 0x50 → Known 0 false ≡ classOf c
-  unfolding unknown operands
-  class-50 e = rw e
+or-false : (b : Bool) → (b || false) ≡ b
+or-false true = refl
+or-false false = refl
 
-  pub class-other : (c ≡ 0x10 → ⊥) → (c ≡ 0x20 → ⊥) → (c ≡ 0x30 → ⊥) → (c ≡ 0x40 → ⊥) → (c ≡ 0x50 → ⊥) → Unknown ≡ classOf c
-  unfolding unknown operands
-  class-other n₁ n₂ n₃ n₄ n₅ = rw (ne-eqb c 0x10 n₁, ne-eqb c 0x20 n₂, ne-eqb c 0x30 n₃, ne-eqb c 0x40 n₄, ne-eqb c 0x50 n₅)
+module _ (k : Opcode) (t : Turn) where
+  pub late-start : k ≡ O.Start → t .started ≡ late (byteOf k) t
+  late-start e = rw e
 
-  -- ---- the turn
-  module _ (t : Turn) where
-    pub late-start : c ≡ 0x10 → t .started ≡ late c t
-    late-start e = rw e
+  pub late-rule : k ≡ O.Rule → not (t .started) ≡ late (byteOf k) t
+  late-rule e = rw (e, or-false (not (t .started)))
 
-    module _ (n : c ≡ 0x10 → ⊥) where
-      pub late-first : t .started ≡ false → true ≡ late c t
-      late-first s = rw (ne-eqb c 0x10 n, s)
+  pub late-nonterminal : k ≡ O.Nonterminal → late (byteOf k) t ≡ (not (t .started) || not (t .opened))
+  late-nonterminal e = rw e
 
-      module _ (s : t .started ≡ true) where
-        pub late-30 : c ≡ 0x30 → not (t .opened) ≡ late c t
-        late-30 e = rw (s, e)
+  pub late-terminal : k ≡ O.Terminal → late (byteOf k) t ≡ (not (t .started) || not (t .opened))
+  late-terminal e = rw e
 
-        pub late-40 : c ≡ 0x40 → not (t .opened) ≡ late c t
-        late-40 e = rw (s, e)
+  pub late-end : k ≡ O.End → not (t .started) ≡ late (byteOf k) t
+  late-end e = rw (e, or-false (not (t .started)))
 
-        pub late-other : (c ≡ 0x30 → ⊥) → (c ≡ 0x40 → ⊥) → false ≡ late c t
-        late-other n₃ n₄ = rw (ne-eqb c 0x10 n, ne-eqb c 0x30 n₃, ne-eqb c 0x40 n₄, s)
+  -- a place, where no start has been read, and where one has
+  module _ (p : late (byteOf k) t ≡ (not (t .started) || not (t .opened))) where
+    pub late-first : not (t .started) ≡ true → not (t .started) ≡ late (byteOf k) t
+    late-first n = rw (p, n)
+
+    pub late-closed : not (t .started) ≡ false → not (t .opened) ≡ late (byteOf k) t
+    late-closed n = rw (p, n)
 
 -- ---- the limits. A law that refuses takes any m of the code's own test that is not below the limit
 module _ (at : ℕ) where

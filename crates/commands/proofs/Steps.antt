@@ -1,4 +1,4 @@
--- One step of loading, by the command byte and the tests that the code makes, in their order: from the limits backwards. Assumes nothing.
+-- One step of loading, by the opcode and the tests that the code makes, in their order: from the limits backwards. Assumes nothing.
 use Prim.Native.Nat.{ℕ, zero, suc, _+_, _-_, _≤_, _<_}
 use native.Mathlib.Omega.{arith}
 use mathlib.Core.Bool.{Bool, true, false, cond, not, _&&_, _||_}
@@ -13,18 +13,21 @@ use Rattle.grammar.specs.declared.Symbol.{Symbol}
 use Rattle.grammar.specs.declared.Symbol.the-variants.{Nonterminal, Terminal}
 use Rattle.results.specs.Answer.{decide}
 use Rattle.results.specs.Load.{fault, stop, next, step, commandChecks, unknown, outOfTurn, operands, after, openRule, withPlace}
-use Rattle.commands.specs.Class.{classOf}
-use Rattle.commands.specs.Command.{ruleOf, placeOf, endOf, stepPast, stepAfter, Bounded, Begun, Whole, Passed, Reads}
+use Rattle.commands.specs.Class.{byteOf, Classified}
+use Rattle.commands.specs.Command.{tooLarge, ruleOf, placeOf, endOf, stepPast, stepAfter, Bounded, Begun, Passed, Reads}
 use Rattle.commands.specs.Turn.{late, TurnAt}
 use Rattle.commands.specs.declared.Class.{Class}
 use Rattle.commands.specs.declared.Class.the-variants.{Known, Unknown}
 use Rattle.commands.specs.declared.Command.{Command}
 use Rattle.commands.specs.declared.Command.the-variants.{Start, Rule, Place, End, Fault}
+use Rattle.commands.specs.declared.Opcode.{Opcode}
+use Rattle.commands.specs.declared.Opcode.the-variants as O
 use Rattle.commands.specs.declared.Turn.{Turn}
+use Rattle.commands.proofs.Parts.{byte-known}
 
--- ---- the limits: four checks are passed
+-- ---- the limits: four checks are passed, and all operands are there
 
-module _ (bytes : List ℕ) (at c a : ℕ) (W : Whole (length bytes) at c) (rules places : ℕ) where
+module _ (bytes : List ℕ) (at : ℕ) (k : Opcode) (a rules places : ℕ) (room : at + 1 + operands (byteOf k) ≤ length bytes) where
   -- where the next command is
   two : at + 1 + 1 ≡ at + 2
   two = omega arith
@@ -32,44 +35,43 @@ module _ (bytes : List ℕ) (at c a : ℕ) (W : Whole (length bytes) at c) (rule
   four : at + 1 + 3 ≡ at + 4
   four = omega arith
 
-  room : (x : ℕ) → c ≡ x → at + 1 + operands x ≤ length bytes
-  room x e = rw e at (W .room)
-
-  pub start-passed : c ≡ 0x10 → Passed 4 bytes at c a rules places (Start a)
+  pub start-passed : k ≡ O.Start → Passed 4 bytes at (byteOf k) a rules places (Start a)
   unfolding decide commandChecks operands after
-  start-passed e = let r = room 0x10 e in rw e (record { means = λ g p q. rw two; bounded = omega arith })
+  start-passed e = let r = rw e at room in rw e (record { means = λ g p q. rw two; bounded = omega arith })
 
-  pub rule-passed : c ≡ 0x20 → (m : Command) (low high : ℕ) → low ≡ getD bytes (at + 2) 0 → high ≡ getD bytes (at + 3) 0
-      → m ≡ ruleOf at rules a low high → Passed 4 bytes at c a rules places m
+  pub rule-passed : k ≡ O.Rule → (m : Command) (low high : ℕ) → low ≡ getD bytes (at + 2) 0 → high ≡ getD bytes (at + 3) 0
+      → m ≡ ruleOf at rules a low high → Passed 4 bytes at (byteOf k) a rules places m
   unfolding decide commandChecks operands after
-  rule-passed e m low high l h i = let r = room 0x20 e in rw (e, i, l, h) (go r (ltb 127 rules) refl)
+  rule-passed e m low high l h i = let r = rw e at room in rw (e, i, l, h) (go r (ltb 127 rules) refl)
     where
       go : at + 1 + 3 ≤ length bytes → (b : Bool) → ltb 127 rules ≡ b → Passed 4 bytes at 0x20 a rules places
           (cond b (Fault R.TooManyRules at) (Rule a (getD bytes (at + 2) 0) (getD bytes (at + 3) 0)))
       go r true f = record { means = λ g p q. rw (p, f); bounded = tt }
       go r false f = record { means = λ g p q. rw (p, f, four); bounded = (omega arith, omega (arith, ltb-false 127 rules f), refl) }
 
-  -- 30 and 40, a command x of one operand whose limit is check 6, for its symbol s
-  place-passed : (x : ℕ) (s : Symbol) → at + 1 + 1 ≤ length bytes → eqb x 0x10 ≡ false
-      → ((g : Grammar) → stepPast 4 bytes at x a g
+  -- 30 and 40, a command c of one operand whose limit is check 6, for its symbol s
+  place-passed : (c : ℕ) (s : Symbol) → at + 1 + 1 ≤ length bytes → eqb c 0x10 ≡ false
+      → ((g : Grammar) → stepPast 4 bytes at c a g
       ≡ decide (fault (ltb 7 (openRule g .count)) 6 at ∷ []) stop (λ _. next (at + 2) (withPlace g s)))
-      → Passed 4 bytes at x a rules places (placeOf at places s)
+      → Passed 4 bytes at c a rules places (placeOf at places s)
   unfolding decide
-  place-passed x s r y h = go (ltb 7 places) refl
+  place-passed c s r y h = go (ltb 7 places) refl
     where
-      go : (b : Bool) → ltb 7 places ≡ b → Passed 4 bytes at x a rules places (cond b (Fault R.TooManyPlaces at) (Place s))
+      go : (b : Bool) → ltb 7 places ≡ b → Passed 4 bytes at c a rules places (cond b (Fault R.TooManyPlaces at) (Place s))
       go true f = record { means = λ g p q. rw (h g, q, f); bounded = tt }
       go false f = record { means = λ g p q. rw (h g, q, f); bounded = (omega arith, omega (arith, ltb-false 7 places f), y) }
 
-  pub nonterminal-passed : c ≡ 0x30 → (m : Command) → m ≡ placeOf at places (Nonterminal a) → Passed 4 bytes at c a rules places m
+  pub nonterminal-passed : k ≡ O.Nonterminal → (m : Command) → m ≡ placeOf at places (Nonterminal a)
+      → Passed 4 bytes at (byteOf k) a rules places m
   unfolding decide commandChecks operands after
-  nonterminal-passed e m i = let r = room 0x30 e in rw (e, i) (place-passed 0x30 (Nonterminal a) r refl (λ g. rw two))
+  nonterminal-passed e m i = let r = rw e at room in rw (e, i) (place-passed 0x30 (Nonterminal a) r refl (λ g. rw two))
 
-  pub terminal-passed : c ≡ 0x40 → (m : Command) → m ≡ placeOf at places (Terminal a) → Passed 4 bytes at c a rules places m
+  pub terminal-passed : k ≡ O.Terminal → (m : Command) → m ≡ placeOf at places (Terminal a)
+      → Passed 4 bytes at (byteOf k) a rules places m
   unfolding decide commandChecks operands after
-  terminal-passed e m i = let r = room 0x40 e in rw (e, i) (place-passed 0x40 (Terminal a) r refl (λ g. rw two))
+  terminal-passed e m i = let r = rw e at room in rw (e, i) (place-passed 0x40 (Terminal a) r refl (λ g. rw two))
 
-  pub end-passed : c ≡ 0x50 → (m : Command) → m ≡ endOf (at + 1) (length bytes) → Passed 4 bytes at c a rules places m
+  pub end-passed : k ≡ O.End → (m : Command) → m ≡ endOf (at + 1) (length bytes) → Passed 4 bytes at (byteOf k) a rules places m
   unfolding decide commandChecks operands after
   end-passed e m i = rw (e, i) (go (ltb (at + 1) (length bytes)) refl)
     where
@@ -77,64 +79,30 @@ module _ (bytes : List ℕ) (at c a : ℕ) (W : Whole (length bytes) at c) (rule
       go true f = record { means = λ g p q. rw f; bounded = tt }
       go false f = record { means = λ g p q. rw f; bounded = tt }
 
-  -- no other command is known
-  pub other-passed : (c ≡ 0x10 → ⊥) → (c ≡ 0x20 → ⊥) → (c ≡ 0x30 → ⊥) → (c ≡ 0x40 → ⊥) → (c ≡ 0x50 → ⊥) → (m : Command)
-      → Passed 4 bytes at c a rules places m
-  unfolding unknown
-  other-passed n₁ n₂ n₃ n₄ n₅ m =
-      let k = rw (ne-eqb c 0x10 n₁, ne-eqb c 0x20 n₂, ne-eqb c 0x30 n₃, ne-eqb c 0x40 n₄, ne-eqb c 0x50 n₅) at (W .known) in
-      let z : _≡_ {A = ℕ} 0 1 = cc in absurd (omega arith)
+-- ---- the operands of the command c, n of them: two checks are passed
 
--- ---- the operands: two checks are passed
+module _ (bytes : List ℕ) (at c n : ℕ) (N : n ≡ operands c) (rules places : ℕ) (l : at < length bytes) where
+  pub operands-short : length bytes - (at + 1) < n → (a : ℕ) → Passed 2 bytes at c a rules places (Fault R.UnexpectedEnd (length bytes))
+  unfolding decide commandChecks
+  operands-short h a = record { means = λ g p q. rw (lt-ltb (length bytes) (at + 1 + operands c) (omega arith)); bounded = tt }
 
--- the class that was told
-pub class-told : (c : ℕ) (r k : Class) → r ≡ classOf c → r ≡ k → k ≡ classOf c
-class-told c r k e f = sym f ∙ e
+  module _ (h : n ≤ length bytes - (at + 1)) where
+    operands-room : at + 1 + operands c ≤ length bytes
+    operands-room = omega arith
 
--- a class that is known
-pub record Knows (n : ℕ) (nonterminal : Bool) (c : ℕ) : Type 0 where
-  pub known : unknown c ≡ false
-  pub number : n ≡ operands c
-  pub kind : nonterminal ≡ (eqb c 0x10 || eqb c 0x20 || eqb c 0x30)
-
-pub knows : (n : ℕ) (nonterminal : Bool) (c : ℕ) → Known n nonterminal ≡ classOf c → Knows n nonterminal c
-knows n nonterminal c e = go (unknown c) refl e
-  where
-    go : (b : Bool) → unknown c ≡ b → Known n nonterminal ≡ cond b Unknown (Known (operands c) (eqb c 0x10 || eqb c 0x20 || eqb c 0x30))
-        → Knows n nonterminal c
-    go true f i = let z : _≡_ {A = ℕ} 0 1 = cc in absurd (omega arith)
-    go false f i = record { known = f; number = cc; kind = cc }
-
-module _ (bytes : List ℕ) (at c n : ℕ) (nonterminal : Bool) (K : Known n nonterminal ≡ classOf c) (rules places : ℕ) where
-  module _ (l : at < length bytes) where
-    -- the operands are all there, or one is not
-    pub whole : n ≤ length bytes - (at + 1) → Whole (length bytes) at c
-    whole h =
-        let k = knows n nonterminal c K in
-        let e : n ≡ operands c = k .number in
-        record { known = k .known; room = omega arith }
-
-    enough : n ≤ length bytes - (at + 1) → ltb (length bytes) (at + 1 + operands c) ≡ false
-    enough h = le-ltb (length bytes) (at + 1 + operands c) (whole h .room)
-
-    pub operands-short : length bytes - (at + 1) < n → (a : ℕ) → Passed 2 bytes at c a rules places (Fault R.UnexpectedEnd (length bytes))
-    unfolding decide commandChecks
-    operands-short h a =
-        let e : n ≡ operands c = knows n nonterminal c K .number in
-        record { means = λ g p q. rw (lt-ltb (length bytes) (at + 1 + operands c) (omega arith)); bounded = tt }
-
-    module _ (h : n ≤ length bytes - (at + 1)) (a : ℕ) (i : a ≡ getD bytes (at + 1) 0) (large : Bool)
-        (e : large ≡ (nonterminal && ltb 31 a)) where
+    module _ (a : ℕ) (i : a ≡ getD bytes (at + 1) 0) (large : Bool) (e : large ≡ tooLarge c a) where
       pub operands-large : large ≡ true → Passed 2 bytes at c (getD bytes (at + 1) 0) rules places (Fault R.NonterminalTooLarge at)
       unfolding decide commandChecks
-      operands-large f =
-          rw (← i) (record { means = λ g p q. rw (enough h, ← knows n nonterminal c K .kind, ← e, f); bounded = tt })
+      operands-large f = rw (← i)
+          (record { means = λ g p q. rw (le-ltb (length bytes) (at + 1 + operands c) operands-room, ← e, f); bounded = tt })
 
       pub operands-read : large ≡ false → (m : Command) → Passed 4 bytes at c a rules places m
           → Passed 2 bytes at c (getD bytes (at + 1) 0) rules places m
       unfolding decide commandChecks
-      operands-read f m P = rw (← i)
-          (record { means = λ g p q. rw (enough h, ← knows n nonterminal c K .kind, ← e, f) (P .means g p q); bounded = P .bounded })
+      operands-read f m P = rw (← i) (record {
+        means = λ g p q. rw (le-ltb (length bytes) (at + 1 + operands c) operands-room, ← e, f) (P .means g p q);
+        bounded = P .bounded;
+      })
 
 -- ---- the whole command
 
@@ -172,35 +140,34 @@ module _ (bytes : List ℕ) (at : ℕ) (t : Turn) (rules places : ℕ) where
   unfolding decide
   reads-ended h = record { means = λ g p q. rw (le-ltb at (length bytes) h); bounded = tt; begun = tt }
 
-  module _ (l : at < length bytes) where
-    pub reads-unknown : Unknown ≡ classOf (getD bytes at 0) → Reads bytes at t rules places (Fault R.UnknownCommand at)
+  module _ (l : at < length bytes) (r : Class) (C : Classified (getD bytes at 0) r) where
+    pub reads-unknown : r ≡ Unknown → Reads bytes at t rules places (Fault R.UnknownCommand at)
     unfolding decide
     reads-unknown e =
-        record { means = λ g p q. rw (lt-ltb at (length bytes) l, none (unknown (getD bytes at 0)) e); bounded = tt; begun = tt }
-      where
-        none : (b : Bool) → Unknown ≡ cond b Unknown (Known (operands (getD bytes at 0)) (eqb (getD bytes at 0) 0x10
-            || eqb (getD bytes at 0) 0x20 || eqb (getD bytes at 0) 0x30)) → b ≡ true
-        none true e = refl
-        none false e = let z : _≡_ {A = ℕ} 0 1 = cc in absurd (omega arith)
+        let u : unknown (getD bytes at 0) ≡ true = rw e at C in
+        record { means = λ g p q. rw (lt-ltb at (length bytes) l, u); bounded = tt; begun = tt }
 
-    module _ (r : Class) (n : ℕ) (nonterminal : Bool) (C : r ≡ classOf (getD bytes at 0)) (E : r ≡ Known n nonterminal) where
+    module _ (k : Opcode) (e : r ≡ Known k) where
+      byte-here : byteOf k ≡ getD bytes at 0
+      byte-here = rw e at C
+
       known-here : unknown (getD bytes at 0) ≡ false
-      known-here = knows n nonterminal (getD bytes at 0) (class-told (getD bytes at 0) r (Known n nonterminal) C E) .known
+      known-here = rw (← byte-here) (byte-known k)
 
-      pub reads-late : (b : Bool) → b ≡ late (getD bytes at 0) t → b ≡ true → Reads bytes at t rules places (Fault R.OutOfTurn at)
+      pub reads-late : (b : Bool) → b ≡ late (byteOf k) t → b ≡ true → Reads bytes at t rules places (Fault R.OutOfTurn at)
       unfolding decide
-      reads-late b e f = record {
-        means = λ g p q. rw (lt-ltb at (length bytes) l, known-here, ← e, f);
-        bounded = tt;
-        begun = tt;
-      }
+      reads-late b i f =
+          let late-here : late (getD bytes at 0) t ≡ true = rw byte-here at (sym i ∙ f) in
+          record { means = λ g p q. rw (lt-ltb at (length bytes) l, known-here, late-here); bounded = tt; begun = tt }
 
-      pub reads-rest : (b : Bool) → b ≡ late (getD bytes at 0) t → b ≡ false → (m : Command)
-          → Passed 2 bytes at (getD bytes at 0) (getD bytes (at + 1) 0) rules places m → Reads bytes at t rules places m
+      pub reads-rest : (b : Bool) → b ≡ late (byteOf k) t → b ≡ false → (m : Command)
+          → Passed 2 bytes at (byteOf k) (getD bytes (at + 1) 0) rules places m → Reads bytes at t rules places m
       unfolding decide
-      reads-rest b e f m P = record {
-        means = λ g p q. rw (lt-ltb at (length bytes) l, known-here, ← e, f)
-            (P .means g p q);
-        bounded = P .bounded;
-        begun = begun-all (getD bytes at 0) t (sym e ∙ f) (length bytes) at rules places m (P .bounded);
-      }
+      reads-rest b i f m P =
+          let in-turn : late (getD bytes at 0) t ≡ false = rw byte-here at (sym i ∙ f) in
+          let P′ : Passed 2 bytes at (getD bytes at 0) (getD bytes (at + 1) 0) rules places m = rw byte-here at P in
+          record {
+            means = λ g p q. rw (lt-ltb at (length bytes) l, known-here, in-turn) (P′ .means g p q);
+            bounded = P′ .bounded;
+            begun = begun-all (getD bytes at 0) t in-turn (length bytes) at rules places m (P′ .bounded);
+          }

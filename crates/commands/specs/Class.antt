@@ -1,11 +1,22 @@
--- The class of a command byte. Assumes nothing.
+-- The class of a command byte: a known command, or none. Assumes nothing.
 use Prim.Native.Nat.{ℕ}
-use mathlib.Core.Bool.{cond, _||_}
-use lib.Dec.{eqb}
-use Rattle.results.specs.Load.{operands, unknown}
+use mathlib.Core.Bool.{true}
+use mathlib.Core.Path.{_≡_}
+use Rattle.results.specs.Load.{unknown}
+use Rattle.commands.specs.declared.Opcode.{Opcode}
+use Rattle.commands.specs.declared.Opcode.the-variants.{Start, Rule, Nonterminal, Terminal, End}
 use Rattle.commands.specs.declared.Class.{Class}
 use Rattle.commands.specs.declared.Class.the-variants.{Known, Unknown}
 
--- how many operands the command has, and whether the first is a nonterminal
-abbrev pub classOf : ℕ → Class
-classOf c = cond (unknown c) Unknown (Known (operands c) (eqb c 0x10 || eqb c 0x20 || eqb c 0x30))
+-- the byte of a command
+abbrev pub byteOf : Opcode → ℕ
+byteOf Start = 0x10
+byteOf Rule = 0x20
+byteOf Nonterminal = 0x30
+byteOf Terminal = 0x40
+byteOf End = 0x50
+
+-- the class is that of the byte c: the command that has this byte, or none where c is unknown
+abbrev pub Classified : ℕ → Class → Type 0
+Classified c (Known k) = byteOf k ≡ c
+Classified c Unknown = unknown c ≡ true

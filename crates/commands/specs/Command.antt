@@ -1,6 +1,6 @@
 -- What a command that was read means: the step of loading that it makes, and the bounds that it keeps. Assumes nothing.
 use Prim.Native.Nat.{ℕ, _+_, _≤_, _<_}
-use mathlib.Core.Bool.{true, false, cond, not}
+use mathlib.Core.Bool.{Bool, true, false, cond, not, _&&_, _||_}
 use mathlib.Core.List.{List, [], _∷_}
 use mathlib.Core.Path.{_≡_}
 use lib.Dec.{eqb, ltb}
@@ -16,6 +16,10 @@ use Rattle.commands.specs.Turn.{late}
 use Rattle.commands.specs.declared.Command.{Command}
 use Rattle.commands.specs.declared.Command.the-variants.{Start, Rule, Place, End, Fault}
 use Rattle.commands.specs.declared.Turn.{Turn}
+
+-- check 4, for the command c: its first operand a is a nonterminal, and over 31
+abbrev pub tooLarge : (c a : ℕ) → Bool
+tooLarge c a = (eqb c 0x10 || eqb c 0x20 || eqb c 0x30) && ltb 31 a
 
 -- 20 at an offset after so many rules; 30 and 40 in a rule of so many places; 50, which ends at an offset, in a book of so many bytes
 abbrev pub ruleOf : (at rules left low high : ℕ) → Command
@@ -50,11 +54,6 @@ Begun t (Rule k low high) = t .started ≡ true
 Begun t (Place s) = t .started ≡ true
 Begun t End = Unit {0}
 Begun t (Fault r o) = Unit {0}
-
--- the command c is known, and all its operands are there
-pub record Whole (len at c : ℕ) : Type 0 where
-  pub known : unknown c ≡ false
-  pub room : at + 1 + operands c ≤ len
 
 -- the step of the command c, whose first operand is a, once the first n of its checks are passed
 abbrev pub stepPast : ℕ → List ℕ → (at c a : ℕ) → Grammar → Step

@@ -1,11 +1,11 @@
-// The parts of a step of loading that need no more than a few numbers: the class of a command byte, the turn, and the limits.
+// The parts of a step of loading that need no more than a few numbers. A command byte is classified once; its turn, its operands and its
+// limits go by the opcode.
 use grammar::Refusal;
 use grammar::Symbol;
-ghost use mathlib.Core.Bool.{_&&_};
 ghost use mathlib.Core.Path.{_≡_};
-ghost use lib.Dec.{ltb};
-ghost use Rattle.commands.specs.Class.{classOf};
-ghost use Rattle.commands.specs.Command.{ruleOf, placeOf, endOf};
+ghost use Rattle.results.specs.Load.{operands};
+ghost use Rattle.commands.specs.Class.{byteOf, Classified};
+ghost use Rattle.commands.specs.Command.{tooLarge, ruleOf, placeOf, endOf};
 ghost use Rattle.commands.specs.Turn.{late};
 
 // A book has at most this many rules, and a rule this many places.
@@ -16,6 +16,21 @@ const PLACES: usize = sizes::MAX_PLACES;
 // A nonterminal (kind) is below this.
 const NONTERMINALS: u8 = 32;
 
+// A command without its operands.
+pub enum Opcode {
+    Start,
+    Rule,
+    Nonterminal,
+    Terminal,
+    End,
+}
+
+// What a command byte says: an opcode, or nothing.
+pub enum Class {
+    Known(Opcode),
+    Unknown,
+}
+
 // A command with its operands, or the refusal of the command and the offset that the refusal names.
 pub enum Command {
     Start(u8),
@@ -25,56 +40,63 @@ pub enum Command {
     Fault(Refusal, usize),
 }
 
-// What a command byte says: how many operands follow, and whether the first is a nonterminal; or nothing.
-pub enum Class {
-    Known(usize, bool),
-    Unknown,
-}
-
 // What has been read before a command: a start, and a rule, to which places can be added.
 pub struct Turn {
     pub started: bool,
     pub opened: bool,
 }
 
-// Its first byte decides a command's operands.
+// The only function that looks at the value of a command byte.
 pub fn classify(c: u8) -> Class
-    ensures { λ r. ⌜ r ≡ classOf c ⌝ }
+    ensures { λ r. ⌜ Classified c r ⌝ }
 {
     match c {
-        0x10 => Class::Known(1, true),
-        0x20 => Class::Known(3, true),
-        0x30 => Class::Known(1, true),
-        0x40 => Class::Known(1, false),
-        0x50 => Class::Known(0, false),
+        0x10 => Class::Known(Opcode::Start),
+        0x20 => Class::Known(Opcode::Rule),
+        0x30 => Class::Known(Opcode::Nonterminal),
+        0x40 => Class::Known(Opcode::Terminal),
+        0x50 => Class::Known(Opcode::End),
         _ => Class::Unknown,
     }
 }
 
-// Check 3: 10 not first or again, another command first, 30 or 40 before any 20.
-pub fn out_of_turn(c: u8, turn: Turn) -> bool
-    ensures { λ r. ⌜ r ≡ late c turn ⌝ }
+// How many operands a command has.
+pub fn operand_count(k: Opcode) -> usize
+    ensures { λ r. ⌜ r ≡ operands (byteOf k) ⌝ }
 {
-    if c == 0x10 {
-        return turn.started;
+    match k {
+        Opcode::Start => 1,
+        Opcode::Rule => 3,
+        Opcode::Nonterminal => 1,
+        Opcode::Terminal => 1,
+        Opcode::End => 0,
     }
-    if !turn.started {
-        return true;
+}
+
+// Check 3: a start not first or again, another command first, a place before any rule.
+pub fn out_of_turn(k: Opcode, turn: Turn) -> bool
+    ensures { λ r. ⌜ r ≡ late (byteOf k) turn ⌝ }
+{
+    match k {
+        Opcode::Start => turn.started,
+        Opcode::Rule => !turn.started,
+        Opcode::Nonterminal => !turn.started || !turn.opened,
+        Opcode::Terminal => !turn.started || !turn.opened,
+        Opcode::End => !turn.started,
     }
-    if c == 0x30 || c == 0x40 {
-        return !turn.opened;
-    }
-    false
 }
 
 // Check 4, for a command whose first operand is a.
-pub fn too_large(nonterminal: bool, a: u8) -> bool
-    ensures { λ r. ⌜ r ≡ (nonterminal && ltb 31 a) ⌝ }
+pub fn too_large(k: Opcode, a: u8) -> bool
+    ensures { λ r. ⌜ r ≡ tooLarge (byteOf k) a ⌝ }
 {
-    if nonterminal {
-        return a >= NONTERMINALS;
+    match k {
+        Opcode::Start => a >= NONTERMINALS,
+        Opcode::Rule => a >= NONTERMINALS,
+        Opcode::Nonterminal => a >= NONTERMINALS,
+        Opcode::Terminal => false,
+        Opcode::End => false,
     }
-    false
 }
 
 // Command 20 after so many rules: check 5.

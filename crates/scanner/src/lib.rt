@@ -2,14 +2,16 @@
 // then 5 or 6, or 7 after the end.
 use commands::Class;
 use commands::Command;
+use commands::Opcode;
 use commands::Turn;
 use grammar::Refusal;
 use grammar::Symbol;
-ghost use Prim.Native.Nat.{_+_, _<_};
+ghost use Prim.Native.Nat.{_+_, _≤_, _<_};
 ghost use mathlib.Core.Path.{_≡_};
 ghost use lib.ListN.{length, getD};
-ghost use Rattle.commands.specs.Class.{classOf};
-ghost use Rattle.commands.specs.Command.{Whole, Passed, Reads};
+ghost use Rattle.results.specs.Load.{operands};
+ghost use Rattle.commands.specs.Class.{byteOf};
+ghost use Rattle.commands.specs.Command.{Passed, Reads};
 
 // The byte at i, and 0 past the end.
 pub fn byte_at(bytes: &[u8], i: usize) -> u8
@@ -18,49 +20,41 @@ pub fn byte_at(bytes: &[u8], i: usize) -> u8
     if i < bytes.len() { bytes[i] } else { 0 }
 }
 
-// The command c at an offset, with its first operand a and the others, all of them there: its limits.
-pub fn limits_at(bytes: &[u8], at: usize, c: u8, a: u8, rules: usize, places: usize) -> Command
-    requires { ⌜ Whole (length (now bytes)) at c ⌝ }
-    ensures { λ r. ⌜ Passed 4 (now (bytes .entry)) at c a rules places r ⌝ }
+// The command k at an offset, with its first operand a and the others, all of them there: check 5, 6 or 7.
+pub fn limits_at(bytes: &[u8], at: usize, k: Opcode, a: u8, rules: usize, places: usize) -> Command
+    requires { ⌜ at + 1 + operands (byteOf k) ≤ length (now bytes) ⌝ }
+    ensures { λ r. ⌜ Passed 4 (now (bytes .entry)) at (byteOf k) a rules places r ⌝ }
 {
-    match c {
-        0x10 => Command::Start(a),
-        0x20 => {
+    match k {
+        Opcode::Start => Command::Start(a),
+        Opcode::Rule => {
             let low = byte_at(bytes, at + 2);
             let high = byte_at(bytes, at + 3);
             commands::rule(at, rules, a, low, high)
         }
-        0x30 => commands::place(at, places, Symbol::Nonterminal(a)),
-        0x40 => commands::place(at, places, Symbol::Terminal(a)),
-        0x50 => commands::end(at + 1, bytes.len()),
-        _ => Command::Fault(Refusal::UnknownCommand, at),
+        Opcode::Nonterminal => commands::place(at, places, Symbol::Nonterminal(a)),
+        Opcode::Terminal => commands::place(at, places, Symbol::Terminal(a)),
+        Opcode::End => commands::end(at + 1, bytes.len()),
     }
 }
 
-// The command c at an offset with its operands, n of them, the first of which may be a nonterminal: check 1, then 4.
-pub fn operands_at(
-    bytes: &[u8],
-    at: usize,
-    c: u8,
-    n: usize,
-    nonterminal: bool,
-    rules: usize,
-    places: usize,
-) -> Command
-    requires { ⌜ (at < length (now bytes)) × (Class.Known n nonterminal ≡ classOf c) ⌝ }
-    ensures { λ r. ⌜ Passed 2 (now (bytes .entry)) at c (getD (now (bytes .entry)) (at + 1) 0) rules places r ⌝ }
+// The command k at an offset with its operands: check 1, then 4, then its limits.
+pub fn operands_at(bytes: &[u8], at: usize, k: Opcode, rules: usize, places: usize) -> Command
+    requires { ⌜ at < length (now bytes) ⌝ }
+    ensures { λ r. ⌜ Passed 2 (now (bytes .entry)) at (byteOf k) (getD (now (bytes .entry)) (at + 1) 0) rules places r ⌝ }
 {
     let first = at + 1;
     let left = bytes.len() - first;
+    let n = commands::operand_count(k);
     let a = byte_at(bytes, first);
-    let large = commands::too_large(nonterminal, a);
+    let large = commands::too_large(k, a);
     if left < n {
         return Command::Fault(Refusal::UnexpectedEnd, bytes.len());
     }
     if large {
         return Command::Fault(Refusal::NonterminalTooLarge, at);
     }
-    limits_at(bytes, at, c, a, rules, places)
+    limits_at(bytes, at, k, a, rules, places)
 }
 
 // The command at an offset, where turn has been read as a grammar of so many rules, the last of which has so many places.
@@ -72,11 +66,11 @@ pub fn command_at(bytes: &[u8], at: usize, turn: Turn, rules: usize, places: usi
         return Command::Fault(Refusal::UnexpectedEnd, len);
     }
     let c = bytes[at];
-    let Class::Known(n, nonterminal) = commands::classify(c) else {
+    let Class::Known(k) = commands::classify(c) else {
         return Command::Fault(Refusal::UnknownCommand, at);
     };
-    if commands::out_of_turn(c, turn) {
+    if commands::out_of_turn(k, turn) {
         return Command::Fault(Refusal::OutOfTurn, at);
     }
-    operands_at(bytes, at, c, n, nonterminal, rules, places)
+    operands_at(bytes, at, k, rules, places)
 }

@@ -1,10 +1,10 @@
 -- `scanner::operands_at` meets its contract: each return by its law. Assumes nothing.
 use native.Mathlib.Omega.{arith}
-use Rattle.commands.proofs.Steps.{operands-short, operands-large, whole, operands-read}
+use Rattle.commands.proofs.Steps.{operands-short, operands-large, operands-read}
 use Rattle.scanner.proofs.operands_at.Statement.{statement}
 use Rattle.scanner.proofs.operands_at.Tie as tie
 
 pub operands-at-spec : {M : Type 1} → statement M
 operands-at-spec = tie.close (tie.spec
-    (λ c. omega arith) (λ c. omega arith) (λ c κs. omega arith) (λ c κs. omega arith) (λ c. search operands-short)
-    (λ c. search operands-large) (λ c κs. search whole) (λ c. search operands-read))
+    (λ c. omega arith) (λ c. omega arith) (λ c κs. omega arith) (λ c κs. omega arith) (λ c κs. omega arith)
+    (λ c. search operands-short) (λ c. search operands-large) (λ c κs. omega arith) (λ c. search operands-read))
