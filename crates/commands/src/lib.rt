@@ -1,4 +1,4 @@
-// The parts of a step of loading that need no more than a few numbers. A command byte is classified once; its turn, its operands and their
+// The parts of a step of loading that need no more than a few numbers. A command byte is classified once; its turn, its operands and its
 // limits go by the opcode.
 use grammar::Refusal;
 use grammar::Symbol;
