@@ -6,18 +6,19 @@ use native.Mathlib.Omega.{arith}
 use mathlib.Core.Bool.{true}
 use mathlib.Core.Path.{_≡_, refl, ap₂, _∙_}
 use lib.IntN.{ℤ}
-use lib.ListN.{length, getD, take, length-set}
+use lib.ListN.{length, getD, take, replicate, length-set}
 use lib.Seq.{getD-set-same}
 use borrow.Author.Tests.{le-leb}
 use mir.Syntax.{w16}
 use mir.Val.{SFits, toZ, ofZ}
 use mir.Facts.{toZ-ofZ}
 use Rattle.grammar.specs.declared.Symbol.{Symbol}
+use Rattle.grammar.specs.declared.Place.{Place}
 use Rattle.grammar.specs.declared.Rule.{Rule}
 use Rattle.grammar.specs.declared.Grammar.{Grammar}
-use Rattle.grammar.specs.Setters.{setLeft, setLength, openedRule, placedRule, setStart, setCount, setDepth, setRule}
+use Rattle.grammar.specs.Setters.{ruleWith, openedRule, placedRule, setStart, setCount, setDepth, setRule}
 use Rattle.grammar.specs.Valid.{all, validSymbol, validPlace, validRule, validGrammar}
-use Rattle.grammar.specs.Zero.{zeroRule, noRule}
+use Rattle.grammar.specs.Zero.{zeroPlace, noRule}
 use Rattle.grammar.proofs.All.{all-set, all-last}
 use Rattle.grammar.proofs.Bounds.{rule-parts, grammar-parts}
 
@@ -31,10 +32,10 @@ grammar-same g h start count depth rules = λ i. record { start = start i; count
 
 -- ---- rules
 
--- a rule that was zero, and whose length went through a local
-pub opened-of : (r : Rule) (k : ℕ) (y z : ℤ) → r ≡ zeroRule → z ≡ y → SFits w16 z
-    → setLength (setLeft r k) (toZ w16 (ofZ w16 z)) ≡ openedRule k y
-opened-of r k y z e f s = ap₂ (λ (x : Rule) (l : ℤ). setLength (setLeft x k) l) e (toZ-ofZ s ∙ f)
+-- a rule whose length went through a local, and whose places are all p
+pub opened-of : (k : ℕ) (y z : ℤ) (p : Place) → z ≡ y → SFits w16 z → p ≡ zeroPlace
+    → ruleWith k (toZ w16 (ofZ w16 z)) 0 (replicate 8 p) ≡ openedRule k y
+opened-of k y z p f s e = ap₂ (λ (l : ℤ) (m : Place). ruleWith k l 0 (replicate 8 m)) (toZ-ofZ s ∙ f) e
 
 valid-rule-of : (r : Rule) → r .left ≤ 31 → r .count ≤ 8 → all validPlace (take (r .count) (r .places)) ≡ true → validRule r ≡ true
 unfolding validRule
