@@ -1,24 +1,60 @@
--- The numbers in which an answer is returned: the code of each kind of answer, and what is left in a place that was lent, by what was
--- found there. A code is 0 for no and none; 1 for yes, loaded, measured, handed out and counted; 2 for more; 256 and the number of a
--- refusal. Assumes nothing.
+-- The numbers in which an answer is returned: its code, and what it leaves in a place that was lent, by what was found there. A code is 0
+-- for no and none; 1 for yes, loaded, measured, handed out and counted; 2 for more; 256 and the number of a refusal. Assumes nothing.
 use Prim.Native.Nat.{ℕ, _+_}
 use mathlib.Core.Bool.{Bool, true, false}
 use mathlib.Core.List.{List}
+use mathlib.Core.Path.{_≡_}
 use lib.IntN.{ℤ}
 use Rattle.hand.specs.Hand.{rowOf}
 use Rattle.results.specs.Answer.{Answer, refused, answered, Handing, handed, nothing, Figure, counted, more, LoadAnswer, refusedAt, loaded}
 use Rattle.results.specs.Recognize.{State}
 
--- opening, taking, check and same build
-abbrev pub verdictCode : Answer Bool → ℕ
-verdictCode (refused n) = 256 + n
-verdictCode (answered true) = 1
-verdictCode (answered false) = 0
+-- the code of an answer: `code` gives it for what is answered
+abbrev pub codeOf : {A : Type 0} → (A → ℕ) → Answer A → ℕ
+codeOf code (refused n) = 256 + n
+codeOf code (answered a) = code a
 
--- taking: the row of the state, which a refused call leaves as found
-abbrev pub rowLeft : Answer Bool → State → List ℕ → List ℕ
-rowLeft (refused n) s found = found
-rowLeft (answered b) s found = rowOf s
+-- what an answer leaves in a lent place: `left` gives it for what is answered, and a refused call leaves what was found
+abbrev pub leftOf : {A B : Type 0} → (A → B → B) → Answer A → B → B
+leftOf left (refused n) found = found
+leftOf left (answered a) found = left a found
+
+-- opening, taking, check and same build
+abbrev pub verdictCode : Bool → ℕ
+verdictCode true = 1
+verdictCode false = 0
+
+-- taking: the row of the state
+abbrev pub rowLeft : State → Bool → List ℕ → List ℕ
+rowLeft s b found = rowOf s
+
+-- length
+abbrev pub lengthCode : ℤ → ℕ
+lengthCode z = 1
+
+-- length: the tenths of a millimetre
+abbrev pub tenthsLeft : ℤ → ℤ → ℤ
+tenthsLeft z found = z
+
+-- first and next
+abbrev pub handingCode : Handing → ℕ
+handingCode (handed n) = 1
+handingCode nothing = 0
+
+-- first and next: the nodes of the derivation handed out; a call that hands out none leaves the number found
+abbrev pub nodesLeft : Handing → ℕ → ℕ
+nodesLeft (handed n) found = n
+nodesLeft nothing found = found
+
+-- count
+abbrev pub figureCode : Figure → ℕ
+figureCode (counted n) = 1
+figureCode more = 2
+
+-- count: the figure; a call that gives none leaves the number found
+abbrev pub figureLeft : Figure → ℕ → ℕ
+figureLeft (counted n) found = n
+figureLeft more found = found
 
 -- loading
 abbrev pub loadCode : LoadAnswer → ℕ
@@ -30,36 +66,7 @@ abbrev pub offsetLeft : LoadAnswer → ℕ → ℕ
 offsetLeft (refusedAt n at) found = at
 offsetLeft loaded found = found
 
--- length
-abbrev pub lengthCode : Answer ℤ → ℕ
-lengthCode (refused n) = 256 + n
-lengthCode (answered z) = 1
-
--- length: the tenths of a millimetre; a refused call leaves the number found
-abbrev pub tenthsLeft : Answer ℤ → ℤ → ℤ
-tenthsLeft (refused n) found = found
-tenthsLeft (answered z) found = z
-
--- first and next
-abbrev pub handingCode : Answer Handing → ℕ
-handingCode (refused n) = 256 + n
-handingCode (answered (handed n)) = 1
-handingCode (answered nothing) = 0
-
--- first and next: the nodes of the derivation handed out; a call that hands out none leaves the number found
-abbrev pub nodesLeft : Answer Handing → ℕ → ℕ
-nodesLeft (refused n) found = found
-nodesLeft (answered (handed n)) found = n
-nodesLeft (answered nothing) found = found
-
--- count
-abbrev pub figureCode : Answer Figure → ℕ
-figureCode (refused n) = 256 + n
-figureCode (answered (counted n)) = 1
-figureCode (answered more) = 2
-
--- count: the figure; a call that gives none leaves the number found
-abbrev pub figureLeft : Answer Figure → ℕ → ℕ
-figureLeft (refused n) found = found
-figureLeft (answered (counted n)) found = n
-figureLeft (answered more) found = found
+-- what the code and what is left tell a caller: which answer it was, and that no code but 1 has written
+pub record Known {A B : Type 0} (code : A → ℕ) (left : A → B → B) : Type 0 where
+  pub apart : (x y : Answer A) (found : B) → codeOf code x ≡ codeOf code y → leftOf left x found ≡ leftOf left y found → x ≡ y
+  pub kept : (x : Answer A) (found : B) → (codeOf code x ≡ 1 → ⊥) → leftOf left x found ≡ found

@@ -16,8 +16,8 @@ ghost use Rattle.grammar.specs.Number.{numberOf};
 ghost use Rattle.loader.specs.Answer.{answerOf};
 ghost use Rattle.recognizer.specs.Recognizer.{stateIn};
 ghost use Rattle.recognizer.specs.Verdict.{verdictOf};
-ghost use Rattle.codes.specs.Code.{verdictCode, rowLeft, loadCode, offsetLeft, lengthCode, tenthsLeft, handingCode, nodesLeft};
-ghost use Rattle.codes.specs.Code.{figureCode, figureLeft};
+ghost use Rattle.codes.specs.Code.{codeOf, leftOf, verdictCode, rowLeft, lengthCode, tenthsLeft, handingCode, nodesLeft};
+ghost use Rattle.codes.specs.Code.{figureCode, figureLeft, loadCode, offsetLeft};
 
 pub fn of_refusal(r: Refusal) -> u32
     ensures { λ c. ⌜ c ≡ 256 + numberOf r ⌝ }
@@ -27,7 +27,7 @@ pub fn of_refusal(r: Refusal) -> u32
 
 // Opening, check and same build.
 pub fn of_verdict(v: Verdict) -> u32
-    ensures { λ c. ⌜ c ≡ verdictCode (verdictOf v) ⌝ }
+    ensures { λ c. ⌜ c ≡ codeOf verdictCode (verdictOf v) ⌝ }
 {
     match v {
         Verdict::Yes => 1,
@@ -52,8 +52,8 @@ pub fn of_loading(outcome: Outcome, offset: &mut usize) -> u32
 
 // Taking: the row of the new state is written unless the call is refused.
 pub fn of_taking(v: Verdict, next: Recognizer, hand: &mut [u16; hand::HAND]) -> u32
-    ensures { λ c. ⌜ c ≡ verdictCode (verdictOf v) ⌝ }
-    ensures left { λ _. ⌜ now (hand .exit) ≡ rowLeft (verdictOf v) (stateIn next) (now (hand .entry)) ⌝ }
+    ensures { λ c. ⌜ c ≡ codeOf verdictCode (verdictOf v) ⌝ }
+    ensures left { λ _. ⌜ now (hand .exit) ≡ leftOf (rowLeft (stateIn next)) (verdictOf v) (now (hand .entry)) ⌝ }
 {
     match v {
         Verdict::Refused(r) => of_refusal(r),
@@ -70,8 +70,8 @@ pub fn of_taking(v: Verdict, next: Recognizer, hand: &mut [u16; hand::HAND]) -> 
 
 // Length: the tenths are written unless the call is refused.
 pub fn of_length(measured: Measured, tenths: &mut i32) -> u32
-    ensures { λ c. ⌜ c ≡ lengthCode (measuredOf measured) ⌝ }
-    ensures left { λ _. ⌜ now (tenths .exit) ≡ tenthsLeft (measuredOf measured) (now (tenths .entry)) ⌝ }
+    ensures { λ c. ⌜ c ≡ codeOf lengthCode (measuredOf measured) ⌝ }
+    ensures left { λ _. ⌜ now (tenths .exit) ≡ leftOf tenthsLeft (measuredOf measured) (now (tenths .entry)) ⌝ }
 {
     match measured {
         Measured::Tenths(z) => {
@@ -84,8 +84,8 @@ pub fn of_length(measured: Measured, tenths: &mut i32) -> u32
 
 // First and next: the nodes are written only where a derivation is handed out.
 pub fn of_handing(handed: Handed, nodes: &mut usize) -> u32
-    ensures { λ c. ⌜ c ≡ handingCode (handingOf handed) ⌝ }
-    ensures left { λ _. ⌜ now (nodes .exit) ≡ nodesLeft (handingOf handed) (now (nodes .entry)) ⌝ }
+    ensures { λ c. ⌜ c ≡ codeOf handingCode (handingOf handed) ⌝ }
+    ensures left { λ _. ⌜ now (nodes .exit) ≡ leftOf nodesLeft (handingOf handed) (now (nodes .entry)) ⌝ }
 {
     match handed {
         Handed::Nodes(n) => {
@@ -99,8 +99,8 @@ pub fn of_handing(handed: Handed, nodes: &mut usize) -> u32
 
 // Count: the figure is written only where there is one.
 pub fn of_figure(counted: Counted, figure: &mut usize) -> u32
-    ensures { λ c. ⌜ c ≡ figureCode (countedOf counted) ⌝ }
-    ensures left { λ _. ⌜ now (figure .exit) ≡ figureLeft (countedOf counted) (now (figure .entry)) ⌝ }
+    ensures { λ c. ⌜ c ≡ codeOf figureCode (countedOf counted) ⌝ }
+    ensures left { λ _. ⌜ now (figure .exit) ≡ leftOf figureLeft (countedOf counted) (now (figure .entry)) ⌝ }
 {
     match counted {
         Counted::Exactly(n) => {

@@ -15,8 +15,8 @@ use Rattle.results.specs.Check.{Checking}
 use Rattle.results.specs.Enumerate.{Enumeration}
 use Rattle.results.specs.Load.{loadOf}
 use Rattle.results.specs.Recognize.{Recognition}
-use Rattle.codes.specs.Code.{verdictCode, rowLeft, loadCode, offsetLeft, lengthCode, tenthsLeft, handingCode, nodesLeft}
-use Rattle.codes.specs.Code.{figureCode, figureLeft}
+use Rattle.codes.specs.Code.{codeOf, leftOf, verdictCode, rowLeft, lengthCode, tenthsLeft, handingCode, nodesLeft, figureCode, figureLeft}
+use Rattle.codes.specs.Code.{loadCode, offsetLeft}
 
 -- the nullable depth that stands in a row
 abbrev pub depthIn : List ℕ → ℕ
@@ -33,36 +33,36 @@ pub record Loads (book : List ℕ) (found : ℕ) (code : ℕ) (row : List ℕ) (
 
 -- opening: what is returned, the row of the state left and the chart left
 pub record Opens (r : Recognition) (code : ℕ) (row : List ℕ) (chart : List ℕ) : Type 0 where
-  pub returned : code ≡ verdictCode (r .answer)
+  pub returned : code ≡ codeOf verdictCode (r .answer)
   pub state : row ≡ rowOf (r .state)
   pub left : chart ≡ r .chart
 
 -- taking, the row being found where the state goes: what is returned, the row left and the chart left
 pub record Takes (r : Recognition) (found : List ℕ) (code : ℕ) (row : List ℕ) (chart : List ℕ) : Type 0 where
-  pub returned : code ≡ verdictCode (r .answer)
-  pub state : row ≡ rowLeft (r .answer) (r .state) found
+  pub returned : code ≡ codeOf verdictCode (r .answer)
+  pub state : row ≡ leftOf (rowLeft (r .state)) (r .answer) found
   pub left : chart ≡ r .chart
 
 -- check and same build: what is returned, and the chart left
 pub record Checks (k : Checking Bool) (code : ℕ) (chart : List ℕ) : Type 0 where
-  pub returned : code ≡ verdictCode (k .answer)
+  pub returned : code ≡ codeOf verdictCode (k .answer)
   pub left : chart ≡ k .chart
 
 -- length, a number being found where the tenths go: what is returned, the chart left, and the number left
 pub record Measures (k : Checking ℤ) (found : ℤ) (code : ℕ) (chart : List ℕ) (tenths : ℤ) : Type 0 where
-  pub returned : code ≡ lengthCode (k .answer)
+  pub returned : code ≡ codeOf lengthCode (k .answer)
   pub left : chart ≡ k .chart
-  pub measured : tenths ≡ tenthsLeft (k .answer) found
+  pub measured : tenths ≡ leftOf tenthsLeft (k .answer) found
 
 -- first and next, a number being found where the nodes go: what is returned, the chart and the output left, and the number left
 pub record Hands (x : Enumeration) (found : ℕ) (code : ℕ) (chart output : List ℕ) (nodes : ℕ) : Type 0 where
-  pub returned : code ≡ handingCode (x .answer)
+  pub returned : code ≡ codeOf handingCode (x .answer)
   pub left : chart ≡ x .chart
   pub written : output ≡ x .output
-  pub counted : nodes ≡ nodesLeft (x .answer) found
+  pub counted : nodes ≡ leftOf nodesLeft (x .answer) found
 
 -- count, a number being found where the figure goes: what is returned, the chart left, and the number left
 pub record Counts (k : Checking Figure) (found : ℕ) (code : ℕ) (chart : List ℕ) (figure : ℕ) : Type 0 where
-  pub returned : code ≡ figureCode (k .answer)
+  pub returned : code ≡ codeOf figureCode (k .answer)
   pub left : chart ≡ k .chart
-  pub counted : figure ≡ figureLeft (k .answer) found
+  pub counted : figure ≡ leftOf figureLeft (k .answer) found

@@ -11,7 +11,7 @@ returns c =
     let after-check = c .before .before .before in
     let a = after-check .before .before .before .before .before .before .args in
     checks-of (after-check .before .before .read .ensures)
-    (λ (g : Grammar). checkOf g (a .input .now) (a .offered .now) (a .chart .now)) _ _
+    (λ (g : Grammar). checkOf g (a .input .now) (a .offered .now) (a .chart .now))
     (after-check .check .ensures) (c .of-verdict .ensures)
 
 pub filbozseg-check-spec : {M : Type 1} → statement M

@@ -11,7 +11,7 @@ returns c =
     let after-length = c .before .before .before .before in
     let a = after-length .before .before .before .before .before .before .args in
     measures-of (after-length .before .before .read .ensures)
-    (λ (g : Grammar). lengthOf g (a .input .now) (a .offered .now) (a .chart .now)) _ _ _ _
+    (λ (g : Grammar). lengthOf g (a .input .now) (a .offered .now) (a .chart .now))
     (after-length .length .ensures) (c .of-length .ensures .0) (c .of-length .ensures .1)
 
 pub filbozseg-length-spec : {M : Type 1} → statement M

@@ -11,8 +11,8 @@ returns c =
     let after-write = c .before in
     let after-open = after-write .before .before .before .before .before in
     let a = after-open .before .before .before .before .args in
-    opens-of (after-open .before .before .read .ensures) (λ (g : Grammar). openOf g (a .chart .now)) _ _
-    (after-open .«open» .ensures) _ (after-write .write .ensures) (c .of-verdict .ensures)
+    opens-of (after-open .before .before .read .ensures) (λ (g : Grammar). openOf g (a .chart .now))
+    (after-open .«open» .ensures) (after-write .write .ensures) (c .of-verdict .ensures)
 
 pub filbozseg-open-spec : {M : Type 1} → statement M
 filbozseg-open-spec = tie.close (tie.spec

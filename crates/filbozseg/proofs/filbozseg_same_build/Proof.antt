@@ -11,7 +11,7 @@ returns c =
     let after-build = c .before .before .before in
     let a = after-build .before .before .before .before .before .before .before .args in
     checks-of (after-build .before .before .read .ensures)
-    (λ (g : Grammar). sameBuildOf g (a .input .now) (a .a .now) (a .b .now) (a .chart .now)) _ _
+    (λ (g : Grammar). sameBuildOf g (a .input .now) (a .a .now) (a .b .now) (a .chart .now))
     (after-build .same-build .ensures) (c .of-verdict .ensures)
 
 pub filbozseg-same-build-spec : {M : Type 1} → statement M

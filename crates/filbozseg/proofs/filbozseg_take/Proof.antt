@@ -12,7 +12,7 @@ returns c =
     let after-read = after-take .before .before .before in
     let a = after-read .before .before .before .args in
     takes-of (after-take .before .before .read2 .ensures) (after-read .read .ensures)
-    (λ (g : Grammar) (s : State). takeOf g s (a .byte) (a .chart .now)) _ _ (after-take .take .ensures) _ _
+    (λ (g : Grammar) (s : State). takeOf g s (a .byte) (a .chart .now)) (after-take .take .ensures)
     (c .of-taking .ensures .1) (c .of-taking .ensures .0)
 
 pub filbozseg-take-spec : {M : Type 1} → statement M

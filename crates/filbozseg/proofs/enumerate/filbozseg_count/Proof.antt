@@ -12,7 +12,7 @@ returns c =
     let after-read = after-count .before .before in
     let a = after-read .before .before .before .args in
     counts-of (after-read .read .ensures)
-    (λ (g : Grammar). countOf g (a .input .now) (a .chart .now)) _ _ _ _
+    (λ (g : Grammar). countOf g (a .input .now) (a .chart .now))
     (after-count .count .ensures) (c .of-figure .ensures .0) (c .of-figure .ensures .1)
 
 pub filbozseg-count-spec : {M : Type 1} → statement M

@@ -12,7 +12,7 @@ returns c =
     let after-read = after-first .before .before .before in
     let a = after-read .before .before .before .before .args in
     hands-of (after-read .read .ensures)
-    (λ (g : Grammar). firstOf g (a .input .now) (a .chart .now) (a .output .now)) _ _ _ _
+    (λ (g : Grammar). firstOf g (a .input .now) (a .chart .now) (a .output .now))
     (after-first .first .ensures) (c .of-handing .ensures .0) (c .of-handing .ensures .1)
 
 pub filbozseg-first-spec : {M : Type 1} → statement M

@@ -12,7 +12,7 @@ returns c =
     let after-read = after-next .before .before .before in
     let a = after-read .before .before .before .before .before .args in
     hands-of (after-read .read .ensures)
-    (λ (g : Grammar). nextOf g (a .input .now) (a .offered .now) (a .chart .now) (a .output .now)) _ _ _ _
+    (λ (g : Grammar). nextOf g (a .input .now) (a .offered .now) (a .chart .now) (a .output .now))
     (after-next .next .ensures) (c .of-handing .ensures .0) (c .of-handing .ensures .1)
 
 pub filbozseg-next-spec : {M : Type 1} → statement M
