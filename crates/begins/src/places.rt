@@ -7,6 +7,7 @@ ghost use mathlib.Core.Bool.{true, false};
 ghost use mathlib.Core.List.{List};
 ghost use mathlib.Core.Path.{_≡_};
 ghost use Prim.Native.Nat.{ℕ, _<_, _≤_};
+ghost use Rattle.sizes.specs.Sizes.{maxRules, maxPlaces, maxInput};
 ghost use Rattle.packed.specs.Packed.{isNonterminalIn, countIn};
 ghost use Rattle.cells.specs.Flags.{Fit};
 ghost use Rattle.begins.specs.Begins.{Follows, BeginsAt, Begins};
@@ -22,7 +23,7 @@ pub struct Window {
 
 // Whether the places q.. of rule r cut the span from a to n, the starts from j on being told.
 fn follows(p: &Packed, r: usize, q: usize, a: usize, n: usize, starts: &Starts, last: u32) -> bool
-    requires { ⌜ (r < 128) × (0 < q) × (q ≤ countIn (now p) r) × (a ≤ n) × (n ≤ 64) ⌝ }
+    requires { ⌜ (r < maxRules) × (0 < q) × (q ≤ countIn (now p) r) × (a ≤ n) × (n ≤ maxInput) ⌝ }
     ensures { λ f. ⌜ ((fit : Fit) (j : ℕ) → j ≤ a → Follows fit (now (p .entry)) r q a j n (now (starts .entry)) last f) ⌝ }
 {
     if a < n {
@@ -43,7 +44,7 @@ fn nonterminal_begins(
     ends: &Ends,
     starts: &Starts,
 ) -> bool
-    requires { ⌜ (r < 128) × (q < 8) × (i < 64) × (q < countIn (now p) r) × (isNonterminalIn (now p) r q ≡ true) ⌝ }
+    requires { ⌜ (r < maxRules) × (q < maxPlaces) × (i < maxInput) × (q < countIn (now p) r) × (isNonterminalIn (now p) r q ≡ true) ⌝ }
     ensures { λ f. ⌜ ((n fits last : ℕ) → BeginsAt (now (p .entry)) r q i n fits (now (ends .entry)) (now (starts .entry)) last f) ⌝ }
 {
     let k = packed::value(p, r, q);
@@ -60,7 +61,7 @@ fn nonterminal_begins(
 
 // Whether place q of rule r holds a terminal that fits position i, after which the places behind it cut the rest.
 fn terminal_begins(p: &Packed, r: usize, q: usize, window: Window, starts: &Starts) -> bool
-    requires { ⌜ (r < 128) × (q < 8) × (window .i < window .n) × (window .n ≤ 64) × (q < countIn (now p) r)
+    requires { ⌜ (r < maxRules) × (q < maxPlaces) × (window .i < window .n) × (window .n ≤ maxInput) × (q < countIn (now p) r)
         × (isNonterminalIn (now p) r q ≡ false) ⌝ }
     ensures { λ f. ⌜ ((ends : List ℕ) → BeginsAt (now (p .entry)) r q (window .i) (window .n) (window .fits) ends (now (starts .entry))
         (window .last) f) ⌝ }
@@ -73,7 +74,7 @@ fn terminal_begins(p: &Packed, r: usize, q: usize, window: Window, starts: &Star
 
 // Whether the places q.. of rule r cut the span from i to n with a first piece that is a byte, or neither empty nor the whole.
 fn begins_at(p: &Packed, r: usize, q: usize, window: Window, ends: &Ends, starts: &Starts) -> bool
-    requires { ⌜ (r < 128) × (q < 8) × (window .i < window .n) × (window .n ≤ 64) × (q < countIn (now p) r) ⌝ }
+    requires { ⌜ (r < maxRules) × (q < maxPlaces) × (window .i < window .n) × (window .n ≤ maxInput) × (q < countIn (now p) r) ⌝ }
     ensures { λ f. ⌜ BeginsAt (now (p .entry)) r q (window .i) (window .n) (window .fits) (now (ends .entry)) (now (starts .entry))
         (window .last) f ⌝ }
 {
@@ -85,7 +86,7 @@ fn begins_at(p: &Packed, r: usize, q: usize, window: Window, ends: &Ends, starts
 
 // The places of rule r at which such a cut of the span begins.
 pub fn begins(p: &Packed, r: usize, window: Window, ends: &Ends, starts: &Starts) -> u32
-    requires { ⌜ (r < 128) × (window .i < window .n) × (window .n ≤ 64) ⌝ }
+    requires { ⌜ (r < maxRules) × (window .i < window .n) × (window .n ≤ maxInput) ⌝ }
     ensures { λ v. ⌜ Begins (now (p .entry)) r (window .i) (window .n) (window .fits) (now (ends .entry)) (now (starts .entry))
         (window .last) v ⌝ }
 {

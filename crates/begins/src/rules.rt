@@ -11,6 +11,7 @@ use spans::words::Starts;
 ghost use mathlib.Core.Path.{_≡_};
 ghost use Prim.Native.Nat.{_<_, _≤_};
 ghost use lib.ListN.{length};
+ghost use Rattle.sizes.specs.Sizes.{maxRules, maxInput};
 ghost use Rattle.begins.specs.Begins.{BeginsNear, AllBegin};
 
 // The places of rule r at which such a cut begins, by the sets of all ends and of all starts too: a rule that can have none is passed over.
@@ -23,7 +24,7 @@ fn begins_near(
     reach: u64,
     live: u64,
 ) -> u32
-    requires { ⌜ (r < 128) × (window .i < window .n) × (window .n ≤ 64) ⌝ }
+    requires { ⌜ (r < maxRules) × (window .i < window .n) × (window .n ≤ maxInput) ⌝ }
     ensures { λ v.
         ⌜ BeginsNear (now (p .entry)) r (window .i) (window .n) (window .fits)
         (now (ends .entry)) (now (starts .entry)) reach live (window .last) v ⌝ }
@@ -46,10 +47,10 @@ pub fn begin_all(
     starts: &Starts,
     reach: u64,
     live: &Live,
-    lasts: &[u32; 128],
-    insides: &mut [u32; 128],
+    lasts: &[u32; sizes::MAX_RULES],
+    insides: &mut [u32; sizes::MAX_RULES],
 )
-    requires { ⌜ (rules ≤ 128) × (i < n) × (n ≤ 64) × (length (now insides) ≡ 128) ⌝ }
+    requires { ⌜ (rules ≤ maxRules) × (i < n) × (n ≤ maxInput) × (length (now insides) ≡ maxRules) ⌝ }
     ensures { λ _.
         ⌜ AllBegin (now (p .entry)) rules i n (now (fits .entry)) (now (ends .entry)) (now (starts .entry)) reach
         (now (live .entry)) (now (lasts .entry)) (now (insides .exit)) ⌝ }

@@ -4,6 +4,7 @@ use super::begins::with_if;
 use packed::Packed;
 ghost use mathlib.Core.Path.{_≡_};
 ghost use Prim.Native.Nat.{_<_};
+ghost use Rattle.sizes.specs.Sizes.{maxRules, maxPlaces};
 ghost use Rattle.packed.specs.Packed.{symbolIn};
 ghost use Rattle.cells.specs.Passes.{placeCuts, RuleMask, addedIn};
 
@@ -18,7 +19,7 @@ fn place_cuts(
     last: u32,
     v: u32,
 ) -> bool
-    requires { ⌜ (r < 128) × (q < 8) ⌝ }
+    requires { ⌜ (r < maxRules) × (q < maxPlaces) ⌝ }
     ensures { λ b. ⌜ b ≡ placeCuts (symbolIn (now (p .entry)) r q) q empty own inner last v ⌝ }
 {
     if packed::contains(inner, q) {
@@ -44,7 +45,7 @@ pub fn rule_mask(
     inner: u32,
     last: u32,
 ) -> u32
-    requires { ⌜ r < 128 ⌝ }
+    requires { ⌜ r < maxRules ⌝ }
     ensures { λ v. ⌜ RuleMask (now (p .entry)) r ended empty own inner last v ⌝ }
 {
     let mut q = packed::count(p, r);
@@ -58,7 +59,7 @@ pub fn rule_mask(
 
 // The set, with the left side of rule r in it if all its places cut the span.
 pub fn added(p: &Packed, r: usize, m: u32, own: u32) -> u32
-    requires { ⌜ r < 128 ⌝ }
+    requires { ⌜ r < maxRules ⌝ }
     ensures { λ v. ⌜ v ≡ addedIn (now (p .entry)) r m own ⌝ }
 {
     if packed::contains(m, 0) {

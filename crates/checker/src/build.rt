@@ -4,13 +4,14 @@ use preorder::offered::rule_number;
 ghost use mathlib.Core.Path.{_≡_};
 ghost use Prim.Native.Nat.{_*_, _+_, _<_, _≤_};
 ghost use lib.ListN.{length};
+ghost use Rattle.sizes.specs.Sizes.{maxRules, maxNodes, outputSize};
 ghost use Rattle.results.specs.Measure.{rulesUsed, sameBag};
 ghost use Rattle.checker.specs.Build.{usedAt, Tallied, Low};
 
 // The rule of node i, if the node covers something and there is such a number; else that of no rule.
 fn used(e: &[u16], i: usize) -> usize
-    requires { ⌜ (2 * i + 1 < length (now e)) × (i < 512) ⌝ }
-    ensures { λ r. ⌜ (r ≡ usedAt (now (e .entry)) i) × (r ≤ 128) ⌝ }
+    requires { ⌜ (2 * i + 1 < length (now e)) × (i < maxNodes) ⌝ }
+    ensures { λ r. ⌜ (r ≡ usedAt (now (e .entry)) i) × (r ≤ maxRules) ⌝ }
 {
     if number(e, 2 * i) == 0 {
         return sizes::NO_RULE;
@@ -20,7 +21,7 @@ fn used(e: &[u16], i: usize) -> usize
 
 // How many nodes that cover something have each rule.
 fn tally(e: &[u16]) -> [u16; 129]
-    requires { ⌜ length (now e) ≤ 1024 ⌝ }
+    requires { ⌜ length (now e) ≤ outputSize ⌝ }
     ensures { λ t. ⌜ Tallied (now (e .entry)) t ⌝ }
 {
     let n = e.len() / 2;
@@ -36,7 +37,7 @@ fn tally(e: &[u16]) -> [u16; 129]
 
 // Whether each rule below 128 is used as often in both.
 pub fn same_rules(a: &[u16], b: &[u16]) -> bool
-    requires { ⌜ (length (now a) ≤ 1024) × (length (now b) ≤ 1024) × Low (now a) × Low (now b) ⌝ }
+    requires { ⌜ (length (now a) ≤ outputSize) × (length (now b) ≤ outputSize) × Low (now a) × Low (now b) ⌝ }
     ensures { λ s. ⌜ s ≡ sameBag (rulesUsed (now (a .entry))) (rulesUsed (now (b .entry))) ⌝ }
 {
     let x = tally(a);

@@ -8,6 +8,7 @@ use packed::Packed;
 use prepare::Judged;
 ghost use mathlib.Core.Path.{_≡_};
 ghost use lib.ListN.{length};
+ghost use Rattle.sizes.specs.Sizes.{maxRules};
 ghost use Rattle.cfg.specs.Listing.{L};
 ghost use Rattle.packed.specs.Packed.{cfgIn};
 ghost use Rattle.prepare.specs.Given.{checkingOf};
@@ -38,7 +39,7 @@ fn check_offered(p: &Packed, start: usize, input: &[u8], offered: &[u16]) -> Ver
 
 // The length of an offered derivation.
 fn measure_offered(l: &[i16], p: &Packed, start: usize, input: &[u8], offered: &[u16]) -> Measured
-    requires { ⌜ length (now l) ≡ 128 ⌝ }
+    requires { ⌜ length (now l) ≡ maxRules ⌝ }
     ensures { λ r. ⌜ measuredOf r
         ≡ lengthAnswer (lengthsIn (now (l .entry))) (L (cfgIn start (now (p .entry))) (now (input .entry))) (now (offered .entry)) ⌝ }
 {

@@ -14,7 +14,7 @@ ghost use mathlib.Core.List.{List, _++_};
 ghost use mathlib.Core.Path.{_≡_};
 ghost use Prim.Native.Nat.{ℕ, _≤_};
 ghost use lib.ListN.{length, drop, replicate};
-ghost use Rattle.sizes.specs.Sizes.{cells};
+ghost use Rattle.sizes.specs.Sizes.{cells, maxRules, maxInput};
 ghost use Rattle.sets.specs.Set.{has as inSet};
 ghost use Rattle.chart.specs.Cell.{cell, fitsAt};
 ghost use Rattle.chart.specs.Column.{opened, filled};
@@ -25,16 +25,16 @@ ghost use Rattle.columns.specs.Columns.{columnOf, OpenedWith, Taken};
 
 // Writes column n of the chart as found.
 pub fn write_column(p: &Packed, w: &[u8], n: usize, chart: &mut [u32])
-    requires { ⌜ (n ≤ 64) × (cells ≤ length (now chart)) ⌝ }
+    requires { ⌜ (n ≤ maxInput) × (cells ≤ length (now chart)) ⌝ }
     ensures { λ _. ⌜ now (chart .exit) ≡ columnOf (now (p .entry)) (now (w .entry)) n (now (chart .entry)) ⌝ }
 {
     let rules = packed::rule_count(p);
-    let mut lasts = [0u32; 128];
-    let mut kinds = [0u32; 128];
+    let mut lasts = [0u32; sizes::MAX_RULES];
+    let mut kinds = [0u32; sizes::MAX_RULES];
     let own = tell(p, rules, &mut lasts, &mut kinds);
     let fits = table(p, w);
     let mut ends = [0u64; ENDS_SIZE];
-    let mut reach = [0u64; 64];
+    let mut reach = [0u64; sizes::MAX_INPUT];
     put_columns(n, chart, &mut ends, &mut reach);
     column(
         p,
@@ -75,7 +75,7 @@ pub fn open_chart(p: &Packed, chart: &mut [u32])
     requires { ⌜ cells ≤ length (now chart) ⌝ }
     ensures { λ _. ⌜ now (chart .exit) ≡ opened (cfgIn 0 (now (p .entry))) (now (chart .entry)) ⌝ }
 {
-    let mut lasts = [0u32; 128];
+    let mut lasts = [0u32; sizes::MAX_RULES];
     let own = closure(p, packed::rule_count(p), &mut lasts);
     open_with(own, chart);
 }
@@ -87,16 +87,16 @@ fn take_all(
     fits: &FitTable,
     n: usize,
     own: u32,
-    lasts: &[u32; 128],
-    kinds: &[u32; 128],
+    lasts: &[u32; sizes::MAX_RULES],
+    kinds: &[u32; sizes::MAX_RULES],
     chart: &mut [u32],
 )
-    requires { ⌜ (rules ≤ 128) × Used (now p) rules × (n ≤ 64) × EmptyTold (now p) rules own (now lasts) (now kinds)
+    requires { ⌜ (rules ≤ maxRules) × Used (now p) rules × (n ≤ maxInput) × EmptyTold (now p) rules own (now lasts) (now kinds)
         × (cells ≤ length (now chart)) ⌝ }
     ensures { λ _. ⌜ Taken (now (p .entry)) (now (fits .entry)) n (now (chart .entry)) (now (chart .exit)) ⌝ }
 {
     let mut ends = [0u64; ENDS_SIZE];
-    let mut reach = [0u64; 64];
+    let mut reach = [0u64; sizes::MAX_INPUT];
     let mut m = 0;
     while m < n {
         put_column(m, chart, &mut ends, &mut reach);
@@ -107,13 +107,13 @@ fn take_all(
 
 // Opening, and then taking an input of n bytes, of which the fit table tells.
 pub fn fill(p: &Packed, fits: &FitTable, n: usize, chart: &mut [u32])
-    requires { ⌜ (n ≤ 64) × (cells ≤ length (now chart)) ⌝ }
+    requires { ⌜ (n ≤ maxInput) × (cells ≤ length (now chart)) ⌝ }
     ensures { λ _. ⌜ ((w : List ℕ) → length w ≡ n → FitTold (fitsAt w) (now (p .entry)) (now (fits .entry)) n
         → now (chart .exit) ≡ filled (cfgIn 0 (now (p .entry))) w (now (chart .entry))) ⌝ }
 {
     let rules = packed::rule_count(p);
-    let mut lasts = [0u32; 128];
-    let mut kinds = [0u32; 128];
+    let mut lasts = [0u32; sizes::MAX_RULES];
+    let mut kinds = [0u32; sizes::MAX_RULES];
     let own = tell(p, rules, &mut lasts, &mut kinds);
     open_with(own, chart);
     take_all(p, rules, fits, n, own, &lasts, &kinds, chart);
@@ -121,7 +121,7 @@ pub fn fill(p: &Packed, fits: &FitTable, n: usize, chart: &mut [u32])
 
 // Whether the start symbol is in the cell of the whole input.
 pub fn complete(start: usize, n: usize, chart: &[u32]) -> bool
-    requires { ⌜ (n ≤ 64) × (cells ≤ length (now chart)) ⌝ }
+    requires { ⌜ (n ≤ maxInput) × (cells ≤ length (now chart)) ⌝ }
     ensures { λ b. ⌜ b ≡ inSet start (cell (now (chart .entry)) 0 n) ⌝ }
 {
     packed::contains(chart[n], start)

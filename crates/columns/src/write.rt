@@ -12,7 +12,7 @@ use spans::words::Starts;
 ghost use mathlib.Core.Path.{_≡_};
 ghost use Prim.Native.Nat.{_<_, _≤_};
 ghost use lib.ListN.{length};
-ghost use Rattle.sizes.specs.Sizes.{cells};
+ghost use Rattle.sizes.specs.Sizes.{cells, maxRules, maxInput};
 ghost use Rattle.packed.specs.Packed.{Used};
 ghost use Rattle.spans.specs.Spans.{startsSize};
 ghost use Rattle.empty.specs.Empty.{KindsAll, EmptyTold};
@@ -27,22 +27,22 @@ fn close_cell(
     n: usize,
     ends: &Ends,
     reach: &Reach,
-    lasts: &[u32; 128],
-    kinds: &[u32; 128],
+    lasts: &[u32; sizes::MAX_RULES],
+    kinds: &[u32; sizes::MAX_RULES],
     chart: &mut [u32],
     starts: &mut Starts,
     live: &mut Live,
-    insides: &mut [u32; 128],
-    flags: &mut [u32; 128],
-    made: &mut [u32; 128],
+    insides: &mut [u32; sizes::MAX_RULES],
+    flags: &mut [u32; sizes::MAX_RULES],
+    made: &mut [u32; sizes::MAX_RULES],
 )
-    requires { ⌜ (rules ≤ 128) × Used (now p) rules × (i < n) × (n ≤ 64) × KindsAll (now p) rules (now lasts) (now kinds)
-        × (cells ≤ length (now chart)) × (length (now starts) ≡ startsSize) × (length (now live) ≡ 128)
-        × (length (now insides) ≡ 128) × (length (now flags) ≡ 128) × (length (now made) ≡ 128) ⌝ }
+    requires { ⌜ (rules ≤ maxRules) × Used (now p) rules × (i < n) × (n ≤ maxInput) × KindsAll (now p) rules (now lasts) (now kinds)
+        × (cells ≤ length (now chart)) × (length (now starts) ≡ startsSize) × (length (now live) ≡ maxRules)
+        × (length (now insides) ≡ maxRules) × (length (now flags) ≡ maxRules) × (length (now made) ≡ maxRules) ⌝ }
     ensures { λ _.
         ⌜ CellWritten (now (p .entry)) (now (fits .entry)) rules n i (now (ends .entry)) (now (reach .entry)) (now (lasts .entry))
         (now (chart .entry)) (now (starts .entry)) (now (live .entry)) (now (chart .exit)) (now (starts .exit)) (now (live .exit))
-        × (length (now (insides .exit)) ≡ 128) × (length (now (flags .exit)) ≡ 128) × (length (now (made .exit)) ≡ 128) ⌝ }
+        × (length (now (insides .exit)) ≡ maxRules) × (length (now (flags .exit)) ≡ maxRules) × (length (now (made .exit)) ≡ maxRules) ⌝ }
 {
     begin_all(
         p,
@@ -79,21 +79,21 @@ fn lower_cells(
     n: usize,
     ends: &Ends,
     reach: &Reach,
-    lasts: &[u32; 128],
-    kinds: &[u32; 128],
+    lasts: &[u32; sizes::MAX_RULES],
+    kinds: &[u32; sizes::MAX_RULES],
     chart: &mut [u32],
 )
-    requires { ⌜ (rules ≤ 128) × Used (now p) rules × (n ≤ 64) × KindsAll (now p) rules (now lasts) (now kinds)
+    requires { ⌜ (rules ≤ maxRules) × Used (now p) rules × (n ≤ maxInput) × KindsAll (now p) rules (now lasts) (now kinds)
         × (cells ≤ length (now chart)) ⌝ }
     ensures { λ _.
         ⌜ LowerWritten (now (p .entry)) (now (fits .entry)) rules n (now (ends .entry)) (now (reach .entry)) (now (lasts .entry))
         (now (chart .entry)) (now (chart .exit)) ⌝ }
 {
     let mut starts = [0u64; STARTS_SIZE];
-    let mut live = [0u64; 128];
-    let mut insides = [0u32; 128];
-    let mut flags = [0u32; 128];
-    let mut made = [0u32; 128];
+    let mut live = [0u64; sizes::MAX_RULES];
+    let mut insides = [0u32; sizes::MAX_RULES];
+    let mut flags = [0u32; sizes::MAX_RULES];
+    let mut made = [0u32; sizes::MAX_RULES];
     let mut i = n;
     while i > 0 {
         i -= 1;
@@ -124,13 +124,13 @@ pub fn column(
     fits: &FitTable,
     n: usize,
     own: u32,
-    lasts: &[u32; 128],
-    kinds: &[u32; 128],
+    lasts: &[u32; sizes::MAX_RULES],
+    kinds: &[u32; sizes::MAX_RULES],
     ends: &Ends,
     reach: &Reach,
     chart: &mut [u32],
 )
-    requires { ⌜ (rules ≤ 128) × Used (now p) rules × (n ≤ 64) × EmptyTold (now p) rules own (now lasts) (now kinds)
+    requires { ⌜ (rules ≤ maxRules) × Used (now p) rules × (n ≤ maxInput) × EmptyTold (now p) rules own (now lasts) (now kinds)
         × (cells ≤ length (now chart)) ⌝ }
     ensures { λ _. ⌜ ColumnWritten (now (p .entry)) (now (fits .entry)) n (now (ends .entry)) (now (reach .entry)) (now (chart .entry))
         (now (chart .exit)) ⌝ }

@@ -3,11 +3,12 @@ use packed::Packed;
 ghost use mathlib.Core.Path.{_≡_};
 ghost use Prim.Native.Nat.{_<_, _≤_};
 ghost use lib.ListN.{length};
+ghost use Rattle.sizes.specs.Sizes.{maxRules, maxPlaces};
 ghost use Rattle.empty.specs.Empty.{Kinds, KindAt, KindsAll};
 
 // The set, with the nonterminal in place q of rule r if the places behind it cut the empty span.
 fn kind_at(p: &Packed, r: usize, q: usize, last: u32, v: u32) -> u32
-    requires { ⌜ (r < 128) × (q < 8) ⌝ }
+    requires { ⌜ (r < maxRules) × (q < maxPlaces) ⌝ }
     ensures { λ x. ⌜ KindAt (now (p .entry)) r q last v x ⌝ }
 {
     if packed::contains(last, q + 1) {
@@ -23,7 +24,7 @@ fn kind_at(p: &Packed, r: usize, q: usize, last: u32, v: u32) -> u32
 
 // The nonterminals of rule r behind which its places cut the empty span.
 fn kinds_of(p: &Packed, r: usize, last: u32) -> u32
-    requires { ⌜ r < 128 ⌝ }
+    requires { ⌜ r < maxRules ⌝ }
     ensures { λ v. ⌜ Kinds (now (p .entry)) r last v ⌝ }
 {
     let count = packed::count(p, r);
@@ -37,8 +38,13 @@ fn kinds_of(p: &Packed, r: usize, last: u32) -> u32
 }
 
 // The same of every rule below a number.
-pub fn all_kinds(p: &Packed, rules: usize, lasts: &[u32; 128], kinds: &mut [u32; 128])
-    requires { ⌜ (rules ≤ 128) × (length (now kinds) ≡ 128) ⌝ }
+pub fn all_kinds(
+    p: &Packed,
+    rules: usize,
+    lasts: &[u32; sizes::MAX_RULES],
+    kinds: &mut [u32; sizes::MAX_RULES],
+)
+    requires { ⌜ (rules ≤ maxRules) × (length (now kinds) ≡ maxRules) ⌝ }
     ensures { λ _. ⌜ KindsAll (now (p .entry)) rules (now (lasts .entry)) (now (kinds .exit)) ⌝ }
 {
     let mut r = 0;

@@ -9,11 +9,17 @@ use span::closure;
 ghost use mathlib.Core.Path.{_≡_};
 ghost use Prim.Native.Nat.{_≤_};
 ghost use lib.ListN.{length};
+ghost use Rattle.sizes.specs.Sizes.{maxRules};
 ghost use Rattle.empty.specs.Empty.{EmptyTold};
 
 // The set of the empty span, with the flags and the kinds of the rules below a number.
-pub fn tell(p: &Packed, rules: usize, lasts: &mut [u32; 128], kinds: &mut [u32; 128]) -> u32
-    requires { ⌜ (rules ≤ 128) × (length (now lasts) ≡ 128) × (length (now kinds) ≡ 128) ⌝ }
+pub fn tell(
+    p: &Packed,
+    rules: usize,
+    lasts: &mut [u32; sizes::MAX_RULES],
+    kinds: &mut [u32; sizes::MAX_RULES],
+) -> u32
+    requires { ⌜ (rules ≤ maxRules) × (length (now lasts) ≡ maxRules) × (length (now kinds) ≡ maxRules) ⌝ }
     ensures { λ v. ⌜ EmptyTold (now (p .entry)) rules v (now (lasts .exit)) (now (kinds .exit)) ⌝ }
 {
     let own = closure(p, rules, lasts);

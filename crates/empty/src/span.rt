@@ -5,11 +5,12 @@ use packed::Packed;
 ghost use mathlib.Core.Path.{_≡_};
 ghost use Prim.Native.Nat.{_≤_};
 ghost use lib.ListN.{length};
+ghost use Rattle.sizes.specs.Sizes.{maxRules};
 ghost use Rattle.empty.specs.Empty.{EmptyPassed, EmptyClosed};
 
 // The rules below a number, once.
-fn pass(p: &Packed, rules: usize, own: u32, lasts: &mut [u32; 128]) -> u32
-    requires { ⌜ (rules ≤ 128) × (length (now lasts) ≡ 128) ⌝ }
+fn pass(p: &Packed, rules: usize, own: u32, lasts: &mut [u32; sizes::MAX_RULES]) -> u32
+    requires { ⌜ (rules ≤ maxRules) × (length (now lasts) ≡ maxRules) ⌝ }
     ensures { λ v. ⌜ EmptyPassed (now (p .entry)) rules own v (now (lasts .exit)) ⌝ }
 {
     let mut v = own;
@@ -24,8 +25,8 @@ fn pass(p: &Packed, rules: usize, own: u32, lasts: &mut [u32; 128]) -> u32
 }
 
 // These rules, until nothing is added.
-pub fn closure(p: &Packed, rules: usize, lasts: &mut [u32; 128]) -> u32
-    requires { ⌜ (rules ≤ 128) × (length (now lasts) ≡ 128) ⌝ }
+pub fn closure(p: &Packed, rules: usize, lasts: &mut [u32; sizes::MAX_RULES]) -> u32
+    requires { ⌜ (rules ≤ maxRules) × (length (now lasts) ≡ maxRules) ⌝ }
     ensures { λ v. ⌜ EmptyClosed (now (p .entry)) rules v (now (lasts .exit)) ⌝ }
 {
     let mut own: u32 = 0;

@@ -10,7 +10,7 @@ use tables::layout::TABLES_SIZE;
 ghost use mathlib.Core.Path.{_≡_};
 ghost use Prim.Native.Nat.{_≤_};
 ghost use lib.ListN.{length};
-ghost use Rattle.sizes.specs.Sizes.{cells, outputSize};
+ghost use Rattle.sizes.specs.Sizes.{cells, outputSize, maxInput};
 ghost use Rattle.costs.specs.Span.{bytesOf};
 ghost use Rattle.fit.specs.Fit.{Told};
 ghost use Rattle.packed.specs.Packed.{cfgIn};
@@ -37,7 +37,7 @@ fn first_tree(
     chart: &[u32],
     out: &mut [u16],
 ) -> Handed
-    requires { ⌜ (length (now input) ≤ 64) × (cells ≤ length (now chart)) × (outputSize ≤ length (now out))
+    requires { ⌜ (length (now input) ≤ maxInput) × (cells ≤ length (now chart)) × (outputSize ≤ length (now out))
         × Told (now p) (now input) (now fits) × ChartTrue (now p) (bytesOf (now input)) (now chart) (length (now input)) ⌝ }
     ensures { λ a. ⌜ enumerationOf (handingOf a) (now (chart .entry)) (now (out .exit))
         ≡ firstTree (cfgIn start (now (p .entry))) (now (input .entry)) (now (chart .entry)) (now (out .entry)) ⌝ }
@@ -57,7 +57,7 @@ fn first_filled(
     chart: &[u32],
     out: &mut [u16],
 ) -> Handed
-    requires { ⌜ (length (now input) ≤ 64) × (cells ≤ length (now chart)) × (outputSize ≤ length (now out))
+    requires { ⌜ (length (now input) ≤ maxInput) × (cells ≤ length (now chart)) × (outputSize ≤ length (now out))
         × Told (now p) (now input) (now fits) × ChartTrue (now p) (bytesOf (now input)) (now chart) (length (now input)) ⌝ }
     ensures { λ a. ⌜ enumerationOf (handingOf a) (now (chart .entry)) (now (out .exit))
         ≡ firstFilled (cfgIn start (now (p .entry))) (now (input .entry)) (now (chart .entry)) (now (out .entry)) ⌝ }

@@ -9,7 +9,7 @@ use packed::Packed;
 use tables::layout::Tables;
 ghost use Prim.Native.Nat.{_<_, _≤_};
 ghost use lib.ListN.{length};
-ghost use Rattle.sizes.specs.Sizes.{cells, outputSize};
+ghost use Rattle.sizes.specs.Sizes.{cells, outputSize, maxRules, side};
 ghost use Rattle.first.specs.Answer.{handingOf};
 ghost use Rattle.first.specs.Made.{FirstMade};
 
@@ -22,7 +22,7 @@ pub fn first_made(
     root: Root,
     out: &mut [u16],
 ) -> Handed
-    requires { ⌜ (root .rules ≤ 128) × (root .n < 65) × (cells ≤ length (now chart)) × (outputSize ≤ length (now out)) ⌝ }
+    requires { ⌜ (root .rules ≤ maxRules) × (root .n < side) × (cells ≤ length (now chart)) × (outputSize ≤ length (now out)) ⌝ }
     ensures { λ a. ⌜ FirstMade (now (p .entry)) (root .rules) (now (fits .entry)) (now (chart .entry)) (now (tables .entry))
         (root .start) (root .n)
         (now (out .entry)) (now (out .exit)) (handingOf a) ⌝ }

@@ -3,6 +3,7 @@ use packed::Packed;
 ghost use mathlib.Core.Path.{_≡_};
 ghost use Prim.Native.Nat.{_<_, _≤_};
 ghost use lib.ListN.{length};
+ghost use Rattle.sizes.specs.Sizes.{maxRules, maxPlaces, maxInput};
 ghost use Rattle.sets.specs.Set.{insert};
 ghost use Rattle.packed.specs.Packed.{countIn};
 ghost use Rattle.fit.specs.Fit.{fitSize, Told, Positions, Put, At, AtPlace, AtRule};
@@ -38,7 +39,7 @@ fn positions(n: usize) -> usize
 
 // The byte, with place q in it.
 fn with_place(x: u8, q: usize) -> u8
-    requires { ⌜ q < 8 ⌝ }
+    requires { ⌜ q < maxPlaces ⌝ }
     ensures { λ v. ⌜ v ≡ insert q x ⌝ }
 {
     sets::with(wide_word(x), q) as u8
@@ -46,7 +47,7 @@ fn with_place(x: u8, q: usize) -> u8
 
 // Tells of place q of rule r whether it fits position i.
 fn put_at(p: &Packed, r: usize, q: usize, w: &[u8], i: usize, t: &mut FitTable)
-    requires { ⌜ (r < 128) × (q < 8) × (i < 64) × (length (now t) ≡ fitSize) ⌝ }
+    requires { ⌜ (r < maxRules) × (q < maxPlaces) × (i < maxInput) × (length (now t) ≡ fitSize) ⌝ }
     ensures { λ _. ⌜ Put (now (p .entry)) (now (w .entry)) (At i r q) (now (t .entry)) (now (t .exit)) ⌝ }
 {
     if packed::fits_at(p, r, q, w, i) {
@@ -56,7 +57,7 @@ fn put_at(p: &Packed, r: usize, q: usize, w: &[u8], i: usize, t: &mut FitTable)
 
 // Tells of place q of rule r which of n positions it fits.
 fn write_place(p: &Packed, r: usize, q: usize, w: &[u8], n: usize, t: &mut FitTable)
-    requires { ⌜ (r < 128) × (q < 8) × (n ≤ 64) × (length (now t) ≡ fitSize) ⌝ }
+    requires { ⌜ (r < maxRules) × (q < maxPlaces) × (n ≤ maxInput) × (length (now t) ≡ fitSize) ⌝ }
     ensures { λ _. ⌜ Put (now (p .entry)) (now (w .entry)) (AtPlace n r q) (now (t .entry)) (now (t .exit)) ⌝ }
 {
     let mut i = 0;
@@ -68,7 +69,7 @@ fn write_place(p: &Packed, r: usize, q: usize, w: &[u8], n: usize, t: &mut FitTa
 
 // The same; a nonterminal fits no position.
 fn put_place(p: &Packed, r: usize, q: usize, w: &[u8], n: usize, t: &mut FitTable)
-    requires { ⌜ (r < 128) × (q < 8) × (n ≤ 64) × (length (now t) ≡ fitSize) ⌝ }
+    requires { ⌜ (r < maxRules) × (q < maxPlaces) × (n ≤ maxInput) × (length (now t) ≡ fitSize) ⌝ }
     ensures { λ _. ⌜ Put (now (p .entry)) (now (w .entry)) (AtPlace n r q) (now (t .entry)) (now (t .exit)) ⌝ }
 {
     if packed::is_nonterminal(p, r, q) {
@@ -79,7 +80,7 @@ fn put_place(p: &Packed, r: usize, q: usize, w: &[u8], n: usize, t: &mut FitTabl
 
 // Tells of the places of rule r which of n positions they fit.
 fn write_rule(p: &Packed, r: usize, w: &[u8], n: usize, t: &mut FitTable)
-    requires { ⌜ (r < 128) × (n ≤ 64) × (length (now t) ≡ fitSize) ⌝ }
+    requires { ⌜ (r < maxRules) × (n ≤ maxInput) × (length (now t) ≡ fitSize) ⌝ }
     ensures { λ _. ⌜ Put (now (p .entry)) (now (w .entry)) (AtRule n r (countIn (now (p .entry)) r)) (now (t .entry)) (now (t .exit)) ⌝ }
 {
     let count = packed::count(p, r);

@@ -6,6 +6,7 @@ use super::Symbol;
 use super::zero_place;
 ghost use Prim.Native.Nat.{_+_, _*_, _-_, _<_};
 ghost use mathlib.Core.Path.{_≡_};
+ghost use Rattle.sizes.specs.Sizes.{maxPlaces};
 ghost use Rattle.numbers.specs.Numbers.{signedIn};
 ghost use Rattle.grammar.specs.Setters.{openedRule, placedRule};
 
@@ -25,7 +26,7 @@ pub fn opened(left: u8, low: u8, high: u8) -> Rule
 
 // The rule with one place more.
 pub fn placed(rule: Rule, symbol: Symbol) -> Rule
-    requires { ⌜ rule .count < 8 ⌝ }
+    requires { ⌜ rule .count < maxPlaces ⌝ }
     ensures { λ r. ⌜ r ≡ placedRule rule symbol ⌝ }
 {
     let mut r = rule;

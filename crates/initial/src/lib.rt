@@ -12,7 +12,7 @@ ghost use mathlib.Core.Path.{_≡_};
 ghost use Prim.Native.Nat.{_<_, _≤_};
 ghost use lib.Dec.{leb};
 ghost use lib.ListN.{length};
-ghost use Rattle.sizes.specs.Sizes.{cells, maxNodes, outputSize};
+ghost use Rattle.sizes.specs.Sizes.{cells, maxNodes, outputSize, maxRules, maxInput, side};
 ghost use Rattle.costs.specs.Span.{bytesOf};
 ghost use Rattle.descend.specs.Descend.{Given};
 ghost use Rattle.fit.specs.Fit.{Told};
@@ -22,9 +22,9 @@ ghost use Rattle.initial.specs.Written.{FirstWritten};
 
 // Makes the tables of the input, for which the chart is filled and the fit table made. Answers one past the last number that has a rule.
 pub fn build(p: &Packed, input: &[u8], fits: &FitTable, chart: &[u32], tables: &mut Tables) -> usize
-    requires { ⌜ (length (now input) ≤ 64) × (cells ≤ length (now chart)) × (length (now tables) ≡ tablesSize)
+    requires { ⌜ (length (now input) ≤ maxInput) × (cells ≤ length (now chart)) × (length (now tables) ≡ tablesSize)
         × Told (now p) (now input) (now fits) × ChartTrue (now p) (bytesOf (now input)) (now chart) (length (now input)) ⌝ }
-    ensures { λ rules. ⌜ (rules ≤ 128)
+    ensures { λ rules. ⌜ (rules ≤ maxRules)
         × Given (now (p .entry)) rules (now (fits .entry)) (now (chart .entry)) (now (tables .exit)) (now (input .entry)) ⌝ }
 {
     let rules = packed::rule_count(p);
@@ -34,7 +34,7 @@ pub fn build(p: &Packed, input: &[u8], fits: &FitTable, chart: &[u32], tables: &
 
 // Whether a derivation exists: a tree of the start symbol over n bytes has at most 512 nodes.
 pub fn exists(tables: &Tables, start: usize, n: usize) -> bool
-    requires { ⌜ n < 65 ⌝ }
+    requires { ⌜ n < side ⌝ }
     ensures { λ b. ⌜ b ≡ leb (costIn (now (tables .entry)) start 0 n) maxNodes ⌝ }
 {
     wide(cost(tables, start, 0, n)) <= sizes::MAX_NODES
@@ -49,7 +49,7 @@ pub fn write_first(
     root: Root,
     out: &mut [u16],
 ) -> usize
-    requires { ⌜ (root .rules ≤ 128) × (root .n < 65) × (cells ≤ length (now chart)) × (outputSize ≤ length (now out)) ⌝ }
+    requires { ⌜ (root .rules ≤ maxRules) × (root .n < side) × (cells ≤ length (now chart)) × (outputSize ≤ length (now out)) ⌝ }
     ensures { λ m. ⌜ FirstWritten (now (p .entry)) (root .rules) (now (fits .entry)) (now (chart .entry)) (now (tables .entry))
         (root .start) (root .n)
         (now (out .entry)) (now (out .exit)) m ⌝ }

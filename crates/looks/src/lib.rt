@@ -7,6 +7,7 @@ use packed::Packed;
 ghost use mathlib.Core.Path.{_≡_};
 ghost use Prim.Native.Nat.{_<_};
 ghost use lib.ListN.{length};
+ghost use Rattle.sizes.specs.Sizes.{maxRules};
 ghost use Rattle.looks.specs.Looks.{Put, Again};
 
 // What is known at a cell: the set of the empty span at its start, and its own so far.
@@ -23,10 +24,10 @@ fn look(
     inside: u32,
     last: u32,
     kinds: u32,
-    flags: &mut [u32; 128],
-    made: &mut [u32; 128],
+    flags: &mut [u32; sizes::MAX_RULES],
+    made: &mut [u32; sizes::MAX_RULES],
 ) -> u32
-    requires { ⌜ (r < 128) × (length (now flags) ≡ 128) × (length (now made) ≡ 128) ⌝ }
+    requires { ⌜ (r < maxRules) × (length (now flags) ≡ maxRules) × (length (now made) ≡ maxRules) ⌝ }
     ensures { λ v.
         ⌜ Put (now (p .entry)) r (known .start) inside last kinds (known .own)
         (now (flags .entry)) (now (made .entry)) (now (flags .exit)) (now (made .exit)) v ⌝ }
@@ -45,10 +46,10 @@ pub fn look_first(
     inside: u32,
     last: u32,
     kinds: u32,
-    flags: &mut [u32; 128],
-    made: &mut [u32; 128],
+    flags: &mut [u32; sizes::MAX_RULES],
+    made: &mut [u32; sizes::MAX_RULES],
 ) -> u32
-    requires { ⌜ (r < 128) × (length (now flags) ≡ 128) × (length (now made) ≡ 128) ⌝ }
+    requires { ⌜ (r < maxRules) × (length (now flags) ≡ maxRules) × (length (now made) ≡ maxRules) ⌝ }
     ensures { λ v.
         ⌜ Put (now (p .entry)) r (known .start) inside last kinds (known .own)
         (now (flags .entry)) (now (made .entry)) (now (flags .exit)) (now (made .exit)) v ⌝ }
@@ -71,10 +72,10 @@ pub fn look_again(
     inside: u32,
     last: u32,
     kinds: u32,
-    flags: &mut [u32; 128],
-    made: &mut [u32; 128],
+    flags: &mut [u32; sizes::MAX_RULES],
+    made: &mut [u32; sizes::MAX_RULES],
 ) -> u32
-    requires { ⌜ (r < 128) × (length (now flags) ≡ 128) × (length (now made) ≡ 128) ⌝ }
+    requires { ⌜ (r < maxRules) × (length (now flags) ≡ maxRules) × (length (now made) ≡ maxRules) ⌝ }
     ensures { λ v.
         ⌜ Again (now (p .entry)) r (known .start) inside last kinds (known .own)
         (now (flags .entry)) (now (made .entry)) (now (flags .exit)) (now (made .exit)) v ⌝ }

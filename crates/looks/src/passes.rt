@@ -6,6 +6,7 @@ use packed::Packed;
 ghost use mathlib.Core.Path.{_≡_};
 ghost use Prim.Native.Nat.{_≤_};
 ghost use lib.ListN.{length};
+ghost use Rattle.sizes.specs.Sizes.{maxRules};
 ghost use Rattle.looks.specs.Looks.{State, Passed, Closed};
 
 // The first look at the rules below a number, from the empty set on.
@@ -13,13 +14,13 @@ fn first(
     p: &Packed,
     rules: usize,
     start: u32,
-    insides: &[u32; 128],
-    lasts: &[u32; 128],
-    kinds: &[u32; 128],
-    flags: &mut [u32; 128],
-    made: &mut [u32; 128],
+    insides: &[u32; sizes::MAX_RULES],
+    lasts: &[u32; sizes::MAX_RULES],
+    kinds: &[u32; sizes::MAX_RULES],
+    flags: &mut [u32; sizes::MAX_RULES],
+    made: &mut [u32; sizes::MAX_RULES],
 ) -> u32
-    requires { ⌜ (rules ≤ 128) × (length (now flags) ≡ 128) × (length (now made) ≡ 128) ⌝ }
+    requires { ⌜ (rules ≤ maxRules) × (length (now flags) ≡ maxRules) × (length (now made) ≡ maxRules) ⌝ }
     ensures { λ v.
         ⌜ State (now (p .entry)) rules start (now (insides .entry)) (now (lasts .entry)) (now (kinds .entry))
         rules v (now (flags .exit)) (now (made .exit)) ⌝ }
@@ -47,13 +48,13 @@ fn again(
     p: &Packed,
     rules: usize,
     known: Known,
-    insides: &[u32; 128],
-    lasts: &[u32; 128],
-    kinds: &[u32; 128],
-    flags: &mut [u32; 128],
-    made: &mut [u32; 128],
+    insides: &[u32; sizes::MAX_RULES],
+    lasts: &[u32; sizes::MAX_RULES],
+    kinds: &[u32; sizes::MAX_RULES],
+    flags: &mut [u32; sizes::MAX_RULES],
+    made: &mut [u32; sizes::MAX_RULES],
 ) -> u32
-    requires { ⌜ (rules ≤ 128)
+    requires { ⌜ (rules ≤ maxRules)
         × State (now p) rules (known .start) (now insides) (now lasts) (now kinds) rules (known .own) (now flags) (now made) ⌝ }
     ensures { λ v.
         ⌜ Passed (now (p .entry)) rules (known .start) (now (insides .entry)) (now (lasts .entry)) (now (kinds .entry))
@@ -83,13 +84,13 @@ pub fn closure(
     p: &Packed,
     rules: usize,
     start: u32,
-    insides: &[u32; 128],
-    lasts: &[u32; 128],
-    kinds: &[u32; 128],
-    flags: &mut [u32; 128],
-    made: &mut [u32; 128],
+    insides: &[u32; sizes::MAX_RULES],
+    lasts: &[u32; sizes::MAX_RULES],
+    kinds: &[u32; sizes::MAX_RULES],
+    flags: &mut [u32; sizes::MAX_RULES],
+    made: &mut [u32; sizes::MAX_RULES],
 ) -> u32
-    requires { ⌜ (rules ≤ 128) × (length (now flags) ≡ 128) × (length (now made) ≡ 128) ⌝ }
+    requires { ⌜ (rules ≤ maxRules) × (length (now flags) ≡ maxRules) × (length (now made) ≡ maxRules) ⌝ }
     ensures { λ v.
         ⌜ Closed (now (p .entry)) rules start (now (insides .entry)) (now (lasts .entry)) (now (kinds .entry))
         v (now (flags .exit)) (now (made .exit)) ⌝ }

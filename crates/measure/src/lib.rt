@@ -7,6 +7,7 @@ ghost use mathlib.Core.Path.{_≡_};
 ghost use Prim.Native.Nat.{_<_, _≤_};
 ghost use lib.ListN.{length};
 ghost use lib.Signed.{mag};
+ghost use Rattle.sizes.specs.Sizes.{maxRules, outputSize};
 ghost use Rattle.results.specs.Measure.{sum as sumOf, rounded as roundedOf};
 ghost use Rattle.measure.specs.Measure.{lengthsIn, lengthOfRule};
 
@@ -56,7 +57,7 @@ pub fn widened(z: i16) -> i32
 
 // The rule lengths of all nodes of an offered derivation, empty ones too, added up.
 pub fn total(l: &[i16], e: &[u16]) -> i32
-    requires { ⌜ (length (now e) ≤ 1024) × (length (now l) ≡ 128) ⌝ }
+    requires { ⌜ (length (now e) ≤ outputSize) × (length (now l) ≡ maxRules) ⌝ }
     ensures { λ r. ⌜ (r ≡ sumOf (lengthsIn (now (l .entry))) (now (e .entry))) × (mag r ≤ 16777216) ⌝ }
 {
     let n = e.len() / 2;
@@ -74,7 +75,7 @@ pub fn total(l: &[i16], e: &[u16]) -> i32
 
 // The total length of a derivation, in tenths.
 pub fn tenths(l: &[i16], e: &[u16]) -> i32
-    requires { ⌜ (length (now e) ≤ 1024) × (length (now l) ≡ 128) ⌝ }
+    requires { ⌜ (length (now e) ≤ outputSize) × (length (now l) ≡ maxRules) ⌝ }
     ensures { λ r. ⌜ r ≡ roundedOf (sumOf (lengthsIn (now (l .entry))) (now (e .entry))) ⌝ }
 {
     rounded(total(l, e))

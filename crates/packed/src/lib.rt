@@ -2,6 +2,7 @@
 use numbers::wide_byte;
 ghost use mathlib.Core.Path.{_≡_};
 ghost use Prim.Native.Nat.{_<_, _≤_};
+ghost use Rattle.sizes.specs.Sizes.{maxRules, maxPlaces};
 ghost use Rattle.sets.specs.Set.{has as inSet};
 ghost use Rattle.packed.specs.Packed.{leftIn, Used, countIn, isNonterminalIn, valueIn, symbolIn, fitsPlace, packedSize};
 
@@ -20,7 +21,7 @@ pub fn tied_size() -> usize
 
 // The left side of rule r: 32 or more where there is no such rule.
 pub fn left(p: &Packed, r: usize) -> usize
-    requires { ⌜ r < 128 ⌝ }
+    requires { ⌜ r < maxRules ⌝ }
     ensures { λ k. ⌜ k ≡ leftIn (now (p .entry)) r ⌝ }
 {
     wide_byte(p[RULE_BYTES * r])
@@ -28,7 +29,7 @@ pub fn left(p: &Packed, r: usize) -> usize
 
 // A number that no used rule reaches: one past the last of them.
 pub fn rule_count(p: &Packed) -> usize
-    ensures { λ m. ⌜ (m ≤ 128) × Used (now (p .entry)) m ⌝ }
+    ensures { λ m. ⌜ (m ≤ maxRules) × Used (now (p .entry)) m ⌝ }
 {
     let mut m = sizes::MAX_RULES;
     while m > 0 {
@@ -43,7 +44,7 @@ pub fn rule_count(p: &Packed) -> usize
 
 // How many places rule r has: none where there is no such rule, so that loops pass it over.
 pub fn count(p: &Packed, r: usize) -> usize
-    requires { ⌜ r < 128 ⌝ }
+    requires { ⌜ r < maxRules ⌝ }
     ensures { λ n. ⌜ (n ≡ countIn (now (p .entry)) r) × (n ≤ 8) ⌝ }
 {
     if left(p, r) < sizes::NONTERMINALS {
@@ -60,7 +61,7 @@ pub fn count(p: &Packed, r: usize) -> usize
 
 // Whether place q of rule r holds a nonterminal.
 pub fn is_nonterminal(p: &Packed, r: usize, q: usize) -> bool
-    requires { ⌜ (r < 128) × (q < 8) ⌝ }
+    requires { ⌜ (r < maxRules) × (q < maxPlaces) ⌝ }
     ensures { λ b. ⌜ b ≡ isNonterminalIn (now (p .entry)) r q ⌝ }
 {
     p[RULE_BYTES * r + 2 + 2 * q] == 0
@@ -68,7 +69,7 @@ pub fn is_nonterminal(p: &Packed, r: usize, q: usize) -> bool
 
 // The number that place q of rule r holds.
 pub fn value(p: &Packed, r: usize, q: usize) -> usize
-    requires { ⌜ (r < 128) × (q < 8) ⌝ }
+    requires { ⌜ (r < maxRules) × (q < maxPlaces) ⌝ }
     ensures { λ v. ⌜ (v ≡ valueIn (now (p .entry)) r q) × (v < 256) ⌝ }
 {
     wide_byte(p[RULE_BYTES * r + 3 + 2 * q])
@@ -87,7 +88,7 @@ pub fn contains(word: u32, k: usize) -> bool
 
 // Whether the byte at position i of the input fits place q of rule r. The only reading of the input.
 pub fn fits_at(p: &Packed, r: usize, q: usize, w: &[u8], i: usize) -> bool
-    requires { ⌜ (r < 128) × (q < 8) ⌝ }
+    requires { ⌜ (r < maxRules) × (q < maxPlaces) ⌝ }
     ensures { λ b. ⌜ b ≡ fitsPlace (now (w .entry)) (symbolIn (now (p .entry)) r q) i ⌝ }
 {
     if is_nonterminal(p, r, q) {

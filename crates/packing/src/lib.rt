@@ -9,6 +9,7 @@ ghost use mathlib.Core.Bool.{true};
 ghost use mathlib.Core.Path.{_≡_};
 ghost use Prim.Native.Nat.{ℕ, _<_};
 ghost use lib.ListN.{length};
+ghost use Rattle.sizes.specs.Sizes.{maxRules};
 ghost use Rattle.cfg.specs.Grammar.{rule as ruleOfNumber};
 ghost use Rattle.grammar.specs.Valid.{validRule, validGrammar};
 ghost use Rattle.grammar.specs.View.{grammarOf};
@@ -17,7 +18,7 @@ ghost use Rattle.packing.specs.Place.{RulePut};
 
 // Writes the rule into row r.
 fn pack_rule(rule: Rule, r: usize, p: &mut Packed)
-    requires { ⌜ (r < 128) × (validRule rule ≡ true) × (length (now p) ≡ packedSize) ⌝ }
+    requires { ⌜ (r < maxRules) × (validRule rule ≡ true) × (length (now p) ≡ packedSize) ⌝ }
     ensures { λ _. ⌜ RulePut rule r (now (p .entry)) (now (p .exit)) ⌝ }
 {
     let n = rule.count;

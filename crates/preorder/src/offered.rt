@@ -2,6 +2,7 @@
 ghost use mathlib.Core.Path.{_≡_};
 ghost use Prim.Native.Nat.{_*_, _+_, _<_, min};
 ghost use lib.ListN.{length, getD};
+ghost use Rattle.sizes.specs.Sizes.{maxRules, maxNodes};
 
 // A number of an offered derivation.
 pub fn number(e: &[u16], i: usize) -> usize
@@ -13,8 +14,8 @@ pub fn number(e: &[u16], i: usize) -> usize
 
 // The rule of node i, or that of no rule if it is larger.
 pub fn rule_number(e: &[u16], i: usize) -> usize
-    requires { ⌜ (2 * i + 1 < length (now e)) × (i < 512) ⌝ }
-    ensures { λ r. ⌜ r ≡ min (getD (now (e .entry)) (2 * i + 1) 0) 128 ⌝ }
+    requires { ⌜ (2 * i + 1 < length (now e)) × (i < maxNodes) ⌝ }
+    ensures { λ r. ⌜ r ≡ min (getD (now (e .entry)) (2 * i + 1) 0) maxRules ⌝ }
 {
     let r = number(e, 2 * i + 1);
     if r < sizes::MAX_RULES {

@@ -8,7 +8,7 @@ ghost use lib.ListN.{length};
 ghost use Rattle.cfg.specs.Grammar.{nonterminal};
 ghost use Rattle.packed.specs.Packed.{placesFrom, countIn, cfgIn};
 ghost use Rattle.preorder.specs.Walk.{Walked, Answers, Room, Opens, Looked};
-ghost use Rattle.sizes.specs.Sizes.{tooMany};
+ghost use Rattle.sizes.specs.Sizes.{tooMany, maxRules, maxNodes};
 
 // What comes next in a row: nothing that fits, its end, a byte, or a node of a nonterminal over so many bytes.
 pub enum Step {
@@ -27,8 +27,8 @@ struct Here {
 
 // The rule of node `at`, if the node covers c bytes and is of the nonterminal k, which is not in the mask; else that of no rule.
 fn rule_at(p: &Packed, e: &[u16], n: usize, mask: u32, k: usize, c: usize, at: usize) -> usize
-    requires { ⌜ (2 * n ≤ length (now e)) × (n ≤ 512) ⌝ }
-    ensures { λ r. ⌜ Answers (Opens (now (p .entry)) (now (e .entry)) n mask k c at) 128 r ⌝ }
+    requires { ⌜ (2 * n ≤ length (now e)) × (n ≤ maxNodes) ⌝ }
+    ensures { λ r. ⌜ Answers (Opens (now (p .entry)) (now (e .entry)) n mask k c at) maxRules r ⌝ }
 {
     if k > 31 {
         return sizes::NO_RULE;
@@ -55,7 +55,7 @@ fn rule_at(p: &Packed, e: &[u16], n: usize, mask: u32, k: usize, c: usize, at: u
 
 // What comes next at place q of rule r.
 fn look(p: &Packed, w: &[u8], e: &[u16], n: usize, r: usize, q: usize, here: Here) -> Step
-    requires { ⌜ (r < 128) × (2 * n ≤ length (now e)) × (n ≤ 512) × (here .from ≤ here .to) × (here .to ≤ length (now w)) ⌝ }
+    requires { ⌜ (r < maxRules) × (2 * n ≤ length (now e)) × (n ≤ maxNodes) × (here .from ≤ here .to) × (here .to ≤ length (now w)) ⌝ }
     ensures { λ s. ⌜ Looked (now (p .entry)) (now (w .entry)) (now (e .entry)) n r q (here .at) (here .from) (here .to) s ⌝ }
 {
     let Here { at, from, to } = here;
@@ -122,7 +122,7 @@ pub fn row(
     from: usize,
     to: usize,
 ) -> usize
-    requires { ⌜ (r < 128) × Room (now w) (now e) n cover at from to ⌝ }
+    requires { ⌜ (r < maxRules) × Room (now w) (now e) n cover at from to ⌝ }
     ensures { λ next. ⌜ Answers (Walked (cfgIn 0 (now (p .entry))) (now (w .entry)) (now (e .entry)) n cover above
         (placesFrom (now (p .entry)) r q (countIn (now (p .entry)) r - q)) at from to) tooMany next ⌝ }
 {

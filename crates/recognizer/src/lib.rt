@@ -14,7 +14,7 @@ ghost use mathlib.Core.Bool.{true};
 ghost use mathlib.Core.Path.{_≡_};
 ghost use Prim.Native.Nat.{_<_, _≤_};
 ghost use lib.ListN.{length};
-ghost use Rattle.sizes.specs.Sizes.{cells};
+ghost use Rattle.sizes.specs.Sizes.{cells, maxInput};
 ghost use Rattle.sets.specs.Set.{has as inSet};
 ghost use Rattle.chart.specs.Cell.{cell};
 ghost use Rattle.grammar.specs.Number.{numberOf};
@@ -26,7 +26,7 @@ ghost use Rattle.recognizer.specs.Recognizer.{stateIn, recognitionOf};
 
 // The state: 64 bytes, of which the first `count` have been taken.
 pub struct Recognizer {
-    pub bytes: [u8; 64],
+    pub bytes: [u8; sizes::MAX_INPUT],
     pub count: usize,
 }
 
@@ -38,7 +38,7 @@ pub struct Advanced {
 
 // The answer "complete", after n bytes.
 fn says(start: u8, n: usize, chart: &[u32]) -> Verdict
-    requires { ⌜ (n ≤ 64) × (cells ≤ length (now chart)) ⌝ }
+    requires { ⌜ (n ≤ maxInput) × (cells ≤ length (now chart)) ⌝ }
     ensures { λ a. ⌜ verdictOf a ≡ answered (inSet start (cell (now (chart .entry)) 0 n)) ⌝ }
 {
     if complete(wide_byte(start), n, chart) {
@@ -86,7 +86,7 @@ pub fn open(g: Grammar, chart: &mut [u32]) -> Advanced
 
 // Taking, once the checks are passed.
 fn taking(h: Recognizer, g: Grammar, byte: u8, chart: &mut [u32]) -> Advanced
-    requires { ⌜ (validGrammar g ≡ true) × (h .count < 64) × (cells ≤ length (now chart)) ⌝ }
+    requires { ⌜ (validGrammar g ≡ true) × (h .count < maxInput) × (cells ≤ length (now chart)) ⌝ }
     ensures { λ r. ⌜ recognitionOf r (now (chart .exit)) ≡ takeOf g (stateIn h) byte (now (chart .entry)) ⌝ }
 {
     let p = packing::pack(g);

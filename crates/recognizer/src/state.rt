@@ -4,6 +4,7 @@ ghost use mathlib.Core.List.{[], _∷_, _++_};
 ghost use mathlib.Core.Path.{_≡_};
 ghost use Prim.Native.Nat.{_+_, _<_};
 ghost use lib.ListN.{take as takeFirst};
+ghost use Rattle.sizes.specs.Sizes.{maxInput};
 ghost use Rattle.results.specs.Recognize.{stateOf};
 ghost use Rattle.recognizer.specs.Recognizer.{stateIn};
 
@@ -12,18 +13,18 @@ pub fn blank() -> Recognizer
     ensures { λ h. ⌜ stateIn h ≡ stateOf [] ⌝ }
 {
     Recognizer {
-        bytes: [0u8; 64],
+        bytes: [0u8; sizes::MAX_INPUT],
         count: 0,
     }
 }
 
 // The state with one byte more, and zeros behind it.
 pub fn with_byte(h: Recognizer, byte: u8) -> Recognizer
-    requires { ⌜ h .count < 64 ⌝ }
+    requires { ⌜ h .count < maxInput ⌝ }
     ensures { λ r. ⌜ (stateIn r ≡ stateOf (takeFirst (h .count) (h .bytes) ++ (byte ∷ []))) × (r .count ≡ h .count + 1) ⌝ }
 {
     let n = h.count;
-    let mut bytes = [0u8; 64];
+    let mut bytes = [0u8; sizes::MAX_INPUT];
     let mut i = 0;
     while i < n {
         bytes[i] = h.bytes[i];

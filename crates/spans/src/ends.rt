@@ -4,13 +4,13 @@ use reach::Reach;
 ghost use mathlib.Core.Path.{_≡_};
 ghost use Prim.Native.Nat.{_+_, _<_, _≤_};
 ghost use lib.ListN.{length};
-ghost use Rattle.sizes.specs.Sizes.{cells};
+ghost use Rattle.sizes.specs.Sizes.{cells, maxInput};
 ghost use Rattle.spans.specs.Spans.{endsSize};
 ghost use Rattle.spans.specs.Ends.{EndPut, CellPut, ColumnsPut};
 
 // Adds b to the ends from i of each member of the word.
 fn put_members(i: usize, b: usize, word: u32, ends: &mut Ends)
-    requires { ⌜ (i < 64) × (b < 64) × (length (now ends) ≡ endsSize) ⌝ }
+    requires { ⌜ (i < maxInput) × (b < maxInput) × (length (now ends) ≡ endsSize) ⌝ }
     ensures { λ _. ⌜ EndPut i b word (now (ends .entry)) (now (ends .exit)) ⌝ }
 {
     let mut rest = word;
@@ -23,7 +23,7 @@ fn put_members(i: usize, b: usize, word: u32, ends: &mut Ends)
 
 // The same, and the reach of i.
 fn put(i: usize, b: usize, word: u32, ends: &mut Ends, reach: &mut Reach)
-    requires { ⌜ (i < 64) × (b < 64) × (length (now ends) ≡ endsSize) × (length (now reach) ≡ 64) ⌝ }
+    requires { ⌜ (i < maxInput) × (b < maxInput) × (length (now ends) ≡ endsSize) × (length (now reach) ≡ maxInput) ⌝ }
     ensures { λ _. ⌜ CellPut i b word (now (ends .entry)) (now (reach .entry)) (now (ends .exit)) (now (reach .exit)) ⌝ }
 {
     if word != 0 {
@@ -34,7 +34,7 @@ fn put(i: usize, b: usize, word: u32, ends: &mut Ends, reach: &mut Reach)
 
 // Adds the cells of column b.
 pub fn put_column(b: usize, chart: &[u32], ends: &mut Ends, reach: &mut Reach)
-    requires { ⌜ (b < 64) × (cells ≤ length (now chart)) × (length (now ends) ≡ endsSize) × (length (now reach) ≡ 64) ⌝ }
+    requires { ⌜ (b < maxInput) × (cells ≤ length (now chart)) × (length (now ends) ≡ endsSize) × (length (now reach) ≡ maxInput) ⌝ }
     ensures { λ _.
         ⌜ ColumnsPut (now (chart .entry)) b (b + 1)
         (now (ends .entry)) (now (reach .entry)) (now (ends .exit)) (now (reach .exit)) ⌝ }
@@ -48,7 +48,7 @@ pub fn put_column(b: usize, chart: &[u32], ends: &mut Ends, reach: &mut Reach)
 
 // Adds the cells of the columns before n.
 pub fn put_columns(n: usize, chart: &[u32], ends: &mut Ends, reach: &mut Reach)
-    requires { ⌜ (n ≤ 64) × (cells ≤ length (now chart)) × (length (now ends) ≡ endsSize) × (length (now reach) ≡ 64) ⌝ }
+    requires { ⌜ (n ≤ maxInput) × (cells ≤ length (now chart)) × (length (now ends) ≡ endsSize) × (length (now reach) ≡ maxInput) ⌝ }
     ensures { λ _.
         ⌜ ColumnsPut (now (chart .entry)) 0 n
         (now (ends .entry)) (now (reach .entry)) (now (ends .exit)) (now (reach .exit)) ⌝ }

@@ -6,13 +6,14 @@ ghost use mathlib.Core.Bool.{cond};
 ghost use mathlib.Core.Path.{_≡_};
 ghost use Prim.Native.Nat.{_<_, _≤_};
 ghost use lib.ListN.{length};
+ghost use Rattle.sizes.specs.Sizes.{maxRules, maxInput};
 ghost use Rattle.sets.specs.Set.{insert};
 ghost use Rattle.spans.specs.Spans.{startsSize};
 ghost use Rattle.spans.specs.Ends.{RulePut, FlagsPut};
 
 // The set, with k in it if the test holds.
 fn with_if(w: u64, k: usize, test: bool) -> u64
-    requires { ⌜ k < 64 ⌝ }
+    requires { ⌜ k < maxInput ⌝ }
     ensures { λ x. ⌜ x ≡ cond test (insert k w) w ⌝ }
 {
     if test { sets::wide::with(w, k) } else { w }
@@ -20,7 +21,7 @@ fn with_if(w: u64, k: usize, test: bool) -> u64
 
 // Adds i to the starts of rule r at the places from 1 on that its flags have.
 fn put_places(p: &Packed, r: usize, i: usize, flags: u32, starts: &mut Starts, live: &mut Live)
-    requires { ⌜ (r < 128) × (i < 64) × (length (now starts) ≡ startsSize) × (length (now live) ≡ 128) ⌝ }
+    requires { ⌜ (r < maxRules) × (i < maxInput) × (length (now starts) ≡ startsSize) × (length (now live) ≡ maxRules) ⌝ }
     ensures { λ _.
         ⌜ RulePut (now (p .entry)) r i flags
         (now (starts .entry)) (now (live .entry)) (now (starts .exit)) (now (live .exit)) ⌝ }
@@ -37,7 +38,7 @@ fn put_places(p: &Packed, r: usize, i: usize, flags: u32, starts: &mut Starts, l
 
 // The same; a rule without flags is passed over.
 fn put_rule(p: &Packed, r: usize, i: usize, flags: u32, starts: &mut Starts, live: &mut Live)
-    requires { ⌜ (r < 128) × (i < 64) × (length (now starts) ≡ startsSize) × (length (now live) ≡ 128) ⌝ }
+    requires { ⌜ (r < maxRules) × (i < maxInput) × (length (now starts) ≡ startsSize) × (length (now live) ≡ maxRules) ⌝ }
     ensures { λ _.
         ⌜ RulePut (now (p .entry)) r i flags
         (now (starts .entry)) (now (live .entry)) (now (starts .exit)) (now (live .exit)) ⌝ }
@@ -52,11 +53,11 @@ pub fn put_flags(
     p: &Packed,
     rules: usize,
     i: usize,
-    flags: &[u32; 128],
+    flags: &[u32; sizes::MAX_RULES],
     starts: &mut Starts,
     live: &mut Live,
 )
-    requires { ⌜ (rules ≤ 128) × (i < 64) × (length (now starts) ≡ startsSize) × (length (now live) ≡ 128) ⌝ }
+    requires { ⌜ (rules ≤ maxRules) × (i < maxInput) × (length (now starts) ≡ startsSize) × (length (now live) ≡ maxRules) ⌝ }
     ensures { λ _.
         ⌜ FlagsPut (now (p .entry)) rules i (now (flags .entry))
         (now (starts .entry)) (now (live .entry)) (now (starts .exit)) (now (live .exit)) ⌝ }

@@ -5,13 +5,13 @@ use packed::Packed;
 ghost use mathlib.Core.Path.{_≡_};
 ghost use Prim.Native.Nat.{_<_, _≤_};
 ghost use lib.ListN.{length};
-ghost use Rattle.sizes.specs.Sizes.{maxNodes, outputSize};
+ghost use Rattle.sizes.specs.Sizes.{maxNodes, outputSize, maxRules, maxPlaces};
 ghost use Rattle.packed.specs.Packed.{symbolIn};
 ghost use Rattle.standing.specs.Standing.{childOf, childrenIn, Sized};
 
 // 1 where place q of rule r holds a nonterminal, else 0.
 fn child(p: &Packed, r: usize, q: usize) -> usize
-    requires { ⌜ (r < 128) × (q < 8) ⌝ }
+    requires { ⌜ (r < maxRules) × (q < maxPlaces) ⌝ }
     ensures { λ n. ⌜ (n ≡ childOf (symbolIn (now (p .entry)) r q)) × (n ≤ 1) ⌝ }
 {
     if packed::is_nonterminal(p, r, q) {
@@ -23,7 +23,7 @@ fn child(p: &Packed, r: usize, q: usize) -> usize
 
 // How many places of rule r hold a nonterminal.
 fn children(p: &Packed, r: usize) -> usize
-    requires { ⌜ r < 128 ⌝ }
+    requires { ⌜ r < maxRules ⌝ }
     ensures { λ n. ⌜ (n ≡ childrenIn (now (p .entry)) r) × (n ≤ 8) ⌝ }
 {
     let count = packed::count(p, r);
