@@ -8,6 +8,7 @@ use native.Mathlib.Decide.{ℕ-discrete, decLt}
 use native.Mathlib.Numerals.{add-one}
 use native.Mathlib.Omega.{arith}
 use lib.ListN.{length, getD, set, length-set}
+use Rattle.sizes.specs.Sizes.{maxRules}
 use Rattle.laws.proofs.Bools.{true-false}
 use Rattle.laws.proofs.Lists.{set-below}
 use Rattle.sets.specs.Set.{has, insert}
@@ -102,13 +103,13 @@ module _ (p : List ℕ) (r i n fits : ℕ) (ends starts : List ℕ) (last : ℕ)
 module _ (p : List ℕ) (rules i n : ℕ) (t ends starts : List ℕ) (reach : ℕ) (live lasts : List ℕ) where
   -- the words of the rules below m are right
   pub record AllTo (m : ℕ) (insides : List ℕ) : Type 0 where
-    pub long : length insides ≡ 128
+    pub long : length insides ≡ maxRules
     pub done : (r : ℕ) → r < m → BeginsNear p r i n (entryIn t i r) ends starts reach (getD live r 0) (getD lasts r 0) (getD insides r 0)
 
-  pub all-start : (insides : List ℕ) → length insides ≡ 128 → AllTo 0 insides
+  pub all-start : (insides : List ℕ) → length insides ≡ maxRules → AllTo 0 insides
   all-start insides e = record { long = e; done = λ r l. absurd (omega arith) }
 
-  pub all-step : (m v word : ℕ) (insides : List ℕ) → m < 128 → word ≡ entryIn t i m
+  pub all-step : (m v word : ℕ) (insides : List ℕ) → m < maxRules → word ≡ entryIn t i m
       → BeginsNear p m i n word ends starts reach (getD live m 0) (getD lasts m 0) v → AllTo m insides → AllTo (m + 1) (set insides m v)
   all-step m v word insides b f near to = record {
     long = length-set insides m v ∙ to .long;

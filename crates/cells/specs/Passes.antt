@@ -5,6 +5,7 @@ use mathlib.Core.Bool.{Bool, true, cond, _&&_, _||_}
 use mathlib.Core.List.{List}
 use mathlib.Core.Path.{_≡_}
 use lib.Dec.{eqb, ltb}
+use Rattle.sizes.specs.Sizes.{maxRules}
 use Rattle.sets.specs.Set.{has, insert}
 use Rattle.cfg.specs.Grammar.{Symbol, nonterminal, terminal}
 use Rattle.chart.specs.Cell.{cuts}
@@ -46,7 +47,7 @@ addedIn p r v own = cond (has 0 v && ltb (leftIn p r) 32) (insert (leftIn p r) o
 -- T is closed under the rules as the set of the cell (i, n)
 abbrev pub ClosedAt : Fit → Sets → List ℕ → ℕ → ℕ → ℕ → Type 0
 ClosedAt fit sets p i n T =
-    (r : ℕ) → r < 128 → leftIn p r < 32 → cuts fit (owned sets i n T) (placesIn p r) i n ≡ true → has (leftIn p r) T ≡ true
+    (r : ℕ) → r < maxRules → leftIn p r < 32 → cuts fit (owned sets i n T) (placesIn p r) i n ≡ true → has (leftIn p r) T ≡ true
 
 -- v is the flags of rule r at the start i where the set of the cell (i, n) is own, and rule r adds nothing to own
 pub record Settled (fit : Fit) (sets : Sets) (p : List ℕ) (r i n own v : ℕ) : Type 0 where

@@ -8,7 +8,7 @@ use native.Mathlib.Decide.{ℕ-discrete}
 use native.Mathlib.Omega.{arith}
 use lib.ListN.{length}
 use lib.Seq.{slice, append-snoc}
-use Rattle.sizes.specs.Sizes.{cells}
+use Rattle.sizes.specs.Sizes.{cells, maxInput}
 use Rattle.sets.specs.Set.{has}
 use Rattle.cfg.specs.Grammar.{Cfg}
 use Rattle.chart.specs.Cell.{cell, fitsAt}
@@ -55,7 +55,7 @@ module _ (G : Cfg) (low : Bounded G) (w : List ℕ) (n : ℕ) (l : n ≤ length 
       c i r k h o (row→cut G w n l chart (λ (j a : ℕ). has j (inColumn G (fitsAt w) chart n a) ≡ true) c
       (λ j a b u v. x .full a b j u v) f i h e)
 
-pub exact-written : (G : Cfg) → Bounded G → (w : List ℕ) (n : ℕ) → n ≤ length w → n ≤ 64 → (chart : List ℕ) → cells ≤ length chart
+pub exact-written : (G : Cfg) → Bounded G → (w : List ℕ) (n : ℕ) → n ≤ length w → n ≤ maxInput → (chart : List ℕ) → cells ≤ length chart
     → Exact G w n chart → Exact G w (suc n) (written G (fitsAt w) n chart)
 exact-written G low w n l h chart c x = record { sound = sound; full = full }
   where
@@ -104,7 +104,7 @@ exact-longer G v u m chart h x =
       full = λ i j k a b t. x .full i j k a b (subst (Node G k) (slice-before i j v u (omega arith)) t);
     }
 
-pub exact-extended : (G : Cfg) → Bounded G → (v : List ℕ) (m : ℕ) (chart : List ℕ) → length v < 64 → cells ≤ length chart
+pub exact-extended : (G : Cfg) → Bounded G → (v : List ℕ) (m : ℕ) (chart : List ℕ) → length v < maxInput → cells ≤ length chart
     → Exact G v (suc (length v)) chart → Exact G (v ++ (m ∷ [])) (suc (length (v ++ (m ∷ [])))) (extended G (v ++ (m ∷ [])) chart)
 unfolding extended
 exact-extended G low v m chart h c x =
@@ -113,7 +113,7 @@ exact-extended G low v m chart h c x =
     exact-written G low v' (length v') (omega arith) (omega arith) chart c
     (subst (λ (p : ℕ). Exact G v' p chart) (sym e) (exact-longer G v (m ∷ []) (suc (length v)) chart (omega arith) x))
 
-pub exact-extendedBy : (G : Cfg) → Bounded G → (v u chart : List ℕ) → length v + length u ≤ 64 → cells ≤ length chart
+pub exact-extendedBy : (G : Cfg) → Bounded G → (v u chart : List ℕ) → length v + length u ≤ maxInput → cells ≤ length chart
     → Exact G v (suc (length v)) chart → Exact G (v ++ u) (suc (length (v ++ u))) (extendedBy G v u chart)
 unfolding extendedBy
 exact-extendedBy G low v [] chart h c x = subst (λ (y : List ℕ). Exact G y (suc (length y)) chart) (sym (append-nil v)) x
@@ -124,7 +124,7 @@ exact-extendedBy G low v (m ∷ u) chart h c x =
     (exact-extendedBy G low v' u (extended G v' chart) (omega arith)
     (omega (arith, extended-length G v' chart)) (exact-extended G low v m chart (omega arith) c x))
 
-pub exact-filled : (G : Cfg) → Bounded G → (w chart : List ℕ) → length w ≤ 64 → cells ≤ length chart
+pub exact-filled : (G : Cfg) → Bounded G → (w chart : List ℕ) → length w ≤ maxInput → cells ≤ length chart
     → Exact G w (suc (length w)) (filled G w chart)
 unfolding filled
 exact-filled G low w chart h c =

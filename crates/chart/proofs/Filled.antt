@@ -6,7 +6,7 @@ use mathlib.Core.Path.{_≡_, refl, sym, ap, _∙_}
 use native.Mathlib.Omega.{arith}
 use lib.ListN.{length, getD, take, drop, replicate, length-append, length-drop, length-replicate, getD-replicate, List·getD-append}
 use lib.Seq.{append-snoc, getD-take, take-at, drop-at}
-use Rattle.sizes.specs.Sizes.{cells}
+use Rattle.sizes.specs.Sizes.{cells, maxInput}
 use Rattle.cfg.specs.Grammar.{Cfg, Terminal}
 use Rattle.chart.specs.Cell.{cell, index, fitsAt}
 use Rattle.chart.specs.Column.{column, putColumn, written, opened, extended, extendedBy, filled}
@@ -14,7 +14,7 @@ use Rattle.chart.proofs.Written.{put-before, written-length, written-be
 use Rattle.chart.proofs.Cells.{column-cong, column-length}
 
 -- what is written depends only on the cells
-pub written-before : (G : Cfg) (fit : ℕ → Terminal → Bool) (n : ℕ) (chart : List ℕ) → n ≤ 64
+pub written-before : (G : Cfg) (fit : ℕ → Terminal → Bool) (n : ℕ) (chart : List ℕ) → n ≤ maxInput
     → take cells (written G fit n chart) ≡ written G fit n (take cells chart)
 unfolding written
 written-before G fit n chart h =
@@ -41,7 +41,7 @@ module _ (G : Cfg) where
       let v' = v ++ (m ∷ []) in
       extendedBy-length v' u (extended G v' chart) ∙ extended-length v' chart
 
-  pub extendedBy-behind : (v u chart : List ℕ) → length v + length u ≤ 64 → drop cells (extendedBy G v u chart) ≡ drop cells chart
+  pub extendedBy-behind : (v u chart : List ℕ) → length v + length u ≤ maxInput → drop cells (extendedBy G v u chart) ≡ drop cells chart
   unfolding extendedBy extended
   extendedBy-behind v [] chart h = refl
   extendedBy-behind v (m ∷ u) chart h =
@@ -49,7 +49,7 @@ module _ (G : Cfg) where
       let e : length v' ≡ suc (length v) = length-snoc v m in
       extendedBy-behind v' u (extended G v' chart) (omega arith) ∙ written-behind G (fitsAt v') (length v') chart (omega arith)
 
-  pub extendedBy-before : (v u chart : List ℕ) → length v + length u ≤ 64
+  pub extendedBy-before : (v u chart : List ℕ) → length v + length u ≤ maxInput
       → take cells (extendedBy G v u chart) ≡ extendedBy G v u (take cells chart)
   unfolding extendedBy extended
   extendedBy-before v [] chart h = refl
@@ -60,7 +60,7 @@ module _ (G : Cfg) where
       ∙ ap (extendedBy G v' u) (written-before G (fitsAt v') (length v') chart (omega arith))
 
   -- a cell that is in none of the columns of the bytes taken stays
-  pub extendedBy-other : (v u chart : List ℕ) (i j : ℕ) → length v + length u ≤ 64 → j ≤ 64
+  pub extendedBy-other : (v u chart : List ℕ) (i j : ℕ) → length v + length u ≤ maxInput → j ≤ maxInput
       → ((n : ℕ) → length v < n → n ≤ length v + length u → j ≡ n → n < i) → cell (extendedBy G v u chart) i j ≡ cell chart i j
   unfolding extendedBy extended
   extendedBy-other v [] chart i j h l d = refl
@@ -121,7 +121,7 @@ module _ (G : Cfg) (chart : List ℕ) where
   opened-before = written-before G (fitsAt []) 0 (cleared cells chart) (omega arith)
       ∙ ap (written G (fitsAt []) 0) (cleared-before cells chart)
 
-  pub opened-zero : (i j : ℕ) → i ≤ 64 → j ≤ 64 → (j ≡ 0 → 0 < i) → cell (opened G chart) i j ≡ 0
+  pub opened-zero : (i j : ℕ) → i ≤ maxInput → j ≤ maxInput → (j ≡ 0 → 0 < i) → cell (opened G chart) i j ≡ 0
   unfolding opened
   opened-zero i j h l d =
       written-cell-other G (fitsAt []) 0 (cleared cells chart) (omega arith) i j l d ∙ cleared-zero cells chart (index i j) (omega arith)

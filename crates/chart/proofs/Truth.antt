@@ -8,7 +8,7 @@ use mathlib.Core.Path.{_≡_, sym, ap, _∙_, subst}
 use native.Mathlib.Omega.{arith}
 use lib.ListN.{length, take, drop, length-append, take-append-drop}
 use lib.Seq.{slice, take-length, length-take-le}
-use Rattle.sizes.specs.Sizes.{cells}
+use Rattle.sizes.specs.Sizes.{cells, maxInput}
 use Rattle.sets.specs.Set.{has}
 use Rattle.cfg.specs.Grammar.{Cfg}
 use Rattle.cfg.specs.Tree.{Forest, Parse, HasTree}
@@ -22,7 +22,7 @@ use Rattle.chart.proofs.Exact.{exact-filled}
 
 module _ (G : Cfg) where
   -- a cell has exactly the nonterminals with a parse tree over its span
-  pub filled-true : Bounded G → (w chart : List ℕ) → length w ≤ 64 → cells ≤ length chart
+  pub filled-true : Bounded G → (w chart : List ℕ) → length w ≤ maxInput → cells ≤ length chart
       → (i j k : ℕ) → i ≤ j → j ≤ length w → (has k (cell (filled G w chart) i j) ≡ true) ↔ ((t : Forest) × Parse G k (slice i j w) t)
   filled-true low w chart h c i j k a b =
       let x = exact-filled G low w chart h c in
@@ -32,7 +32,7 @@ module _ (G : Cfg) where
       )
 
   -- the cells below the diagonal, and those of columns that no byte has reached, are empty
-  pub filled-zero : (w chart : List ℕ) → length w ≤ 64 → (i j : ℕ) → i ≤ 64 → j ≤ 64 → (j < i) ⊎ (length w < j)
+  pub filled-zero : (w chart : List ℕ) → length w ≤ maxInput → (i j : ℕ) → i ≤ maxInput → j ≤ maxInput → (j < i) ⊎ (length w < j)
       → cell (filled G w chart) i j ≡ 0
   unfolding filled
   filled-zero w chart h i j a b d =
@@ -44,7 +44,7 @@ module _ (G : Cfg) where
       go n m e (inr l) = absurd (omega arith)
 
   -- the chart is complete exactly if the input has a tree
-  pub complete-tree : Bounded G → (w chart : List ℕ) → length w ≤ 64 → cells ≤ length chart
+  pub complete-tree : Bounded G → (w chart : List ℕ) → length w ≤ maxInput → cells ≤ length chart
       → (complete G (length w) (filled G w chart) ≡ true) ↔ HasTree G w
   unfolding complete
   complete-tree low w chart h c =
@@ -53,7 +53,7 @@ module _ (G : Cfg) where
       (filled-true low w chart h c 0 (length w) (G .start) (omega arith) (omega arith))
 
   -- a column is made by the bytes before it alone
-  pub filled-prefix : (w chart : List ℕ) → length w ≤ 64 → (i j : ℕ) → i ≤ j → j ≤ length w
+  pub filled-prefix : (w chart : List ℕ) → length w ≤ maxInput → (i j : ℕ) → i ≤ j → j ≤ length w
       → cell (filled G w chart) i j ≡ cell (filled G (take j w) chart) i j
   filled-prefix w chart h i j a b =
       let e : length (take j w) ≡ j = length-take-le j w b in
@@ -69,12 +69,12 @@ module _ (G : Cfg) where
   filled-length w chart c = extendedBy-length G [] w (opened G chart) ∙ opened-length G chart c
 
   -- what lies behind the cells stays
-  pub filled-behind : (w chart : List ℕ) → length w ≤ 64 → drop cells (filled G w chart) ≡ drop cells chart
+  pub filled-behind : (w chart : List ℕ) → length w ≤ maxInput → drop cells (filled G w chart) ≡ drop cells chart
   unfolding filled
   filled-behind w chart h = extendedBy-behind G [] w (opened G chart) (omega arith) ∙ opened-behind G chart
 
   -- what was found does not matter
-  pub filled-found : (w chart₁ chart₂ : List ℕ) → length w ≤ 64 → take cells (filled G w chart₁) ≡ take cells (filled G w chart₂)
+  pub filled-found : (w chart₁ chart₂ : List ℕ) → length w ≤ maxInput → take cells (filled G w chart₁) ≡ take cells (filled G w chart₂)
   unfolding filled
   filled-found w chart₁ chart₂ h =
       extendedBy-before G [] w (opened G chart₁) (omega arith)

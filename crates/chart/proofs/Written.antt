@@ -8,14 +8,14 @@ use native.Mathlib.Decide.{ℕ-discrete}
 use native.Mathlib.Omega.{arith}
 use lib.ListN.{length, getD, take, drop, set, length-set}
 use lib.Seq.{getD-set-same, getD-set-other, drop-set-lt, take-set-lt}
-use Rattle.sizes.specs.Sizes.{cells}
+use Rattle.sizes.specs.Sizes.{cells, maxInput, side}
 use Rattle.cfg.specs.Grammar.{Cfg, Terminal}
 use Rattle.chart.specs.Cell.{cell, index}
 use Rattle.chart.specs.Column.{column, putColumn, written}
 use Rattle.chart.proofs.Cells.{column-length}
 
 -- two cells that stand at one index are the same
-pub index-inj : (i j a b : ℕ) → j ≤ 64 → b ≤ 64 → index i j ≡ index a b → (i ≡ a) × (j ≡ b)
+pub index-inj : (i j a b : ℕ) → j ≤ maxInput → b ≤ maxInput → index i j ≡ index a b → (i ≡ a) × (j ≡ b)
 index-inj i j a b h l e = (x, omega arith)
   where
     x : i ≡ a
@@ -28,13 +28,14 @@ unfolding putColumn
 put-length [] chart n i = refl
 put-length (v ∷ vs) chart n i = put-length vs (set chart (index i n) v) n (suc i) ∙ length-set chart (index i n) v
 
-pub put-behind : (vs chart : List ℕ) (n i : ℕ) → n ≤ 64 → i + length vs ≤ 65 → drop cells (putColumn chart n i vs) ≡ drop cells chart
+pub put-behind : (vs chart : List ℕ) (n i : ℕ) → n ≤ maxInput → i + length vs ≤ side
+    → drop cells (putColumn chart n i vs) ≡ drop cells chart
 unfolding putColumn
 put-behind [] chart n i h l = refl
 put-behind (v ∷ vs) chart n i h l =
     put-behind vs (set chart (index i n) v) n (suc i) h (omega arith) ∙ drop-set-lt cells chart (index i n) v (omega arith)
 
-pub put-before : (vs chart : List ℕ) (n i : ℕ) → n ≤ 64 → i + length vs ≤ 65
+pub put-before : (vs chart : List ℕ) (n i : ℕ) → n ≤ maxInput → i + length vs ≤ side
     → take cells (putColumn chart n i vs) ≡ putColumn (take cells chart) n i vs
 unfolding putColumn
 put-before [] chart n i h l = refl
@@ -51,14 +52,14 @@ put-other (v ∷ vs) chart n i p h =
     put-other vs (set chart (index i n) v) n (suc i) p (λ a l m. h a (omega arith) (omega arith))
     ∙ getD-set-other chart (index i n) p v 0 (h i (omega arith) (omega arith))
 
-pub put-same : (vs chart : List ℕ) (n i a : ℕ) → n ≤ 64 → cells ≤ length chart → i + length vs ≤ 65 → i ≤ a → a < i + length vs
+pub put-same : (vs chart : List ℕ) (n i a : ℕ) → n ≤ maxInput → cells ≤ length chart → i + length vs ≤ side → i ≤ a → a < i + length vs
     → cell (putColumn chart n i vs) a n ≡ getD vs (a - i) 0
 unfolding putColumn
 put-same [] chart n i a h c l m o = absurd (omega arith)
 put-same (v ∷ vs) chart n i a h c l m o = go (ℕ-discrete a i) (put-same vs (set chart (index i n) v) n (suc i) a h)
   where
     go : Dec (a ≡ i)
-        → (cells ≤ length (set chart (index i n) v) → suc i + length vs ≤ 65 → suc i ≤ a → a < suc i + length vs
+        → (cells ≤ length (set chart (index i n) v) → suc i + length vs ≤ side → suc i ≤ a → a < suc i + length vs
         → cell (putColumn (set chart (index i n) v) n (suc i) vs) a n ≡ getD vs (a - suc i) 0)
         → cell (putColumn (set chart (index i n) v) n (suc i) vs) a n ≡ getD (v ∷ vs) (a - i) 0
     go (yes e) later =
@@ -85,7 +86,7 @@ module _ (G : Cfg) (fit : ℕ → Terminal → Bool) (n : ℕ) (chart : List ℕ
   unfolding written
   written-length = put-length (column G fit chart n (suc n)) chart n 0
 
-  pub written-behind : n ≤ 64 → drop cells (written G fit n chart) ≡ drop cells chart
+  pub written-behind : n ≤ maxInput → drop cells (written G fit n chart) ≡ drop cells chart
   unfolding written
   written-behind h = put-behind (column G fit chart n (suc n)) chart n 0 h (omega (arith, whole))
 
@@ -95,7 +96,7 @@ module _ (G : Cfg) (fit : ℕ → Terminal → Bool) (n : ℕ) (chart : List ℕ
   written-other p h = put-other (column G fit chart n (suc n)) chart n 0 p (λ a l m. h a (omega (arith, whole)))
 
   -- the cells of column n are the column's
-  pub written-cell : n ≤ 64 → cells ≤ length chart → (i : ℕ) → i ≤ n
+  pub written-cell : n ≤ maxInput → cells ≤ length chart → (i : ℕ) → i ≤ n
       → cell (written G fit n chart) i n ≡ getD (column G fit chart n (suc n)) i 0
   unfolding written
   written-cell h c i l =
@@ -104,7 +105,7 @@ module _ (G : Cfg) (fit : ℕ → Terminal → Bool) (n : ℕ) (chart : List ℕ
       ∙ ap (λ (p : ℕ). getD (column G fit chart n (suc n)) p 0) e
 
   -- the others are as found
-  pub written-cell-other : n ≤ 64 → (i j : ℕ) → j ≤ 64 → (j ≡ n → n < i) → cell (written G fit n chart) i j ≡ cell chart i j
+  pub written-cell-other : n ≤ maxInput → (i j : ℕ) → j ≤ maxInput → (j ≡ n → n < i) → cell (written G fit n chart) i j ≡ cell chart i j
   written-cell-other h i j l d = written-other (index i j) (λ a m e.
       let q = index-inj i j a n l h e in
       let o : n < i = d (q .1) in

@@ -10,6 +10,7 @@ use borrow.Author.Tests.{not-true, not-false}
 use mir.Syntax.{w32}
 use mir.Val.{SFits, toZ, ofZ}
 use mir.Facts.{toZ-ofZ}
+use Rattle.sizes.specs.Sizes.{outputSize}
 use Rattle.cfg.specs.Grammar.{rule}
 use Rattle.cfg.specs.Derivation.{limit}
 use Rattle.cfg.specs.Listing.{L}
@@ -39,14 +40,14 @@ use Rattle.measure.proofs.Lengths.{sum-row}
 -- ---- a row that `is_derivation` affirms
 
 module _ (p w e : List ℕ) (s : ℕ) (b : Bool) (told : b ≡ listed e (L (cfgIn s p) w)) where
-  pub offered-short : b ≡ true → length e ≤ 1024
+  pub offered-short : b ≡ true → length e ≤ outputSize
   offered-short h = derivation-length (cfgIn s p) limit w e (listed-derivation (cfgIn s p) w e (sym told ∙ h))
 
   offered-low : b ≡ true → Low e
   offered-low h = derivation-low s p w e (listed-derivation (cfgIn s p) w e (sym told ∙ h))
 
 pub both-ready : (p w d e : List ℕ) (s : ℕ) (a b : Bool) → a ≡ listed d (L (cfgIn s p) w) → b ≡ listed e (L (cfgIn s p) w) → not a ≡ false
-    → not b ≡ false → (length d ≤ 1024) × (length e ≤ 1024) × Low d × Low e
+    → not b ≡ false → (length d ≤ outputSize) × (length e ≤ outputSize) × Low d × Low e
 both-ready p w d e s a b first second h k = (
   offered-short p w d s a first (not-false a h),
   offered-short p w e s b second (not-false b k),

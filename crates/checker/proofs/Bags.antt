@@ -8,6 +8,7 @@ use native.Mathlib.Omega.{arith}
 use lib.Dec.{eqb}
 use lib.ListN.{length, getD}
 use borrow.Author.Tests.{eq-eqb, ne-eqb, eqb-true}
+use Rattle.sizes.specs.Sizes.{maxRules}
 use Rattle.laws.proofs.Bools.{and-parts, and-both}
 use Rattle.cfg.specs.Grammar.{Symbol}
 use Rattle.cfg.specs.Tree.{Forest, yield, code, Fits, fits-end, fits-leaf, fits-node}
@@ -75,21 +76,21 @@ module _ (x y : List ℕ) where
 -- ---- two tallies
 
 module _ (a b s t : List ℕ) (one : Tallied a s) (two : Tallied b t) where
-  pub tallies-differ : (k : ℕ) → k < 128 → (getD s k 0 ≡ getD t k 0 → ⊥) → false ≡ sameBag (rulesUsed a) (rulesUsed b)
+  pub tallies-differ : (k : ℕ) → k < maxRules → (getD s k 0 ≡ getD t k 0 → ⊥) → false ≡ sameBag (rulesUsed a) (rulesUsed b)
   tallies-differ k h d = bags-differ (rulesUsed a) (rulesUsed b) k (λ e. d (one k h ∙ e ∙ sym (two k h)))
 
-  pub tallies-same : (r : ℕ) → 128 ≤ r → ((k : ℕ) → k < r → getD s k 0 ≡ getD t k 0) → Low a → Low b
+  pub tallies-same : (r : ℕ) → maxRules ≤ r → ((k : ℕ) → k < r → getD s k 0 ≡ getD t k 0) → Low a → Low b
       → true ≡ sameBag (rulesUsed a) (rulesUsed b)
-  tallies-same r h f la lb = bags-same (rulesUsed a) (rulesUsed b) (λ k. go k (decLt k 128))
+  tallies-same r h f la lb = bags-same (rulesUsed a) (rulesUsed b) (λ k. go k (decLt k maxRules))
     where
-      go : (k : ℕ) → Dec (k < 128) → occurrences k (rulesUsed a) ≡ occurrences k (rulesUsed b)
+      go : (k : ℕ) → Dec (k < maxRules) → occurrences k (rulesUsed a) ≡ occurrences k (rulesUsed b)
       go k (yes l) = sym (one k l) ∙ f k (omega arith) ∙ two k l
       go k (no l) = la k (omega arith) ∙ sym (lb k (omega arith))
 
 -- ---- the rules of a derivation
 
-module _ (k : ℕ) (high : 128 ≤ k) where
-  node-low : (c r : ℕ) (l : List ℕ) → r < 128 → occurrences k (rulesUsed l) ≡ 0 → occurrences k (rulesUsed (c ∷ r ∷ l)) ≡ 0
+module _ (k : ℕ) (high : maxRules ≤ k) where
+  node-low : (c r : ℕ) (l : List ℕ) → r < maxRules → occurrences k (rulesUsed l) ≡ 0 → occurrences k (rulesUsed (c ∷ r ∷ l)) ≡ 0
   unfolding rulesUsed occurrences
   node-low c r l h e = go (eqb c 0)
     where

@@ -10,6 +10,7 @@ use lib.Dec.{eqb}
 use lib.ListN.{length, getD, drop, set, replicate, length-drop, length-set, length-replicate}
 use lib.Seq.{getD-set-same, getD-set-other}
 use borrow.Author.Tests.{eq-eqb, ne-eqb}
+use Rattle.sizes.specs.Sizes.{maxRules}
 use Rattle.laws.proofs.Lists.{zeros-at}
 use Rattle.results.specs.Measure.{rulesUsed, occurrences}
 use Rattle.checker.specs.Build.{usedAt, Tallied}
@@ -18,14 +19,14 @@ use Rattle.preorder.proofs.Nodes.{at-two}
 -- ---- the rule of a node, by the tests of `used`
 
 module _ (e : List ℕ) (i c : ℕ) (cover : c ≡ getD e (2 * i) 0) where
-  pub used-none : c ≡ 0 → 128 ≡ usedAt e i
+  pub used-none : c ≡ 0 → maxRules ≡ usedAt e i
   used-none h =
-      sym (ap (λ (t : Bool). cond t 128 (min (getD e (2 * i + 1) 0) 128)) (eq-eqb (getD e (2 * i) 0) 0 (sym cover ∙ h)))
+      sym (ap (λ (t : Bool). cond t maxRules (min (getD e (2 * i + 1) 0) maxRules)) (eq-eqb (getD e (2 * i) 0) 0 (sym cover ∙ h)))
 
-  pub used-some : (r : ℕ) → r ≡ min (getD e (2 * i + 1) 0) 128 → (c ≡ 0 → ⊥) → r ≡ usedAt e i
+  pub used-some : (r : ℕ) → r ≡ min (getD e (2 * i + 1) 0) maxRules → (c ≡ 0 → ⊥) → r ≡ usedAt e i
   used-some r number some =
       number
-      ∙ sym (ap (λ (t : Bool). cond t 128 (min (getD e (2 * i + 1) 0) 128)) (ne-eqb (getD e (2 * i) 0) 0 (λ h. some (cover ∙ h))))
+      ∙ sym (ap (λ (t : Bool). cond t maxRules (min (getD e (2 * i + 1) 0) maxRules)) (ne-eqb (getD e (2 * i) 0) 0 (λ h. some (cover ∙ h))))
 
 -- ---- one node more
 
@@ -45,25 +46,25 @@ once-other : (k r : ℕ) → k ≢ r → once k r ≡ 0
 once-other k r d = ap (λ (t : Bool). cond t 1 0) (ne-eqb k r d)
 
 -- a node, with what is below it and after it
-occurrences-node : (k c r : ℕ) (l : List ℕ) → k < 128
-    → occurrences k (rulesUsed (c ∷ r ∷ l)) ≡ once k (cond (eqb c 0) 128 (min r 128)) + occurrences k (rulesUsed l)
+occurrences-node : (k c r : ℕ) (l : List ℕ) → k < maxRules
+    → occurrences k (rulesUsed (c ∷ r ∷ l)) ≡ once k (cond (eqb c 0) maxRules (min r maxRules)) + occurrences k (rulesUsed l)
 unfolding rulesUsed
 occurrences-node k c r l h = go (eqb c 0)
   where
-    bounded : once k r ≡ once k (min r 128)
+    bounded : once k r ≡ once k (min r maxRules)
     bounded = at (ℕ-discrete k r)
       where
-        at : Dec (k ≡ r) → once k r ≡ once k (min r 128)
-        at (yes e) = let m : r ≡ min r 128 = omega arith in ap (once k) m
-        at (no d) = once-other k r d ∙ sym (once-other k (min r 128) (omega arith))
+        at : Dec (k ≡ r) → once k r ≡ once k (min r maxRules)
+        at (yes e) = let m : r ≡ min r maxRules = omega arith in ap (once k) m
+        at (no d) = once-other k r d ∙ sym (once-other k (min r maxRules) (omega arith))
 
     go : (t : Bool) → occurrences k (elim t [ true ↦ rulesUsed l | false ↦ r ∷ rulesUsed l ])
-        ≡ once k (cond t 128 (min r 128)) + occurrences k (rulesUsed l)
-    go true = let z : once k 128 ≡ 0 = once-other k 128 (omega arith) in omega arith
+        ≡ once k (cond t maxRules (min r maxRules)) + occurrences k (rulesUsed l)
+    go true = let z : once k maxRules ≡ 0 = once-other k maxRules (omega arith) in omega arith
     go false = occurrences-cons k r (rulesUsed l) ∙ ap (λ (x : ℕ). x + occurrences k (rulesUsed l)) bounded
 
 module _ (e : List ℕ) where
-  used-step : (i k : ℕ) → i < length e / 2 → k < 128
+  used-step : (i k : ℕ) → i < length e / 2 → k < maxRules
       → occurrences k (rulesUsed (drop (2 * i) e)) ≡ once k (usedAt e i) + occurrences k (rulesUsed (drop (2 * (i + 1)) e))
   used-step i k h l =
       let j : 2 * i + 2 ≡ 2 * (i + 1) = omega arith in
@@ -85,7 +86,7 @@ module _ (e : List ℕ) where
   pub record Counted (i : ℕ) (t : List ℕ) : Type 0 where
     pub long : length t ≡ 129
     pub few : (k : ℕ) → getD t k 0 ≤ i
-    pub counts : (k : ℕ) → k < 128 → getD t k 0 + occurrences k (rulesUsed (drop (2 * i) e)) ≡ occurrences k (rulesUsed e)
+    pub counts : (k : ℕ) → k < maxRules → getD t k 0 + occurrences k (rulesUsed (drop (2 * i) e)) ≡ occurrences k (rulesUsed e)
 
   counted-of : (n : ℕ) → n ≡ 129 → Counted 0 (replicate n 0)
   counted-of n h =
@@ -98,7 +99,7 @@ module _ (e : List ℕ) where
   pub counted-start : Counted 0 (replicate 129 0)
   counted-start = counted-of 129 (λ i. 129)
 
-  pub counted-step : (i r : ℕ) (t : List ℕ) → i < length e / 2 → r ≡ usedAt e i → r ≤ 128 → Counted i t
+  pub counted-step : (i r : ℕ) (t : List ℕ) → i < length e / 2 → r ≡ usedAt e i → r ≤ maxRules → Counted i t
       → Counted (i + 1) (set t r (getD t r 0 + 1))
   counted-step i r t h q l c =
       record {
@@ -119,7 +120,7 @@ module _ (e : List ℕ) where
       few k (yes d) = omega (arith, here k d, c .few k)
       few k (no d) = omega (arith, getD-set-other t r k (getD t r 0 + 1) 0 d, c .few k)
 
-      counts : (k : ℕ) → k < 128 → Dec (k ≡ r)
+      counts : (k : ℕ) → k < maxRules → Dec (k ≡ r)
           → getD t' k 0 + occurrences k (rulesUsed (drop (2 * (i + 1)) e)) ≡ occurrences k (rulesUsed e)
       counts k m (yes d) =
           let one : once k (usedAt e i) ≡ 1 = ap (λ (b : Bool). cond b 1 0) (eq-eqb k (usedAt e i) (d ∙ q)) in

@@ -5,16 +5,17 @@ use mathlib.Core.List.{List}
 use mathlib.Core.Path.{_≡_}
 use lib.Dec.{eqb}
 use lib.ListN.{getD}
+use Rattle.sizes.specs.Sizes.{maxRules}
 use Rattle.results.specs.Measure.{rulesUsed, occurrences}
 
 -- the rule of node i, if the node covers something and the rule is below 128; else 128
 abbrev pub usedAt : List ℕ → ℕ → ℕ
-usedAt e i = cond (eqb (getD e (2 * i) 0) 0) 128 (min (getD e (2 * i + 1) 0) 128)
+usedAt e i = cond (eqb (getD e (2 * i) 0) 0) maxRules (min (getD e (2 * i + 1) 0) maxRules)
 
 -- t has, for each rule below 128, how many nodes that cover something have it
 abbrev pub Tallied : List ℕ → List ℕ → Type 0
-Tallied e t = (k : ℕ) → k < 128 → getD t k 0 ≡ occurrences k (rulesUsed e)
+Tallied e t = (k : ℕ) → k < maxRules → getD t k 0 ≡ occurrences k (rulesUsed e)
 
 -- no node that covers something has a rule from 128 on
 abbrev pub Low : List ℕ → Type 0
-Low e = (k : ℕ) → 128 ≤ k → occurrences k (rulesUsed e) ≡ 0
+Low e = (k : ℕ) → maxRules ≤ k → occurrences k (rulesUsed e) ≡ 0

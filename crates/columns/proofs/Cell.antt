@@ -8,7 +8,7 @@ use mathlib.Core.Path.{_≡_, refl, sym, ap, ap₂, _∙_, subst}
 use native.Mathlib.Decide.{decLt}
 use native.Mathlib.Omega.{arith}
 use lib.ListN.{length}
-use Rattle.sizes.specs.Sizes.{cells}
+use Rattle.sizes.specs.Sizes.{cells, maxInput}
 use Rattle.laws.proofs.Bools.{bool-ext}
 use Rattle.sets.specs.Set.{has}
 use Rattle.sets.proofs.Laws.{set-ext}
@@ -25,7 +25,7 @@ use Rattle.cells.specs.Passes.{Within, ClosedAt, Settled}
 use Rattle.columns.specs.Columns.{columnBy}
 use Rattle.cells.proofs.Owned.{owned-cases}
 
-module _ (p : List ℕ) (fit : Fit) (found : List ℕ) (n : ℕ) (small : n ≤ 64) (room : cells ≤ length found) where
+module _ (p : List ℕ) (fit : Fit) (found : List ℕ) (n : ℕ) (small : n ≤ maxInput) (room : cells ≤ length found) where
   -- the sets of the chart with column n written
   abbrev full : Sets
   full = cell (columnBy p fit n found)

@@ -7,7 +7,7 @@ use native.Mathlib.Omega.{arith}
 use lib.ListN.{length, getD, take, drop, set, replicate, length-append, length-drop, length-replicate, replicate-append-replicate}
 use lib.Seq.{append-snoc, set-at, drop-cons, take-suc, take-all, length-take-le, getD-take}
 use borrow.Author.Tests.{lt-ltb}
-use Rattle.sizes.specs.Sizes.{cells}
+use Rattle.sizes.specs.Sizes.{cells, maxInput}
 use Rattle.cfg.specs.Grammar.{Terminal}
 use Rattle.chart.specs.Cell.{fitsAt}
 use Rattle.chart.specs.Column.{opened, extended, extendedBy, filled}
@@ -94,7 +94,8 @@ module _ (p w start : List ℕ) where
 
 -- ---- the ends, while an input is taken
 
-pub told-found : (chart : List ℕ) (n : ℕ) (ends reach : List ℕ) → ColumnsPut chart 0 n (replicate endsSize 0) (replicate 64 0) ends reach
+pub told-found : (chart : List ℕ) (n : ℕ) (ends reach : List ℕ)
+    → ColumnsPut chart 0 n (replicate endsSize 0) (replicate maxInput 0) ends reach
     → EndsTo chart n 0 ends reach
 told-found chart n ends reach put = put .step (ends-zero chart)
 
@@ -123,9 +124,9 @@ module _ (p t : List ℕ) (n : ℕ) (start : List ℕ) where
     pub taken : (w : List ℕ) → length w ≡ n → FitTold (fitsAt w) p t n
         → (chart ≡ extendedBy (cfgIn 0 p) [] (take m w) start) × EndsTo chart m 0 ends reach
     pub ends-long : length ends ≡ endsSize
-    pub reach-long : length reach ≡ 64
+    pub reach-long : length reach ≡ maxInput
 
-  fill-from : (k l : ℕ) → k ≡ endsSize → l ≡ 64 → EndsTo start 0 0 (replicate k 0) (replicate l 0)
+  fill-from : (k l : ℕ) → k ≡ endsSize → l ≡ maxInput → EndsTo start 0 0 (replicate k 0) (replicate l 0)
       → FillTo 0 start (replicate k 0) (replicate l 0)
   fill-from k l e f to =
       record {
@@ -136,10 +137,10 @@ module _ (p t : List ℕ) (n : ℕ) (start : List ℕ) where
         reach-long = length-replicate {A = ℕ} l 0 ∙ f;
       }
 
-  pub fill-zero : FillTo 0 start (replicate endsSize 0) (replicate 64 0)
-  fill-zero = fill-from endsSize 64 refl refl (ends-zero start)
+  pub fill-zero : FillTo 0 start (replicate endsSize 0) (replicate maxInput 0)
+  fill-zero = fill-from endsSize maxInput refl refl (ends-zero start)
 
-  pub fill-go : (m m' : ℕ) (chart chart' ends reach ends' reach' : List ℕ) → m' ≡ m + 1 → m < n → n ≤ 64
+  pub fill-go : (m m' : ℕ) (chart chart' ends reach ends' reach' : List ℕ) → m' ≡ m + 1 → m < n → n ≤ maxInput
       → ColumnsPut chart m (m + 1) ends reach ends' reach' → ColumnWritten p t m' ends' reach' chart chart' → FillTo m chart ends reach
       → FillTo m' chart' ends' reach'
   fill-go m m' chart chart' ends reach ends' reach' e l small put column to =
@@ -176,8 +177,8 @@ filled-is p t n rules own lasts kinds found start chart room used word told firs
 
 -- ---- one column of an input
 
-pub column-of : (p w t : List ℕ) (n : ℕ) (ends reach chart chart' : List ℕ) → n ≤ 64 → Told p w t
-    → ColumnsPut chart 0 n (replicate endsSize 0) (replicate 64 0) ends reach → ColumnWritten p t n ends reach chart chart'
+pub column-of : (p w t : List ℕ) (n : ℕ) (ends reach chart chart' : List ℕ) → n ≤ maxInput → Told p w t
+    → ColumnsPut chart 0 n (replicate endsSize 0) (replicate maxInput 0) ends reach → ColumnWritten p t n ends reach chart chart'
     → chart' ≡ columnOf p w n chart
 column-of p w t n ends reach chart chart' small told put column =
     column .exact (fitsAt w) (fit-told p w t n small told) (told-found chart n ends reach put)

@@ -5,6 +5,7 @@ use mathlib.Core.Logic.{inl, inr}
 use mathlib.Core.Path.{_≡_, sym, ap, _∙_}
 use native.Mathlib.Omega.{arith}
 use lib.ListN.{replicate}
+use Rattle.sizes.specs.Sizes.{maxInput}
 use Rattle.sets.specs.Set.{has}
 use Rattle.chart.specs.Cell.{cell}
 use Rattle.chart.proofs.Written.{written-cell-other}
@@ -28,11 +29,12 @@ ends-none chart k l =
     nothing a c (l, inl h) = omega arith
     nothing a c (l, inr h) = omega (arith, h .1)
 
-pub ends-zero : (chart : List ℕ) → EndsTo chart 0 0 (replicate endsSize 0) (replicate 64 0)
-ends-zero chart = ends-none chart endsSize 64
+pub ends-zero : (chart : List ℕ) → EndsTo chart 0 0 (replicate endsSize 0) (replicate maxInput 0)
+ends-zero chart = ends-none chart endsSize maxInput
 
 -- a column written changes nothing in the columns before it
-pub told-on : (p : List ℕ) (fit : Fit) (chart chart' : List ℕ) (n : ℕ) (ends reach : List ℕ) → n ≤ 64 → chart' ≡ columnBy p fit n chart
+pub told-on : (p : List ℕ) (fit : Fit) (chart chart' : List ℕ) (n : ℕ) (ends reach : List ℕ) → n ≤ maxInput
+    → chart' ≡ columnBy p fit n chart
     → EndsTo chart n 0 ends reach → EndsTo chart' n 0 ends reach
 told-on p fit chart chart' n ends reach small e to =
     record {

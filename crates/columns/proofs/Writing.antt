@@ -8,7 +8,7 @@ use native.Mathlib.Decide.{ℕ-discrete}
 use native.Mathlib.Omega.{arith}
 use lib.ListN.{length, getD, set, replicate, length-set, length-replicate}
 use lib.Seq.{ext-getD, getD-set-same, getD-set-other}
-use Rattle.sizes.specs.Sizes.{cells}
+use Rattle.sizes.specs.Sizes.{cells, maxRules, maxInput}
 use Rattle.laws.proofs.Bools.{true-false, bool-ext}
 use Rattle.laws.proofs.Lists.{zeros-at}
 use Rattle.sets.specs.Set.{has}
@@ -27,7 +27,7 @@ use Rattle.looks.specs.Looks.{Givens, Closed}
 use Rattle.columns.specs.Columns.{columnBy, Around, WrittenFrom, CellWritten, LowerWritten, ColumnWritten}
 use Rattle.columns.proofs.Cell.{column-closed-at, cell-is, flags-are}
 
-module _ (p : List ℕ) (fit : Fit) (found : List ℕ) (rules n : ℕ) (small : n ≤ 64) where
+module _ (p : List ℕ) (fit : Fit) (found : List ℕ) (rules n : ℕ) (small : n ≤ maxInput) where
   abbrev full : Sets
   full = cell (columnBy p fit n found)
 
@@ -63,7 +63,7 @@ module _ (p : List ℕ) (fit : Fit) (found : List ℕ) (rules n : ℕ) (small : 
           others a l (no d) q = let u : a ≢ i = d in h a (omega arith) q
 
   module _ (i j v reached : ℕ) (t ends reach lasts kinds insides flags made chart starts live starts' live' : List ℕ)
-      (room : cells ≤ length found) (few : rules ≤ 128) (used : Used p rules) (order : i < n) (next : j ≡ i + 1) (word : v < 2 ^ 32)
+      (room : cells ≤ length found) (few : rules ≤ maxRules) (used : Used p rules) (order : i < n) (next : j ≡ i + 1) (word : v < 2 ^ 32)
       (e : reached ≡ getD reach i 0)
       (around : Around p fit t found rules n ends reach lasts) (from : WrittenFrom p fit found rules n j chart starts live)
       (depends : KindsAll p rules lasts kinds)
@@ -115,7 +115,7 @@ module _ (p : List ℕ) (fit : Fit) (found : List ℕ) (rules n : ℕ) (small : 
 
 pub cell-written : (p : List ℕ) (rules n i v reached : ℕ)
     (t ends reach lasts kinds insides flags made chart starts live starts' live' : List ℕ)
-    → n ≤ 64 → rules ≤ 128 → Used p rules → i < n → v < 2 ^ 32 → reached ≡ getD reach i 0 → KindsAll p rules lasts kinds
+    → n ≤ maxInput → rules ≤ maxRules → Used p rules → i < n → v < 2 ^ 32 → reached ≡ getD reach i 0 → KindsAll p rules lasts kinds
     → AllBegin p rules i n t ends starts reached live lasts insides
     → Closed p rules (cell chart i i) insides lasts kinds v flags made
     → FlagsPut p rules i flags starts live starts' live'
@@ -134,7 +134,7 @@ cell-written p rules n i v reached t ends reach lasts kinds insides flags made c
 pub zero-has : (k x j : ℕ) → has j (getD (replicate k 0) x 0) ≡ true → ⊥
 zero-has k x j h = true-false h (ap (has j) (zeros-at k x) ∙ has-empty j)
 
-module _ (p : List ℕ) (fit : Fit) (found : List ℕ) (rules n own : ℕ) (lasts : List ℕ) (small : n ≤ 64)
+module _ (p : List ℕ) (fit : Fit) (found : List ℕ) (rules n own : ℕ) (lasts : List ℕ) (small : n ≤ maxInput)
     (room : cells ≤ length found) (used : Used p rules) (word : own < 2 ^ 32) (closed : EmptyClosed p rules own lasts) where
   last-settled : (r : ℕ) → r < rules → Settled fit (cell (columnBy p fit n found)) p r n n own (getD lasts r 0)
   last-settled = closed .settled fit (cell (columnBy p fit n found)) n
@@ -151,7 +151,7 @@ module _ (p : List ℕ) (fit : Fit) (found : List ℕ) (rules n own : ℕ) (last
     after = flags-are p fit found n small room n (omega arith) rules own (λ (r : ℕ). getD lasts r 0) used last-settled last-own;
   }
 
-  column-start : (k l : ℕ) → k ≡ startsSize → l ≡ 128
+  column-start : (k l : ℕ) → k ≡ startsSize → l ≡ maxRules
       → WrittenFrom p fit found rules n n (set found (index n n) own) (replicate k 0) (replicate l 0)
   column-start k l e f =
       record {
@@ -169,8 +169,8 @@ module _ (p : List ℕ) (fit : Fit) (found : List ℕ) (rules n own : ℕ) (last
         };
       }
 
-  pub column-start-zero : WrittenFrom p fit found rules n n (set found (index n n) own) (replicate startsSize 0) (replicate 128 0)
-  column-start-zero = column-start startsSize 128 refl refl
+  pub column-start-zero : WrittenFrom p fit found rules n n (set found (index n n) own) (replicate startsSize 0) (replicate maxRules 0)
+  column-start-zero = column-start startsSize maxRules refl refl
 
 pub column-done : (p : List ℕ) (fit : Fit) (found : List ℕ) (rules n i : ℕ) (chart starts live : List ℕ) → i ≤ 0
     → WrittenFrom p fit found rules n i chart starts live → chart ≡ columnBy p fit n found
@@ -184,11 +184,11 @@ module _ (p t : List ℕ) (rules n : ℕ) (ends reach lasts chart₀ starts₀ l
   pub record LowerTo (i : ℕ) (chart starts live : List ℕ) : Type 0 where
     pub long : length chart ≡ length chart₀
     pub room : length starts ≡ startsSize
-    pub live-room : length live ≡ 128
+    pub live-room : length live ≡ maxRules
     pub from : (fit : Fit) (found : List ℕ) → cells ≤ length found → Around p fit t found rules n ends reach lasts
         → WrittenFrom p fit found rules n n chart₀ starts₀ live₀ → WrittenFrom p fit found rules n i chart starts live
 
-  pub lower-start : length starts₀ ≡ startsSize → length live₀ ≡ 128 → LowerTo n chart₀ starts₀ live₀
+  pub lower-start : length starts₀ ≡ startsSize → length live₀ ≡ maxRules → LowerTo n chart₀ starts₀ live₀
   lower-start room live-room = record { long = refl; room = room; live-room = live-room; from = λ fit found big around from. from }
 
   pub lower-step : (i j : ℕ) (chart starts live chart' starts' live' : List ℕ) → 0 < j → i ≡ j - 1
@@ -203,7 +203,7 @@ module _ (p t : List ℕ) (rules n : ℕ) (ends reach lasts chart₀ starts₀ l
       }
 
 pub lower-done : (p t : List ℕ) (rules n i : ℕ) (ends reach lasts chart₀ chart starts live : List ℕ) → i ≤ 0
-    → LowerTo p t rules n ends reach lasts chart₀ (replicate startsSize 0) (replicate 128 0) i chart starts live
+    → LowerTo p t rules n ends reach lasts chart₀ (replicate startsSize 0) (replicate maxRules 0) i chart starts live
     → LowerWritten p t rules n ends reach lasts chart₀ chart
 lower-done p t rules n i ends reach lasts chart₀ chart starts live h to = record {
   long = to .long;
@@ -214,7 +214,7 @@ pub column-length : (p t : List ℕ) (rules n own : ℕ) (lasts ends reach chart
     → LowerWritten p t rules n ends reach lasts (set chart (index n n) own) chart' → length chart' ≡ length chart
 column-length p t rules n own lasts ends reach chart chart' lower = lower .long ∙ length-set chart (index n n) own
 
-pub column-written : (p t : List ℕ) (rules n own : ℕ) (lasts kinds ends reach chart chart' : List ℕ) → n ≤ 64 → cells ≤ length chart
+pub column-written : (p t : List ℕ) (rules n own : ℕ) (lasts kinds ends reach chart chart' : List ℕ) → n ≤ maxInput → cells ≤ length chart
     → Used p rules → own < 2 ^ 32 → EmptyTold p rules own lasts kinds
     → LowerWritten p t rules n ends reach lasts (set chart (index n n) own) chart' → ColumnWritten p t n ends reach chart chart'
 column-written p t rules n own lasts kinds ends reach chart chart' small room used word told lower = record {
@@ -228,7 +228,7 @@ column-written p t rules n own lasts kinds ends reach chart chart' small room us
 pub column-zero : (p : List ℕ) (fit : Fit) (rules own : ℕ) (lasts chart : List ℕ) → cells ≤ length chart → Used p rules → own < 2 ^ 32
     → EmptyClosed p rules own lasts → set chart 0 own ≡ columnBy p fit 0 chart
 column-zero p fit rules own lasts chart room used word closed =
-    column-done p fit chart rules 0 0 (set chart 0 own) (replicate startsSize 0) (replicate 128 0) (omega arith)
+    column-done p fit chart rules 0 0 (set chart 0 own) (replicate startsSize 0) (replicate maxRules 0) (omega arith)
     (column-start-zero p fit chart rules 0 own lasts (omega arith) room used word closed)
 
 -- a cell of the first row stands at its end

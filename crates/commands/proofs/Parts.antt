@@ -4,6 +4,7 @@ use native.Mathlib.Omega.{arith}
 use mathlib.Core.Bool.{Bool, true, false, not, _||_}
 use mathlib.Core.Path.{_≡_, refl}
 use borrow.Author.Tests.{lt-ltb, le-ltb, ne-eqb}
+use Rattle.sizes.specs.Sizes.{maxRules, maxPlaces}
 use Rattle.grammar.specs.declared.Refusal.the-variants as R
 use Rattle.grammar.specs.declared.Symbol.{Symbol}
 use Rattle.results.specs.Load.{unknown}
@@ -62,17 +63,17 @@ module _ (k : Opcode) (t : Turn) where
 -- ---- the limits. A law that refuses takes any m of the code's own test that is not below the limit
 module _ (at : ℕ) where
   module _ (rules left low high : ℕ) where
-    pub rule-many : (m : ℕ) → m ≤ rules → 128 ≤ m → Fault R.TooManyRules at ≡ ruleOf at rules left low high
+    pub rule-many : (m : ℕ) → m ≤ rules → maxRules ≤ m → Fault R.TooManyRules at ≡ ruleOf at rules left low high
     rule-many m h k = rw (lt-ltb 127 rules (omega arith))
 
-    pub rule-read : rules < 128 → Rule left low high ≡ ruleOf at rules left low high
+    pub rule-read : rules < maxRules → Rule left low high ≡ ruleOf at rules left low high
     rule-read h = rw (le-ltb 127 rules (omega arith))
 
   module _ (places : ℕ) (s : Symbol) where
-    pub place-many : (m : ℕ) → m ≤ places → 8 ≤ m → Fault R.TooManyPlaces at ≡ placeOf at places s
+    pub place-many : (m : ℕ) → m ≤ places → maxPlaces ≤ m → Fault R.TooManyPlaces at ≡ placeOf at places s
     place-many m h k = rw (lt-ltb 7 places (omega arith))
 
-    pub place-read : places < 8 → Place s ≡ placeOf at places s
+    pub place-read : places < maxPlaces → Place s ≡ placeOf at places s
     place-read h = rw (le-ltb 7 places (omega arith))
 
   pub end-more : (len : ℕ) → at < len → Fault R.FurtherByte at ≡ endOf at len

@@ -5,6 +5,7 @@ use mathlib.Core.List.{List, [], _∷_}
 use mathlib.Core.Path.{_≡_}
 use lib.Dec.{eqb, ltb}
 use lib.ListN.{length, getD, drop}
+use Rattle.sizes.specs.Sizes.{maxRules, maxPlaces}
 use Rattle.grammar.specs.declared.Symbol.{Symbol}
 use Rattle.grammar.specs.declared.Grammar.{Grammar}
 use Rattle.grammar.specs.declared.Refusal.the-variants as R
@@ -42,8 +43,8 @@ stepOf (Fault r o) at g = stop (record { number = numberOf r; offset = o })
 -- the bounds of a command, whose byte is c, in a book of so many bytes, after so many rules, the last of which has so many places
 abbrev pub Bounded : (len at c rules places : ℕ) → Command → Type 0
 Bounded len at c rules places (Start k) = at + 2 ≤ len
-Bounded len at c rules places (Rule k low high) = (at + 4 ≤ len) × (rules < 128) × (eqb c 0x10 ≡ false)
-Bounded len at c rules places (Place s) = (at + 2 ≤ len) × (places < 8) × (eqb c 0x10 ≡ false)
+Bounded len at c rules places (Rule k low high) = (at + 4 ≤ len) × (rules < maxRules) × (eqb c 0x10 ≡ false)
+Bounded len at c rules places (Place s) = (at + 2 ≤ len) × (places < maxPlaces) × (eqb c 0x10 ≡ false)
 Bounded len at c rules places End = Unit {0}
 Bounded len at c rules places (Fault r o) = Unit {0}
 

@@ -8,7 +8,7 @@ use native.Mathlib.Omega.{arith}
 use lib.ListN.{length, take, drop, length-append, length-drop, length-take}
 use lib.Seq.{drop-at}
 use borrow.Author.Tests.{ltb-false, eqb-false}
-use Rattle.sizes.specs.Sizes.{cells}
+use Rattle.sizes.specs.Sizes.{cells, maxInput, outputSize}
 use Rattle.cfg.specs.Grammar.{Cfg}
 use Rattle.cfg.specs.Listing.{L}
 use Rattle.chart.specs.Cell.{fitsAt}
@@ -54,9 +54,9 @@ unfolding takeOf takeIn extended
 take-kept g h m chart =
     let w = take (h .count) (h .bytes) ++ (m ∷ []) in
     decide-either _ _ (λ (r : Recognition). ChartKept chart (r .chart)) _ (λ n. chart-same chart) (λ p.
-    let c : h .count ≤ 64 = ltb-false 64 (h .count) (p .1 .0) in
-    let d : ¬ (h .count ≡ 64) = eqb-false (h .count) 64 (p .1 .1 .1 .0) in
-    let l : length w ≤ 64 = omega (arith, length-append (take (h .count) (h .bytes)) (m ∷ []), length-take (h .count) (h .bytes)) in
+    let c : h .count ≤ maxInput = ltb-false maxInput (h .count) (p .1 .0) in
+    let d : ¬ (h .count ≡ maxInput) = eqb-false (h .count) maxInput (p .1 .1 .1 .0) in
+    let l : length w ≤ maxInput = omega (arith, length-append (take (h .count) (h .bytes)) (m ∷ []), length-take (h .count) (h .bytes)) in
     record {
       same-length = extended-length (grammarOf g) w chart;
       behind = written-behind (grammarOf g) (fitsAt w) (length w) chart l;
@@ -105,7 +105,7 @@ handing-chart none answer chart out = refl
 handing-chart (some e) answer chart out = refl
 
 -- what is handed out of the list
-module _ (g : Grammar) (w chart out : List ℕ) (answer : Answer Handing) (space : 1024 ≤ length out) where
+module _ (g : Grammar) (w chart out : List ℕ) (answer : Answer Handing) (space : outputSize ≤ length out) where
   handing-kept : (o : Option (List ℕ)) → ((e : List ℕ) → o ≡ some e → List·Memᴰ e (L (grammarOf g) w))
       → OutputKept (writes (handingOut o answer chart out .answer)) out (handingOut o answer chart out .output)
   unfolding handingOut

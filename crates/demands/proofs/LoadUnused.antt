@@ -6,6 +6,7 @@ use mathlib.Core.Path.{_≡_, refl, _∙_}
 use lib.IntN.{ℤ, pos}
 use lib.ListN.{getD, length-set}
 use lib.Seq.{drop-set-lt}
+use Rattle.sizes.specs.Sizes.{maxRules}
 use Rattle.grammar.specs.declared.Symbol.{Symbol}
 use Rattle.grammar.specs.declared.Rule.{Rule}
 use Rattle.grammar.specs.declared.Grammar.{Grammar}
@@ -34,7 +35,7 @@ placed-zero r s Z = record {
 -- ---- grammars
 
 zero-zero : ZeroBehind zeroGrammar
-zero-zero = record { size = refl; unused = refl; places = replicate-each ZeroPlaces noRule zeroRule 128 (opened-zero 0 (pos 0)) }
+zero-zero = record { size = refl; unused = refl; places = replicate-each ZeroPlaces noRule zeroRule maxRules (opened-zero 0 (pos 0)) }
 
 module _ (g : Grammar) (Z : ZeroBehind g) where
   start-zero : (k : ℕ) → ZeroBehind (withStart g k)
@@ -45,16 +46,16 @@ module _ (g : Grammar) (Z : ZeroBehind g) where
   unfolding withRule
   rule-zero k z = record {
     size = set-rule-size g (g .count) (openedRule k z) ∙ Z .size;
-    unused = drop-next (g .rules) (g .count) 128 _ zeroRule (Z .unused);
-    places = set-each ZeroPlaces noRule 128 (g .rules) (g .count) _ (Z .places) (opened-zero k z);
+    unused = drop-next (g .rules) (g .count) maxRules _ zeroRule (Z .unused);
+    places = set-each ZeroPlaces noRule maxRules (g .rules) (g .count) _ (Z .places) (opened-zero k z);
   }
 
-  place-zero : (s : Symbol) → 0 < g .count → g .count ≤ 128 → ZeroBehind (withPlace g s)
+  place-zero : (s : Symbol) → 0 < g .count → g .count ≤ maxRules → ZeroBehind (withPlace g s)
   unfolding withPlace openRule
   place-zero s m h = record {
     size = set-rule-size g (g .count - 1) (placedRule (openRule g) s) ∙ Z .size;
     unused = drop-set-lt (g .count) (g .rules) (g .count - 1) _ (omega arith) ∙ Z .unused;
-    places = set-each ZeroPlaces noRule 128 (g .rules) (g .count - 1) _ (Z .places)
+    places = set-each ZeroPlaces noRule maxRules (g .rules) (g .count - 1) _ (Z .places)
         (placed-zero (getD (g .rules) (g .count - 1) noRule) s (Z .places (g .count - 1) (omega arith)));
   }
 

@@ -10,7 +10,7 @@ use lib.Dec.{eqb}
 use lib.ListN.{length, take, drop, length-drop, take-append-drop}
 use lib.Seq.{slice, append-snoc, take-all, length-take-le}
 use borrow.Author.Tests.{le-ltb, eq-eqb}
-use Rattle.sizes.specs.Sizes.{cells}
+use Rattle.sizes.specs.Sizes.{cells, maxInput}
 use Rattle.laws.proofs.Bools.{true-false, bool-false}
 use Rattle.sets.specs.Set.{has}
 use Rattle.cfg.specs.Tree.{Forest, Parse, HasTree}
@@ -55,7 +55,7 @@ module _ (g : Grammar) (found : List ℕ) where
     open-after = open-passed g found valid room
 
     -- one more byte
-    take-after : (u : List ℕ) (m : ℕ) → length u < 64 → takeOf g (stateOf u) m (filled (grammarOf g) u found) ≡ after (u ++ (m ∷ []))
+    take-after : (u : List ℕ) (m : ℕ) → length u < maxInput → takeOf g (stateOf u) m (filled (grammarOf g) u found) ≡ after (u ++ (m ∷ []))
     unfolding takeIn stateOf
     take-after u m l =
         let c = filled (grammarOf g) u found in
@@ -67,7 +67,7 @@ module _ (g : Grammar) (found : List ℕ) where
         ∙ ap (result g v (length v)) (sym (filled-snoc (grammarOf g) u m found))
 
     -- a row of bytes, while there are at most 64
-    fed-after : (u v : List ℕ) → length u + length v ≤ 64 → fed g (after u) v ≡ after (u ++ v)
+    fed-after : (u v : List ℕ) → length u + length v ≤ maxInput → fed g (after u) v ≡ after (u ++ v)
     unfolding fed
     fed-after u [] l = ap after (sym (append-nil u))
     fed-after u (m ∷ v) l =
@@ -75,14 +75,14 @@ module _ (g : Grammar) (found : List ℕ) where
         ∙ fed-after (u ++ (m ∷ [])) v (omega (arith, length-snoc u m))
         ∙ ap after (append-snoc u m v)
 
-    module _ (u : List ℕ) (l : length u ≡ 64) where
+    module _ (u : List ℕ) (l : length u ≡ maxInput) where
       take-beyond : (m : ℕ) → takeOf g (stateOf u) m (filled (grammarOf g) u found) ≡ beyond u
       unfolding takeOf stateOf
       take-beyond m =
           let c = filled (grammarOf g) u found in
           let r : cells ≤ length c = omega (arith, filled-length (grammarOf g) u found room) in
-          decide-first _ _ (grammarCheck g ∷ stateCheck (stateOf u) ∷ chartCheck c ∷ []) (check (eqb (stateOf u .count) 64) 15) []
-          (ap not valid, (le-ltb 64 (length u) (omega arith), (le-ltb (length c) cells r, tt))) (eq-eqb (length u) 64 l)
+          decide-first _ _ (grammarCheck g ∷ stateCheck (stateOf u) ∷ chartCheck c ∷ []) (check (eqb (stateOf u .count) maxInput) 15) []
+          (ap not valid, (le-ltb maxInput (length u) (omega arith), (le-ltb (length c) cells r, tt))) (eq-eqb (length u) maxInput l)
 
       fed-beyond : (v : List ℕ) → fed g (beyond u) v ≡ beyond u
       unfolding fed
@@ -96,28 +96,28 @@ module _ (g : Grammar) (found : List ℕ) where
 
     -- ---- from opening on
 
-    pub fed-short : (ms : List ℕ) → length ms ≤ 64 → fed g (openOf g found) ms ≡ after ms
+    pub fed-short : (ms : List ℕ) → length ms ≤ maxInput → fed g (openOf g found) ms ≡ after ms
     fed-short ms l = ap (λ (x : Recognition). fed g x ms) open-after ∙ fed-after [] ms (omega arith)
 
-    pub fed-long : (ms : List ℕ) → 64 < length ms → fed g (openOf g found) ms ≡ beyond (take 64 ms)
+    pub fed-long : (ms : List ℕ) → maxInput < length ms → fed g (openOf g found) ms ≡ beyond (take maxInput ms)
     fed-long ms l =
-        let e : length (take 64 ms) ≡ 64 = length-take-le 64 ms (omega arith) in
-        ap (fed g (openOf g found)) (sym (take-append-drop 64 ms))
-        ∙ fed-append g (openOf g found) (take 64 ms) (drop 64 ms)
-        ∙ ap (λ (x : Recognition). fed g x (drop 64 ms)) (fed-short (take 64 ms) (omega arith))
-        ∙ fed-after-beyond (take 64 ms) e (drop 64 ms) (omega (arith, length-drop 64 ms))
+        let e : length (take maxInput ms) ≡ maxInput = length-take-le maxInput ms (omega arith) in
+        ap (fed g (openOf g found)) (sym (take-append-drop maxInput ms))
+        ∙ fed-append g (openOf g found) (take maxInput ms) (drop maxInput ms)
+        ∙ ap (λ (x : Recognition). fed g x (drop maxInput ms)) (fed-short (take maxInput ms) (omega arith))
+        ∙ fed-after-beyond (take maxInput ms) e (drop maxInput ms) (omega (arith, length-drop maxInput ms))
 
     -- ---- what is said of these results
 
-    module _ (v : List ℕ) (l : length v ≤ 64) (r : Recognition) (c : r .chart ≡ filled (grammarOf g) v found) where
+    module _ (v : List ℕ) (l : length v ≤ maxInput) (r : Recognition) (c : r .chart ≡ filled (grammarOf g) v found) where
       cells-of : (i j k : ℕ) → i ≤ j → j ≤ length v
           → (has k (cell (r .chart) i j) ≡ true) ↔ ((t : Forest) × Parse (grammarOf g) k (slice i j v) t)
       cells-of i j k a b = rw c (filled-true (grammarOf g) (valid-bounded g valid) v found l room i j k a b)
 
-      zero-of : (i j : ℕ) → i ≤ 64 → j ≤ 64 → (j < i) ⊎ (length v < j) → cell (r .chart) i j ≡ 0
+      zero-of : (i j : ℕ) → i ≤ maxInput → j ≤ maxInput → (j < i) ⊎ (length v < j) → cell (r .chart) i j ≡ 0
       zero-of i j a b d = rw c (filled-zero (grammarOf g) v found l i j a b d)
 
-    module _ (ms : List ℕ) (l : length ms ≤ 64) where
+    module _ (ms : List ℕ) (l : length ms ≤ maxInput) where
       has-tree : (complete (grammarOf g) (length ms) (filled (grammarOf g) ms found) ≡ true) ↔ HasTree (grammarOf g) ms
       has-tree = complete-tree (grammarOf g) (valid-bounded g valid) ms found l room
 
@@ -130,9 +130,9 @@ module _ (g : Grammar) (found : List ℕ) where
 
     -- ---- the theorem
 
-    recognized-short : (ms : List ℕ) → length ms ≤ 64 → (r : Recognition) → r ≡ after ms → Recognized (grammarOf g) found ms r
+    recognized-short : (ms : List ℕ) → length ms ≤ maxInput → (r : Recognition) → r ≡ after ms → Recognized (grammarOf g) found ms r
     recognized-short ms l r e =
-        let s : ms ≡ take 64 ms = sym (take-all 64 ms l) in
+        let s : ms ≡ take maxInput ms = sym (take-all maxInput ms l) in
         let c : r .chart ≡ filled (grammarOf g) ms found = ap (λ (x : Recognition). x .chart) e in
         let a : r .answer ≡ answered (complete (grammarOf g) (length ms) (filled (grammarOf g) ms found)) =
         ap (λ (x : Recognition). x .answer) e in
@@ -142,29 +142,30 @@ module _ (g : Grammar) (found : List ℕ) where
           tree = λ _. rw a (tree-of ms l);
           no-tree = λ _. rw a (no-tree-of ms l);
           full = λ h. absurd (omega arith);
-          cells = rw (take-all 64 ms l) (cells-of ms l r c);
-          zeros = rw (take-all 64 ms l) (zero-of ms l r c);
+          cells = rw (take-all maxInput ms l) (cells-of ms l r c);
+          zeros = rw (take-all maxInput ms l) (zero-of ms l r c);
         }
 
-    recognized-long : (ms : List ℕ) → 64 < length ms → (r : Recognition) → r ≡ beyond (take 64 ms) → Recognized (grammarOf g) found ms r
+    recognized-long : (ms : List ℕ) → maxInput < length ms → (r : Recognition) → r ≡ beyond (take maxInput ms)
+        → Recognized (grammarOf g) found ms r
     recognized-long ms l r e =
-        let h : length (take 64 ms) ≤ 64 = omega (arith, length-take-le 64 ms (omega arith)) in
-        let c : r .chart ≡ filled (grammarOf g) (take 64 ms) found = ap (λ (x : Recognition). x .chart) e in
+        let h : length (take maxInput ms) ≤ maxInput = omega (arith, length-take-le maxInput ms (omega arith)) in
+        let c : r .chart ≡ filled (grammarOf g) (take maxInput ms) found = ap (λ (x : Recognition). x .chart) e in
         record {
           state = ap (λ (x : Recognition). x .state) e;
           chart = c;
           tree = λ h. absurd (omega arith);
           no-tree = λ h. absurd (omega arith);
           full = λ _. ap (λ (x : Recognition). x .answer) e;
-          cells = cells-of (take 64 ms) h r c;
-          zeros = zero-of (take 64 ms) h r c;
+          cells = cells-of (take maxInput ms) h r c;
+          zeros = zero-of (take maxInput ms) h r c;
         }
 
     pub recognized : (ms : List ℕ) → Recognized (grammarOf g) found ms (fed g (openOf g found) ms)
-    recognized ms = by (decLt 64 (length ms))
+    recognized ms = by (decLt maxInput (length ms))
       where
-        by : Dec (64 < length ms) → Recognized (grammarOf g) found ms (fed g (openOf g found) ms)
+        by : Dec (maxInput < length ms) → Recognized (grammarOf g) found ms (fed g (openOf g found) ms)
         by (yes l) = recognized-long ms l (fed g (openOf g found) ms) (fed-long ms l)
         by (no l) =
-            let h : length ms ≤ 64 = omega arith in
+            let h : length ms ≤ maxInput = omega arith in
             recognized-short ms h (fed g (openOf g found) ms) (fed-short ms h)

@@ -6,7 +6,7 @@ use mathlib.Core.Path.{_≡_, refl, sym, ap, subst, _∙_}
 use native.Mathlib.Omega.{arith}
 use lib.ListN.{length, take}
 use lib.Seq.{length-take-le}
-use Rattle.sizes.specs.Sizes.{cells}
+use Rattle.sizes.specs.Sizes.{cells, maxInput}
 use Rattle.sets.specs.Set.{has}
 use Rattle.chart.specs.Cell.{cell, fitsAt}
 use Rattle.chart.specs.Column.{written, extended, complete}
@@ -22,8 +22,8 @@ use Rattle.results.specs.Recognize.{State, stateOf, Recognition, takeIn, takeOf
 use Rattle.demands.specs.Taken.{input, Taken}
 use Rattle.results.proofs.Goes.{take-passed}
 
-module _ (g : Grammar) (h : State) (m : ℕ) (found : List ℕ) (valid : validGrammar g ≡ true) (bytes : length (h .bytes) ≡ 64)
-    (small : h .count < 64) (room : cells ≤ length found) where
+module _ (g : Grammar) (h : State) (m : ℕ) (found : List ℕ) (valid : validGrammar g ≡ true) (bytes : length (h .bytes) ≡ maxInput)
+    (small : h .count < maxInput) (room : cells ≤ length found) where
   size : length (input h m) ≡ h .count + 1
   size = omega (arith, length-snoc (take (h .count) (h .bytes)) m, length-take-le (h .count) (h .bytes) (omega arith))
 

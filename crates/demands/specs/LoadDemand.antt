@@ -5,6 +5,7 @@ use mathlib.Core.List.{List}
 use mathlib.Core.Logic.{_⊎_}
 use mathlib.Core.Path.{_≡_}
 use lib.ListN.{length, getD, drop, replicate}
+use Rattle.sizes.specs.Sizes.{maxRules}
 use Rattle.grammar.specs.declared.Rule.{Rule}
 use Rattle.grammar.specs.declared.Grammar.{Grammar}
 use Rattle.grammar.specs.Setters.{setDepth}
@@ -37,9 +38,9 @@ pub record ZeroPlaces (r : Rule) : Type 0 where
 
 -- a grammar of 128 rule records, which are zeros from its count on, and so are the unused places of each
 pub record ZeroBehind (g : Grammar) : Type 0 where
-  pub size : length (g .rules) ≡ 128
-  pub unused : drop (g .count) (g .rules) ≡ replicate (128 - g .count) zeroRule
-  pub places : (i : ℕ) → i < 128 → ZeroPlaces (getD (g .rules) i noRule)
+  pub size : length (g .rules) ≡ maxRules
+  pub unused : drop (g .count) (g .rules) ≡ replicate (maxRules - g .count) zeroRule
+  pub places : (i : ℕ) → i < maxRules → ZeroPlaces (getD (g .rules) i noRule)
 
 -- a refused book: the number and the offset of its first fault, and a grammar of zeros
 pub record LoadRefused (bytes : List ℕ) (r : Loading) : Type 0 where

@@ -7,6 +7,7 @@ use mathlib.Core.Logic.{_↔_, _⊎_}
 use mathlib.Core.Path.{_≡_}
 use lib.ListN.{length, take}
 use lib.Seq.{slice}
+use Rattle.sizes.specs.Sizes.{maxInput}
 use Rattle.sets.specs.Set.{has}
 use Rattle.cfg.specs.Grammar.{Cfg}
 use Rattle.cfg.specs.Tree.{Forest, Parse, HasTree}
@@ -18,16 +19,16 @@ use Rattle.results.specs.Recognize.{stateOf, Recognition}
 -- the result of feeding ms after opening over the chart found, for the grammar G
 pub record Recognized (G : Cfg) (found ms : List ℕ) (r : Recognition) : Type 0 where
   -- the state has taken the first 64 bytes, or all of fewer
-  pub state : r .state ≡ stateOf (take 64 ms)
+  pub state : r .state ≡ stateOf (take maxInput ms)
   -- the chart is the one that is filled with these
-  pub chart : r .chart ≡ filled G (take 64 ms) found
+  pub chart : r .chart ≡ filled G (take maxInput ms) found
   -- up to 64 bytes: "complete" exactly if the bytes have a tree; without bytes this is opening's own answer
-  pub tree : length ms ≤ 64 → (r .answer ≡ answered true) ↔ HasTree G ms
-  pub no-tree : length ms ≤ 64 → (r .answer ≡ answered false) ↔ (HasTree G ms → ⊥)
+  pub tree : length ms ≤ maxInput → (r .answer ≡ answered true) ↔ HasTree G ms
+  pub no-tree : length ms ≤ maxInput → (r .answer ≡ answered false) ↔ (HasTree G ms → ⊥)
   -- more than 64: refused
-  pub full : 64 < length ms → r .answer ≡ refused 15
+  pub full : maxInput < length ms → r .answer ≡ refused 15
   -- the cell of the span from i to j has exactly the nonterminals with a parse tree over the span
-  pub cells : (i j k : ℕ) → i ≤ j → j ≤ length (take 64 ms)
-      → (has k (cell (r .chart) i j) ≡ true) ↔ ((t : Forest) × Parse G k (slice i j (take 64 ms)) t)
+  pub cells : (i j k : ℕ) → i ≤ j → j ≤ length (take maxInput ms)
+      → (has k (cell (r .chart) i j) ≡ true) ↔ ((t : Forest) × Parse G k (slice i j (take maxInput ms)) t)
   -- the other cells are zero
-  pub zeros : (i j : ℕ) → i ≤ 64 → j ≤ 64 → (j < i) ⊎ (length (take 64 ms) < j) → cell (r .chart) i j ≡ 0
+  pub zeros : (i j : ℕ) → i ≤ maxInput → j ≤ maxInput → (j < i) ⊎ (length (take maxInput ms) < j) → cell (r .chart) i j ≡ 0

@@ -10,7 +10,7 @@ use lib.Dec.{eqb}
 use lib.ListN.{length, drop, drop-of-length-le}
 use lib.Seq.{take-length}
 use borrow.Author.Tests.{eq-eqb, ne-eqb}
-use Rattle.sizes.specs.Sizes.{tooMany}
+use Rattle.sizes.specs.Sizes.{tooMany, outputSize}
 use Rattle.sets.proofs.Laws.{has-empty}
 use Rattle.cfg.specs.Grammar.{Cfg, nonterminal}
 use Rattle.cfg.specs.Tree.{nodes, code}
@@ -48,7 +48,7 @@ module _ (G : Cfg) (w e : List ℕ) where
       let h : length e ≡ 2 * nodes (d .tree) = ap length (sym (d .coded)) ∙ length-code (d .tree) in
       omega arith
 
-  pub long-unlisted : 1024 < length e → false ≡ listed e (L G w)
+  pub long-unlisted : outputSize < length e → false ≡ listed e (L G w)
   long-unlisted h = none-listed (λ d. let l = derivation-length G limit w e d in omega arith)
 
   pub odd-unlisted : length e % 2 ≡ 1 → false ≡ listed e (L G w)
@@ -65,7 +65,7 @@ module _ (p w e : List ℕ) (start : ℕ) where
   unfolding cfgIn
   rules-same r = refl
 
-  top→derivation : length e ≤ 1024 → length e ≡ 2 * (length e / 2) → Top (length e / 2) → Derivation (cfgIn start p) limit w e
+  top→derivation : length e ≤ outputSize → length e ≡ 2 * (length e / 2) → Top (length e / 2) → Derivation (cfgIn start p) limit w e
   unfolding cfgIn
   top→derivation short even a =
       let l = a .ends in
@@ -95,7 +95,7 @@ module _ (p w e : List ℕ) (start : ℕ) where
         inside = omega arith;
       }
 
-  pub whole-listed : (next : ℕ) → length e ≤ 1024 → (length e % 2 ≡ 1 → ⊥) → Answers Top tooMany next
+  pub whole-listed : (next : ℕ) → length e ≤ outputSize → (length e % 2 ≡ 1 → ⊥) → Answers Top tooMany next
       → eqb next (length e / 2) ≡ listed e (L (cfgIn start p) w)
   whole-listed next short odd a = go (ℕ-discrete next (length e / 2))
     where

@@ -5,7 +5,7 @@ use mathlib.Core.List.{List, [], _∷_}
 use mathlib.Core.Path.{_≡_, sym, ap, subst, _∙_}
 use native.Mathlib.Omega.{arith}
 use lib.ListN.{getD}
-use Rattle.sizes.specs.Sizes.{side, maxNodes}
+use Rattle.sizes.specs.Sizes.{side, maxNodes, maxPlaces}
 use Rattle.chart.specs.Cell.{fitsAt}
 use Rattle.cfg.specs.Grammar.{Symbol, nonterminal, terminal}
 use Rattle.costs.specs.Cut.{LeastCut, within}
@@ -150,16 +150,16 @@ module _ {p : List ℕ} {rules : ℕ} {fits chart tables full rows : List ℕ} {
 -- ---- where the row stands next
 
 pub byte-room : {p : List ℕ} {r q : ℕ} {tables full rows : List ℕ} {i a j budget : ℕ} {s : Step}
-    → Looked p r q tables full rows i a j budget s → s ≡ Byte → (q < 8) × (a < j)
+    → Looked p r q tables full rows i a j budget s → s ≡ Byte → (q < maxPlaces) × (a < j)
 byte-room {p} {r} {q} {tables} {full} {rows} {i} {a} {j} {budget} L e = go (subst (Looked p r q tables full rows i a j budget) e L)
   where
-    go : Looked p r q tables full rows i a j budget Byte → (q < 8) × (a < j)
+    go : Looked p r q tables full rows i a j budget Byte → (q < maxPlaces) × (a < j)
     go (at-byte c t m) = (omega (arith, count-le p r), m)
 
 pub node-room : {p : List ℕ} {r q : ℕ} {tables full rows : List ℕ} {i a j budget k b share : ℕ} {s : Step}
-    → Looked p r q tables full rows i a j budget s → s ≡ Node k b share → (q < 8) × (a ≤ b) × (b ≤ j) × (share ≤ budget)
+    → Looked p r q tables full rows i a j budget s → s ≡ Node k b share → (q < maxPlaces) × (a ≤ b) × (b ≤ j) × (share ≤ budget)
 node-room {p} {r} {q} {tables} {full} {rows} {i} {a} {j} {budget} {k} {b} {share} L e =
     go (subst (Looked p r q tables full rows i a j budget) e L)
   where
-    go : Looked p r q tables full rows i a j budget (Node k b share) → (q < 8) × (a ≤ b) × (b ≤ j) × (share ≤ budget)
+    go : Looked p r q tables full rows i a j budget (Node k b share) → (q < maxPlaces) × (a ≤ b) × (b ≤ j) × (share ≤ budget)
     go (at-node c t g C x f) = (omega (arith, count-le p r), C .start, x, omega arith)

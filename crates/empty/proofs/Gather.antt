@@ -5,6 +5,7 @@ use mathlib.Core.List.{List}
 use mathlib.Core.Path.{_≡_, sym, ap, _∙_, subst}
 use native.Mathlib.Omega.{arith}
 use lib.ListN.{length, getD, set, length-set}
+use Rattle.sizes.specs.Sizes.{maxRules}
 use Rattle.laws.proofs.Bools.{true-false, clash}
 use Rattle.laws.proofs.Lists.{set-below, below-step}
 use Rattle.sets.specs.Set.{has, insert}
@@ -63,13 +64,13 @@ module _ (p : List ℕ) (r last : ℕ) where
 module _ (p : List ℕ) (rules : ℕ) (lasts : List ℕ) where
   -- those of the rules below m
   pub record AllTo (m : ℕ) (kinds : List ℕ) : Type 0 where
-    pub long : length kinds ≡ 128
+    pub long : length kinds ≡ maxRules
     pub done : (r : ℕ) → r < m → Kinds p r (getD lasts r 0) (getD kinds r 0)
 
-  pub all-start : (kinds : List ℕ) → length kinds ≡ 128 → AllTo 0 kinds
+  pub all-start : (kinds : List ℕ) → length kinds ≡ maxRules → AllTo 0 kinds
   all-start kinds e = record { long = e; done = λ r l. absurd (omega arith) }
 
-  pub all-step : (m v : ℕ) (kinds : List ℕ) → m < 128 → Kinds p m (getD lasts m 0) v → AllTo m kinds → AllTo (m + 1) (set kinds m v)
+  pub all-step : (m v : ℕ) (kinds : List ℕ) → m < maxRules → Kinds p m (getD lasts m 0) v → AllTo m kinds → AllTo (m + 1) (set kinds m v)
   all-step m v kinds b one to = record {
     long = length-set kinds m v ∙ to .long;
     done = set-below (λ (r x : ℕ). Kinds p r (getD lasts r 0) x) 0 kinds m v (omega (arith, to .long)) one (to .done);

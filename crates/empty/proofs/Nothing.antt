@@ -9,6 +9,7 @@ use native.Mathlib.Omega.{arith}
 use lib.ListN.{length, getD, set, length-set}
 use lib.Seq.{getD-set-same, getD-set-other}
 use borrow.Author.Tests.{eq-eqb}
+use Rattle.sizes.specs.Sizes.{maxRules}
 use Rattle.laws.proofs.Bools.{true-false}
 use Rattle.sets.proofs.Laws.{has-empty}
 use Rattle.cfg.specs.Grammar.{Symbol}
@@ -37,7 +38,7 @@ module _ (p : List ℕ) where
     none = λ l. refl;
   })
 
-  pub empty-start : (own : ℕ) (lasts : List ℕ) → length lasts ≡ 128 → EmptyPassed p 0 own own lasts
+  pub empty-start : (own : ℕ) (lasts : List ℕ) → length lasts ≡ maxRules → EmptyPassed p 0 own own lasts
   empty-start own lasts long =
       record {
         long = long;
@@ -46,7 +47,8 @@ module _ (p : List ℕ) where
         settled = λ e fit sets n r l. absurd (omega arith);
       }
 
-  pub empty-step : (rules r own v m v' : ℕ) (lasts : List ℕ) → r < rules → rules ≤ 128 → RuleMask p r true v v 0 0 m → v' ≡ addedIn p r m v
+  pub empty-step : (rules r own v m v' : ℕ) (lasts : List ℕ) → r < rules → rules ≤ maxRules → RuleMask p r true v v 0 0 m
+      → v' ≡ addedIn p r m v
       → EmptyPassed p r own v lasts → EmptyPassed p (r + 1) own v' (set lasts r m)
   empty-step rules r own v m v' lasts below few mask result passed =
       record {
@@ -94,10 +96,10 @@ module _ (p : List ℕ) where
 
   -- own has nothing that a closed set lacks
   pub record EmptyReached (own : ℕ) (lasts : List ℕ) : Type 0 where
-    pub long : length lasts ≡ 128
+    pub long : length lasts ≡ maxRules
     pub sound : (fit : Fit) (sets : Sets) (n T : ℕ) → ClosedAt fit sets p n n T → Within own T
 
-  pub reached-start : (lasts : List ℕ) → length lasts ≡ 128 → EmptyReached 0 lasts
+  pub reached-start : (lasts : List ℕ) → length lasts ≡ maxRules → EmptyReached 0 lasts
   reached-start lasts long = record { long = long; sound = λ fit sets n T c. sub-empty T }
 
   pub reached-step : (rules own v : ℕ) (lasts lasts' : List ℕ) → EmptyReached own lasts → EmptyPassed p rules own v lasts'

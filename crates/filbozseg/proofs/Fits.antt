@@ -9,6 +9,7 @@ use lib.IntN.{ℤ, pos, negℤ}
 use lib.ListN.{length, getD, length-set}
 use lib.Signed.{mag}
 use borrow.Author.Tests.{ltb-true, ltb-false}
+use Rattle.sizes.specs.Sizes.{maxRules, maxPlaces}
 use Rattle.rows.specs.Fits.{DeclaredRule, Fits16}
 use Rattle.grammar.specs.declared.Symbol.{Symbol}
 use Rattle.grammar.specs.declared.Symbol.the-variants.{Nonterminal, Terminal}
@@ -28,13 +29,13 @@ use Rattle.results.specs.Load.{Loading, refusedLoad, acceptedLoad, run, loadOf}
 
 record SmallRule (ρ : Rule) : Type 0 where
   pub declared : DeclaredRule ρ
-  pub count : ρ .count ≤ 8
+  pub count : ρ .count ≤ maxPlaces
 
 record Small (g : Grammar) : Type 0 where
   pub start : g .start < 256
-  pub count : g .count ≤ 128
-  pub rules : length (g .rules) ≡ 128
-  pub each : (r : ℕ) → r < 128 → SmallRule (getD (g .rules) r noRule)
+  pub count : g .count ≤ maxRules
+  pub rules : length (g .rules) ≡ maxRules
+  pub each : (r : ℕ) → r < maxRules → SmallRule (getD (g .rules) r noRule)
 
 small-fits : (g : Grammar) (d : ℕ) → Small g → d < 256 → Fits16 (setDepth g d)
 small-fits g d S h = record {
@@ -60,7 +61,7 @@ zero-small = record {
   start = omega arith;
   count = omega arith;
   rules = refl;
-  each = replicate-each SmallRule noRule zeroRule 128 (opened-small 0 (pos 0) (omega arith) (omega arith));
+  each = replicate-each SmallRule noRule zeroRule maxRules (opened-small 0 (pos 0) (omega arith) (omega arith));
 }
 
 negative-small : (n m : ℕ) → n ≡ suc m → m < 32768 → mag (negℤ (pos n)) < 32768
@@ -85,7 +86,7 @@ module _ (g : Grammar) (S : Small g) where
     start = S .start;
     count = omega arith;
     rules = set-rule-size g (g .count) (openedRule k z) ∙ S .rules;
-    each = set-each SmallRule noRule 128 (g .rules) (g .count) _ (S .each) (opened-small k z h m);
+    each = set-each SmallRule noRule maxRules (g .rules) (g .count) _ (S .each) (opened-small k z h m);
   }
 
   place-small : (s : Symbol) → valueOf s < 256 → openRule g .count ≤ 7 → Small (withPlace g s)
@@ -96,7 +97,7 @@ module _ (g : Grammar) (S : Small g) where
         start = S .start;
         count = S .count;
         rules = set-rule-size g (g .count - 1) (placedRule ρ s) ∙ S .rules;
-        each = set-each SmallRule noRule 128 (g .rules) (g .count - 1) _ (S .each) (placed R);
+        each = set-each SmallRule noRule maxRules (g .rules) (g .count - 1) _ (S .each) (placed R);
       }
     where
       ρ : Rule

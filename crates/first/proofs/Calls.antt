@@ -3,7 +3,7 @@ use Prim.Native.Nat.{ℕ, _≤_}
 use mathlib.Core.List.{List}
 use mathlib.Core.Path.{_≡_, sym, _∙_}
 use lib.ListN.{length}
-use Rattle.sizes.specs.Sizes.{cells, outputSize}
+use Rattle.sizes.specs.Sizes.{cells, outputSize, maxInput}
 use Rattle.chart.specs.Column.{complete}
 use Rattle.costs.specs.Span.{bytesOf}
 use Rattle.fit.specs.Fit.{Told}
@@ -28,7 +28,7 @@ use Rattle.first.proofs.Chart.{Filling, filled-chart}
 -- what answering over the filled chart asks
 pub filled-ready : (g : Grammar) (p w fits chart chart' : List ℕ) (k : ℕ) (j : Judged) → JudgingOutput g (length w) (length chart) k j
     → j ≡ Passed → Filling g p w chart chart' × Told p w fits
-    → (length w ≤ 64) × (cells ≤ length chart') × (outputSize ≤ k) × Told p w fits × ChartTrue p (bytesOf w) chart' (length w)
+    → (length w ≤ maxInput) × (cells ≤ length chart') × (outputSize ≤ k) × Told p w fits × ChartTrue p (bytesOf w) chart' (length w)
 filled-ready g p w fits chart chart' k j judging is (filling, told) =
     let (ready, c) = output-ready g (length w) (length chart) k j judging is in
     let (a, b, t) = filled-chart g p w chart chart' ready filling in

@@ -19,7 +19,7 @@ use Rattle.prepare.proofs.Packing.{filled-packed}
 use Rattle.tables.specs.Exact.{Packing, ChartTrue}
 
 -- a chart filled for the packed grammar leaves out no nonterminal that has a tree
-chart-true : (p w chart : List ℕ) → length w ≤ 64 → cells ≤ length chart
+chart-true : (p w chart : List ℕ) → length w ≤ maxInput → cells ≤ length chart
     → ChartTrue p (bytesOf w) (filled (Packing p) w chart) (length w)
 chart-true p w chart h c i j a b k e t T =
     let said = filled-true (Packing p) (cfg-in-bounded 0 p) w chart h c i j k a b .1 (t, tree-parse w (Packing p) a b .0 T) in

@@ -8,7 +8,7 @@ use native.Mathlib.Decide.{ℕ-discrete}
 use native.Mathlib.Omega.{arith}
 use lib.ListN.{length, set, length-set}
 use lib.Seq.{getD-set-same, getD-set-other}
-use Rattle.sizes.specs.Sizes.{maxRules}
+use Rattle.sizes.specs.Sizes.{maxRules, maxPlaces, maxInput}
 use Rattle.sets.specs.Set.{has, insert}
 use Rattle.sets.proofs.Laws.{has-insert-same, has-insert-other, insert-below}
 use Rattle.packed.specs.Packed.{symbolIn, fitsPlace}
@@ -19,7 +19,7 @@ module _ (q x n v : ℕ) (f : n ≡ x) (g : v ≡ insert q n) where
   pub byte-with : v ≡ insert q x
   byte-with = g ∙ ap (insert q) f
 
-  pub byte-small : q < 8 → x < 256 → v < 256
+  pub byte-small : q < maxPlaces → x < 256 → v < 256
   byte-small h l = omega (arith, byte-with, insert-below 8 q x h l)
 
 module _ (p w : List ℕ) where
@@ -37,14 +37,14 @@ module _ (p w : List ℕ) where
         other = λ i r q l m n. b .other i r q l m (λ x. n (right i r q x)) ∙ a .other i r q l m (λ x. n (left i r q x));
       }
     where
-      go : (i r q : ℕ) → i < 64 → r < maxRules → fitIn t i r q ≡ false
+      go : (i r q : ℕ) → i < maxInput → r < maxRules → fitIn t i r q ≡ false
           → (first i r q × (second i r q → ⊥)) ⊎ (second i r q × (first i r q → ⊥)) → fitIn t'' i r q ≡ fitsPlace w (symbolIn p r q) i
       go i r q l m e (inl x) = b .other i r q l m (x .1) ∙ a .here i r q l m (x .0) e
       go i r q l m e (inr x) = b .here i r q l m (x .0) (a .other i r q l m (x .1) ∙ e)
 
   -- ---- one entry
 
-  module _ (r q i : ℕ) (below : r < 128) (low : i < 64) (t : List ℕ) (long : length t ≡ fitSize) where
+  module _ (r q i : ℕ) (below : r < maxRules) (low : i < maxInput) (t : List ℕ) (long : length t ≡ fitSize) where
     pub unfit : (b : Bool) → b ≡ fitsPlace w (symbolIn p r q) i → b ≡ false → Put p w (At i r q) t t
     unfit b e f =
         record {
@@ -72,11 +72,11 @@ module _ (p w : List ℕ) where
             other = λ a s j. other a s j (ℕ-discrete (maxRules * a + s) (maxRules * i + r));
           }
         where
-          here : (a s j : ℕ) → a < 64 → s < maxRules → At i r q a s j → fitIn t a s j ≡ false
+          here : (a s j : ℕ) → a < maxInput → s < maxRules → At i r q a s j → fitIn t a s j ≡ false
               → fitIn new a s j ≡ fitsPlace w (symbolIn p s j) a
           here a s j l m (x, y, z) _ = rw (x, y, z) (ap (has q) (new-here ∙ g) ∙ has-insert-same q (entryIn t i r) ∙ sym f ∙ e)
 
-          other : (a s j : ℕ) → Dec (maxRules * a + s ≡ maxRules * i + r) → a < 64 → s < maxRules → (At i r q a s j → ⊥)
+          other : (a s j : ℕ) → Dec (maxRules * a + s ≡ maxRules * i + r) → a < maxInput → s < maxRules → (At i r q a s j → ⊥)
               → fitIn new a s j ≡ fitIn t a s j
           other a s j (yes d) l m n =
               let x : a ≡ i = omega arith in

@@ -8,7 +8,7 @@ use native.Mathlib.Decide.{ℕ-discrete, decLt}
 use native.Mathlib.Omega.{arith}
 use lib.ListN.{length, replicate, length-replicate}
 use borrow.Author.Tests.{le-ltb}
-use Rattle.sizes.specs.Sizes.{maxRules}
+use Rattle.sizes.specs.Sizes.{maxRules, maxInput}
 use Rattle.laws.proofs.Lists.{zeros-at}
 use Rattle.sets.specs.Set.{has}
 use Rattle.sets.proofs.Laws.{has-empty}
@@ -129,7 +129,7 @@ module _ (p w : List ℕ) (n : ℕ) where
   pub table-done : (k rules r : ℕ) (t : List ℕ) → rules ≤ r → Used p rules → Positions (length w) n → TableTo k r t → Told p w t
   table-done k rules r t h used positions to = record { long = to .put .long; exact = λ i s q l m c. go i s q l m c (decLt i n) }
     where
-      go : (i s q : ℕ) → i < 64 → s < 128 → q < countIn p s → Dec (i < n) → fitIn t i s q ≡ fitsPlace w (symbolIn p s q) i
+      go : (i s q : ℕ) → i < maxInput → s < maxRules → q < countIn p s → Dec (i < n) → fitIn t i s q ≡ fitsPlace w (symbolIn p s q) i
       go i s q l m c (yes d) =
           let b : s < rules = used s m (places-used p s q c) in
           to .put .here i s q l m (d, omega arith, c) (zero-fit k i s q)

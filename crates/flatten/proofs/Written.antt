@@ -8,6 +8,7 @@ use lib.Seq.{take-all}
 use mir.Syntax.{w16}
 use mir.Val.{SFits, toZ, ofZ}
 use mir.Facts.{toZ-ofZ}
+use Rattle.sizes.specs.Sizes.{maxRules, maxPlaces}
 use Rattle.grammar.specs.declared.Place.{Place}
 use Rattle.grammar.specs.declared.Rule.{Rule}
 use Rattle.grammar.specs.declared.Grammar.{Grammar}
@@ -57,7 +58,8 @@ place-done p at f t v h n et ev =
 
 module _ (ρ : Rule) (at : ℕ) (low : at + ruleNumbers ≤ flatSize) where
   -- the whole rule
-  pub rule-done : (f₀ f : List ℕ) (u k q : ℕ) → length f₀ ≡ flatSize → length (ρ .places) ≡ 8 → SFits w16 (ρ .length) → q ≤ 8 → 8 ≤ q
+  pub rule-done : (f₀ f : List ℕ) (u k q : ℕ) → length f₀ ≡ flatSize → length (ρ .places) ≡ maxPlaces → SFits w16 (ρ .length)
+      → q ≤ maxPlaces → maxPlaces ≤ q
       → u ≡ unsignedOf (toZ w16 (ofZ w16 (ρ .length))) → k ≡ saturated (ρ .count)
       → Written flatPlace 2 (at + 3) (ρ .places) (set (set (set f₀ at (ρ .left)) (at + 1) u) (at + 2) k) q f
       → take (at + ruleNumbers) f ≡ take at f₀ ++ flatRule ρ
@@ -72,7 +74,8 @@ module _ (ρ : Rule) (at : ℕ) (low : at + ruleNumbers ≤ flatSize) where
 
 -- ---- a grammar
 
-pub grammar-done : (g : Grammar) (f₀ f : List ℕ) (k r : ℕ) → length f₀ ≡ flatSize → length (g .rules) ≡ 128 → r ≤ 128 → 128 ≤ r
+pub grammar-done : (g : Grammar) (f₀ f : List ℕ) (k r : ℕ) → length f₀ ≡ flatSize → length (g .rules) ≡ maxRules → r ≤ maxRules
+    → maxRules ≤ r
     → k ≡ saturated (g .count)
     → Written flatRule ruleNumbers 3 (g .rules) (set (set (set f₀ 0 (g .start)) 1 k) 2 (g .depth)) r f
     → f ≡ flatOf g

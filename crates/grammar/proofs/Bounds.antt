@@ -10,6 +10,7 @@ use mathlib.Core.Path.{_≡_, sym, ap, subst, _∙_}
 use lib.Dec.{leb}
 use lib.ListN.{take, getD, getElem?}
 use borrow.Author.Tests.{leb-true}
+use Rattle.sizes.specs.Sizes.{maxRules, maxPlaces}
 use Rattle.laws.proofs.Bools.{and-parts, and-parts₃, clash}
 use Rattle.cfg.specs.Grammar as Abstract
 use Rattle.cfg.specs.Grammar.{joined, Of}
@@ -26,24 +27,25 @@ use Rattle.grammar.proofs.Laws.{noRule-valid}
 
 -- ---- the parts of check 8
 
-pub rule-parts : (ρ : Rule) → validRule ρ ≡ true → (ρ .left ≤ 31) × (ρ .count ≤ 8) × (all validPlace (take (ρ .count) (ρ .places)) ≡ true)
+pub rule-parts : (ρ : Rule) → validRule ρ ≡ true
+    → (ρ .left ≤ 31) × (ρ .count ≤ maxPlaces) × (all validPlace (take (ρ .count) (ρ .places)) ≡ true)
 unfolding validRule
 rule-parts ρ v =
     let p = and-parts₃ (leb (ρ .left) 31) (leb (ρ .count) 8) (all validPlace (take (ρ .count) (ρ .places))) v in
     (leb-true (ρ .left) 31 (p .0), leb-true (ρ .count) 8 (p .1), p .2)
 
 pub grammar-parts : (g : Grammar) → validGrammar g ≡ true
-    → (g .start ≤ 31) × (g .count ≤ 128) × (all validRule (take (g .count) (g .rules)) ≡ true)
+    → (g .start ≤ 31) × (g .count ≤ maxRules) × (all validRule (take (g .count) (g .rules)) ≡ true)
 unfolding validGrammar
 grammar-parts g v =
-    let p = and-parts₃ (leb (g .start) 31) (leb (g .count) 128) (all validRule (take (g .count) (g .rules))) v in
-    (leb-true (g .start) 31 (p .0), leb-true (g .count) 128 (p .1), p .2)
+    let p = and-parts₃ (leb (g .start) 31) (leb (g .count) maxRules) (all validRule (take (g .count) (g .rules))) v in
+    (leb-true (g .start) 31 (p .0), leb-true (g .count) maxRules (p .1), p .2)
 
 module _ (g : Grammar) (valid : validGrammar g ≡ true) where
   pub valid-start : g .start < 32
   valid-start = omega (arith, grammar-parts g valid .0)
 
-  pub valid-count : g .count ≤ 128
+  pub valid-count : g .count ≤ maxRules
   valid-count = grammar-parts g valid .1
 
   module _ (i : ℕ) (used : i < g .count) where

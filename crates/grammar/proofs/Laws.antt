@@ -8,6 +8,7 @@ use mathlib.Core.Path.{_≡_, refl, sym, ap, _∙_}
 use lib.Dec.{leb}
 use lib.ListN.{replicate, take, getD}
 use borrow.Author.Tests.{lt-leb, le-leb, not-true, not-false}
+use Rattle.sizes.specs.Sizes.{maxRules, maxPlaces}
 use Rattle.grammar.specs.declared.Symbol.the-variants.{Nonterminal}
 use Rattle.grammar.specs.declared.Place.{Place}
 use Rattle.grammar.specs.declared.Rule.{Rule}
@@ -21,14 +22,14 @@ use Rattle.grammar.proofs.All.{all-more, all-refuses}
 
 -- a rule of zeros whose places all hold p
 abbrev pub ruleAll : Place → Rule
-ruleAll p = setPlaces zeroRule (replicate 8 p)
+ruleAll p = setPlaces zeroRule (replicate maxPlaces p)
 
 pub zero-rule-of : (p : Place) → p ≡ zeroPlace → ruleAll p ≡ zeroRule
 zero-rule-of p e = ap ruleAll e
 
 -- a grammar of zeros whose rules are all r
 abbrev pub grammarAll : Rule → Grammar
-grammarAll r = setRules zeroGrammar (replicate 128 r)
+grammarAll r = setRules zeroGrammar (replicate maxRules r)
 
 pub zero-grammar-of : (r : Rule) → r ≡ zeroRule → grammarAll r ≡ zeroGrammar
 zero-grammar-of r e = ap grammarAll e
@@ -52,7 +53,7 @@ module _ (r : Rule) where
   unfolding validRule
   rule-left h = simp (lt-leb (r .left) 31 h)
 
-  pub rule-count : 8 < r .count → false ≡ validRule r
+  pub rule-count : maxPlaces < r .count → false ≡ validRule r
   unfolding validRule
   rule-count h = simp (lt-leb (r .count) 8 h, and-false)
 
@@ -60,7 +61,7 @@ module _ (r : Rule) where
   unfolding validRule
   rule-place q b e t h = simp (all-refuses validPlace zeroPlace refl (r .places) (r .count) q h (sym e ∙ not-true b t), and-false)
 
-  pub rule-passes : (q : ℕ) → q ≤ r .count → r .count ≤ 8 → r .left ≤ 31 → all validPlace (take q (r .places)) ≡ true → r .count ≤ q
+  pub rule-passes : (q : ℕ) → q ≤ r .count → r .count ≤ maxPlaces → r .left ≤ 31 → all validPlace (take q (r .places)) ≡ true → r .count ≤ q
       → true ≡ validRule r
   unfolding validRule
   rule-passes q h k l e m =
@@ -72,17 +73,18 @@ module _ (g : Grammar) where
   unfolding validGrammar
   grammar-start h = simp (lt-leb (g .start) 31 h)
 
-  pub grammar-count : 128 < g .count → false ≡ validGrammar g
+  pub grammar-count : maxRules < g .count → false ≡ validGrammar g
   unfolding validGrammar
-  grammar-count h = simp (lt-leb (g .count) 128 h, and-false)
+  grammar-count h = simp (lt-leb (g .count) maxRules h, and-false)
 
   pub grammar-rule : (i : ℕ) (b : Bool) → b ≡ validRule (getD (g .rules) i noRule) → not b ≡ true → i < g .count → false ≡ validGrammar g
   unfolding validGrammar
   grammar-rule i b e t h = simp (all-refuses validRule noRule noRule-valid (g .rules) (g .count) i h (sym e ∙ not-true b t), and-false)
 
-  pub grammar-passes : (i : ℕ) → i ≤ g .count → g .count ≤ 128 → g .start ≤ 31 → all validRule (take i (g .rules)) ≡ true → g .count ≤ i
+  pub grammar-passes : (i : ℕ) → i ≤ g .count → g .count ≤ maxRules → g .start ≤ 31 → all validRule (take i (g .rules)) ≡ true
+      → g .count ≤ i
       → true ≡ validGrammar g
   unfolding validGrammar
   grammar-passes i h k l e m =
       let a : all validRule (take (g .count) (g .rules)) ≡ true = rw (le-antisymm m h) e in
-      simp (le-leb (g .start) 31 l, le-leb (g .count) 128 k, a)
+      simp (le-leb (g .start) 31 l, le-leb (g .count) maxRules k, a)

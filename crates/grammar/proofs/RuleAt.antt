@@ -8,6 +8,7 @@ use mathlib.Core.List.{List, [], _∷_, map}
 use mathlib.Core.Option.{none, some}
 use mathlib.Core.Path.{_≡_, refl, ap}
 use lib.ListN.{length, take, getD, getElem?}
+use Rattle.sizes.specs.Sizes.{maxRules}
 use Rattle.cfg.specs.Grammar.{joined, rule}
 use Rattle.grammar.specs.declared.Grammar.{Grammar}
 use Rattle.grammar.specs.Valid.{validGrammar}
@@ -28,7 +29,7 @@ module _ {A B : Type 0} (f : A → B) where
   getElem-map-past (a ∷ l) (suc n) zero h = absurd (not-suc-le-zero h)
   getElem-map-past (a ∷ l) (suc n) (suc r) h = getElem-map-past l n r (le-of-suc-le-suc h)
 
-pub rule-at : (g : Grammar) (r : ℕ) → length (g .rules) ≡ 128 → validGrammar g ≡ true → r < g .count
+pub rule-at : (g : Grammar) (r : ℕ) → length (g .rules) ≡ maxRules → validGrammar g ≡ true → r < g .count
     → rule (grammarOf g) r ≡ ruleOf (getD (g .rules) r noRule)
 unfolding joined
 rule-at g r e v h =

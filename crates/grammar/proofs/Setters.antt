@@ -12,6 +12,7 @@ use borrow.Author.Tests.{le-leb}
 use mir.Syntax.{w16}
 use mir.Val.{SFits, toZ, ofZ}
 use mir.Facts.{toZ-ofZ}
+use Rattle.sizes.specs.Sizes.{maxRules, maxPlaces}
 use Rattle.grammar.specs.declared.Symbol.{Symbol}
 use Rattle.grammar.specs.declared.Place.{Place}
 use Rattle.grammar.specs.declared.Rule.{Rule}
@@ -34,10 +35,10 @@ grammar-same g h start count depth rules = λ i. record { start = start i; count
 
 -- a rule whose length went through a local, and whose places are all p
 pub opened-of : (k : ℕ) (y z : ℤ) (p : Place) → z ≡ y → SFits w16 z → p ≡ zeroPlace
-    → ruleWith k (toZ w16 (ofZ w16 z)) 0 (replicate 8 p) ≡ openedRule k y
-opened-of k y z p f s e = ap₂ (λ (l : ℤ) (m : Place). ruleWith k l 0 (replicate 8 m)) (toZ-ofZ s ∙ f) e
+    → ruleWith k (toZ w16 (ofZ w16 z)) 0 (replicate maxPlaces p) ≡ openedRule k y
+opened-of k y z p f s e = ap₂ (λ (l : ℤ) (m : Place). ruleWith k l 0 (replicate maxPlaces m)) (toZ-ofZ s ∙ f) e
 
-valid-rule-of : (r : Rule) → r .left ≤ 31 → r .count ≤ 8 → all validPlace (take (r .count) (r .places)) ≡ true → validRule r ≡ true
+valid-rule-of : (r : Rule) → r .left ≤ 31 → r .count ≤ maxPlaces → all validPlace (take (r .count) (r .places)) ≡ true → validRule r ≡ true
 unfolding validRule
 valid-rule-of r h k e = simp (le-leb (r .left) 31 h, le-leb (r .count) 8 k, e)
 
@@ -45,7 +46,8 @@ pub opened-valid : (k : ℕ) (z : ℤ) → k ≤ 31 → validRule (openedRule k 
 unfolding all
 opened-valid k z h = valid-rule-of (openedRule k z) h (omega arith) refl
 
-pub placed-valid : (r : Rule) (s : Symbol) → validRule r ≡ true → r .count < 8 → validSymbol s ≡ true → validRule (placedRule r s) ≡ true
+pub placed-valid : (r : Rule) (s : Symbol) → validRule r ≡ true → r .count < maxPlaces → validSymbol s ≡ true
+    → validRule (placedRule r s) ≡ true
 placed-valid r s v h e =
     let p = rule-parts r v in
     let a = all-set validPlace (r .places) (r .count) (record { symbol = s }) (p .2) e in
@@ -53,10 +55,10 @@ placed-valid r s v h e =
 
 -- ---- grammars
 
-valid-grammar-of : (g : Grammar) → g .start ≤ 31 → g .count ≤ 128 → all validRule (take (g .count) (g .rules)) ≡ true
+valid-grammar-of : (g : Grammar) → g .start ≤ 31 → g .count ≤ maxRules → all validRule (take (g .count) (g .rules)) ≡ true
     → validGrammar g ≡ true
 unfolding validGrammar
-valid-grammar-of g h k e = simp (le-leb (g .start) 31 h, le-leb (g .count) 128 k, e)
+valid-grammar-of g h k e = simp (le-leb (g .start) 31 h, le-leb (g .count) maxRules k, e)
 
 module _ (g : Grammar) (v : validGrammar g ≡ true) where
   pub set-start-valid : (k : ℕ) → k ≤ 31 → validGrammar (setStart g k) ≡ true
@@ -68,7 +70,7 @@ module _ (g : Grammar) (v : validGrammar g ≡ true) where
 
   module _ (r : Rule) (w : validRule r ≡ true) where
     -- one rule more, after those that are used
-    pub next-rule-valid : g .count < 128 → validGrammar (setCount (setRule g (g .count) r) (g .count + 1)) ≡ true
+    pub next-rule-valid : g .count < maxRules → validGrammar (setCount (setRule g (g .count) r) (g .count + 1)) ≡ true
     next-rule-valid m =
         let p = grammar-parts g v in
         let a = all-set validRule (g .rules) (g .count) r (p .2) w in

@@ -1,5 +1,5 @@
--- A rule and a grammar with one field changed. Definitions and proofs outside this crate make and change both by these and by the zeros, and
--- spell no record out, so that a new field moves nothing else. Assumes nothing.
+-- A rule and a grammar with one field changed. Definitions and proofs outside this crate make and change both by these and by the zeros:
+-- they spell no record out, so a new field moves nothing else. Assumes nothing.
 use Prim.Native.Nat.{ℕ, _+_}
 use mathlib.Core.List.{List}
 use lib.IntN.{ℤ}

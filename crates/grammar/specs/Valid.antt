@@ -4,6 +4,7 @@ use mathlib.Core.Bool.{Bool, true, _&&_}
 use mathlib.Core.List.{List, [], _∷_}
 use lib.Dec.{leb}
 use lib.ListN.{take}
+use Rattle.sizes.specs.Sizes.{maxRules}
 use Rattle.grammar.specs.declared.Symbol.{Symbol}
 use Rattle.grammar.specs.declared.Symbol.the-variants.{Nonterminal, Terminal}
 use Rattle.grammar.specs.declared.Place.{Place}
@@ -30,4 +31,4 @@ validRule r = leb (r .left) 31 && leb (r .count) 8 && all validPlace (take (r .c
 
 -- per grammar: its start symbol, its count, and its used rules
 unfoldable pub validGrammar : Grammar → Bool
-validGrammar g = leb (g .start) 31 && leb (g .count) 128 && all validRule (take (g .count) (g .rules))
+validGrammar g = leb (g .start) 31 && leb (g .count) maxRules && all validRule (take (g .count) (g .rules))

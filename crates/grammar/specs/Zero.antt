@@ -2,6 +2,7 @@
 use mathlib.Core.List.{[]}
 use lib.IntN.{pos}
 use lib.ListN.{replicate}
+use Rattle.sizes.specs.Sizes.{maxRules, maxPlaces}
 use Rattle.grammar.specs.declared.Symbol.the-variants.{Nonterminal}
 use Rattle.grammar.specs.declared.Place.{Place}
 use Rattle.grammar.specs.declared.Rule.{Rule}
@@ -13,11 +14,11 @@ zeroPlace = record { symbol = Nonterminal 0 }
 
 -- an unused rule record
 abbrev pub zeroRule : Rule
-zeroRule = record { left = 0; length = pos 0; count = 0; places = replicate 8 zeroPlace }
+zeroRule = record { left = 0; length = pos 0; count = 0; places = replicate maxPlaces zeroPlace }
 
 -- the grammar of a book without rules: what a refused book leaves
 abbrev pub zeroGrammar : Grammar
-zeroGrammar = record { start = 0; count = 0; depth = 0; rules = replicate 128 zeroRule }
+zeroGrammar = record { start = 0; count = 0; depth = 0; rules = replicate maxRules zeroRule }
 
 -- what a read past the end of an array of rules is taken for
 abbrev pub noRule : Rule

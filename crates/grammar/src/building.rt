@@ -1,5 +1,5 @@
-// The rules of a grammar that is read: a rule as command 20 opens it, and with the place that commands 30 and 40 add. The loader stores them
-// in the grammar in place; the setters of specs/ say what such a store changes.
+// The rules of a grammar that is read: a rule as command 20 opens it, and with the place that commands 30 and 40 add. The loader stores
+// them in the grammar in place; the setters of specs/ say what such a store changes.
 use super::Place;
 use super::Rule;
 use super::Symbol;

@@ -7,7 +7,7 @@ use native.Mathlib.Omega.{arith}
 use lib.Dec.{leb}
 use lib.ListN.{length, getD}
 use borrow.Author.Tests.{leb-false}
-use Rattle.sizes.specs.Sizes.{maxRules, maxNodes, outputSize}
+use Rattle.sizes.specs.Sizes.{maxRules, maxNodes, outputSize, maxInput}
 use Rattle.sets.specs.Set.{empty}
 use Rattle.cfg.specs.Listing.{L}
 use Rattle.costs.specs.Span.{bytesOf, Least, Tree as SpanTree}
@@ -67,7 +67,7 @@ module _ (p : List ℕ) (rules : ℕ) (fits chart tables : List ℕ) (s n : ℕ)
 
 -- ---- the tables of an input are right for it
 
-pub built : (p w : List ℕ) (rules : ℕ) (fits chart tables : List ℕ) → length w ≤ 64 → Told p w fits
+pub built : (p w : List ℕ) (rules : ℕ) (fits chart tables : List ℕ) → length w ≤ maxInput → Told p w fits
     → ChartTrue p (bytesOf w) chart (length w) → (rules ≤ maxRules) × Used p rules → Tabulated p rules fits chart (length w) tables
     → (rules ≤ maxRules) × Given p rules fits chart tables w
 built p w rules fits chart tables h told cells (few, used) T =

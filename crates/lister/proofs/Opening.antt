@@ -44,7 +44,7 @@ text-listed lengths x (e ∷ l) h = refl
 
 -- ---- what is handed out
 
-handed-length : (d out₀ out : List ℕ) → length d ≤ 1024 → outputSize ≤ length out₀ → out ≡ d ++ drop (length d) out₀
+handed-length : (d out₀ out : List ℕ) → length d ≤ outputSize → outputSize ≤ length out₀ → out ≡ d ++ drop (length d) out₀
     → length out ≡ length out₀
 handed-length d out₀ out h k e =
     let a = ap length e ∙ length-append d (drop (length d) out₀) in

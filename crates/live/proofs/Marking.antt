@@ -7,7 +7,8 @@ use native.Mathlib.Decide.{ℕ-discrete}
 use native.Mathlib.Omega.{arith}
 use lib.ListN.{length, set, getD, length-set}
 use lib.Seq.{getD-set-same, getD-set-other}
-use Rattle.sizes.specs.Sizes.{tooMany}
+use Rattle.tables.specs.Layout.{rowsSize}
+use Rattle.sizes.specs.Sizes.{tooMany, maxRules, side, maxPlaces}
 use Rattle.sets.specs.Set.{has, insert}
 use Rattle.sets.specs.Pairs.{Common, FirstMember}
 use Rattle.sets.proofs.Laws.{has-insert, has-insert-same}
@@ -37,8 +38,8 @@ module _ (p : List ℕ) (r i : ℕ) (rows : List ℕ) where
 
 -- ---- marking it
 
-module _ (p : List ℕ) (r i : ℕ) (rows live : List ℕ) (h : length live ≡ 128) where
-  module _ (l : r < 128) {w : ℕ} (e : w ≡ insert i (getD live r 0)) where
+module _ (p : List ℕ) (r i : ℕ) (rows live : List ℕ) (h : length live ≡ maxRules) where
+  module _ (l : r < maxRules) {w : ℕ} (e : w ≡ insert i (getD live r 0)) where
     -- a member is there still
     still : (s c : ℕ) → Dec (s ≡ r) → liveIn (set live r w) s c ≡ false → (b : Bool) → liveIn live s c ≡ b → liveIn live s c ≡ false
     still s c d f false g = g
@@ -69,8 +70,9 @@ module _ (p : List ℕ) (r i : ℕ) where
   pub none-start : (rows : List ℕ) → NoneBefore p r i 0 rows rows
   none-start rows = record { long = refl; other = λ n d. refl; here = λ s l. absurd (omega arith) }
 
-  pub none-step : (q : ℕ) (rows₀ rows : List ℕ) {m v : ℕ} → m ≡ countIn p r → m ≤ 8 → q ≤ m → r < 128 → i < 65 → length rows ≡ allRows
-      → v ≡ tooMany → NoneBefore p r i q rows₀ rows → NoneBefore p r i (q + 1) rows₀ (set rows (585 * r + 65 * q + i) v)
+  pub none-step : (q : ℕ) (rows₀ rows : List ℕ) {m v : ℕ} → m ≡ countIn p r → m ≤ maxPlaces → q ≤ m → r < maxRules → i < side
+      → length rows ≡ allRows
+      → v ≡ tooMany → NoneBefore p r i q rows₀ rows → NoneBefore p r i (q + 1) rows₀ (set rows (rowsSize * r + side * q + i) v)
   none-step q rows₀ rows {m} {v} e b h l k o f S = record {
     long = length-set rows (placeAt r q i) v ∙ S .long;
     other = λ n d. getD-set-other rows (placeAt r q i) n v 0 (d q (omega arith)) ∙ S .other n d;

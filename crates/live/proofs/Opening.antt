@@ -5,10 +5,10 @@ use mathlib.Core.List.{List}
 use mathlib.Core.Path.{_≡_, refl}
 use native.Mathlib.Omega.{arith}
 use lib.ListN.{length, getD}
-use Rattle.sizes.specs.Sizes.{tooMany}
+use Rattle.sizes.specs.Sizes.{tooMany, maxRules}
 use Rattle.sets.specs.Set.{has}
 use Rattle.reach.specs.Reach.{CanBegin}
-use Rattle.tables.specs.Layout.{costIn}
+use Rattle.tables.specs.Layout.{costIn, rowsSize}
 use Rattle.suffixes.specs.Within.{EndsPassed}
 use Rattle.suffixes.specs.Rows.{StartPut}
 use Rattle.writes.specs.Writes.{placeAt, Nothing}
@@ -18,7 +18,7 @@ use Rattle.live.proofs.Passed.{passed-over}
 module _ (p : List ℕ) (r : ℕ) (fits tables full : List ℕ) (i j : ℕ) (rows₀ live₀ : List ℕ) where
   -- the ends behind i and before the first that is in both sets cost too many, or the places behind from there on
   passed : {reach from : ℕ} → FirstEnd i reach (getD live₀ r 0) from → Reached tables reach i j → LiveTold p r i j rows₀ live₀
-      → EndsPassed p r tables i from j rows₀ (585 * r)
+      → EndsPassed p r tables i from j rows₀ (rowsSize * r)
   passed {reach} E R L q z h k c x y w = go (has c reach) refl
     where
       go : (b : Bool) → has c reach ≡ b → tooMany ≤ costIn tables k i c + getD rows₀ (placeAt r q c) 0
@@ -26,7 +26,7 @@ module _ (p : List ℕ) (r : ℕ) (fits tables full : List ℕ) (i j : ℕ) (row
       go false e = let n = R k c x w e in omega arith
 
   pub rule-put : {reach from : ℕ} {rows live : List ℕ} → FirstEnd i reach (getD live₀ r 0) from
-      → StartPut p r fits tables full i i from j (585 * r) rows₀ rows → Marked p r i rows live₀ live
+      → StartPut p r fits tables full i i from j (rowsSize * r) rows₀ rows → Marked p r i rows live₀ live
       → RulePut p r fits tables full reach i j rows₀ live₀ rows live
   rule-put E S M = record {
     long = S .long;
@@ -35,7 +35,7 @@ module _ (p : List ℕ) (r : ℕ) (fits tables full : List ℕ) (i j : ℕ) (row
     marked = M;
   }
 
-  pub rule-passed : (reach : ℕ) {b : Bool} {rows : List ℕ} → i < j → length live₀ ≡ 128 → Nothing full
+  pub rule-passed : (reach : ℕ) {b : Bool} {rows : List ℕ} → i < j → length live₀ ≡ maxRules → Nothing full
       → CanBegin i j reach (getD live₀ r 0) b → b ≡ false → NonePut p r i rows₀ rows
       → RulePut p r fits tables full reach i j rows₀ live₀ rows live₀
   rule-passed reach {rows = rows} l h N P t S = record {

@@ -18,7 +18,7 @@ use Rattle.costs.proofs.Within.{within-whole, within-part}
 use Rattle.packed.specs.Packed.{countIn, placesFrom}
 use Rattle.reach.specs.Reach.{CanBegin}
 use Rattle.reach.proofs.Passing.{cannot-inside, cannot-meet}
-use Rattle.tables.specs.Layout.{costIn, fullIn}
+use Rattle.tables.specs.Layout.{costIn, fullIn, rowsSize}
 use Rattle.suffixes.specs.Within.{tailIn, Inside, LaterStarts}
 use Rattle.writes.specs.Writes.{Nothing}
 use Rattle.live.specs.Live.{liveIn, LiveTold, Reached}
@@ -46,7 +46,7 @@ module _ {fit : Fit} {cost : Cost} {i j : ℕ} {places : List Symbol}
 
 module _ (p : List ℕ) (r : ℕ) (tables full : List ℕ) (reach i j : ℕ) (rows live : List ℕ) (l : i < j) {b : Bool} (fit : Fit)
     (P : CanBegin i j reach (getD live r 0) b) (t : b ≡ false) (N : Nothing full) (R : Reached tables reach i j)
-    (L : LiveTold p r i j rows live) (S : LaterStarts fit p r tables full i i j rows (585 * r)) where
+    (L : LiveTold p r i j rows live) (S : LaterStarts fit p r tables full i i j rows (rowsSize * r)) where
   abbrev costs : Cost
   costs = within i j (fullIn full) (costIn tables)
 

@@ -10,6 +10,7 @@ use lib.ListN.{length, getD}
 use borrow.Author.Tests.{lt-ltb}
 use mir.Syntax.{w64}
 use mir.Val.{Fits}
+use Rattle.sizes.specs.Sizes.{maxRules, maxPlaces}
 use Rattle.numbers.specs.Numbers.{signedIn}
 use Rattle.grammar.specs.declared.Symbol.{Symbol}
 use Rattle.grammar.specs.declared.Rule.{Rule}
@@ -45,10 +46,10 @@ module _ (bytes : List ℕ) (at : ℕ) (t : Turn) (rules places : ℕ) (c : Comm
   pub rule-room : (k low high : ℕ) → c ≡ C.Rule k low high → at + 4 ≤ length bytes
   rule-room k low high e = bounds (C.Rule k low high) e .0
 
-  pub rule-few : (k low high : ℕ) → c ≡ C.Rule k low high → rules < 128
+  pub rule-few : (k low high : ℕ) → c ≡ C.Rule k low high → rules < maxRules
   rule-few k low high e = bounds (C.Rule k low high) e .1
 
-  pub place-few : (s : Symbol) → c ≡ C.Place s → places < 8
+  pub place-few : (s : Symbol) → c ≡ C.Place s → places < maxPlaces
   place-few s e = bounds (C.Place s) e .1
 
   pub place-room : (s : Symbol) → c ≡ C.Place s → at + 2 ≤ length bytes
@@ -69,8 +70,8 @@ pub record Progress (bytes : List ℕ) (at : ℕ) (t : Turn) (g : Grammar) : Typ
   pub reached : (d : ℕ) → run d bytes (suc (length bytes - at)) at g ≡ loadOf bytes d
   pub turn : TurnAt at g t
   pub valid : validGrammar g ≡ true
-  pub few : g .count ≤ 128
-  pub size : length (g .rules) ≡ 128
+  pub few : g .count ≤ maxRules
+  pub size : length (g .rules) ≡ maxRules
 
 pub progress-first : (bytes : List ℕ) (g : Grammar) → g ≡ zeroGrammar → Progress bytes 0 (record { started = false; opened = false }) g
 unfolding loadOf

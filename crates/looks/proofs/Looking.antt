@@ -8,6 +8,7 @@ use lib.Dec.{ltb}
 use lib.ListN.{length, getD, set, length-set}
 use lib.Seq.{getD-set-same, getD-set-other}
 use borrow.Author.Tests.{ltb-true, ne-eqb}
+use Rattle.sizes.specs.Sizes.{maxRules}
 use Rattle.laws.proofs.Bools.{and-parts, true-false}
 use Rattle.sets.specs.Set.{has, insert}
 use Rattle.sets.specs.Pairs.{Common}
@@ -38,8 +39,8 @@ added-nothing p r v own f = go (has 0 v && ltb (leftIn p r) 32) refl
         sym (insert-old (leftIn p r) own (f (ltb-true (leftIn p r) 32 (u .1)) (u .0)))
     go false e = refl
 
-module _ (p : List ℕ) (r start inside last kinds own : ℕ) (flags made : List ℕ) (own-small : own < 2 ^ 32) (below : r < 128)
-    (long : length flags ≡ 128) (made-long : length made ≡ 128) where
+module _ (p : List ℕ) (r start inside last kinds own : ℕ) (flags made : List ℕ) (own-small : own < 2 ^ 32) (below : r < maxRules)
+    (long : length flags ≡ maxRules) (made-long : length made ≡ maxRules) where
   -- the words of rule r written
   module _ (m c v : ℕ) where
     flag-here : getD (set flags r m) r 0 ≡ m

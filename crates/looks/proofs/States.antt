@@ -9,6 +9,7 @@ use native.Mathlib.Omega.{arith}
 use lib.Dec.{ltb}
 use lib.ListN.{length, getD}
 use borrow.Author.Tests.{lt-ltb}
+use Rattle.sizes.specs.Sizes.{maxRules}
 use Rattle.laws.proofs.Bools.{and-both}
 use Rattle.sets.specs.Set.{has, insert}
 use Rattle.sets.proofs.Laws.{has-insert, has-insert-same}
@@ -40,7 +41,7 @@ added-has p r v own l h =
     ∙ has-insert-same (leftIn p r) own
 
 module _ (p : List ℕ) (rules start : ℕ) (insides lasts kinds : List ℕ) where
-  pub state-start : (flags made : List ℕ) → length flags ≡ 128 → length made ≡ 128
+  pub state-start : (flags made : List ℕ) → length flags ≡ maxRules → length made ≡ maxRules
       → State p rules start insides lasts kinds 0 0 flags made
   state-start flags made long made-long =
       record {
@@ -53,7 +54,7 @@ module _ (p : List ℕ) (rules start : ℕ) (insides lasts kinds : List ℕ) whe
 
   -- ---- one rule more, or once more
 
-  module _ (few : rules ≤ 128) (m own r v : ℕ) (flags made flags' made' : List ℕ) (below : r < rules)
+  module _ (few : rules ≤ maxRules) (m own r v : ℕ) (flags made flags' made' : List ℕ) (below : r < rules)
       (state : State p rules start insides lasts kinds m own flags made)
       (put : Put p r start (getD insides r 0) (getD lasts r 0) (getD kinds r 0) own flags made flags' made' v) where
     grown : Within own v
@@ -100,7 +101,7 @@ module _ (p : List ℕ) (rules start : ℕ) (insides lasts kinds : List ℕ) whe
     pub fresh-put : v ≡ own → Agrees (getD kinds r 0) (getD made' r 0) v
     fresh-put e = subst (λ (x : ℕ). Agrees (getD kinds r 0) (getD made' r 0) x) (sym e) (put .agrees)
 
-  pub first-step : (r own v : ℕ) (flags made flags' made' : List ℕ) → rules ≤ 128 → r < rules
+  pub first-step : (r own v : ℕ) (flags made flags' made' : List ℕ) → rules ≤ maxRules → r < rules
       → State p rules start insides lasts kinds r own flags made
       → Put p r start (getD insides r 0) (getD lasts r 0) (getD kinds r 0) own flags made flags' made' v
       → State p rules start insides lasts kinds (r + 1) v flags' made'
@@ -119,7 +120,7 @@ module _ (p : List ℕ) (rules start : ℕ) (insides lasts kinds : List ℕ) whe
       → Passed p rules start insides lasts kinds 0 own own flags made
   again-start own flags made state = record { state = state; grows = omega arith; fresh = λ e r l. absurd (omega arith) }
 
-  pub again-step : (r own v v' : ℕ) (flags made flags' made' : List ℕ) → rules ≤ 128 → r < rules
+  pub again-step : (r own v v' : ℕ) (flags made flags' made' : List ℕ) → rules ≤ maxRules → r < rules
       → Passed p rules start insides lasts kinds r own v flags made
       → Again p r start (getD insides r 0) (getD lasts r 0) (getD kinds r 0) v flags made flags' made' v'
       → Passed p rules start insides lasts kinds (r + 1) own v' flags' made'

@@ -10,6 +10,7 @@ use lib.Signed.{mag}
 use mir.Syntax.{w16, w32}
 use mir.Val.{SFits, toZ, ofZ}
 use mir.Facts.{toZ-ofZ, sfits-widen}
+use Rattle.sizes.specs.Sizes.{maxRules, maxNodes, outputSize}
 use Rattle.grammar.specs.declared.Grammar.{Grammar}
 use Rattle.grammar.specs.declared.Rule.{Rule}
 use Rattle.grammar.specs.View.{lengthsOf}
@@ -44,11 +45,11 @@ module _ (z y : ℤ) (is : y ≡ z) (little : mag y < 32768) (s i : ℕ) (small 
   more-size : mag (toZ w32 s +ℤ z) ≤ 32768 * (i + 1)
   more-size = omega (arith, size, sum-size (toZ w32 s) z)
 
-  pub more-fits : (l : ℕ) → i < l / 2 → l ≤ 1024 → SFits w32 (toZ w32 s +ℤ toZ w32 (ofZ w32 y))
+  pub more-fits : (l : ℕ) → i < l / 2 → l ≤ outputSize → SFits w32 (toZ w32 s +ℤ toZ w32 (ofZ w32 y))
   more-fits l h short =
       subst (λ (x : ℤ). SFits w32 (toZ w32 s +ℤ x)) (sym handed) (fits-32 (toZ w32 s +ℤ z) (omega (arith, more-size)))
 
-  more : (s' : ℕ) → i < 512 → s' ≡ ofZ w32 (toZ w32 s +ℤ toZ w32 (ofZ w32 y)) → toZ w32 s' ≡ toZ w32 s +ℤ z
+  more : (s' : ℕ) → i < maxNodes → s' ≡ ofZ w32 (toZ w32 s +ℤ toZ w32 (ofZ w32 y)) → toZ w32 s' ≡ toZ w32 s +ℤ z
   more s' h e =
       ap (toZ w32) (e ∙ ap (λ (x : ℤ). ofZ w32 (toZ w32 s +ℤ x)) handed) ∙ through (toZ w32 s +ℤ z) (omega (arith, more-size))
 
@@ -76,7 +77,7 @@ module _ (lengthAt : ℕ → ℤ) (e : List ℕ) where
       go (a ∷ []) k = refl
       go (a ∷ b ∷ l) k = absurd (omega arith)
 
-  module _ (i s s' r : ℕ) (h : i < length e / 2) (short : length e ≤ 1024) (number : r ≡ min (getD e (2 * i + 1) 0) 128)
+  module _ (i s s' r : ℕ) (h : i < length e / 2) (short : length e ≤ outputSize) (number : r ≡ min (getD e (2 * i + 1) 0) maxRules)
       (so-far : toZ w32 s +ℤ sum lengthAt (drop (2 * i) e) ≡ sum lengthAt e) (small : mag (toZ w32 s) ≤ 32768 * i) where
     -- what the invariant says after the node
     abbrev Next : Type 0
@@ -91,13 +92,13 @@ module _ (lengthAt : ℕ → ℤ) (e : List ℕ) where
       l,
     )
 
-    pub next-rule : (y : ℤ) → r < 128 → (y ≡ lengthAt r) × (mag y < 32768) → s' ≡ ofZ w32 (toZ w32 s +ℤ toZ w32 (ofZ w32 y)) → Next
+    pub next-rule : (y : ℤ) → r < maxRules → (y ≡ lengthAt r) × (mag y < 32768) → s' ≡ ofZ w32 (toZ w32 s +ℤ toZ w32 (ofZ w32 y)) → Next
     next-rule y low told d =
         let x = more (lengthAt r) y (told .0) (told .1) s i small s' (omega arith) d in
         next r (omega arith) x
         (subst (λ (z : ℤ). mag z ≤ 32768 * (i + 1)) (sym x) (more-size (lengthAt r) y (told .0) (told .1) s i small))
 
-    pub next-none : ((q : ℕ) → 128 ≤ q → lengthAt q ≡ pos 0) → 128 ≤ r → s' ≡ s → Next
+    pub next-none : ((q : ℕ) → maxRules ≤ q → lengthAt q ≡ pos 0) → maxRules ≤ r → s' ≡ s → Next
     next-none beyond high d =
         let q = getD e (2 * i + 1) 0 in
         let none : lengthAt q ≡ pos 0 = beyond q (omega arith) in
@@ -110,7 +111,7 @@ module _ (lengthAt : ℕ → ℤ) (e : List ℕ) where
 -- ---- a row of lengths
 
 -- behind its end there is none
-pub lengths-beyond : (l : List ℤ) → length l ≡ 128 → (q : ℕ) → 128 ≤ q → lengthsIn l q ≡ pos 0
+pub lengths-beyond : (l : List ℤ) → length l ≡ maxRules → (q : ℕ) → maxRules ≤ q → lengthsIn l q ≡ pos 0
 lengths-beyond l full q h = List·getD-eq-default l (pos 0) {n = q} (omega arith)
 
 mapped : (rules : List Rule) (r : ℕ) → getD (map lengthOfRule rules) r (pos 0) ≡ getD rules r noRule .length
@@ -130,7 +131,7 @@ lengths-step l rules r h k e =
     ∙ ap (λ (z : ℤ). take r (map lengthOfRule rules) ++ (z ∷ [])) (sym (mapped rules r))
     ∙ sym (take-suc (map lengthOfRule rules) r (pos 0) m))
 
-pub lengths-done : (l : List ℤ) (rules : List Rule) (r : ℕ) → length l ≡ 128 → length rules ≡ 128 → r ≤ 128 → 128 ≤ r
+pub lengths-done : (l : List ℤ) (rules : List Rule) (r : ℕ) → length l ≡ maxRules → length rules ≡ maxRules → r ≤ maxRules → maxRules ≤ r
     → take r l ≡ take r (map lengthOfRule rules) → l ≡ map lengthOfRule rules
 lengths-done l rules r n m h k e =
     sym (take-all r l (omega arith)) ∙ e ∙ take-all r (map lengthOfRule rules) (omega (arith, length-map rules lengthOfRule))

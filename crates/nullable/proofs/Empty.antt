@@ -9,6 +9,7 @@ use mathlib.Core.Logic.{dite}
 use mathlib.Core.Option.{Option·some-injective, Option·some-ne-none}
 use mathlib.Core.Path.{_≡_, refl, sym, ap, ap₂, _∙_, subst}
 use lib.ListN.{length, take, getD}
+use Rattle.sizes.specs.Sizes.{maxRules}
 use Rattle.laws.proofs.Bools.{true-false, and-parts, and-both}
 use Rattle.cfg.specs.Grammar as Abstract
 use Rattle.cfg.specs.Grammar.{Cfg, nonterminal, terminal, Of}
@@ -75,7 +76,7 @@ unfolding all
 places-has known [] = refl
 places-has known (p ∷ l) = ap₂ (λ (a b : Bool). a && b) (symbol-has known (p .symbol)) (places-has known l)
 
-module _ (g : Grammar) (size : length (g .rules) ≡ 128) (valid : validGrammar g ≡ true) where
+module _ (g : Grammar) (size : length (g .rules) ≡ maxRules) (valid : validGrammar g ≡ true) where
   -- the left side of a rule whose places hold members is nullable
   rule-nullable : (known i : ℕ) → Sound (wholeOf g) known → i < g .count → ruleKnown known (getD (g .rules) i noRule) ≡ true
       → Nullable (wholeOf g) (getD (g .rules) i noRule .left)

@@ -7,6 +7,7 @@ use mathlib.Core.Bool.{true}
 use mathlib.Core.Path.{_≡_, sym, _∙_, subst}
 use lib.ListN.{length, take, getD, length-take}
 use lib.Seq.{getD-take}
+use Rattle.sizes.specs.Sizes.{maxRules}
 use Rattle.laws.proofs.Bools.{true-false}
 use Rattle.sets.proofs.Laws.{has-empty}
 use Rattle.grammar.specs.declared.Grammar.{Grammar}
@@ -33,7 +34,7 @@ searched-first g next e = record {
   passed = e;
 }
 
-module _ (g : Grammar) (size : length (g .rules) ≡ 128) (valid : validGrammar g ≡ true) where
+module _ (g : Grammar) (size : length (g .rules) ≡ maxRules) (valid : validGrammar g ≡ true) where
   pass-sound : (known n : ℕ) → Sound (wholeOf g) known → n ≤ g .count → Sound (wholeOf g) (pass (take n (g .rules)) known)
   unfolding pass
   pass-sound known zero sound h = sound

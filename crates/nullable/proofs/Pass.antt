@@ -9,6 +9,7 @@ use mathlib.Core.List.{List, [], _∷_}
 use mathlib.Core.Path.{_≡_, refl, sym, ap, _∙_}
 use lib.ListN.{length, take, getD}
 use borrow.Author.Tests.{not-true, leb-true}
+use Rattle.sizes.specs.Sizes.{maxRules, maxPlaces}
 use Rattle.laws.proofs.Bools.{and-parts}
 use Rattle.sets.specs.Set.{has, insert}
 use Rattle.sets.proofs.Laws.{insert-le, insert-lt, insert-same→has}
@@ -46,7 +47,7 @@ rule-place-valid r q v h = all-at validPlace zeroPlace refl (r .places) (r .coun
 
 module _ (known : ℕ) (r : Rule) where
   pub rule-stops : (q : ℕ) (b : Bool) → b ≡ placeKnown known (getD (r .places) q zeroPlace) → not b ≡ true → q < r .count
-      → r .count ≤ 8 → length (r .places) ≡ 8 → false ≡ ruleKnown known r
+      → r .count ≤ maxPlaces → length (r .places) ≡ maxPlaces → false ≡ ruleKnown known r
   unfolding ruleKnown
   rule-stops q b e t h m k =
       sym (all-stops (placeKnown known) zeroPlace (r .places) (r .count) q h (omega arith) (sym e ∙ not-true b t))
@@ -116,8 +117,8 @@ pub pass-first : (l : List Rule) (known : ℕ) → known ≡ pass (take 0 l) kno
 unfolding pass
 pass-first l known = refl
 
-pub pass-again : (l : List Rule) (i n known s t : ℕ) → s ≡ pass (take i l) known → t ≡ widen (getD l i noRule) s → i < n → n ≤ 128
-    → length l ≡ 128 → t ≡ pass (take (i + 1) l) known
+pub pass-again : (l : List Rule) (i n known s t : ℕ) → s ≡ pass (take i l) known → t ≡ widen (getD l i noRule) s → i < n → n ≤ maxRules
+    → length l ≡ maxRules → t ≡ pass (take (i + 1) l) known
 pass-again l i n known s t e f h m k = f ∙ ap (widen (getD l i noRule)) e ∙ sym (pass-next l i known (omega arith))
 
 pub pass-last : (l : List Rule) (i n known s : ℕ) → s ≡ pass (take i l) known → i ≤ n → n ≤ i → s ≡ pass (take n l) known

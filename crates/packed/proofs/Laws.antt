@@ -10,6 +10,7 @@ use native.Mathlib.Omega.{arith}
 use lib.Dec.{ltb}
 use lib.ListN.{getElem?, getD}
 use borrow.Author.Tests.{lt-ltb, le-ltb, ltb-true}
+use Rattle.sizes.specs.Sizes.{maxRules, maxPlaces}
 use Rattle.laws.proofs.Bools.{clash}
 use Rattle.cfg.specs.Grammar.{Rule, joined, rule, Of}
 use Rattle.chart.proofs.Derived.{Bounded}
@@ -27,19 +28,19 @@ pub count-unused : (p : List ℕ) (r : ℕ) → 32 ≤ leftIn p r → countIn p 
 unfolding countIn
 count-unused p r h = rw (le-ltb (leftIn p r) 32 h)
 
-pub count-le : (p : List ℕ) (r : ℕ) → countIn p r ≤ 8
+pub count-le : (p : List ℕ) (r : ℕ) → countIn p r ≤ maxPlaces
 count-le p r = dite (decLt (leftIn p r) 32) (λ h. omega (arith, count-used p r h)) (λ h. omega (arith, count-unused p r (omega arith)))
 
 -- what `count` answers: the byte of a rule that is there, 8 where it is larger, and 0 for one that is not
-pub count-small : (p : List ℕ) (r k n : ℕ) → k ≡ leftIn p r → k < 32 → n ≡ getD p (ruleBytes * r + 1) 0 → n < 8
-    → (n ≡ countIn p r) × (n ≤ 8)
+pub count-small : (p : List ℕ) (r k n : ℕ) → k ≡ leftIn p r → k < 32 → n ≡ getD p (ruleBytes * r + 1) 0 → n < maxPlaces
+    → (n ≡ countIn p r) × (n ≤ maxPlaces)
 count-small p r k n e h f l = let c = count-used p r (omega arith) in (omega arith, omega arith)
 
-pub count-large : (p : List ℕ) (r k n : ℕ) → k ≡ leftIn p r → k < 32 → n ≡ getD p (ruleBytes * r + 1) 0 → 8 ≤ n
-    → (8 ≡ countIn p r) × (8 ≤ 8)
+pub count-large : (p : List ℕ) (r k n : ℕ) → k ≡ leftIn p r → k < 32 → n ≡ getD p (ruleBytes * r + 1) 0 → maxPlaces ≤ n
+    → (8 ≡ countIn p r) × (maxPlaces ≤ maxPlaces)
 count-large p r k n e h f l = let c = count-used p r (omega arith) in (omega arith, omega arith)
 
-pub count-none : (p : List ℕ) (r k : ℕ) → k ≡ leftIn p r → 32 ≤ k → (0 ≡ countIn p r) × (0 ≤ 8)
+pub count-none : (p : List ℕ) (r k : ℕ) → k ≡ leftIn p r → 32 ≤ k → (0 ≡ countIn p r) × (0 ≤ maxPlaces)
 count-none p r k e h = let c = count-unused p r (omega arith) in (omega arith, omega arith)
 
 pub places-step : (p : List ℕ) (r q : ℕ) → q < countIn p r
@@ -102,32 +103,32 @@ rules-past p (suc n) a zero h = absurd (omega arith)
 rules-past p (suc n) a (suc r) h = rules-past p n (suc a) r (omega arith)
 
 module _ (s : ℕ) (p : List ℕ) where
-  pub rule-in : (r : ℕ) → r < 128 → rule (cfgIn s p) r ≡ ruleIn p r
+  pub rule-in : (r : ℕ) → r < maxRules → rule (cfgIn s p) r ≡ ruleIn p r
   unfolding cfgIn rulesIn joined
   rule-in r h =
       let e : 0 + r ≡ r = omega arith in
-      ap joined (rules-at p 128 0 r h) ∙ ap (ruleIn p) e
+      ap joined (rules-at p maxRules 0 r h) ∙ ap (ruleIn p) e
 
-  pub rule-in-past : (r : ℕ) → 128 ≤ r → rule (cfgIn s p) r ≡ none
+  pub rule-in-past : (r : ℕ) → maxRules ≤ r → rule (cfgIn s p) r ≡ none
   unfolding cfgIn rulesIn joined
-  rule-in-past r h = ap joined (rules-past p 128 0 r h)
+  rule-in-past r h = ap joined (rules-past p maxRules 0 r h)
 
   -- ---- the rules of a nonterminal
 
   pub of-in : (r k : ℕ) (o : Of (cfgIn s p) r k)
-      → (r < 128) × (leftIn p r ≡ k) × (leftIn p r < 32) × (o .the .places ≡ placesIn p r)
-  of-in r k o = go (decLt r 128)
+      → (r < maxRules) × (leftIn p r ≡ k) × (leftIn p r < 32) × (o .the .places ≡ placesIn p r)
+  of-in r k o = go (decLt r maxRules)
     where
-      go : Dec (r < 128) → (r < 128) × (leftIn p r ≡ k) × (leftIn p r < 32) × (o .the .places ≡ placesIn p r)
+      go : Dec (r < maxRules) → (r < maxRules) × (leftIn p r ≡ k) × (leftIn p r < 32) × (o .the .places ≡ placesIn p r)
       go (yes h) =
           let u = used-rule p r (o .the) (sym (rule-in r h) ∙ o .here) in
           (h, ap (λ (ρ : Rule). ρ .left) (u .1) ∙ o .left, u .0, sym (ap (λ (ρ : Rule). ρ .places) (u .1)))
       go (no h) = absurd (Option·none-ne-some (o .the) (sym (rule-in-past r (omega arith)) ∙ o .here))
 
-  unfoldable pub in-of : (r k : ℕ) → r < 128 → leftIn p r ≡ k → leftIn p r < 32 → Of (cfgIn s p) r k
+  unfoldable pub in-of : (r k : ℕ) → r < maxRules → leftIn p r ≡ k → leftIn p r < 32 → Of (cfgIn s p) r k
   in-of r k h e l = record { the = rowRule p r; here = rule-in r h ∙ rule-used p r l; left = e }
 
-  pub in-of-places : (r k : ℕ) (h : r < 128) (e : leftIn p r ≡ k) (l : leftIn p r < 32) → in-of r k h e l .the .places ≡ placesIn p r
+  pub in-of-places : (r k : ℕ) (h : r < maxRules) (e : leftIn p r ≡ k) (l : leftIn p r < 32) → in-of r k h e l .the .places ≡ placesIn p r
   unfolding in-of
   in-of-places r k h e l = refl
 

@@ -5,9 +5,10 @@ use mathlib.Core.Logic.{_≢_}
 use mathlib.Core.Path.{_≡_, subst}
 use native.Mathlib.Decide.{decLt, ℕ-discrete}
 use native.Mathlib.Omega.{arith}
+use Rattle.sizes.specs.Sizes.{maxRules}
 use Rattle.packed.specs.Packed.{leftIn, Used}
 
-pub used-all : (p : List ℕ) → Used p 128
+pub used-all : (p : List ℕ) → Used p maxRules
 used-all p r h l = h
 
 pub used-fewer : (p : List ℕ) (m k : ℕ) → 0 < m → k ≡ leftIn p (m - 1) → 32 ≤ k → Used p m → Used p (m - 1)
@@ -18,7 +19,7 @@ used-fewer p m k z e h used r l u = go (ℕ-discrete r (m - 1)) (used r l u)
     go (no d) v = let w : r ≢ m - 1 = d in omega arith
 
 -- no number from m on has a rule
-pub used-past : (p : List ℕ) (m : ℕ) → Used p m → (r : ℕ) → m ≤ r → r < 128 → 32 ≤ leftIn p r
+pub used-past : (p : List ℕ) (m : ℕ) → Used p m → (r : ℕ) → m ≤ r → r < maxRules → 32 ≤ leftIn p r
 used-past p m used r h l = go (decLt (leftIn p r) 32)
   where
     go : Dec (leftIn p r < 32) → 32 ≤ leftIn p r

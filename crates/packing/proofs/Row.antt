@@ -10,6 +10,7 @@ use native.Mathlib.Omega.{arith}
 use lib.Dec.{eqb, ltb}
 use lib.ListN.{length, getD, take, drop, set, length-set}
 use lib.Seq.{getD-set-same, getD-set-other, drop-cons}
+use Rattle.sizes.specs.Sizes.{maxRules, maxPlaces}
 use Rattle.cfg.specs.Grammar as Abstract
 use Rattle.grammar.specs.declared.Symbol.{Symbol}
 use Rattle.grammar.specs.declared.Symbol.the-variants.{Nonterminal, Terminal}
@@ -62,7 +63,7 @@ headed-other : (p : List ℕ) (r left count s b : ℕ) → s ≢ r → b < ruleB
 headed-other p r left count s b d h =
     two-other p (ruleBytes * r) left (ruleBytes * r + 1) count (ruleBytes * s + b) (omega arith) (omega arith)
 
-module _ (ρ : Rule) (r : ℕ) (low : r < 128) where
+module _ (ρ : Rule) (r : ℕ) (low : r < maxRules) where
   pub row-start : (p : List ℕ) → length p ≡ packedSize → Row ρ r 0 (headed p r (ρ .left) (ρ .count)) (headed p r (ρ .left) (ρ .count))
   unfolding leftIn
   row-start p e =
@@ -74,7 +75,7 @@ module _ (ρ : Rule) (r : ℕ) (low : r < 128) where
         other = λ s b d h. refl;
       }
 
-  module _ (p₀ p : List ℕ) (q t v : ℕ) (few : q < 8) (row : Row ρ r q p₀ p)
+  module _ (p₀ p : List ℕ) (q t v : ℕ) (few : q < maxPlaces) (row : Row ρ r q p₀ p)
       (et : t ≡ tagOf (getD (ρ .places) q zeroPlace .symbol)) (ev : v ≡ valueOf (getD (ρ .places) q zeroPlace .symbol)) where
     -- the bytes with one more place
     abbrev next : List ℕ
@@ -145,14 +146,14 @@ module _ (p p' : List ℕ) (s : ℕ) (same : (b : ℕ) → b < ruleBytes → get
       let f = byte-same (ruleBytes * s + 1) 1 refl (omega arith) in
       λ i. cond (ltb (e i) 32) (min (f i) 8) 0
 
-  symbol-same : (q : ℕ) → q < 8 → symbolIn p s q ≡ symbolIn p' s q
+  symbol-same : (q : ℕ) → q < maxPlaces → symbolIn p s q ≡ symbolIn p' s q
   unfolding symbolIn isNonterminalIn tagIn terminalIn valueIn
   symbol-same q h =
       let e = byte-same (ruleBytes * s + 2 + 2 * q) (2 + 2 * q) (omega arith) (omega arith) in
       let f = byte-same (ruleBytes * s + 3 + 2 * q) (3 + 2 * q) (omega arith) (omega arith) in
       rw (e, f)
 
-  places-same : (n q : ℕ) → q + n ≤ 8 → placesFrom p s q n ≡ placesFrom p' s q n
+  places-same : (n q : ℕ) → q + n ≤ maxPlaces → placesFrom p s q n ≡ placesFrom p' s q n
   unfolding placesFrom
   places-same zero q h = refl
   places-same (suc n) q h =
@@ -169,7 +170,7 @@ module _ (p p' : List ℕ) (s : ℕ) (same : (b : ℕ) → b < ruleBytes → get
 
 -- ---- the whole rule
 
-module _ (ρ : Rule) (r q : ℕ) (p₀ p : List ℕ) (full : length (ρ .places) ≡ 8) (valid : validRule ρ ≡ true) (h : ρ .count ≤ q)
+module _ (ρ : Rule) (r q : ℕ) (p₀ p : List ℕ) (full : length (ρ .places) ≡ maxPlaces) (valid : validRule ρ ≡ true) (h : ρ .count ≤ q)
     (row : Row ρ r q (headed p₀ r (ρ .left) (ρ .count)) p) where
   count-is : countIn p r ≡ ρ .count
   count-is =

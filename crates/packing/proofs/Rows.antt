@@ -8,6 +8,7 @@ use mathlib.Core.Path.{_≡_, sym, ap, _∙_}
 use native.Mathlib.Decide.{decLt, ℕ-discrete}
 use native.Mathlib.Omega.{arith}
 use lib.ListN.{length, getD, replicate, length-replicate, getD-replicate}
+use Rattle.sizes.specs.Sizes.{maxRules}
 use Rattle.cfg.specs.Grammar.{rule}
 use Rattle.grammar.specs.declared.Grammar.{Grammar}
 use Rattle.grammar.specs.Valid.{validGrammar}
@@ -23,9 +24,9 @@ use Rattle.packed.proofs.Laws.{rule-unused, rule-in, rule-in-past}
 pub record Rows (g : Grammar) (r : ℕ) (p : List ℕ) : Type 0 where
   pub long : length p ≡ packedSize
   pub done : (k : ℕ) → k < r → ruleIn p k ≡ ruleOf (getD (g .rules) k noRule)
-  pub unused : (k : ℕ) → r ≤ k → k < 128 → ruleIn p k ≡ none
+  pub unused : (k : ℕ) → r ≤ k → k < maxRules → ruleIn p k ≡ none
 
-all-unused : (n k : ℕ) → n ≡ packedSize → k < 128 → ruleIn (replicate n 255) k ≡ none
+all-unused : (n k : ℕ) → n ≡ packedSize → k < maxRules → ruleIn (replicate n 255) k ≡ none
 unfolding leftIn
 all-unused n k e h =
     let l : leftIn (replicate n 255) k ≡ 255 = getD-replicate n (ruleBytes * k) 255 0 (omega arith) in
@@ -56,14 +57,14 @@ module _ (g : Grammar) where
               let d : k ≢ r = e in
               put .other k d ∙ rows .done k (omega arith)
 
-      unused : (k : ℕ) → r + 1 ≤ k → k < 128 → ruleIn p' k ≡ none
+      unused : (k : ℕ) → r + 1 ≤ k → k < maxRules → ruleIn p' k ≡ none
       unused k h l = put .other k (omega arith) ∙ rows .unused k (omega arith) l
 
-  pub rows-done : (s r : ℕ) (p : List ℕ) → length (g .rules) ≡ 128 → validGrammar g ≡ true → r ≤ g .count → g .count ≤ r → Rows g r p
+  pub rows-done : (s r : ℕ) (p : List ℕ) → length (g .rules) ≡ maxRules → validGrammar g ≡ true → r ≤ g .count → g .count ≤ r → Rows g r p
       → (k : ℕ) → rule (cfgIn s p) k ≡ rule (grammarOf g) k
-  rows-done s r p full valid h l rows k = go (decLt k (g .count)) (decLt k 128)
+  rows-done s r p full valid h l rows k = go (decLt k (g .count)) (decLt k maxRules)
     where
-      go : Dec (k < g .count) → Dec (k < 128) → rule (cfgIn s p) k ≡ rule (grammarOf g) k
+      go : Dec (k < g .count) → Dec (k < maxRules) → rule (cfgIn s p) k ≡ rule (grammarOf g) k
       go (yes a) b =
           rule-in s p k (omega (arith, valid-count g valid)) ∙ rows .done k (omega arith) ∙ sym (rule-at g k full valid a)
       go (no a) (yes b) =

@@ -3,7 +3,7 @@ use Prim.Native.Nat.{ℕ, suc, _+_, _-_, _≤_, _<_}
 use mathlib.Core.List.{List, [], _∷_}
 use mathlib.Core.Path.{_≡_, sym, ap, subst, _∙_}
 use native.Mathlib.Omega.{arith}
-use Rattle.sizes.specs.Sizes.{tooMany}
+use Rattle.sizes.specs.Sizes.{tooMany, maxPlaces, maxNodes, maxRules}
 use Rattle.sets.specs.Set.{insert}
 use Rattle.cfg.specs.Grammar.{Cfg, Symbol, nonterminal, terminal}
 use Rattle.packed.specs.Packed.{leftIn, countIn, symbolIn, placesFrom, placesIn, cfgIn}
@@ -55,12 +55,12 @@ module _ (p w e : List ℕ) (n cover mask at from to : ℕ) (room : Room w e n c
           fresh = o .fresh;
         }
 
-    pub node-none : (r : ℕ) → Answers (Opens p e n own k (to - from) at) 128 r → 127 < r
+    pub node-none : (r : ℕ) → Answers (Opens p e n own k (to - from) at) maxRules r → 127 < r
         → Answers (Rows (nonterminal k ∷ [])) tooMany tooMany
     node-none r a h =
         none-answers (Rows (nonterminal k ∷ [])) (λ s x. a .none h (opened s x .rule) (opens s (opened s x)))
 
-    pub node-some : (r next passed : ℕ) → Answers (Opens p e n own k (to - from) at) 128 r → r ≤ 127 → passed ≡ insert k own
+    pub node-some : (r next passed : ℕ) → Answers (Opens p e n own k (to - from) at) maxRules r → r ≤ 127 → passed ≡ insert k own
         → Answers (Walked (cfgIn 0 p) w e n (to - from) passed (placesFrom p r 0 (countIn p r - 0)) (at + 1) from to) tooMany next
         → Answers (Rows (nonterminal k ∷ [])) tooMany next
     node-some r next passed a h same b =
@@ -157,7 +157,7 @@ module _ (p w e : List ℕ) (n cover mask at from to : ℕ) (room : Room w e n c
 
     module _ (s : Step) (k c middle : ℕ) (looked : Looked p w e n r q at from to s) (is : s ≡ Node k c)
         (first : Answers (Walked (cfgIn 0 p) w e n cover mask (nonterminal k ∷ []) at from (from + c)) tooMany middle) where
-      pub row-node-none : 512 < middle → Answers (Rows left) tooMany tooMany
+      pub row-node-none : maxNodes < middle → Answers (Rows left) tooMany tooMany
       row-node-none h = none-answers (Rows left) (λ s x. go (subst (Looked p w e n r q at from to) is looked) s x)
         where
           go : Looked p w e n r q at from to (Node k c) → (s : ℕ) → Rows left s → ⊥
@@ -167,7 +167,7 @@ module _ (p w e : List ℕ) (n cover mask at from to : ℕ) (room : Room w e n c
               first .none h (u .middle)
               (subst (λ (z : ℕ). Walked (cfgIn 0 p) w e n cover mask (nonterminal k ∷ []) at from (from + z) (u .middle)) d (u .first))
 
-      pub row-node-some : (next : ℕ) → middle ≤ 512
+      pub row-node-some : (next : ℕ) → middle ≤ maxNodes
           → Answers (Walked (cfgIn 0 p) w e n cover mask later middle (from + c) to) tooMany next → Answers (Rows left) tooMany next
       row-node-some next h a = go (subst (Looked p w e n r q at from to) is looked)
         where
@@ -192,21 +192,22 @@ module _ (p w e : List ℕ) (n cover mask at from to : ℕ) (room : Room w e n c
 
 -- ---- where the walkers stand next
 
-pub byte-room : {p w e : List ℕ} {n r q at from to : ℕ} {s : Step} → Looked p w e n r q at from to s → s ≡ Byte → (q < 8) × (from < to)
+pub byte-room : {p w e : List ℕ} {n r q at from to : ℕ} {s : Step} → Looked p w e n r q at from to s → s ≡ Byte
+    → (q < maxPlaces) × (from < to)
 byte-room {p} {w} {e} {n} {r} {q} {at} {from} {to} looked h = go (subst (Looked p w e n r q at from to) h looked)
   where
-    go : Looked p w e n r q at from to Byte → (q < 8) × (from < to)
+    go : Looked p w e n r q at from to Byte → (q < maxPlaces) × (from < to)
     go (at-byte a y d f) = (omega (arith, count-le p r), d)
 
 pub node-room : {p w e : List ℕ} {n r q at from to k c : ℕ} {s : Step} → Looked p w e n r q at from to s → s ≡ Node k c
-    → (q < 8) × (at < n) × (from + c ≤ to)
+    → (q < maxPlaces) × (at < n) × (from + c ≤ to)
 node-room {p} {w} {e} {n} {r} {q} {at} {from} {to} {k} {c} looked h = go (subst (Looked p w e n r q at from to) h looked)
   where
-    go : Looked p w e n r q at from to (Node k c) → (q < 8) × (at < n) × (from + c ≤ to)
+    go : Looked p w e n r q at from to (Node k c) → (q < maxPlaces) × (at < n) × (from + c ≤ to)
     go (at-node a y d f l) = (omega (arith, count-le p r), d, l)
 
 pub walk-room : {G : Cfg} {w e : List ℕ} {n cover mask at from to middle : ℕ} {places : List Symbol}
-    → Answers (Walked G w e n cover mask places at from to) tooMany middle → middle ≤ 512 → (at ≤ middle) × (middle ≤ n)
+    → Answers (Walked G w e n cover mask places at from to) tooMany middle → middle ≤ maxNodes → (at ≤ middle) × (middle ≤ n)
 walk-room a h =
     let x = a .found (omega arith) in
     let y = x .ends in

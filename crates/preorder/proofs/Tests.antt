@@ -6,6 +6,7 @@ use mathlib.Core.Path.{_≡_, sym, ap, _∙_}
 use native.Mathlib.Omega.{arith}
 use lib.ListN.{length, getD}
 use borrow.Author.Tests.{lt-ltb}
+use Rattle.sizes.specs.Sizes.{maxRules}
 use Rattle.sets.specs.Set.{has}
 use Rattle.cfg.specs.Grammar.{Symbol, nonterminal, terminal, fits}
 use Rattle.chart.specs.Cell.{fitsAt}
@@ -21,34 +22,34 @@ module _ (p e : List ℕ) (n mask k c at : ℕ) where
   abbrev Rules : ℕ → Type 0
   Rules = Opens p e n mask k c at
 
-  none-fits : ((r : ℕ) → Rules r → ⊥) → Answers Rules 128 128
+  none-fits : ((r : ℕ) → Rules r → ⊥) → Answers Rules maxRules maxRules
   none-fits f = record { found = λ h. absurd (omega arith); none = λ _. f }
 
-  pub rule-high : 31 < k → Answers Rules 128 128
+  pub rule-high : 31 < k → Answers Rules maxRules maxRules
   rule-high h = none-fits (λ s o. let l = o .used in omega arith)
 
-  pub rule-late : n ≤ at → Answers Rules 128 128
+  pub rule-late : n ≤ at → Answers Rules maxRules maxRules
   rule-late h = none-fits (λ r o. let l = o .inside in omega arith)
 
-  pub rule-cover : (m : ℕ) → m ≡ getD e (2 * at) 0 → (m ≡ c → ⊥) → Answers Rules 128 128
+  pub rule-cover : (m : ℕ) → m ≡ getD e (2 * at) 0 → (m ≡ c → ⊥) → Answers Rules maxRules maxRules
   rule-cover m h d = none-fits (λ r o. d (h ∙ o .covers))
 
   module _ (r : ℕ) (number : r ≡ getD e (2 * at + 1) 0) where
     same : (s : ℕ) → Rules s → r ≡ s
     same s o = number ∙ o .number
 
-    pub rule-number : 127 < r → Answers Rules 128 128
+    pub rule-number : 127 < r → Answers Rules maxRules maxRules
     rule-number h = none-fits (λ s o. let q = same s o in let l = o .low in omega arith)
 
     module _ (l : ℕ) (left : l ≡ leftIn p r) where
-      pub rule-left : (l ≡ k → ⊥) → Answers Rules 128 128
+      pub rule-left : (l ≡ k → ⊥) → Answers Rules maxRules maxRules
       rule-left d = none-fits (λ s o. d (left ∙ ap (leftIn p) (same s o) ∙ o .left))
 
       module _ (b : Bool) (member : b ≡ has k mask) where
-        pub rule-barred : b ≡ true → Answers Rules 128 128
+        pub rule-barred : b ≡ true → Answers Rules maxRules maxRules
         rule-barred h = none-fits (λ s o. true≢false (sym h ∙ member ∙ o .fresh))
 
-        pub rule-found : (m : ℕ) → m ≡ getD e (2 * at) 0 → at < n → m ≡ c → r ≤ 127 → k ≤ 31 → l ≡ k → b ≡ false → Answers Rules 128 r
+        pub rule-found : (m : ℕ) → m ≡ getD e (2 * at) 0 → at < n → m ≡ c → r ≤ 127 → k ≤ 31 → l ≡ k → b ≡ false → Answers Rules maxRules r
         rule-found m x early y low high z h =
             record {
               found = λ _. record {

@@ -6,6 +6,7 @@ use mathlib.Core.List.{List, _++_}
 use mathlib.Core.Path.{_≡_}
 use lib.ListN.{length, getD, drop}
 use lib.Seq.{slice}
+use Rattle.sizes.specs.Sizes.{maxRules, maxNodes}
 use Rattle.sets.specs.Set.{has}
 use Rattle.cfg.specs.Grammar.{Cfg, Symbol, nonterminal, terminal, Terminal, fits}
 use Rattle.cfg.specs.Tree.{Forest, yield, nodes, code, Fits}
@@ -34,7 +35,7 @@ pub record Answers (P : ℕ → Type 0) (bound r : ℕ) : Type 0 where
 
 -- what the walkers ask of where they stand: e has n nodes, at most 512, and the bytes `from` to `to` are at most `cover` bytes of w
 pub record Room (w e : List ℕ) (n cover at from to : ℕ) : Type 0 where
-  pub few : n ≤ 512
+  pub few : n ≤ maxNodes
   pub long : 2 * n ≤ length e
   pub before : at ≤ n
   pub rising : from ≤ to
@@ -46,7 +47,7 @@ pub record Opens (p e : List ℕ) (n mask k c at r : ℕ) : Type 0 where
   pub inside : at < n
   pub covers : getD e (2 * at) 0 ≡ c
   pub number : getD e (2 * at + 1) 0 ≡ r
-  pub low : r < 128
+  pub low : r < maxRules
   pub used : k < 32
   pub left : leftIn p r ≡ k
   pub fresh : has k mask ≡ false

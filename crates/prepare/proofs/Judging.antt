@@ -4,7 +4,7 @@ use mathlib.Core.Bool.{Bool, true, false, not}
 use mathlib.Core.Path.{_≡_, refl, sym, subst, _∙_}
 use native.Mathlib.Omega.{arith}
 use borrow.Author.Tests.{not-true, not-false}
-use Rattle.sizes.specs.Sizes.{cells, outputSize}
+use Rattle.sizes.specs.Sizes.{cells, outputSize, maxInput}
 use Rattle.grammar.specs.declared.Grammar.{Grammar}
 use Rattle.grammar.specs.declared.Refusal.{Refusal}
 use Rattle.grammar.specs.declared.Refusal.the-variants.{InvalidGrammar, InputLength, ChartTooShort, OutputTooShort}
@@ -27,13 +27,13 @@ module _ (g : Grammar) (n m : ℕ) (v : Bool) (valid : v ≡ validGrammar g) whe
     pub judge-empty : n ≡ 0 → Judging g n m (Refused InputLength)
     judge-empty e = no-input fine e
 
-    pub judge-long : 64 < n → Judging g n m (Refused InputLength)
+    pub judge-long : maxInput < n → Judging g n m (Refused InputLength)
     judge-long l = long-input fine l
 
-    pub judge-room : (n ≡ 0 → ⊥) → n ≤ 64 → m < cells → Judging g n m (Refused ChartTooShort)
+    pub judge-room : (n ≡ 0 → ⊥) → n ≤ maxInput → m < cells → Judging g n m (Refused ChartTooShort)
     judge-room e l r = no-room fine (omega arith) l r
 
-    pub judge-passed : (n ≡ 0 → ⊥) → n ≤ 64 → cells ≤ m → Judging g n m Passed
+    pub judge-passed : (n ≡ 0 → ⊥) → n ≤ maxInput → cells ≤ m → Judging g n m Passed
     judge-passed e l r = passed fine (omega arith) l r
 
 -- for `search`: whichever test a way through the code ends with
@@ -41,10 +41,10 @@ pub ruleset judge-laws = (judge-invalid, judge-empty, judge-long, judge-room, ju
 
 -- once the checks are passed, what filling asks
 pub judged-ready : (g : Grammar) (n m : ℕ) (j : Judged) → Judging g n m j → j ≡ Passed
-    → (validGrammar g ≡ true) × (n ≤ 64) × (cells ≤ m)
+    → (validGrammar g ≡ true) × (n ≤ maxInput) × (cells ≤ m)
 judged-ready g n m j judging h = go (subst (Judging g n m) h judging)
   where
-    go : Judging g n m Passed → (validGrammar g ≡ true) × (n ≤ 64) × (cells ≤ m)
+    go : Judging g n m Passed → (validGrammar g ≡ true) × (n ≤ maxInput) × (cells ≤ m)
     go (passed v a b l) = (v, b, l)
 
 -- ---- and check 11
@@ -65,8 +65,8 @@ pub ruleset judge-output-laws = (judge-before, judge-no-space, judge-space)
 
 -- once these are passed, what filling and writing ask
 pub output-ready : (g : Grammar) (n m k : ℕ) (j : Judged) → JudgingOutput g n m k j → j ≡ Passed
-    → ((validGrammar g ≡ true) × (n ≤ 64) × (cells ≤ m)) × (outputSize ≤ k)
+    → ((validGrammar g ≡ true) × (n ≤ maxInput) × (cells ≤ m)) × (outputSize ≤ k)
 output-ready g n m k j judging h = go (subst (JudgingOutput g n m k) h judging)
   where
-    go : JudgingOutput g n m k Passed → ((validGrammar g ≡ true) × (n ≤ 64) × (cells ≤ m)) × (outputSize ≤ k)
+    go : JudgingOutput g n m k Passed → ((validGrammar g ≡ true) × (n ≤ maxInput) × (cells ≤ m)) × (outputSize ≤ k)
     go (all-passed p l) = (judged-ready g n m Passed p refl, l)

@@ -3,6 +3,7 @@ use Prim.Native.Nat.{ℕ, _≤_}
 use mathlib.Core.List.{List}
 use mathlib.Core.Path.{_≡_, refl, ap, _∙_}
 use lib.ListN.{length}
+use Rattle.sizes.specs.Sizes.{maxInput}
 use Rattle.cfg.specs.Grammar.{rule}
 use Rattle.cfg.specs.Derivation.{limit}
 use Rattle.cfg.specs.Listing.{L}
@@ -26,7 +27,7 @@ module _ (g : Grammar) (p w : List ℕ) (same : (r : ℕ) → rule (cfgIn (g .st
   filled-packed chart chart' e = e ∙ filled-same-rules (cfgIn 0 p) (grammarOf g) same-zero (cfg-in-bounded 0 p) w chart
 
   -- the same from what the fit table tells
-  pub filled-told : (t chart chart' : List ℕ) → length w ≤ 64 → Told p w t
+  pub filled-told : (t chart chart' : List ℕ) → length w ≤ maxInput → Told p w t
       → ((x : List ℕ) → length x ≡ length w → FitTold (fitsAt x) p t (length w) → chart' ≡ filled (cfgIn 0 p) x chart)
       → chart' ≡ filled (grammarOf g) w chart
   filled-told t chart chart' small told fill = filled-packed chart chart' (fill w refl (fit-told p w t (length w) small told))

@@ -6,6 +6,7 @@ use mathlib.Core.Path.{_≡_, sym, ap, _∙_}
 use native.Mathlib.Decide.{ℕ-discrete}
 use native.Mathlib.Omega.{arith}
 use lib.ListN.{length, set, getD, length-set}
+use Rattle.sizes.specs.Sizes.{maxInput, side}
 use Rattle.laws.proofs.Lists.{set-below, below-step}
 use Rattle.sets.specs.Set.{has, insert}
 use Rattle.sets.proofs.Laws.{has-insert-same, has-insert-other}
@@ -32,7 +33,7 @@ module _ (chart : List ℕ) (i : ℕ) where
             S .empty c h (omega arith) (sym (ap (has c) e ∙ has-insert-other c m w d) ∙ f)
 
     -- one without
-    pub from-none : {v : ℕ} → getD chart (65 * i + m) 0 ≡ 0 → v ≡ w → ReachFrom chart i (m + 1) v
+    pub from-none : {v : ℕ} → getD chart (side * i + m) 0 ≡ 0 → v ≡ w → ReachFrom chart i (m + 1) v
     from-none e y = rw y (record {
       empty = λ c h l f. below-step (λ (c : ℕ). i < c → has c w ≡ false → cell chart i c ≡ 0) m
           (λ c l h f. S .empty c h l f) (λ h f. e) c l h f;
@@ -42,10 +43,10 @@ module _ (chart : List ℕ) (i : ℕ) where
   from-end h S = record { empty = λ c l k f. S .empty c l (omega arith) f }
 
 module _ (chart : List ℕ) (n : ℕ) where
-  pub reaches-start : (reach : List ℕ) → length reach ≡ 64 → ReachesBefore chart n 0 reach
+  pub reaches-start : (reach : List ℕ) → length reach ≡ maxInput → ReachesBefore chart n 0 reach
   reaches-start reach e = record { long = e; from = λ i h. absurd (omega arith) }
 
-  pub reaches-step : {m : ℕ} (reach : List ℕ) {w : ℕ} → m < n → n < 65 → ReachesBefore chart n m reach → ReachFrom chart m n w
+  pub reaches-step : {m : ℕ} (reach : List ℕ) {w : ℕ} → m < n → n < side → ReachesBefore chart n m reach → ReachFrom chart m n w
       → ReachesBefore chart n (m + 1) (set reach m w)
   reaches-step {m} reach {w} h l S P = record {
     long = length-set reach m w ∙ S .long;

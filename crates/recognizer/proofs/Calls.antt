@@ -7,7 +7,7 @@ use native.Mathlib.Omega.{arith}
 use lib.ListN.{length, take}
 use lib.Seq.{length-take-le}
 use borrow.Author.Tests.{not-true, not-false, lt-ltb, le-ltb, eq-eqb, ne-eqb}
-use Rattle.sizes.specs.Sizes.{cells}
+use Rattle.sizes.specs.Sizes.{cells, maxInput}
 use Rattle.sets.specs.Set.{has}
 use Rattle.cfg.specs.Grammar.{rule}
 use Rattle.chart.specs.Cell.{cell}
@@ -90,21 +90,21 @@ module _ (g : Grammar) (chart : List ℕ) where
       unfolding takeOf decide
       take-invalid v e = rw v (given-same a (refused 8) k h chart chart e kept refl)
 
-      pub take-over : validGrammar g ≡ true → 64 < h .count → a ≡ refused 14 → given a k chart ≡ takeOf g h m chart
+      pub take-over : validGrammar g ≡ true → maxInput < h .count → a ≡ refused 14 → given a k chart ≡ takeOf g h m chart
       unfolding takeOf decide
-      take-over v o e = rw (v, lt-ltb 64 (h .count) o) (given-same a (refused 14) k h chart chart e kept refl)
+      take-over v o e = rw (v, lt-ltb maxInput (h .count) o) (given-same a (refused 14) k h chart chart e kept refl)
 
-      pub take-short : validGrammar g ≡ true → h .count ≤ 64 → length chart < cells → a ≡ refused 10
+      pub take-short : validGrammar g ≡ true → h .count ≤ maxInput → length chart < cells → a ≡ refused 10
           → given a k chart ≡ takeOf g h m chart
       unfolding takeOf decide
       take-short v o l e =
-          rw (v, le-ltb 64 (h .count) o, lt-ltb (length chart) cells l) (given-same a (refused 10) k h chart chart e kept refl)
+          rw (v, le-ltb maxInput (h .count) o, lt-ltb (length chart) cells l) (given-same a (refused 10) k h chart chart e kept refl)
 
-      pub take-full : validGrammar g ≡ true → h .count ≤ 64 → cells ≤ length chart → h .count ≡ 64 → a ≡ refused 15
+      pub take-full : validGrammar g ≡ true → h .count ≤ maxInput → cells ≤ length chart → h .count ≡ maxInput → a ≡ refused 15
           → given a k chart ≡ takeOf g h m chart
       unfolding takeOf decide
       take-full v o l f e =
-          rw (v, le-ltb 64 (h .count) o, le-ltb (length chart) cells l, eq-eqb (h .count) 64 f)
+          rw (v, le-ltb maxInput (h .count) o, le-ltb (length chart) cells l, eq-eqb (h .count) maxInput f)
           (given-same a (refused 15) k h chart chart e kept refl)
 
     -- the input so far, and the byte
@@ -118,7 +118,7 @@ module _ (g : Grammar) (chart : List ℕ) where
       bytes : take (k .count) (k .bytes) ≡ input
       bytes = ap (λ (s : State). take (s .count) (s .bytes)) next ∙ state-taken input
 
-      pub take-right : (p chart' : List ℕ) → validGrammar g ≡ true → h .count < 64 → cells ≤ length chart
+      pub take-right : (p chart' : List ℕ) → validGrammar g ≡ true → h .count < maxInput → cells ≤ length chart
           → ((r : ℕ) → rule (cfgIn (g .start) p) r ≡ rule (grammarOf g) r)
           → chart' ≡ columnOf p (take (k .count) (k .bytes)) (k .count) chart
           → a ≡ answered (has (g .start) (cell chart' 0 (k .count))) → given a k chart' ≡ takeOf g h m chart
@@ -127,8 +127,8 @@ module _ (g : Grammar) (chart : List ℕ) where
           let c : chart' ≡ extended (grammarOf g) input chart =
           e ∙ ap (λ (x : List ℕ). columnOf p x (k .count) chart) bytes ∙ ap (λ (x : ℕ). columnOf p input x chart) (sym size)
           ∙ extended-same-rules (cfgIn 0 p) (grammarOf g) (same-rules g (g .start) p same) (cfg-in-bounded 0 p) input chart in
-          let d : h .count ≤ 64 = omega arith in
-          rw (v, le-ltb 64 (h .count) d, le-ltb (length chart) cells l, ne-eqb (h .count) 64 (omega arith))
+          let d : h .count ≤ maxInput = omega arith in
+          rw (v, le-ltb maxInput (h .count) d, le-ltb (length chart) cells l, ne-eqb (h .count) maxInput (omega arith))
           (given-same a (answered (complete (grammarOf g) (h .count + 1) (extended (grammarOf g) input chart))) k (stateOf input)
           chart' (extended (grammarOf g) input chart)
           (f ∙ ap (λ (x : ℕ). answered (has (g .start) (cell chart' 0 x))) count

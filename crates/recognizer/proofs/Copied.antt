@@ -6,6 +6,7 @@ use native.Mathlib.Numerals.{add-one}
 use native.Mathlib.Omega.{arith}
 use lib.ListN.{length, getD, take, drop, set, replicate, length-append}
 use lib.Seq.{take-suc, length-take-le}
+use Rattle.sizes.specs.Sizes.{maxInput}
 use Rattle.columns.proofs.Filling.{set-next}
 use Rattle.results.specs.Recognize.{stateWith, stateOf}
 use Rattle.results.proofs.State.{state-is}
@@ -21,24 +22,24 @@ drop-replicate (suc k) (suc m) a =
     let e : m - k ≡ suc m - suc k = omega arith in
     drop-replicate k m a ∙ ap (λ (x : ℕ). replicate x a) e
 
-module _ (old : List ℕ) (long : length old ≡ 64) where
-  pub bytes-step : (i : ℕ) (bytes : List ℕ) → i < 64 → bytes ≡ take i old ++ drop i (replicate 64 0)
-      → set bytes i (getD old i 0) ≡ take (i + 1) old ++ drop (i + 1) (replicate 64 0)
+module _ (old : List ℕ) (long : length old ≡ maxInput) where
+  pub bytes-step : (i : ℕ) (bytes : List ℕ) → i < maxInput → bytes ≡ take i old ++ drop i (replicate maxInput 0)
+      → set bytes i (getD old i 0) ≡ take (i + 1) old ++ drop (i + 1) (replicate maxInput 0)
   bytes-step i bytes h e =
       ap (λ (x : List ℕ). set x i (getD old i 0)) e
-      ∙ set-next (take i old) (replicate 64 0) i (getD old i 0) (length-take-le i old (omega arith)) h
-      ∙ ap (λ (x : List ℕ). x ++ drop (i + 1) (replicate 64 0))
+      ∙ set-next (take i old) (replicate maxInput 0) i (getD old i 0) (length-take-le i old (omega arith)) h
+      ∙ ap (λ (x : List ℕ). x ++ drop (i + 1) (replicate maxInput 0))
       (sym (take-suc old i 0 (omega arith)) ∙ ap (λ (x : ℕ). take x old) (sym (add-one i)))
 
-  pub bytes-done : (i n b : ℕ) (bytes : List ℕ) → i ≤ n → n ≤ i → n < 64 → bytes ≡ take i old ++ drop i (replicate 64 0)
+  pub bytes-done : (i n b : ℕ) (bytes : List ℕ) → i ≤ n → n ≤ i → n < maxInput → bytes ≡ take i old ++ drop i (replicate maxInput 0)
       → stateWith (set bytes n b) (n + 1) ≡ stateOf (take n old ++ (b ∷ []))
   bytes-done i n b bytes h l m e =
       let d : i ≡ n = omega arith in
       let s : length (take n old ++ (b ∷ [])) ≡ n + 1 =
       length-append (take n old) (b ∷ []) ∙ ap (λ (x : ℕ). x + 1) (length-take-le n old (omega arith)) in
-      let q : set bytes n b ≡ (take n old ++ (b ∷ [])) ++ replicate (64 - length (take n old ++ (b ∷ []))) 0 =
-      ap (λ (x : List ℕ). set x n b) (subst (λ (x : ℕ). bytes ≡ take x old ++ drop x (replicate 64 0)) d e)
-      ∙ set-next (take n old) (replicate 64 0) n b (length-take-le n old (omega arith)) m
-      ∙ ap (λ (x : List ℕ). (take n old ++ (b ∷ [])) ++ x) (drop-replicate (n + 1) 64 0)
-      ∙ ap (λ (x : ℕ). (take n old ++ (b ∷ [])) ++ replicate (64 - x) 0) (sym s) in
+      let q : set bytes n b ≡ (take n old ++ (b ∷ [])) ++ replicate (maxInput - length (take n old ++ (b ∷ []))) 0 =
+      ap (λ (x : List ℕ). set x n b) (subst (λ (x : ℕ). bytes ≡ take x old ++ drop x (replicate maxInput 0)) d e)
+      ∙ set-next (take n old) (replicate maxInput 0) n b (length-take-le n old (omega arith)) m
+      ∙ ap (λ (x : List ℕ). (take n old ++ (b ∷ [])) ++ x) (drop-replicate (n + 1) maxInput 0)
+      ∙ ap (λ (x : ℕ). (take n old ++ (b ∷ [])) ++ replicate (maxInput - x) 0) (sym s) in
       state-is (take n old ++ (b ∷ [])) (set bytes n b) (n + 1) q (sym s)

@@ -5,8 +5,9 @@ use mathlib.Core.Path.{_≡_}
 use lib.ListN.{length, length-map}
 use mir.Val.{Val}
 use denote.Laws.{Is}
+use Rattle.sizes.specs.Sizes.{maxInput}
 use Rattle.recognizer.specs.declared.Recognizer as Declared
 use Rattle.recognizer.proofs.Recognizer as R
 
-pub bytes-long : (h : Declared.Recognizer) (vs : List Val) → Is R.the-row h vs → length (h .bytes) ≡ 64
+pub bytes-long : (h : Declared.Recognizer) (vs : List Val) → Is R.the-row h vs → length (h .bytes) ≡ maxInput
 bytes-long h vs known = simp length-map at (known .1 .1 .0 .1 .0 .1)

@@ -5,7 +5,7 @@ use mathlib.Core.List.{List, [], _∷_}
 use mathlib.Core.Path.{_≡_, refl, sym, _∙_}
 use native.Mathlib.Omega.{arith}
 use lib.ListN.{length, replicate, length-replicate}
-use Rattle.sizes.specs.Sizes.{cells}
+use Rattle.sizes.specs.Sizes.{cells, maxInput}
 use Rattle.cfg.specs.Tree.{HasTree}
 use Rattle.chart.specs.Column.{filled, complete}
 use Rattle.chart.proofs.Truth.{complete-tree}
@@ -18,7 +18,7 @@ use Rattle.results.specs.Starred.{grammarFrom}
 use Rattle.results.proofs.Computing.{computing}
 
 -- where the chart of an input is not complete, the input has no tree
-pub incomplete-no-tree : (g : Grammar) (w : List ℕ) → validGrammar g ≡ true → length w ≤ 64
+pub incomplete-no-tree : (g : Grammar) (w : List ℕ) → validGrammar g ≡ true → length w ≤ maxInput
     → complete (grammarOf g) (length w) (filled (grammarOf g) w (replicate cells 0)) ≡ false → HasTree (grammarOf g) w → ⊥
 incomplete-no-tree g w valid small e tree =
     let room : cells ≤ length (replicate {A = ℕ} cells 0) = omega (arith, length-replicate {A = ℕ} cells 0) in

@@ -8,7 +8,7 @@ use native.Mathlib.Omega.{arith}
 use lib.Dec.{eqb, ltb}
 use lib.ListN.{length}
 use borrow.Author.Tests.{ltb-false, eqb-false, not-false, lt-ltb, le-ltb, eq-eqb, ne-eqb}
-use Rattle.sizes.specs.Sizes.{cells}
+use Rattle.sizes.specs.Sizes.{cells, maxInput, outputSize}
 use Rattle.laws.proofs.Bools.{or-neither}
 use Rattle.grammar.specs.declared.Grammar.{Grammar}
 use Rattle.grammar.specs.Valid.{validGrammar}
@@ -20,18 +20,18 @@ use Rattle.results.proofs.Decide.{Pass}
 -- ---- 9
 
 module _ (w : List ℕ) where
-  pub input-fails : (length w ≡ 0) ⊎ (64 < length w) → inputCheck w .fails ≡ true
+  pub input-fails : (length w ≡ 0) ⊎ (maxInput < length w) → inputCheck w .fails ≡ true
   input-fails (inl e) = rw (eq-eqb (length w) 0 e)
-  input-fails (inr h) = rw (lt-ltb 64 (length w) h, ne-eqb (length w) 0 (λ e. omega arith))
+  input-fails (inr h) = rw (lt-ltb maxInput (length w) h, ne-eqb (length w) 0 (λ e. omega arith))
 
-  pub input-passes : 1 ≤ length w → length w ≤ 64 → inputCheck w .fails ≡ false
-  input-passes h l = rw (ne-eqb (length w) 0 (λ e. omega arith)) (le-ltb 64 (length w) l)
+  pub input-passes : 1 ≤ length w → length w ≤ maxInput → inputCheck w .fails ≡ false
+  input-passes h l = rw (ne-eqb (length w) 0 (λ e. omega arith)) (le-ltb maxInput (length w) l)
 
-  input-passed : inputCheck w .fails ≡ false → (1 ≤ length w) × (length w ≤ 64)
+  input-passed : inputCheck w .fails ≡ false → (1 ≤ length w) × (length w ≤ maxInput)
   input-passed e =
-      let p = or-neither (eqb (length w) 0) (ltb 64 (length w)) e in
+      let p = or-neither (eqb (length w) 0) (ltb maxInput (length w)) e in
       let n : ¬ (length w ≡ 0) = eqb-false (length w) 0 (p .0) in
-      (omega arith, ltb-false 64 (length w) (p .1))
+      (omega arith, ltb-false maxInput (length w) (p .1))
 
 -- ---- 8 to 10, and 8 to 11
 
@@ -51,10 +51,10 @@ module _ (g : Grammar) (w chart out : List ℕ) where
   pub readyOut→pass : ReadyOut g w chart out → Pass (inputChecks g w chart ++ (outputCheck out ∷ []))
   readyOut→pass r =
       let p = ready→pass g w chart (r .input) in
-      (p .0, (p .1 .0, (p .1 .1 .0, (le-ltb (length out) 1024 (r .space), tt))))
+      (p .0, (p .1 .0, (p .1 .1 .0, (le-ltb (length out) outputSize (r .space), tt))))
 
   pub pass→readyOut : Pass (inputChecks g w chart ++ (outputCheck out ∷ [])) → ReadyOut g w chart out
   pass→readyOut p = record {
     input = pass→ready g w chart (p .0, (p .1 .0, (p .1 .1 .0, tt)));
-    space = ltb-false (length out) 1024 (p .1 .1 .1 .0);
+    space = ltb-false (length out) outputSize (p .1 .1 .1 .0);
   }

@@ -5,7 +5,7 @@ use mathlib.Core.Bool.{Bool, true, false}
 use mathlib.Core.List.{List, [], _∷_}
 use mathlib.Core.Path.{_≡_, refl}
 use lib.ListN.{take, replicate}
-use Rattle.sizes.specs.Sizes.{cells}
+use Rattle.sizes.specs.Sizes.{cells, outputSize}
 use Rattle.results.specs.Answer.{Answer, refused, answered, Handing, handed, nothing, counted}
 use Rattle.results.specs.Recognize.{openOf, takeOf}
 use Rattle.results.specs.Enumerate.{nextOf}
@@ -16,7 +16,7 @@ use Rattle.results.proofs.Computing.{computing}
 -- what next answers for T and `A`, offered a row, with what it hands out
 unfoldable pub nextOn : List ℕ → Answer Handing × List ℕ
 nextOn offered =
-    let r = nextOf (grammarFrom T) (As 1) offered (replicate cells 7) (replicate 1024 9) in
+    let r = nextOf (grammarFrom T) (As 1) offered (replicate cells 7) (replicate outputSize 9) in
     (r .answer, take 7 (r .output))
 
 -- after the first comes the second, after that none; a row that is no derivation is refused

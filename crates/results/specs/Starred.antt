@@ -6,7 +6,7 @@ use mathlib.Core.List.{List, [], _∷_, map}
 use mathlib.Core.Path.{_≡_}
 use lib.IntN.{ℤ, pos, negℤ}
 use lib.ListN.{replicate}
-use Rattle.sizes.specs.Sizes.{cells}
+use Rattle.sizes.specs.Sizes.{cells, outputSize}
 use Rattle.cfg.specs.Listing.{L}
 use Rattle.cfg.specs.Tree.{HasTree}
 use Rattle.grammar.specs.declared.Grammar.{Grammar}
@@ -37,7 +37,7 @@ outcome bytes w =
     let chart : List ℕ = replicate cells 7 in
     record {
       loads = loadOf bytes 0 .answer;
-      first = firstOf g w chart (replicate 1024 9) .answer;
+      first = firstOf g w chart (replicate outputSize 9) .answer;
       count = countOf g w chart .answer;
       list = L (grammarOf g) w;
       lengths = map (λ e. lengthOf g w e chart .answer) (L (grammarOf g) w);

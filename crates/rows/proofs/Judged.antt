@@ -10,6 +10,7 @@ use mathlib.Core.Path.{_≡_, refl, sym, ap, _∙_}
 use lib.Dec.{leb}
 use lib.ListN.{getD, take}
 use borrow.Author.Tests.{ne-eqb, le-leb, lt-leb}
+use Rattle.sizes.specs.Sizes.{maxRules}
 use Rattle.grammar.specs.declared.Symbol.the-variants.{Nonterminal, Terminal}
 use Rattle.grammar.specs.declared.Rule.{Rule}
 use Rattle.grammar.specs.declared.Grammar.{Grammar}
@@ -97,8 +98,8 @@ module _ (f : List ℕ) where
 pub judged-whole : (f : List ℕ) → validGrammar (grammarIn f) ≡ validRow f
 unfolding validGrammar grammarIn rulesIn validRow
 judged-whole f =
-    within (leb (byteIn (getD f 0 0)) 31) (leb (getD f 0 0) 31) _ _ (getD f 1 0) 128 (byte-limit (getD f 0 0))
-    (records-judged validRule (ruleIn f) (validRuleAt f) (rule-judged f) ruleNumbers 3 (getD f 1 0) 128)
+    within (leb (byteIn (getD f 0 0)) 31) (leb (getD f 0 0) 31) _ _ (getD f 1 0) maxRules (byte-limit (getD f 0 0))
+    (records-judged validRule (ruleIn f) (validRuleAt f) (rule-judged f) ruleNumbers 3 (getD f 1 0) maxRules)
 
 -- ---- a grammar that is written
 
@@ -133,5 +134,5 @@ pub write-judged : (g : Grammar) → Declared g → validGrammar (grammarIn (fla
 unfolding validGrammar
 write-judged g d =
     ap validGrammar (read-kept g d)
-    ∙ counts-kept (leb (g .start) 31) (g .count) 128 (λ n. all validRule (take n (map keptRule (g .rules)))) (omega arith)
-    ∙ λ i. leb (g .start) 31 && leb (g .count) 128 && rules-kept-valid (g .count) (g .rules) i
+    ∙ counts-kept (leb (g .start) 31) (g .count) maxRules (λ n. all validRule (take n (map keptRule (g .rules)))) (omega arith)
+    ∙ λ i. leb (g .start) 31 && leb (g .count) maxRules && rules-kept-valid (g .count) (g .rules) i

@@ -7,6 +7,7 @@ use mathlib.Core.Path.{_≡_, refl, sym, ap, _∙_}
 use lib.ListN.{length, getD, drop}
 use lib.Seq.{getD-drop, drop-drop, drop-at}
 use borrow.Author.Tests.{le-leb}
+use Rattle.sizes.specs.Sizes.{maxPlaces, maxRules}
 use Rattle.grammar.specs.declared.Symbol.{Symbol}
 use Rattle.grammar.specs.declared.Symbol.the-variants.{Nonterminal, Terminal}
 use Rattle.grammar.specs.declared.Place.{Place}
@@ -92,8 +93,8 @@ module _ (f : List ℕ) where
       let e = symbol-round (p .symbol) (getD f at 0) (getD f (at + 1) 0) t n v in
       λ i. record { symbol = e i }
 
-  places-back : (l : List Place) (at : ℕ) (rest : List ℕ) → length l ≡ 8
-      → ((q : ℕ) → q < 8 → valueOf (getD l q zeroPlace .symbol) < 256) → drop at f ≡ flatMap flatPlace l ++ rest → placesIn f at ≡ l
+  places-back : (l : List Place) (at : ℕ) (rest : List ℕ) → length l ≡ maxPlaces
+      → ((q : ℕ) → q < maxPlaces → valueOf (getD l q zeroPlace .symbol) < 256) → drop at f ≡ flatMap flatPlace l ++ rest → placesIn f at ≡ l
   unfolding placesIn
   places-back l at rest n v h =
       records-back zeroPlace flatPlace (λ p. p) (placeIn f) 2 f (λ p. valueOf (p .symbol) < 256) (λ p _. place-size p) place-back l at 8
@@ -119,7 +120,7 @@ module _ (g : Grammar) (d : Declared g) where
   unfolding rulesIn flatOf
   rules-back =
       records-back noRule flatRule keptRule (ruleIn (flatOf g)) ruleNumbers (flatOf g) DeclaredRule rule-size (rule-back (flatOf g))
-      (g .rules) 3 128 [] (d .rules) (d .each) (sym (append-nil (flatMap flatRule (g .rules))))
+      (g .rules) 3 maxRules [] (d .rules) (d .each) (sym (append-nil (flatMap flatRule (g .rules))))
 
   pub read-kept : grammarIn (flatOf g) ≡ kept g
   unfolding grammarIn flatOf

@@ -6,6 +6,7 @@ use native.Mathlib.Decide.{ℕ-discrete}
 use native.Mathlib.Omega.{arith}
 use lib.ListN.{length, set, length-set}
 use lib.Seq.{getD-set-same, getD-set-other}
+use Rattle.sizes.specs.Sizes.{maxRules, maxPlaces}
 use Rattle.laws.proofs.Lists.{below-step}
 use Rattle.costs.specs.Rule.{alone}
 use Rattle.packed.specs.Packed.{placesIn}
@@ -18,7 +19,7 @@ module _ (p : List ℕ) (r : ℕ) (empty : List ℕ) where
   pub alone-start : (tables : List ℕ) → length tables ≡ tablesSize → AloneBefore p r empty 0 tables tables
   alone-start tables e = record { long = e; here = λ n h. absurd (omega arith); other = λ s n d h. refl }
 
-  module _ (q : ℕ) (tables₀ tables : List ℕ) (v : ℕ) (h : r < 128) (l : q < 8) (S : AloneBefore p r empty q tables₀ tables)
+  module _ (q : ℕ) (tables₀ tables : List ℕ) (v : ℕ) (h : r < maxRules) (l : q < maxPlaces) (S : AloneBefore p r empty q tables₀ tables)
       (e : v ≡ alone (fullIn empty) (placesIn p r) q) where
     same : aloneIn (set tables (alonesAt + 8 * r + q) v) r q ≡ v
     same = getD-set-same tables (alonesAt + 8 * r + q) v 0 (omega (arith, S .long))
@@ -38,9 +39,9 @@ module _ (p : List ℕ) (r : ℕ) (empty : List ℕ) where
       other = λ s n d m. let c : ¬ (s ≡ r) = d in apart s n (λ x. c (omega arith)) ∙ S .other s n d m;
     }
 
-  pub alone-end : {q : ℕ} {tables₀ tables : List ℕ} → q ≤ 8 → 8 ≤ q → AloneBefore p r empty q tables₀ tables
+  pub alone-end : {q : ℕ} {tables₀ tables : List ℕ} → q ≤ maxPlaces → maxPlaces ≤ q → AloneBefore p r empty q tables₀ tables
       → AlonePut p r empty tables₀ tables
-  alone-end {q} h l S = let e : q ≡ 8 = omega arith in rw e at S
+  alone-end {q} h l S = let e : q ≡ maxPlaces = omega arith in rw e at S
 
 -- ---- the rules
 
@@ -56,5 +57,6 @@ module _ (p empty : List ℕ) where
         (λ s l. P .other s n (λ e. omega arith) m ∙ S .here s n l m) (P .here n m) s h;
   }
 
-  pub filled-end : {r : ℕ} {tables : List ℕ} → r ≤ 128 → 128 ≤ r → AlonesFilled p empty r tables → AlonesFilled p empty 128 tables
-  filled-end {r} h l S = let e : r ≡ 128 = omega arith in rw e at S
+  pub filled-end : {r : ℕ} {tables : List ℕ} → r ≤ maxRules → maxRules ≤ r → AlonesFilled p empty r tables
+      → AlonesFilled p empty maxRules tables
+  filled-end {r} h l S = let e : r ≡ maxRules = omega arith in rw e at S

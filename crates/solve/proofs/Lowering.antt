@@ -7,7 +7,7 @@ use native.Mathlib.Decide.{ℕ-discrete, decLt}
 use native.Mathlib.Omega.{arith}
 use lib.ListN.{length, set, getD, length-set}
 use lib.Seq.{getD-set-same, getD-set-other}
-use Rattle.sizes.specs.Sizes.{tooMany}
+use Rattle.sizes.specs.Sizes.{tooMany, maxRules}
 use Rattle.sets.specs.Set.{has}
 use Rattle.costs.proofs.Solve.{settled-by}
 use Rattle.packed.specs.Packed.{leftIn}
@@ -67,7 +67,7 @@ module _ (p : List ℕ) (r cell mask : ℕ) (tables : List ℕ) (i j : ℕ) (ful
         let f : getD full k 0 ≡ fullIn full (leftIn p r) = full-read full k below ∙ ap (fullIn full) e in
         settled-by (O .exact h fit least R) (omega arith))
 
-    module _ (h : r < 128) (l : v < getD full k 0) where
+    module _ (h : r < maxRules) (l : v < getD full k 0) where
       -- the new number is reached by the old ones
       new-reached : AllReached p mask tables i j full → AllReached p mask tables i j (set full k v)
       new-reached A = record {

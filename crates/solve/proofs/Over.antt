@@ -4,7 +4,7 @@ use mathlib.Core.Bool.{Bool, true, false, not, true≢false}
 use mathlib.Core.List.{List}
 use mathlib.Core.Path.{_≡_, sym, subst, _∙_}
 use native.Mathlib.Omega.{arith}
-use Rattle.sizes.specs.Sizes.{tooMany}
+use Rattle.sizes.specs.Sizes.{tooMany, maxRules}
 use Rattle.sets.specs.Set.{has}
 use Rattle.costs.specs.Cut.{Fit, Cost}
 use Rattle.costs.specs.Lowest.{Lowest}
@@ -19,7 +19,7 @@ use Rattle.solve.specs.Solve.{RuleOver, Wanted}
 -- ---- the cost of a rule
 
 module _ (p : List ℕ) (r : ℕ) (full tables : List ℕ) (i j : ℕ) where
-  known : {bare : ℕ} (fit : Fit) (least : Cost) → i < j → r < 128 → leftIn p r < 32 → bare ≡ bareIn tables i j r
+  known : {bare : ℕ} (fit : Fit) (least : Cost) → i < j → r < maxRules → leftIn p r < 32 → bare ≡ bareIn tables i j r
       → (R : SpanReady fit least p tables i j) → Known fit (R .empty) least i j p r tables bare
   known fit least h l m e R = record {
     span = h;
@@ -29,7 +29,7 @@ module _ (p : List ℕ) (r : ℕ) (full tables : List ℕ) (i j : ℕ) where
     without = subst (Lowest (BareCost fit least (placesIn p r) i j)) (sym e) (R .without r l m);
   }
 
-  pub over-span : {bare v : ℕ} → i < j → r < 128 → bare ≡ bareIn tables i j r → OfRule p r full tables bare v
+  pub over-span : {bare v : ℕ} → i < j → r < maxRules → bare ≡ bareIn tables i j r → OfRule p r full tables bare v
       → RuleOver p r full tables i j v
   over-span h l e S = record {
     exact = λ m fit least R. S .exact fit (R h .empty) least i j (known fit least h l m e (R h));

@@ -5,7 +5,7 @@ use mathlib.Core.List.{List, List·Memᴰ, List·Memᴰ·head, List·Memᴰ·tai
 use mathlib.Core.Path.{_≡_, refl, sym, subst}
 use native.Mathlib.Decide.{ℕ-discrete}
 use native.Mathlib.Omega.{arith}
-use Rattle.sizes.specs.Sizes.{tooMany}
+use Rattle.sizes.specs.Sizes.{tooMany, maxRules, side}
 use Rattle.laws.proofs.Bools.{clash}
 use Rattle.sets.specs.Set.{has}
 use Rattle.cfg.specs.Grammar.{nonterminal}
@@ -23,7 +23,7 @@ use Rattle.packed.specs.Packed.{countIn, isNonterminalIn, valueIn, symbolIn, pl
 use Rattle.packed.proofs.Laws.{count-le}
 use Rattle.packed.proofs.Fitting.{symbol-nonterminal, symbol-terminal}
 use Rattle.suffixes.specs.Within.{tailIn, LaterStarts}
-use Rattle.tables.specs.Layout.{alonesAt, bareAt, costIn, fullIn}
+use Rattle.tables.specs.Layout.{alonesAt, bareAt, costIn, fullIn, rowsSize}
 use Rattle.tables.specs.Exact.{Packing, CellTrue}
 use Rattle.tables.proofs.Bares.{bare-behind}
 use Rattle.solve.specs.Solve.{Solved}
@@ -58,14 +58,14 @@ places-have p r (suc n) a (List·Memᴰ·tail m) =
 
 -- ---- what writing the numbers of a span leaves right
 
-module _ {i j : ℕ} {full tables₀ tables : List ℕ} (l : j < 65) (L : LeastPut full i j tables₀ tables) where
+module _ {i j : ℕ} {full tables₀ tables : List ℕ} (l : j < side) (L : LeastPut full i j tables₀ tables) where
   -- the costs of smaller spans inside
   part-same : (k a b : ℕ) → a ≤ b → b ≤ j → b - a < j - i → costIn tables₀ k a b ≡ costIn tables k a b
   part-same k a b x y s = sym (L .other k a b (omega arith) (omega arith) (λ e. let u = e .0 in let v = e .1 in omega arith))
 
   -- what is right for the starts behind
   behind-kept : {fit : Fit} {bytes : ℕ → ℕ → Type 0} {p : List ℕ} {rules : ℕ} {rows₀ rows : List ℕ}
-      → Sofar fit bytes p rules (i + 1) j tables₀ rows₀ → rules ≤ 128 → OtherStarts i rows₀ rows
+      → Sofar fit bytes p rules (i + 1) j tables₀ rows₀ → rules ≤ maxRules → OtherStarts i rows₀ rows
       → Sofar fit bytes p rules (i + 1) j tables rows
   behind-kept {p = p} S o O = sofar-kept l S
       (λ k a b x y d. L .other k a b (omega arith) y (λ e. let u = e .0 in let v = e .1 in omega arith))
@@ -76,7 +76,7 @@ module _ {i j : ℕ} {full tables₀ tables : List ℕ} (l : j < 65) (L : LeastP
 -- ---- a span that is not empty
 
 module _ {fit : Fit} {bytes : ℕ → ℕ → Type 0} {p : List ℕ} {rules : ℕ} {fits : List ℕ} {members reach i j : ℕ}
-    {full tables₀ rows₀ live₀ tables rows live : List ℕ} (o : rules ≤ 128) (h : i < j) (l : j < 65)
+    {full tables₀ rows₀ live₀ tables rows live : List ℕ} (o : rules ≤ maxRules) (h : i < j) (l : j < side)
     (X : Solved p rules members 0 tables₀ i j full) (L : LeastPut full i j tables₀ tables)
     (P : SuffixesPut p rules fits tables full members reach i j rows₀ live₀ rows live)
     (G : Given fit bytes p rules fits j) (C : CellTrue p bytes i j members) (O : Opened fit bytes p rules i j tables₀ rows₀)
@@ -91,7 +91,7 @@ module _ {fit : Fit} {bytes : ℕ → ℕ → Type 0} {p : List ℕ} {rules : �
   behind = behind-kept l L (O .sofar) o (P .other)
 
   -- the costs from the later starts, whatever the whole span costs
-  later : (r : ℕ) → r < rules → LaterStarts fit p r tables full i i j rows₀ (585 * r)
+  later : (r : ℕ) → r < rules → LaterStarts fit p r tables full i i j rows₀ (rowsSize * r)
   later r x q c y z w =
       leastcut-later (fullIn full) i z
       (leastcut-same c j (λ k a b u v n. part-same l L k a b v n (omega arith)) (O .sofar .starts r q c x y (omega arith) w))
@@ -124,7 +124,7 @@ module _ {fit : Fit} {bytes : ℕ → ℕ → Type 0} {p : List ℕ} {rules : �
 
 -- what is told of the live starts is told still
 module _ {p : List ℕ} {rules : ℕ} {fits tables full : List ℕ} {members reach i j : ℕ} {rows₀ live₀ rows live : List ℕ}
-    (o : rules ≤ 128) (l : j < 65) (P : SuffixesPut p rules fits tables full members reach i j rows₀ live₀ rows live) where
+    (o : rules ≤ maxRules) (l : j < side) (P : SuffixesPut p rules fits tables full members reach i j rows₀ live₀ rows live) where
   told-again : LiveFrom p rules i j rows₀ live₀ → LiveFrom p rules i j rows live
   told-again L = record { told = λ r c x y z f. go r c x y z f (ℕ-discrete c i) }
     where
@@ -137,7 +137,7 @@ module _ {p : List ℕ} {rules : ℕ} {fits tables full : List ℕ} {members rea
 
 -- as the code does it
 pub span-put : (p : List ℕ) (rules : ℕ) (fits : List ℕ) (members reach i j : ℕ)
-    {full tables₀ rows₀ live₀ tables₁ rows₁ live₁ tables rows live : List ℕ} → rules ≤ 128 → i < j → j < 65
+    {full tables₀ rows₀ live₀ tables₁ rows₁ live₁ tables rows live : List ℕ} → rules ≤ maxRules → i < j → j < side
     → SpanOpened p rules fits reach i j tables₀ rows₀ live₀ tables₁ rows₁ live₁ → Solved p rules members 0 tables₁ i j full
     → LeastPut full i j tables₁ tables → SuffixesPut p rules fits tables full members reach i j rows₁ live₁ rows live
     → SpanPut p rules fits members reach i j tables₀ rows₀ live₀ tables rows live
@@ -151,7 +151,7 @@ span-put p rules fits members reach i j {rows₁ = rows₁} {live₁} {rows = ro
 
 -- ---- the empty span
 
-pub empty-put : (p : List ℕ) (rules : ℕ) (fits empty : List ℕ) (j : ℕ) {tables₀ rows₀ tables rows : List ℕ} → rules ≤ 128 → j < 65
+pub empty-put : (p : List ℕ) (rules : ℕ) (fits empty : List ℕ) (j : ℕ) {tables₀ rows₀ tables rows : List ℕ} → rules ≤ maxRules → j < side
     → LeastPut empty j j tables₀ tables → StartsPut p rules fits tables empty j j rows₀ rows
     → EmptyPut p rules fits empty j tables₀ rows₀ tables rows
 empty-put p rules fits empty j {tables₀} {rows₀} {tables} {rows} o l L A = record {

@@ -6,6 +6,7 @@ use mathlib.Core.Path.{_≡_, sym, subst, _∙_}
 use native.Mathlib.Decide.{decLt, ℕ-discrete}
 use native.Mathlib.Omega.{arith}
 use lib.ListN.{getD}
+use Rattle.sizes.specs.Sizes.{maxRules, maxPlaces, side}
 use Rattle.costs.specs.Cut.{Fit, LeastCut}
 use Rattle.costs.specs.Lowest.{Lowest}
 use Rattle.costs.specs.Rule.{BareCost}
@@ -23,10 +24,10 @@ use Rattle.spancosts.specs.Sofar.{Done, Sofar}
 
 module _ {fit : Fit} {bytes : ℕ → ℕ → Type 0} {p : List ℕ} {rules i j : ℕ} where
   -- the costs of the spans done, the numbers beside a child, the costs without a child over the whole and the rows are as they were
-  pub sofar-kept : {tables₀ rows₀ tables rows : List ℕ} → j < 65 → Sofar fit bytes p rules i j tables₀ rows₀
-      → ((k a b : ℕ) → a ≤ b → b < 65 → Done i j a b → costIn tables k a b ≡ costIn tables₀ k a b)
-      → ((r q : ℕ) → r < 128 → q < 8 → aloneIn tables r q ≡ aloneIn tables₀ r q)
-      → ((a b r : ℕ) → a < b → b < 65 → Done i j a b → r < rules → bareIn tables a b r ≡ bareIn tables₀ a b r)
+  pub sofar-kept : {tables₀ rows₀ tables rows : List ℕ} → j < side → Sofar fit bytes p rules i j tables₀ rows₀
+      → ((k a b : ℕ) → a ≤ b → b < side → Done i j a b → costIn tables k a b ≡ costIn tables₀ k a b)
+      → ((r q : ℕ) → r < maxRules → q < maxPlaces → aloneIn tables r q ≡ aloneIn tables₀ r q)
+      → ((a b r : ℕ) → a < b → b < side → Done i j a b → r < rules → bareIn tables a b r ≡ bareIn tables₀ a b r)
       → ((r q c : ℕ) → r < rules → q ≤ countIn p r → i ≤ c → c ≤ j → getD rows (placeAt r q c) 0 ≡ getD rows₀ (placeAt r q c) 0)
       → Sofar fit bytes p rules i j tables rows
   sofar-kept {tables₀} {rows₀} {tables} {rows} l S costs alones bares starts = record {
@@ -43,12 +44,12 @@ module _ {fit : Fit} {bytes : ℕ → ℕ → Type 0} {p : List ℕ} {rules i j 
   }
 
   -- one span more: its numbers, the costs of rules without a child over the whole of it, and the costs from its start on
-  module _ {tables rows : List ℕ} (h : i ≤ j) (l : j < 65) (S : Sofar fit bytes p rules (i + 1) j tables rows)
+  module _ {tables rows : List ℕ} (h : i ≤ j) (l : j < side) (S : Sofar fit bytes p rules (i + 1) j tables rows)
       (numbers : (k : ℕ) → Least (Tree (Packing p) bytes k i j) (costIn tables k i j))
       (bare : i < j → (r : ℕ) → r < rules → Lowest (BareCost fit (costIn tables) (placesIn p r) i j) (bareIn tables i j r))
       (column : (r q : ℕ) → r < rules → q ≤ countIn p r
       → LeastCut fit (costIn tables) (tailIn p r q) i j (getD rows (placeAt r q i) 0)) where
-    more-least : (k a b : ℕ) → a ≤ b → b < 65 → Done i j a b → Dec (128 * b + i < 128 * j + a)
+    more-least : (k a b : ℕ) → a ≤ b → b < side → Done i j a b → Dec (128 * b + i < 128 * j + a)
         → Least (Tree (Packing p) bytes k a b) (costIn tables k a b)
     more-least k a b x y d (yes e) = S .least k a b x y (omega arith)
     more-least k a b x y d (no e) =
@@ -56,7 +57,7 @@ module _ {fit : Fit} {bytes : ℕ → ℕ → Type 0} {p : List ℕ} {rules i j 
         let g : b ≡ j = omega arith in
         rw (f, g) (numbers k)
 
-    more-bare : (a b r : ℕ) → a < b → b < 65 → Done i j a b → r < rules → Dec (128 * b + i < 128 * j + a)
+    more-bare : (a b r : ℕ) → a < b → b < side → Done i j a b → r < rules → Dec (128 * b + i < 128 * j + a)
         → Lowest (BareCost fit (costIn tables) (placesIn p r) a b) (bareIn tables a b r)
     more-bare a b r x y d m (yes e) = S .without a b r x y (omega arith) m
     more-bare a b r x y d m (no e) =
@@ -81,9 +82,9 @@ module _ {fit : Fit} {bytes : ℕ → ℕ → Type 0} {p : List ℕ} {rules i j 
 
   -- what the cost of a rule over the span from a to b is made of
   module _ {tables rows : List ℕ} (S : Sofar fit bytes p rules i j tables rows) (past : PastLast p rules) (a b : ℕ)
-      (x : a < 65) (y : b < 65) (start : Done i j a a) (stop : Done i j b b)
+      (x : a < side) (y : b < side) (start : Done i j a a) (stop : Done i j b b)
       (bare : (r : ℕ) → r < rules → Lowest (BareCost fit (costIn tables) (placesIn p r) a b) (bareIn tables a b r)) where
-    made : (r : ℕ) → r < 128 → leftIn p r < 32 → Dec (r < rules)
+    made : (r : ℕ) → r < maxRules → leftIn p r < 32 → Dec (r < rules)
         → Lowest (BareCost fit (costIn tables) (placesIn p r) a b) (bareIn tables a b r)
     made r h l (yes m) = bare r m
     made r h l (no m) = let d = past r (omega arith) h in absurd (omega arith)
@@ -97,6 +98,6 @@ module _ {fit : Fit} {bytes : ℕ → ℕ → Type 0} {p : List ℕ} {rules i j 
       without = λ r h l. made r h l (decLt r rules);
     }
 
-  pub inside-by : {tables rows : List ℕ} → j < 65 → Sofar fit bytes p rules (i + 1) j tables rows
+  pub inside-by : {tables rows : List ℕ} → j < side → Sofar fit bytes p rules (i + 1) j tables rows
       → Inside (Packing p) bytes i j (costIn tables)
   inside-by l S = record { at = λ k a b h m n s. S .least k a b m (omega arith) (omega arith) }

@@ -6,7 +6,7 @@ use mathlib.Core.Path.{_≡_, sym, subst}
 use native.Mathlib.Decide.{ℕ-discrete}
 use native.Mathlib.Omega.{arith}
 use lib.ListN.{getD}
-use Rattle.sizes.specs.Sizes.{tooMany}
+use Rattle.sizes.specs.Sizes.{tooMany, maxRules, side, cells}
 use Rattle.cfg.specs.Grammar.{Symbol}
 use Rattle.costs.specs.Cut.{Fit, LeastCut, within}
 use Rattle.costs.specs.Lowest.{Lowest}
@@ -17,7 +17,7 @@ use Rattle.costs.proofs.Rule.{rule-node}
 use Rattle.packed.specs.Packed.{countIn, placesIn}
 use Rattle.packed.proofs.Laws.{count-le, places-start}
 use Rattle.suffixes.specs.Within.{tailIn, LaterStarts}
-use Rattle.tables.specs.Layout.{alonesAt, costIn, fullIn, bareIn}
+use Rattle.tables.specs.Layout.{alonesAt, costIn, fullIn, bareIn, rowsSize}
 use Rattle.fit.specs.Fit.{FitTold}
 use Rattle.writes.specs.Writes.{placeAt, Nothing, BaresPut}
 use Rattle.live.specs.Live.{Silent, liveIn, Reached}
@@ -29,11 +29,11 @@ use Rattle.writes.proofs.Written.{cost-same}
 use Rattle.spancosts.proofs.Kept.{sofar-kept}
 
 module _ (p : List ℕ) (rules : ℕ) (fits nothing : List ℕ) (reach i j : ℕ) (tables₀ rows₀ live₀ tables rows live : List ℕ)
-    (o : rules ≤ 128) (h : i < j) (l : j < 65) (N : Nothing nothing)
+    (o : rules ≤ maxRules) (h : i < j) (l : j < side) (N : Nothing nothing)
     (A : StartsOpened p rules fits tables₀ nothing reach i j rows₀ live₀ rows live)
     (B : BaresPut rules i j rows tables₀ tables) where
-  costs : (k a b : ℕ) → a < 65 → b < 65 → costIn tables k a b ≡ costIn tables₀ k a b
-  costs k a b x y = cost-same tables₀ tables k a b (λ z. B .front (4225 * k + 65 * a + b) (omega arith))
+  costs : (k a b : ℕ) → a < side → b < side → costIn tables k a b ≡ costIn tables₀ k a b
+  costs k a b x y = cost-same tables₀ tables k a b (λ z. B .front (cells * k + side * a + b) (omega arith))
 
   -- the starts told live, with i among them
   told : LiveFrom p rules (i + 1) j rows₀ live₀ → LiveFrom p rules i j rows live
@@ -51,7 +51,7 @@ module _ (p : List ℕ) (rules : ℕ) (fits nothing : List ℕ) (reach i j : ℕ
 
   module _ (fit : Fit) (bytes : ℕ → ℕ → Type 0) (F : FitTold fit p fits j) (R : Reached tables₀ reach i j)
       (L : LiveFrom p rules (i + 1) j rows₀ live₀) (S : Sofar fit bytes p rules (i + 1) j tables₀ rows₀) where
-    later : (r : ℕ) → r < rules → LaterStarts fit p r tables₀ nothing i i j rows₀ (585 * r)
+    later : (r : ℕ) → r < rules → LaterStarts fit p r tables₀ nothing i i j rows₀ (rowsSize * r)
     later r x q c y z w = leastcut-later (fullIn nothing) i z (S .starts r q c x y (omega arith) w)
 
     column : (r q : ℕ) → r < rules → q ≤ countIn p r

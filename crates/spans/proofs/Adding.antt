@@ -7,6 +7,7 @@ use mathlib.Core.Path.{_≡_, sym, ap, _∙_, subst}
 use native.Mathlib.Decide.{ℕ-discrete}
 use native.Mathlib.Omega.{arith}
 use lib.ListN.{length, getD, set, length-set}
+use Rattle.sizes.specs.Sizes.{maxRules, maxPlaces}
 use Rattle.laws.proofs.Bools.{true-false}
 use Rattle.sets.specs.Set.{has, insert}
 use Rattle.sets.proofs.Laws.{has-empty}
@@ -21,7 +22,7 @@ module _ (p : List ℕ) (r i flags : ℕ) (starts₀ live₀ : List ℕ) where
   -- the places below m are done
   pub record PlacesTo (m : ℕ) (starts live : List ℕ) : Type 0 where
     pub long : length starts ≡ startsSize
-    pub live-long : length live ≡ 128
+    pub live-long : length live ≡ maxRules
     pub keeps : (x j : ℕ) → has j (getD starts₀ x 0) ≡ true → has j (getD starts x 0) ≡ true
     pub all : (q : ℕ) → 0 < q → q < m → has q flags ≡ true → has i (startsOf starts r q) ≡ true
     pub sound : (x j : ℕ) → has j (getD starts x 0) ≡ true
@@ -30,7 +31,7 @@ module _ (p : List ℕ) (r i flags : ℕ) (starts₀ live₀ : List ℕ) where
     pub live-keeps : (x j : ℕ) → has j (getD live₀ x 0) ≡ true → has j (getD live x 0) ≡ true
     pub lives : (q : ℕ) → 0 < q → q < m → has q flags ≡ true → has i (getD live r 0) ≡ true
 
-  pub places-start : length starts₀ ≡ startsSize → length live₀ ≡ 128 → PlacesTo 1 starts₀ live₀
+  pub places-start : length starts₀ ≡ startsSize → length live₀ ≡ maxRules → PlacesTo 1 starts₀ live₀
   places-start long live-long =
       record {
         long = long;
@@ -42,7 +43,8 @@ module _ (p : List ℕ) (r i flags : ℕ) (starts₀ live₀ : List ℕ) where
         lives = λ q z l h. absurd (omega arith);
       }
 
-  module _ (m : ℕ) (starts live : List ℕ) (t : Bool) (v u : ℕ) (below : r < 128) (small : m < 8) (first : 0 < m) (e : t ≡ has m flags)
+  module _ (m : ℕ) (starts live : List ℕ) (t : Bool) (v u : ℕ) (below : r < maxRules) (small : m < maxPlaces) (first : 0 < m)
+      (e : t ≡ has m flags)
       (f : v ≡ cond t (insert i (getD starts (8 * r + m) 0)) (getD starts (8 * r + m) 0))
       (g : u ≡ cond t (insert i (getD live r 0)) (getD live r 0)) (to : PlacesTo m starts live) where
     room : 8 * r + m < length starts
@@ -120,7 +122,7 @@ module _ (p : List ℕ) (r i flags : ℕ) (starts₀ live₀ : List ℕ) where
       go (inl w) (inr (d, (q, z, b, f, y))) = inr (d, (q, z, omega arith, f, y))
       go (inr w) (inr (d, (q, z, b, f, y))) = absurd (omega arith)
 
-  pub places-none : flags ≡ 0 → length starts₀ ≡ startsSize → length live₀ ≡ 128 → RulePut p r i flags starts₀ live₀ starts₀ live₀
+  pub places-none : flags ≡ 0 → length starts₀ ≡ startsSize → length live₀ ≡ maxRules → RulePut p r i flags starts₀ live₀ starts₀ live₀
   places-none z long live-long =
       record {
         long = long;

@@ -7,6 +7,7 @@ use mathlib.Core.Path.{_≡_, sym, ap, _∙_, subst}
 use native.Mathlib.Decide.{ℕ-discrete}
 use native.Mathlib.Omega.{arith}
 use lib.ListN.{length, getD, set, length-set}
+use Rattle.sizes.specs.Sizes.{maxInput}
 use Rattle.laws.proofs.Bools.{true-false}
 use Rattle.sets.specs.Set.{has, insert}
 use Rattle.sets.specs.Pairs.{Lowest, Without}
@@ -30,7 +31,7 @@ module _ (i b word : ℕ) (ends₀ : List ℕ) where
   pub put-start : length ends₀ ≡ endsSize → PutTo word ends₀
   put-start e = record { long = e; part = λ k h. h; keeps = λ x j h. h; all = λ k h. inl h; sound = λ x j h. inl h }
 
-  pub put-step : (rest rest' k v : ℕ) (ends : List ℕ) → i < 64 → Lowest 32 rest k → v ≡ insert b (getD ends (32 * i + k) 0)
+  pub put-step : (rest rest' k v : ℕ) (ends : List ℕ) → i < maxInput → Lowest 32 rest k → v ≡ insert b (getD ends (32 * i + k) 0)
       → Without k rest rest' → PutTo rest ends → PutTo rest' (set ends (32 * i + k) v)
   put-step rest rest' k v ends small low e without to =
       record {
@@ -80,7 +81,8 @@ rest-less k rest rest' without = omega (arith, insert-new k rest' (without .gone
 -- ---- a cell
 
 module _ (i b word : ℕ) (ends reach : List ℕ) (word-small : word < 2 ^ 32) where
-  pub cell-put : (v : ℕ) (ends' : List ℕ) → i < 64 → length reach ≡ 64 → v ≡ insert b (getD reach i 0) → EndPut i b word ends ends'
+  pub cell-put : (v : ℕ) (ends' : List ℕ) → i < maxInput → length reach ≡ maxInput → v ≡ insert b (getD reach i 0)
+      → EndPut i b word ends ends'
       → CellPut i b word ends reach ends' (set reach i v)
   cell-put v ends' small long e put =
       record {
@@ -91,7 +93,7 @@ module _ (i b word : ℕ) (ends reach : List ℕ) (word-small : word < 2 ^ 32) w
         high = λ k h. has-high k word word-small h;
       }
 
-  pub cell-empty : word ≡ 0 → length ends ≡ endsSize → length reach ≡ 64 → CellPut i b word ends reach ends reach
+  pub cell-empty : word ≡ 0 → length ends ≡ endsSize → length reach ≡ maxInput → CellPut i b word ends reach ends reach
   cell-empty z long reach-long =
       record {
         put = record { long = long; keeps = λ x j h. h; all = λ k h. absurd (none k h); sound = λ x j h. inl h };

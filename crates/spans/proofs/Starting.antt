@@ -7,6 +7,7 @@ use mathlib.Core.Path.{_≡_, sym, ap, _∙_, subst}
 use native.Mathlib.Decide.{ℕ-discrete}
 use native.Mathlib.Omega.{arith}
 use lib.ListN.{length, getD}
+use Rattle.sizes.specs.Sizes.{maxRules}
 use Rattle.sets.specs.Set.{has}
 use Rattle.chart.specs.Cell.{cuts}
 use Rattle.packed.specs.Packed.{countIn}
@@ -90,14 +91,14 @@ module _ (p : List ℕ) (rules i : ℕ) (flags starts₀ live₀ : List ℕ) whe
   -- the flags of the rules below m are added
   pub record FlagsTo (m : ℕ) (starts live : List ℕ) : Type 0 where
     pub long : length starts ≡ startsSize
-    pub live-long : length live ≡ 128
+    pub live-long : length live ≡ maxRules
     pub done : (fit : Fit) (sets : Sets) (n : ℕ) → Given fit sets n → (r : ℕ) → r < m → StartsTold fit sets p r i n starts
     pub rest : (fit : Fit) (sets : Sets) (n : ℕ) → Given fit sets n → (r : ℕ) → m ≤ r → r < rules
         → StartsTold fit sets p r (i + 1) n starts
     pub lives : (fit : Fit) (sets : Sets) (n : ℕ) → Given fit sets n → (r q a : ℕ) → r < rules → 0 < q → q < countIn p r
         → has a (startsOf starts r q) ≡ true → has a (getD live r 0) ≡ true
 
-  pub flags-start : length starts₀ ≡ startsSize → length live₀ ≡ 128 → FlagsTo 0 starts₀ live₀
+  pub flags-start : length starts₀ ≡ startsSize → length live₀ ≡ maxRules → FlagsTo 0 starts₀ live₀
   flags-start long live-long =
       record {
         long = long;

@@ -7,6 +7,7 @@ use mathlib.Core.Path.{_≡_, sym, ap, ap₂, _∙_, subst}
 use native.Mathlib.Decide.{decLt}
 use native.Mathlib.Omega.{arith}
 use lib.ListN.{length, getD}
+use Rattle.sizes.specs.Sizes.{maxInput}
 use Rattle.sets.specs.Set.{has}
 use Rattle.chart.specs.Cell.{cell}
 use Rattle.spans.specs.Spans.{endsSize, endsOf}
@@ -97,10 +98,10 @@ module _ (chart : List ℕ) (b i : ℕ) (done : b ≤ i) where
 module _ (chart : List ℕ) (b : ℕ) (ends₀ reach₀ : List ℕ) where
   pub record Steps (c i : ℕ) (ends reach : List ℕ) : Type 0 where
     pub long : length ends ≡ endsSize
-    pub reach-long : length reach ≡ 64
+    pub reach-long : length reach ≡ maxInput
     pub told : EndsTo chart b 0 ends₀ reach₀ → EndsTo chart c i ends reach
 
-  pub steps-start : length ends₀ ≡ endsSize → length reach₀ ≡ 64 → Steps b 0 ends₀ reach₀
+  pub steps-start : length ends₀ ≡ endsSize → length reach₀ ≡ maxInput → Steps b 0 ends₀ reach₀
   steps-start long reach-long = record { long = long; reach-long = reach-long; told = λ to. to }
 
   pub steps-cell : (c i : ℕ) (ends reach ends' reach' : List ℕ) → i < c → CellPut i c (cell chart i c) ends reach ends' reach'

@@ -5,6 +5,7 @@ use mathlib.Core.List.{List, [], _∷_, _++_}
 use mathlib.Core.Path.{_≡_, refl, sym, ap, subst, _∙_}
 use native.Mathlib.Omega.{arith}
 use lib.ListN.{length, getD}
+use Rattle.sizes.specs.Sizes.{maxRules, maxNodes}
 use Rattle.cfg.specs.Grammar.{Symbol, nonterminal, Of}
 use Rattle.cfg.specs.Tree.{Forest, node, yield, nodes, code, Fits, fits-end, fits-leaf, fits-node}
 use Rattle.packed.specs.Packed.{placesIn, cfgIn}
@@ -24,7 +25,7 @@ pub record Row (p buf : List ℕ) (at todo left : ℕ) : Type 0 where
 
 -- the rule r of the node at `at` is one of the grammar's, and behind the node stands a row that has its children in front
 pub record Behind (p buf : List ℕ) (at r todo left : ℕ) : Type 0 where
-  pub low : r < 128
+  pub low : r < maxRules
   pub rest : ℕ
   pub less : left ≡ suc rest
   pub row : Row p buf (at + 1) (todo - 1 + childrenIn p r) rest
@@ -117,7 +118,7 @@ module _ {p buf : List ℕ} {at : ℕ} where
     }
 
     -- no tree of the grammar stands there, or it is not within the buffer
-    pub sized-full : at + n ≤ 512 → 512 ≤ at + n → Sized p buf at n
+    pub sized-full : at + n ≤ maxNodes → maxNodes ≤ at + n → Sized p buf at n
     sized-full h l = record {
       small = h;
       exact = λ k x f t i.
@@ -126,7 +127,7 @@ module _ {p buf : List ℕ} {at : ℕ} where
           absurd (omega arith);
     }
 
-    pub sized-no-rule : {r : ℕ} → at + n ≤ 512 → r ≡ getD buf (2 * (at + n) + 1) 0 → 128 ≤ r → Sized p buf at n
+    pub sized-no-rule : {r : ℕ} → at + n ≤ maxNodes → r ≡ getD buf (2 * (at + n) + 1) 0 → maxRules ≤ r → Sized p buf at n
     sized-no-rule h e l = record {
       small = h;
       exact = λ k x f t i.
@@ -135,7 +136,7 @@ module _ {p buf : List ℕ} {at : ℕ} where
           absurd (omega arith);
     }
 
-  pub sized-done : {n todo : ℕ} → at + n ≤ 512 → todo ≤ 0 → Walked p buf at n todo → Sized p buf at n
+  pub sized-done : {n todo : ℕ} → at + n ≤ maxNodes → todo ≤ 0 → Walked p buf at n todo → Sized p buf at n
   sized-done {n} {todo} h l W = record {
     small = h;
     exact = λ k x f t i.

@@ -6,6 +6,8 @@ use mathlib.Core.Path.{_≡_, refl, sym, ap, subst, _∙_}
 use native.Mathlib.Decide.{ℕ-discrete}
 use native.Mathlib.Omega.{arith}
 use lib.ListN.{length, getD}
+use Rattle.tables.specs.Layout.{rowsSize}
+use Rattle.sizes.specs.Sizes.{maxRules, side}
 use Rattle.laws.proofs.Lists.{below-step}
 use Rattle.sets.specs.Set.{has}
 use Rattle.sets.proofs.Laws.{has-empty}
@@ -20,7 +22,7 @@ use Rattle.starts.specs.Starts.{Untouched, StartRight, SuffixesPut}
 use Rattle.starts.proofs.Columns.{other-starts, other-rules, right-kept, silent-kept, live-kept, later-kept}
 
 module _ (p fits tables full : List ℕ) (cell reach i j : ℕ) where
-  pub suffixes-start : (rows live : List ℕ) → length rows ≡ allRows → length live ≡ 128
+  pub suffixes-start : (rows live : List ℕ) → length rows ≡ allRows → length live ≡ maxRules
       → SuffixesPut p 0 fits tables full cell reach i j rows live rows live
   suffixes-start rows live e f = record {
     long = e;
@@ -33,7 +35,7 @@ module _ (p fits tables full : List ℕ) (cell reach i j : ℕ) where
   }
 
   -- the empty set has none
-  pub suffixes-none : (m : ℕ) (rows live : List ℕ) → length rows ≡ allRows → length live ≡ 128 → cell ≡ 0
+  pub suffixes-none : (m : ℕ) (rows live : List ℕ) → length rows ≡ allRows → length live ≡ maxRules → cell ≡ 0
       → SuffixesPut p m fits tables full cell reach i j rows live rows live
   suffixes-none m rows live e f z = record {
     long = e;
@@ -45,12 +47,12 @@ module _ (p fits tables full : List ℕ) (cell reach i j : ℕ) where
     told = λ r h g. g;
   }
 
-  module _ (m rules : ℕ) {rows₀ live₀ rows live : List ℕ} (b : i < j) (l : j < 65) (h : m < rules) (o : rules ≤ 128)
+  module _ (m rules : ℕ) {rows₀ live₀ rows live : List ℕ} (b : i < j) (l : j < side) (h : m < rules) (o : rules ≤ maxRules)
       (S : SuffixesPut p m fits tables full cell reach i j rows₀ live₀ rows live) where
     -- one that has none
     module _ {t : Bool} (N : t ≡ false → Untouched p m cell) (n : t ≡ false) where
       stay : (fit : Fit) → FitTold fit p fits j → Reached tables reach i j → (r : ℕ) → r < m + 1 → Dec (r ≡ m)
-          → LiveTold p r i j rows₀ live₀ → LaterStarts fit p r tables full i i j rows₀ (585 * r)
+          → LiveTold p r i j rows₀ live₀ → LaterStarts fit p r tables full i i j rows₀ (rowsSize * r)
           → (Untouched p r cell → StartRight fit p r tables full i j rows₀) → StartRight fit p r tables full i j rows
       stay fit F R r x (yes e) T L U q y =
           let c = count-le p r in
@@ -81,14 +83,14 @@ module _ (p fits tables full : List ℕ) (cell reach i j : ℕ) where
     -- one that has some
     module _ {rows' live' : List ℕ} (P : RulePut p m fits tables full reach i j rows live rows' live') where
       redo : (fit : Fit) → FitTold fit p fits j → Reached tables reach i j → (r : ℕ) → r < m + 1 → Dec (r ≡ m)
-          → LiveTold p r i j rows₀ live₀ → LaterStarts fit p r tables full i i j rows₀ (585 * r)
+          → LiveTold p r i j rows₀ live₀ → LaterStarts fit p r tables full i i j rows₀ (rowsSize * r)
           → (Untouched p r cell → StartRight fit p r tables full i j rows₀) → StartRight fit p r tables full i j rows'
       redo fit F R r x (yes e) T L U q y =
           rw e (P .exact fit F R
           (live-kept p m i j rows₀ live₀ rows live (omega arith) l (S .other) (S .grown)
           (subst (λ (v : ℕ). LiveTold p v i j rows₀ live₀) e T))
           (later-kept p fits tables full i j fit m rows₀ rows (omega arith) l (S .other)
-          (subst (λ (v : ℕ). LaterStarts fit p v tables full i i j rows₀ (585 * v)) e L)) q (rw e at y))
+          (subst (λ (v : ℕ). LaterStarts fit p v tables full i i j rows₀ (rowsSize * v)) e L)) q (rw e at y))
       redo fit F R r x (no e) T L U q y =
           let d : ¬ (r ≡ m) = e in
           right-kept p i m rows rows' (omega arith) (P .other) fit tables full j r e (S .exact fit F R r (omega arith) T L U) q y

@@ -5,6 +5,7 @@ use mathlib.Core.Path.{_≡_, sym, ap, subst, _∙_}
 use native.Mathlib.Decide.{ℕ-discrete}
 use native.Mathlib.Omega.{arith}
 use lib.ListN.{length, getD}
+use Rattle.sizes.specs.Sizes.{maxRules, side}
 use Rattle.sets.specs.Set.{has}
 use Rattle.costs.specs.Cut.{Fit}
 use Rattle.packed.specs.Packed.{countIn}
@@ -16,10 +17,10 @@ use Rattle.suffixes.specs.Rows.{WordAt, StartPut, RowsFrom, RowsPut}
 -- ---- one start
 
 module _ (p : List ℕ) (r : ℕ) (fits : List ℕ) where
-  pub word-fits : {a j word : ℕ} (fit : Fit) → r < 128 → WordAt fits r a j word → FitTold fit p fits j → Word fit p r a j word
+  pub word-fits : {a j word : ℕ} (fit : Fit) → r < maxRules → WordAt fits r a j word → FitTold fit p fits j → Word fit p r a j word
   word-fits {a} fit h W F q l n m = ap (has q) (W .told m) ∙ F a r q m h l n
 
-  pub start-put : {word : ℕ} {tables full : List ℕ} {i a from j at : ℕ} {rows₀ rows : List ℕ} → r < 128 → WordAt fits r a j word
+  pub start-put : {word : ℕ} {tables full : List ℕ} {i a from j at : ℕ} {rows₀ rows : List ℕ} → r < maxRules → WordAt fits r a j word
       → ColumnPut p r word tables full i a from j at rows₀ rows → StartPut p r fits tables full i a from j at rows₀ rows
   start-put h W C = record {
     long = C .long;
@@ -33,7 +34,7 @@ module _ (p : List ℕ) (r : ℕ) (fits tables full : List ℕ) (i j : ℕ) wher
   pub rows-start : (rows : List ℕ) → length rows ≡ rowsSize → RowsFrom p r fits tables full i (j + 1) j rows
   rows-start rows e = record { long = e; exact = λ fit F q c h l m. absurd (omega arith) }
 
-  module _ (rows₀ rows : List ℕ) (n : ℕ) (k : i < n) (l : n ≤ j + 1) (b : j < 65) (S : RowsFrom p r fits tables full i n j rows₀)
+  module _ (rows₀ rows : List ℕ) (n : ℕ) (k : i < n) (l : n ≤ j + 1) (b : j < side) (S : RowsFrom p r fits tables full i n j rows₀)
       (P : StartPut p r fits tables full i (n - 1) (n - 1 + 1) j 0 rows₀ rows) where
     at-start : (fit : Fit) → FitTold fit p fits j → (q c : ℕ) → q ≤ countIn p r → n - 1 ≤ c → c ≤ j → Dec (c ≡ n - 1)
         → Inside fit tables full i j (tailIn p r q) c (getD rows (rowAt 0 q c) 0)

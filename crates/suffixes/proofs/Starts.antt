@@ -7,6 +7,7 @@ use native.Mathlib.Decide.{ℕ-discrete}
 use native.Mathlib.Omega.{arith}
 use lib.ListN.{length, set, getD, length-set}
 use lib.Seq.{getD-set-same, getD-set-other}
+use Rattle.sizes.specs.Sizes.{maxPlaces, side}
 use Rattle.sets.specs.Set.{has}
 use Rattle.cfg.specs.Grammar.{Symbol}
 use Rattle.costs.specs.Cut.{within}
@@ -29,11 +30,11 @@ module _ (p : List ℕ) (r word : ℕ) (tables full : List ℕ) (i a from j at :
         rw q (subst (λ (z : List Symbol). Inside fit tables full i j z a (getD rows (rowAt at (countIn p r) a) 0)) (sym t) E);
   }
 
-  module _ (rows₀ rows : List ℕ) (q v : ℕ) {b : Bool} (h : a ≤ j) (l : j < 65) (o : q < countIn p r) (o8 : q < 8)
+  module _ (rows₀ rows : List ℕ) (q v : ℕ) {b : Bool} (h : a ≤ j) (l : j < side) (o : q < countIn p r) (o8 : q < maxPlaces)
       (k : at + rowsSize ≤ length rows) (e : b ≡ has q word) (S : ColumnFrom p r word tables full i a from j at (q + 1) rows₀ rows)
-      (X : SuffixAt p r q b tables full i a from j rows (at + 65 * (q + 1)) v) where
+      (X : SuffixAt p r q b tables full i a from j rows (at + side * (q + 1)) v) where
     -- the ends that are not looked at, and the places behind q from them on
-    passed : EndsPassed p r tables a from j rows₀ at → Passed tables a from j rows (at + 65 * (q + 1))
+    passed : EndsPassed p r tables a from j rows₀ at → Passed tables a from j rows (at + side * (q + 1))
     passed P k c x y z =
         let e = S .other (rowAt at (q + 1) c) (λ s u v. omega arith) in
         let d = P (q + 1) (omega arith) (omega arith) k c x y z in
@@ -42,17 +43,17 @@ module _ (p : List ℕ) (r word : ℕ) (tables full : List ℕ) (i a from j at :
     -- the costs of the places behind q, from every start
     rests : (fit : Fit) → Word fit p r a j word → EndsPassed p r tables a from j rows₀ at
         → LaterStarts fit p r tables full i a j rows₀ at → Inside fit tables full i j [] a (getD rows₀ (rowAt at (countIn p r) a) 0)
-        → Rests fit tables full i j (tailIn p r (suc q)) a rows (at + 65 * (q + 1))
+        → Rests fit tables full i j (tailIn p r (suc q)) a rows (at + side * (q + 1))
     rests fit W P L E c m n = go (ℕ-discrete c a)
       where
-        go : Dec (c ≡ a) → Inside fit tables full i j (tailIn p r (suc q)) c (getD rows (at + 65 * (q + 1) + c) 0)
+        go : Dec (c ≡ a) → Inside fit tables full i j (tailIn p r (suc q)) c (getD rows (at + side * (q + 1) + c) 0)
         go (yes d) =
             let f : q + 1 ≡ suc q = omega arith in
             rw (d, f) (rw f at (S .exact fit W P L E (q + 1) (omega arith) (omega arith)))
         go (no d) =
             let x : ¬ (c ≡ a) = d in
             let f : suc q ≡ q + 1 = omega arith in
-            let g : getD rows₀ (rowAt at (suc q) c) 0 ≡ getD rows (at + 65 * (q + 1) + c) 0 =
+            let g : getD rows₀ (rowAt at (suc q) c) 0 ≡ getD rows (at + side * (q + 1) + c) 0 =
             ap (λ (z : ℕ). getD rows₀ (rowAt at z c) 0) f ∙ sym (S .other (rowAt at (q + 1) c) (λ s y z. x (omega arith)))
             in
             subst (λ (z : ℕ). Inside fit tables full i j (tailIn p r (suc q)) c z) g (L (suc q) c (omega arith) (omega arith) n)
@@ -74,7 +75,7 @@ module _ (p : List ℕ) (r word : ℕ) (tables full : List ℕ) (i a from j at :
         in
         subst (λ (z : ℕ). Inside fit tables full i j (tailIn p r s) a z) g (S .exact fit W P L E s (omega arith) n)
 
-    pub column-step : ColumnFrom p r word tables full i a from j at q rows₀ (set rows (at + 65 * q + a) v)
+    pub column-step : ColumnFrom p r word tables full i a from j at q rows₀ (set rows (at + side * q + a) v)
     column-step = record {
       long = length-set rows (rowAt at q a) v ∙ S .long;
       other = λ n d. getD-set-other rows (rowAt at q a) n v 0 (d q o) ∙ S .other n d;
@@ -82,18 +83,19 @@ module _ (p : List ℕ) (r word : ℕ) (tables full : List ℕ) (i a from j at :
     }
 
   -- the same as the code counts: from n down to n - 1
-  pub column-back : (rows₀ rows : List ℕ) (n v : ℕ) {b : Bool} → a ≤ j → j < 65 → countIn p r ≤ 8 → n ≤ countIn p r → 0 < n
+  pub column-back : (rows₀ rows : List ℕ) (n v : ℕ) {b : Bool} → a ≤ j → j < side → countIn p r ≤ maxPlaces → n ≤ countIn p r → 0 < n
       → at + rowsSize ≤ length rows → b ≡ has (n - 1) word → ColumnFrom p r word tables full i a from j at n rows₀ rows
-      → SuffixAt p r (n - 1) b tables full i a from j rows (at + 65 * (n - 1 + 1)) v
-      → ColumnFrom p r word tables full i a from j at (n - 1) rows₀ (set rows (at + 65 * (n - 1) + a) v)
+      → SuffixAt p r (n - 1) b tables full i a from j rows (at + side * (n - 1 + 1)) v
+      → ColumnFrom p r word tables full i a from j at (n - 1) rows₀ (set rows (at + side * (n - 1) + a) v)
   column-back rows₀ rows n v h l c o z k e S X =
       let f : n ≡ n - 1 + 1 = omega arith in
       column-step rows₀ rows (n - 1) v h l (omega arith) (omega arith) k e
       (subst (λ (x : ℕ). ColumnFrom p r word tables full i a from j at x rows₀ rows) f S) X
 
   -- the number behind the last place, which is written first
-  module _ (rows₀ rows : List ℕ) (m v : ℕ) (e : m ≡ countIn p r) (b : m ≤ 8) (l : j < 65) (h : a ≤ j) (k : at + rowsSize ≤ length rows₀)
-      (E : AtEnd a j v) (S : ColumnFrom p r word tables full i a from j at 0 (set rows₀ (at + 65 * m + a) v) rows) where
+  module _ (rows₀ rows : List ℕ) (m v : ℕ) (e : m ≡ countIn p r) (b : m ≤ maxPlaces) (l : j < side) (h : a ≤ j)
+      (k : at + rowsSize ≤ length rows₀)
+      (E : AtEnd a j v) (S : ColumnFrom p r word tables full i a from j at 0 (set rows₀ (at + side * m + a) v) rows) where
     last : (fit : Fit) → Inside fit tables full i j [] a (getD (set rows₀ (rowAt at m a) v) (rowAt at (countIn p r) a) 0)
     last fit =
         let g : v ≡ getD (set rows₀ (rowAt at m a) v) (rowAt at (countIn p r) a) 0 =
@@ -123,7 +125,8 @@ module _ (p : List ℕ) (r word : ℕ) (tables full : List ℕ) (i a from j at :
       exact = λ fit W P L s x. S .exact fit W (ends P) (later fit L) (last fit) s (omega arith) x;
     }
 
-  pub column-end : {q : ℕ} (rows₀ rows : List ℕ) (m v : ℕ) → m ≡ countIn p r → m ≤ 8 → j < 65 → a ≤ j → at + rowsSize ≤ length rows₀
-      → AtEnd a j v → q ≤ 0 → ColumnFrom p r word tables full i a from j at q (set rows₀ (at + 65 * m + a) v) rows
+  pub column-end : {q : ℕ} (rows₀ rows : List ℕ) (m v : ℕ) → m ≡ countIn p r → m ≤ maxPlaces → j < side → a ≤ j
+      → at + rowsSize ≤ length rows₀
+      → AtEnd a j v → q ≤ 0 → ColumnFrom p r word tables full i a from j at q (set rows₀ (at + side * m + a) v) rows
       → ColumnPut p r word tables full i a from j at rows₀ rows
   column-end {q} rows₀ rows m v e b l h k E n S = let d : q ≡ 0 = omega arith in column-whole rows₀ rows m v e b l h k E (rw d at S)

@@ -7,19 +7,20 @@ use native.Mathlib.Decide.{decLt}
 use native.Mathlib.Omega.{arith}
 use lib.ListN.{getD}
 use borrow.Author.Tests.{lt-ltb, le-ltb}
+use Rattle.sizes.specs.Sizes.{maxRules, side}
 use Rattle.tables.specs.Layout.{spanAt, bareAt, bareIn, baresAt, tablesSize}
 
 -- ---- the place of a span
 
-pub span-low : (i j : ℕ) → i < 32 → 65 * i + (j - i - 1) ≡ spanAt i j
+pub span-low : (i j : ℕ) → i < 32 → side * i + (j - i - 1) ≡ spanAt i j
 unfolding spanAt
 span-low i j h = rw (lt-ltb i 32 h)
 
-pub span-high : (i j : ℕ) → 32 ≤ i → 65 * (63 - i) + j ≡ spanAt i j
+pub span-high : (i j : ℕ) → 32 ≤ i → side * (63 - i) + j ≡ spanAt i j
 unfolding spanAt
 span-high i j h = rw (le-ltb i 32 h)
 
-pub span-below : (i j : ℕ) → i < j → j < 65 → spanAt i j < 2080
+pub span-below : (i j : ℕ) → i < j → j < side → spanAt i j < 2080
 span-below i j h l = go (decLt i 32)
   where
     go : Dec (i < 32) → spanAt i j < 2080
@@ -27,7 +28,7 @@ span-below i j h l = go (decLt i 32)
     go (no m) = let n : 32 ≤ i = omega arith in omega (arith, span-high i j n)
 
 -- two spans in one place are the same
-span-same : (i j a b : ℕ) → i < j → j < 65 → a < b → b < 65 → spanAt i j ≡ spanAt a b → (i ≡ a) × (j ≡ b)
+span-same : (i j a b : ℕ) → i < j → j < side → a < b → b < side → spanAt i j ≡ spanAt a b → (i ≡ a) × (j ≡ b)
 span-same i j a b h l m n e = go (decLt i 32) (decLt a 32)
   where
     go : Dec (i < 32) → Dec (a < 32) → (i ≡ a) × (j ≡ b)
@@ -45,7 +46,7 @@ span-same i j a b h l m n e = go (decLt i 32) (decLt a 32)
 
 -- ---- the place of a rule's number
 
-pub bare-placed : (i j r : ℕ) {n : ℕ} → n ≡ spanAt i j → baresAt + 128 * n + r ≡ bareAt i j r
+pub bare-placed : (i j r : ℕ) {n : ℕ} → n ≡ spanAt i j → baresAt + maxRules * n + r ≡ bareAt i j r
 unfolding bareAt
 bare-placed i j r e = omega arith
 
@@ -57,12 +58,12 @@ pub bare-behind : (i j r : ℕ) → baresAt ≤ bareAt i j r
 unfolding bareAt
 bare-behind i j r = omega arith
 
-pub bare-inside : (i j r : ℕ) → i < j → j < 65 → r < 128 → bareAt i j r < tablesSize
+pub bare-inside : (i j r : ℕ) → i < j → j < side → r < maxRules → bareAt i j r < tablesSize
 unfolding bareAt
 bare-inside i j r h l m = omega (arith, span-below i j h l)
 
 -- no two numbers stand in one place
-pub bare-apart : (i j r a b s : ℕ) → i < j → j < 65 → r < 128 → a < b → b < 65 → s < 128
+pub bare-apart : (i j r a b s : ℕ) → i < j → j < side → r < maxRules → a < b → b < side → s < maxRules
     → ¬ ((i ≡ a) × (j ≡ b) × (r ≡ s)) → ¬ (bareAt i j r ≡ bareAt a b s)
 unfolding bareAt
 bare-apart i j r a b s h l m n o q d e =

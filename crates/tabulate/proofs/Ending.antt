@@ -5,7 +5,7 @@ use mathlib.Core.List.{List}
 use mathlib.Core.Path.{_≡_, ap, subst, _∙_}
 use native.Mathlib.Omega.{arith}
 use lib.ListN.{length, getD}
-use Rattle.sizes.specs.Sizes.{tooMany}
+use Rattle.sizes.specs.Sizes.{tooMany, maxRules, side}
 use Rattle.sets.specs.Set.{has}
 use Rattle.sets.proofs.Laws.{has-empty}
 use Rattle.chart.specs.Cell.{cell}
@@ -31,7 +31,7 @@ module _ (p : List ℕ) (rules : ℕ) (fits chart : List ℕ) where
   -- ---- one end
 
   module _ (j : ℕ) where
-    pub end-start : (tables rows live : List ℕ) → length tables ≡ tablesSize → length rows ≡ allRows → length live ≡ 128
+    pub end-start : (tables rows live : List ℕ) → length tables ≡ tablesSize → length rows ≡ allRows → length live ≡ maxRules
         → EndFrom p rules fits chart j j tables rows tables rows live
     end-start tables rows live e f g = record {
       long = e;
@@ -42,7 +42,7 @@ module _ (p : List ℕ) (rules : ℕ) (fits chart : List ℕ) where
     }
 
     -- an end whose bit is not set costs too many: its cell is empty, so that no nonterminal has a tree there
-    reached-by : {fit : Fit} {bytes : ℕ → ℕ → Type 0} {i : ℕ} {tables rows reach : List ℕ} → i < j → j < 65
+    reached-by : {fit : Fit} {bytes : ℕ → ℕ → Type 0} {i : ℕ} {tables rows reach : List ℕ} → i < j → j < side
         → Sofar fit bytes p rules (i + 1) j tables rows → ChartTrue p bytes chart j → Reaches chart j reach
         → Reached tables (getD reach i 0) i j
     reached-by {i = i} {tables} h l S C R k c x y f =
@@ -54,9 +54,9 @@ module _ (p : List ℕ) (rules : ℕ) (fits chart : List ℕ) where
         in
         omega arith
 
-    pub end-back : (n : ℕ) {reach tables₀ rows₀ tables₁ rows₁ live₁ tables rows live : List ℕ} → 0 < n → n ≤ j → j < 65
+    pub end-back : (n : ℕ) {reach tables₀ rows₀ tables₁ rows₁ live₁ tables rows live : List ℕ} → 0 < n → n ≤ j → j < side
         → Reaches chart j reach → EndFrom p rules fits chart n j tables₀ rows₀ tables₁ rows₁ live₁
-        → SpanPut p rules fits (getD chart (65 * (n - 1) + j) 0) (getD reach (n - 1) 0) (n - 1) j tables₁ rows₁ live₁ tables rows live
+        → SpanPut p rules fits (getD chart (side * (n - 1) + j) 0) (getD reach (n - 1) 0) (n - 1) j tables₁ rows₁ live₁ tables rows live
         → EndFrom p rules fits chart (n - 1) j tables₀ rows₀ tables rows live
     end-back n {tables₁ = tables₁} {rows₁} {live₁} h l k R S P = record {
       long = P .long;
@@ -91,7 +91,7 @@ module _ (p : List ℕ) (rules : ℕ) (fits chart : List ℕ) where
   -- ---- all ends
 
   -- the spans that end at j are before the next end, whatever the rows hold
-  next-end : {fit : Fit} {bytes : ℕ → ℕ → Type 0} {j : ℕ} {tables rows : List ℕ} → j < 65 → Sofar fit bytes p rules 0 j tables rows
+  next-end : {fit : Fit} {bytes : ℕ → ℕ → Type 0} {j : ℕ} {tables rows : List ℕ} → j < side → Sofar fit bytes p rules 0 j tables rows
       → Sofar fit bytes p rules (j + 1 + 1) (j + 1) tables rows
   next-end l S = record {
     empty = S .empty;
@@ -123,7 +123,7 @@ module _ (p : List ℕ) (rules : ℕ) (fits chart : List ℕ) where
           };
     }
 
-    pub ends-step : {j : ℕ} {tables₀ tables₁ rows₁ tables rows : List ℕ} → j ≤ n → n < 65
+    pub ends-step : {j : ℕ} {tables₀ tables₁ rows₁ tables rows : List ℕ} → j ≤ n → n < side
         → EndsBefore p rules fits chart empty n j tables₀ tables₁ rows₁ → EndPut p rules fits chart empty j tables₁ rows₁ tables rows
         → EndsBefore p rules fits chart empty n (j + 1) tables₀ tables rows
     ends-step {j} h l S P = record {
@@ -134,7 +134,7 @@ module _ (p : List ℕ) (rules : ℕ) (fits chart : List ℕ) where
           (P .exact fit can (given-less h G) E (λ a b x y. C a b x (omega arith)) (S .exact fit can G E C A));
     }
 
-    pub ends-end : {j : ℕ} {tables₀ tables rows : List ℕ} → n < j → j ≤ n + 1 → n < 65
+    pub ends-end : {j : ℕ} {tables₀ tables rows : List ℕ} → n < j → j ≤ n + 1 → n < side
         → EndsBefore p rules fits chart empty n j tables₀ tables rows → EndsPut p rules fits chart empty n tables₀ tables
     ends-end {j} {tables₀} {tables} {rows} h m l S = record {
       long = S .long;
@@ -154,7 +154,7 @@ module _ (p : List ℕ) (rules : ℕ) (fits chart : List ℕ) where
   -- ---- the tables
 
   module _ (empty : List ℕ) (n : ℕ) {tables₀ tables₁ tables : List ℕ} (X : Solved p rules (getD chart 0 0) 0 tables₀ 0 0 empty)
-      (A : AlonesFilled p empty 128 tables₁) (P : EndsPut p rules fits chart empty n tables₁ tables) where
+      (A : AlonesFilled p empty maxRules tables₁) (P : EndsPut p rules fits chart empty n tables₁ tables) where
     empties : (fit : Fit) (bytes : ℕ → ℕ → Type 0) → Tells fit bytes → PastLast p rules → ChartTrue p bytes chart n
         → EmptyTrue p bytes empty
     empties fit bytes T past C k =

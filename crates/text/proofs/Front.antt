@@ -10,6 +10,7 @@ use lib.Dec.{eqb, ltb}
 use lib.ListN.{length, getD, take}
 use lib.Seq.{take-all, getD-take, length-take-le}
 use borrow.Author.Tests.{lt-ltb, le-ltb, ne-eqb}
+use Rattle.sizes.specs.Sizes.{maxInput}
 use Rattle.grammar.specs.declared.Grammar.{Grammar}
 use Rattle.grammar.specs.Zero.{zeroGrammar}
 use Rattle.results.specs.Answer.{LoadAnswer, refusedAt, loaded, decide}
@@ -109,7 +110,7 @@ load-front book d = dite (decLt bookFront (length book)) long short
 -- a plate of more than 64 bytes is refused
 input-long : (g : Grammar) (w : List ℕ) → plateFront ≤ length w → inputText g w ≡ refusedLine 9 ∷ []
 unfolding inputText decide
-input-long g w h = rw (ne-eqb (length w) 0 (omega arith), lt-ltb 64 (length w) (omega arith))
+input-long g w h = rw (ne-eqb (length w) 0 (omega arith), lt-ltb maxInput (length w) (omega arith))
 
 input-front : (g : Grammar) (w : List ℕ) → inputText g (take plateFront w) ≡ inputText g w
 input-front g w = dite (decLt plateFront (length w)) long short

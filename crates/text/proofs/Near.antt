@@ -9,6 +9,7 @@ use lib.Dec.{eqb, ltb}
 use lib.IntN.{ℤ}
 use lib.ListN.{length, getD}
 use borrow.Author.Tests.{ltb-false}
+use Rattle.sizes.specs.Sizes.{maxRules, maxPlaces}
 use Rattle.laws.proofs.Bools.{true-false}
 use Rattle.grammar.specs.declared.Symbol.{Symbol}
 use Rattle.grammar.specs.declared.Symbol.the-variants.{Nonterminal, Terminal}
@@ -23,9 +24,9 @@ use Rattle.results.proofs.Decide.{decide-either}
 
 -- an offset, and the grammar that was read before it. At most 4 bytes are the start, 20 a rule with its places, and 2 each place
 pub record Near (at : ℕ) (g : Grammar) : Type 0 where
-  pub few : g .count ≤ 128
-  pub size : length (g .rules) ≡ 128
-  pub places : openRule g .count ≤ 8
+  pub few : g .count ≤ maxRules
+  pub size : length (g .rules) ≡ maxRules
+  pub places : openRule g .count ≤ maxPlaces
   pub near : at ≤ 4 + 20 * g .count + 2 * openRule g .count
 
 pub near-zero : Near 0 zeroGrammar
@@ -39,14 +40,14 @@ module _ (at : ℕ) (g : Grammar) (N : Near at g) where
   unfolding withStart openRule
   start-near k at′ h = record { few = N .few; size = N .size; places = N .places; near = omega arith }
 
-  rule-open : (k : ℕ) (z : ℤ) → g .count < 128 → openRule (withRule g k z) .count ≡ 0
+  rule-open : (k : ℕ) (z : ℤ) → g .count < maxRules → openRule (withRule g k z) .count ≡ 0
   unfolding withRule openRule
   rule-open k z h =
       let e : g .count + 1 - 1 ≡ g .count = omega arith in
       let s = N .size in
       rw e (ap (λ (r : Rule). r .count) (set-rule-at g (g .count) (openedRule k z) (omega arith)))
 
-  rule-near : (k : ℕ) (z : ℤ) → g .count < 128 → Near (at + 1 + 3) (withRule g k z)
+  rule-near : (k : ℕ) (z : ℤ) → g .count < maxRules → Near (at + 1 + 3) (withRule g k z)
   unfolding withRule
   rule-near k z h =
       let e = rule-open k z h in
@@ -61,12 +62,17 @@ module _ (at : ℕ) (g : Grammar) (N : Near at g) where
       let z = N .size in
       ap (λ (r : Rule). r .count) (set-rule-at g (g .count - 1) (placedRule (openRule g) s) (omega arith))
 
-  place-near : (s : Symbol) → openRule g .count < 8 → Near (at + 1 + 1) (withPlace g s)
+  place-near : (s : Symbol) → openRule g .count < maxPlaces → Near (at + 1 + 1) (withPlace g s)
   unfolding withPlace
   place-near s h =
       let e = place-open s in
       let n = N .near in
-      record { few = N .few; size = set-rule-size g (g .count - 1) (placedRule (openRule g) s) ∙ N .size; places = omega arith; near = omega arith }
+      record {
+        few = N .few;
+        size = set-rule-size g (g .count - 1) (placedRule (openRule g) s) ∙ N .size;
+        places = omega arith;
+        near = omega arith;
+      }
 
   -- one command that is not 50, which its checks let through
   after-near : (c a b d : ℕ) → eqb c 0x50 ≡ false → unknown c ≡ false → outOfTurn c at g ≡ false

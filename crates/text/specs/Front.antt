@@ -1,5 +1,6 @@
 -- How many of the first bytes of a book and of a plate decide the text (proofs/Front.antt). Assumes nothing.
-use Prim.Native.Nat.{ℕ}
+use Prim.Native.Nat.{ℕ, _+_}
+use Rattle.sizes.specs.Sizes.{maxInput}
 
 -- of a book: a start, 128 rules and 8 places for each take fewer bytes
 abbrev pub bookFront : ℕ
@@ -7,4 +8,4 @@ bookFront = 8192
 
 -- of a plate: one byte more than a plate may have
 abbrev pub plateFront : ℕ
-plateFront = 65
+plateFront = maxInput + 1

@@ -35,8 +35,8 @@
 --
 -- The listing program reads, calls `begin` of lister/src/begin.rt and `fill_page` of pages/src/lib.rt, whose contracts are the premises of
 -- pages-text, and hands each page to `write` of output/src/lib.rt, which requires that these bytes come next in the text. `list` of
--- list/src/main.rt promises that none is left out, unless a write fails. So every byte handed to the write is proved, in its order; that the
--- write writes it is run.
+-- list/src/main.rt promises that none is left out, unless a write fails. So every byte handed to the write is proved, in its order; that
+-- the write writes it is run.
 --
 -- `tools/trace-check` reads the table above and fails if a call lacks its equality or has a `requires`; README's table of the calls is held
 -- to this file by it too. With the last three, demand-3 is a claim about the code's first, next and count.

@@ -6,8 +6,8 @@ use native.Mathlib.Decide.{ℕ-discrete, decLt}
 use native.Mathlib.Omega.{arith}
 use lib.ListN.{length, set, getD, replicate, length-set, getD-replicate}
 use lib.Seq.{getD-set-same, getD-set-other}
-use Rattle.sizes.specs.Sizes.{tooMany}
-use Rattle.tables.specs.Layout.{bareAt, bareIn, tablesSize, costIn, fullIn}
+use Rattle.sizes.specs.Sizes.{tooMany, maxRules, side, cells}
+use Rattle.tables.specs.Layout.{bareAt, bareIn, tablesSize, costIn, fullIn, rowsSize}
 use Rattle.tables.proofs.Entries.{cost-read, cost-none, full-read, full-none}
 use Rattle.tables.proofs.Bares.{bare-behind, bare-inside, bare-apart}
 use Rattle.writes.specs.Writes.{placeAt, Nothing, LeastBefore, LeastPut, BaresPut}
@@ -16,7 +16,7 @@ use Rattle.writes.specs.Writes.{placeAt, Nothing, LeastBefore, LeastPut,
 
 -- a cost is one number
 pub cost-same : (tables₀ tables : List ℕ) (k a b : ℕ)
-    → (k < 32 → getD tables (4225 * k + 65 * a + b) 0 ≡ getD tables₀ (4225 * k + 65 * a + b) 0)
+    → (k < 32 → getD tables (cells * k + side * a + b) 0 ≡ getD tables₀ (cells * k + side * a + b) 0)
     → costIn tables k a b ≡ costIn tables₀ k a b
 cost-same tables₀ tables k a b f = go (decLt k 32)
   where
@@ -28,27 +28,27 @@ module _ (full : List ℕ) (i j : ℕ) where
   pub least-start : (tables : List ℕ) → length tables ≡ tablesSize → LeastBefore full i j 0 tables tables
   least-start tables e = record { long = e; here = λ k h. absurd (omega arith); other = λ k a b h l d. refl; rest = λ n h. refl }
 
-  module _ (m : ℕ) (tables₀ tables : List ℕ) (h : i < 65) (l : j < 65) (o : m < 32) (S : LeastBefore full i j m tables₀ tables) where
+  module _ (m : ℕ) (tables₀ tables : List ℕ) (h : i < side) (l : j < side) (o : m < 32) (S : LeastBefore full i j m tables₀ tables) where
     abbrev next : List ℕ
-    next = set tables (4225 * m + 65 * i + j) (getD full m 0)
+    next = set tables (cells * m + side * i + j) (getD full m 0)
 
-    apart : (n : ℕ) → ¬ (n ≡ 4225 * m + 65 * i + j) → getD next n 0 ≡ getD tables n 0
-    apart n d = getD-set-other tables (4225 * m + 65 * i + j) n (getD full m 0) 0 d
+    apart : (n : ℕ) → ¬ (n ≡ cells * m + side * i + j) → getD next n 0 ≡ getD tables n 0
+    apart n d = getD-set-other tables (cells * m + side * i + j) n (getD full m 0) 0 d
 
     here : (k : ℕ) → k < m + 1 → Dec (k ≡ m) → costIn next k i j ≡ fullIn full k
     here k x (yes d) =
         rw d (sym (cost-read next m i j o)
-        ∙ getD-set-same tables (4225 * m + 65 * i + j) (getD full m 0) 0 (omega (arith, S .long)) ∙ full-read full m o)
+        ∙ getD-set-same tables (cells * m + side * i + j) (getD full m 0) 0 (omega (arith, S .long)) ∙ full-read full m o)
     here k x (no d) =
         let c : ¬ (k ≡ m) = d in
-        cost-same tables next k i j (λ _. apart (4225 * k + 65 * i + j) (λ y. c (omega arith))) ∙ S .here k (omega arith)
+        cost-same tables next k i j (λ _. apart (cells * k + side * i + j) (λ y. c (omega arith))) ∙ S .here k (omega arith)
 
-    pub least-step : LeastBefore full i j (m + 1) tables₀ (set tables (4225 * m + 65 * i + j) (getD full m 0))
+    pub least-step : LeastBefore full i j (m + 1) tables₀ (set tables (cells * m + side * i + j) (getD full m 0))
     least-step = record {
-      long = length-set tables (4225 * m + 65 * i + j) (getD full m 0) ∙ S .long;
+      long = length-set tables (cells * m + side * i + j) (getD full m 0) ∙ S .long;
       here = λ k x. here k x (ℕ-discrete k m);
       other = λ k a b x y d.
-          cost-same tables next k a b (λ _. apart (4225 * k + 65 * a + b) (λ e. d (omega arith, omega arith))) ∙ S .other k a b x y d;
+          cost-same tables next k a b (λ _. apart (cells * k + side * a + b) (λ e. d (omega arith, omega arith))) ∙ S .other k a b x y d;
       rest = λ n x. apart n (λ e. omega arith) ∙ S .rest n x;
     }
 
@@ -70,8 +70,8 @@ module _ (i j : ℕ) (rows : List ℕ) where
   pub bares-start : (tables : List ℕ) → length tables ≡ tablesSize → BaresPut 0 i j rows tables tables
   bares-start tables e = record { long = e; here = λ r h. absurd (omega arith); other = λ a b r h l m d. refl; front = λ n h. refl }
 
-  module _ (m rules : ℕ) (tables₀ tables : List ℕ) {at v w : ℕ} (h : i < j) (l : j < 65) (y : m < rules) (z : rules ≤ 128)
-      (e : at ≡ bareAt i j m) (f : w ≡ getD rows (585 * m + i) 0) (g : v ≡ min (suc w) tooMany)
+  module _ (m rules : ℕ) (tables₀ tables : List ℕ) {at v w : ℕ} (h : i < j) (l : j < side) (y : m < rules) (z : rules ≤ maxRules)
+      (e : at ≡ bareAt i j m) (f : w ≡ getD rows (rowsSize * m + i) 0) (g : v ≡ min (suc w) tooMany)
       (S : BaresPut m i j rows tables₀ tables) where
     abbrev put : List ℕ
     put = set tables at v
@@ -81,7 +81,7 @@ module _ (i j : ℕ) (rows : List ℕ) where
 
     written : (r : ℕ) → r < m + 1 → Dec (r ≡ m) → bareIn put i j r ≡ min (suc (getD rows (placeAt r 0 i) 0)) tooMany
     written r x (yes d) =
-        let n : placeAt m 0 i ≡ 585 * m + i = omega arith in
+        let n : placeAt m 0 i ≡ rowsSize * m + i = omega arith in
         let t : getD rows (placeAt m 0 i) 0 ≡ w = ap (λ (u : ℕ). getD rows u 0) n ∙ sym f in
         let s : getD put (bareAt i j m) 0 ≡ v =
         ap (λ (u : ℕ). getD put u 0) (sym e) ∙ getD-set-same tables at v 0 (omega (arith, S .long, bare-inside i j m h l (omega arith)))

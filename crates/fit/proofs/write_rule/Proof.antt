@@ -4,6 +4,7 @@ use borrow.Author.Needs.{needs}
 use native.Mathlib.Omega.{arith}
 use mathlib.Core.Path.{_≡_}
 use Prim.Native.Nat.{_≤_, _-_}
+use Rattle.sizes.specs.Sizes.{maxPlaces}
 use Rattle.packed.specs.Packed.{countIn}
 use Rattle.fit.specs.Fit.{Put, AtRule}
 use Rattle.fit.proofs.Tables.{rule-start, rule-step, rule-done}
@@ -11,7 +12,7 @@ use Rattle.fit.proofs.write_rule.Statement.{statement}
 use Rattle.fit.proofs.write_rule.Tie as tie
 
 abbrev Inv-loop : tie.InvT-loop
-Inv-loop p r w n t₀ count q₀ t q = (q ≤ count) × (count ≡ countIn p r) × (count ≤ 8) × Put p w (AtRule n r q) t₀ t
+Inv-loop p r w n t₀ count q₀ t q = (q ≤ count) × (count ≡ countIn p r) × (count ≤ maxPlaces) × Put p w (AtRule n r q) t₀ t
 
 abbrev μ-loop : tie.MeasureT-loop
 μ-loop p r w n t₀ count q₀ t q = count - q

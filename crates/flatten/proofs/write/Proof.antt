@@ -4,6 +4,7 @@ use Prim.Native.Nat.{ℕ, _≤_, _-_}
 use native.Mathlib.Omega.{arith}
 use mathlib.Core.Path.{refl}
 use lib.ListN.{length-set, length-replicate, replicate}
+use Rattle.sizes.specs.Sizes.{maxRules}
 use Rattle.grammar.proofs.Declared.{rules-long}
 use Rattle.grammar.specs.Zero.{noRule}
 use Rattle.rows.specs.Flat.{flatRule, flatSize, ruleNumbers}
@@ -12,10 +13,10 @@ use Rattle.flatten.proofs.write.Statement.{statement}
 use Rattle.flatten.proofs.write.Tie as tie
 
 abbrev Inv-loop : tie.InvT-loop
-Inv-loop f₀ g r₀ f r = (r ≤ 128) × Written flatRule ruleNumbers 3 (g .rules) f₀ r f
+Inv-loop f₀ g r₀ f r = (r ≤ maxRules) × Written flatRule ruleNumbers 3 (g .rules) f₀ r f
 
 abbrev μ-loop : tie.MeasureT-loop
-μ-loop f₀ g r₀ f r = 128 - r
+μ-loop f₀ g r₀ f r = maxRules - r
 
 loop-again : tie.Need-loop-again Inv-loop μ-loop
 loop-again c =

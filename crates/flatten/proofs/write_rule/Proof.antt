@@ -3,6 +3,7 @@
 use Prim.Native.Nat.{_≤_, _+_, _-_}
 use native.Mathlib.Omega.{arith}
 use lib.ListN.{length-set}
+use Rattle.sizes.specs.Sizes.{maxPlaces}
 use Rattle.grammar.proofs.Declared.{length-fits, places-long}
 use Rattle.grammar.specs.Zero.{zeroPlace}
 use Rattle.rows.specs.Flat.{flatPlace}
@@ -11,10 +12,10 @@ use Rattle.flatten.proofs.write_rule.Statement.{statement}
 use Rattle.flatten.proofs.write_rule.Tie as tie
 
 abbrev Inv-loop : tie.InvT-loop
-Inv-loop at f₀ rule z q₀ f q = (q ≤ 8) × Written flatPlace 2 (at + 3) (rule .places) f₀ q f
+Inv-loop at f₀ rule z q₀ f q = (q ≤ maxPlaces) × Written flatPlace 2 (at + 3) (rule .places) f₀ q f
 
 abbrev μ-loop : tie.MeasureT-loop
-μ-loop at f₀ rule z q₀ f q = 8 - q
+μ-loop at f₀ rule z q₀ f q = maxPlaces - q
 
 loop-again : tie.Need-loop-again Inv-loop μ-loop
 loop-again c =

@@ -8,13 +8,14 @@ use borrow.Author.Needs.{needs}
 use borrow.Author.Tests.{ltb-true}
 use native.Mathlib.Omega.{arith}
 use lib.ListN.{take}
+use Rattle.sizes.specs.Sizes.{maxRules}
 use Rattle.grammar.specs.Valid.{all, validRule}
 use Rattle.grammar.proofs.Laws.{all-next, grammar-start, grammar-count, grammar-rule, grammar-passes}
 use Rattle.grammar.proofs.valid.Statement.{statement}
 use Rattle.grammar.proofs.valid.Tie as tie
 
 abbrev Inv-loop : tie.InvT-loop
-Inv-loop g n i₀ i = (i ≤ n) × (n ≤ 128) × (g .start ≤ 31) × (all validRule (take i (g .rules)) ≡ true)
+Inv-loop g n i₀ i = (i ≤ n) × (n ≤ maxRules) × (g .start ≤ 31) × (all validRule (take i (g .rules)) ≡ true)
 
 abbrev μ-loop : tie.MeasureT-loop
 μ-loop g n i₀ i = n - i

@@ -21,7 +21,8 @@ loop-again : tie.Need-loop-again Inv-loop μ-loop
 loop-again c =
     let at-loop = c .before .before in
     let entry = at-loop .before .before in
-    copied-step _ _ _ _ _ (at-loop .loop .inv) (omega (arith, bytes-long (entry .args .t1) _ (entry .good .0))) (omega arith) (omega arith) refl
+    copied-step _ _ _ _ _ (at-loop .loop .inv) (omega (arith, bytes-long (entry .args .t1) _ (entry .good .0))) (omega arith) (omega arith)
+    refl
 
 returns : tie.Need-returns Inv-loop μ-loop
 returns c =

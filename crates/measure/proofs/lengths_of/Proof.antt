@@ -8,6 +8,7 @@ use lib.IntN.{ℤ}
 use lib.ListN.{length, take, set}
 use mir.Facts.{toZ-ofZ}
 use mir.Syntax.{w16}
+use Rattle.sizes.specs.Sizes.{maxRules}
 use Rattle.grammar.proofs.Declared.{rules-long}
 use Rattle.measure.specs.Measure.{lengthOfRule}
 use Rattle.measure.proofs.Lengths.{lengths-step, lengths-done}
@@ -16,10 +17,10 @@ use Rattle.measure.proofs.lengths_of.Statement.{statement}
 use Rattle.measure.proofs.lengths_of.Tie as tie
 
 abbrev Inv-loop : tie.InvT-loop
-Inv-loop g l₀ r₀ l r = (r ≤ 128) × (length l ≡ 128) × (take r l ≡ take r (map lengthOfRule (g .rules)))
+Inv-loop g l₀ r₀ l r = (r ≤ maxRules) × (length l ≡ maxRules) × (take r l ≡ take r (map lengthOfRule (g .rules)))
 
 abbrev μ-loop : tie.MeasureT-loop
-μ-loop g l₀ r₀ l r = 128 - r
+μ-loop g l₀ r₀ l r = maxRules - r
 
 loop-again : tie.Need-loop-again Inv-loop μ-loop
 loop-again c =

@@ -4,6 +4,7 @@ use Prim.Native.Nat.{_≤_, _-_}
 use mathlib.Core.Path.{_≡_}
 use native.Mathlib.Omega.{arith}
 use lib.ListN.{length, take}
+use Rattle.sizes.specs.Sizes.{maxRules}
 use Rattle.nullable.specs.Nullable.{pass}
 use Rattle.grammar.proofs.Bounds.{valid-count, valid-each}
 use Rattle.grammar.proofs.Declared.{rules-long}
@@ -12,7 +13,7 @@ use Rattle.nullable.proofs.nullable_pass.Statement.{statement}
 use Rattle.nullable.proofs.nullable_pass.Tie as tie
 
 abbrev Inv-loop : tie.InvT-loop
-Inv-loop known g n s₀ i₀ s i = (i ≤ n) × (n ≤ 128) × (length (g .rules) ≡ 128) × (s ≡ pass (take i (g .rules)) known)
+Inv-loop known g n s₀ i₀ s i = (i ≤ n) × (n ≤ maxRules) × (length (g .rules) ≡ maxRules) × (s ≡ pass (take i (g .rules)) known)
 
 abbrev μ-loop : tie.MeasureT-loop
 μ-loop known g n s₀ i₀ s i = n - i

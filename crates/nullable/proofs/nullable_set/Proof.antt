@@ -5,13 +5,14 @@ use native.Mathlib.Omega.{arith}
 use mathlib.Core.Path.{_≡_}
 use borrow.Author.Needs.{needs}
 use lib.ListN.{length}
+use Rattle.sizes.specs.Sizes.{maxRules}
 use Rattle.grammar.proofs.Declared.{rules-long}
 use Rattle.nullable.proofs.Exact.{Searched, searched-first, searched-next, searched-falls, searched-exact}
 use Rattle.nullable.proofs.nullable_set.Statement.{statement}
 use Rattle.nullable.proofs.nullable_set.Tie as tie
 
 abbrev Inv-loop : tie.InvT-loop
-Inv-loop g known₀ next₀ known next = (length (g .rules) ≡ 128) × Searched g known next
+Inv-loop g known₀ next₀ known next = (length (g .rules) ≡ maxRules) × Searched g known next
 
 abbrev μ-loop : tie.MeasureT-loop
 μ-loop g known₀ next₀ known next = 2 ^ 32 - known

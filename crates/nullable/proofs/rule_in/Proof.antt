@@ -5,6 +5,7 @@ use mathlib.Core.Bool.{true}
 use mathlib.Core.Path.{_≡_, refl}
 use native.Mathlib.Omega.{arith}
 use lib.ListN.{length, take}
+use Rattle.sizes.specs.Sizes.{maxPlaces}
 use Rattle.grammar.specs.Valid.{all}
 use Rattle.nullable.specs.Nullable.{placeKnown}
 use Rattle.grammar.proofs.Bounds.{rule-parts}
@@ -15,7 +16,8 @@ use Rattle.nullable.proofs.rule_in.Statement.{statement}
 use Rattle.nullable.proofs.rule_in.Tie as tie
 
 abbrev Inv-loop : tie.InvT-loop
-Inv-loop known rule n q₀ q = (q ≤ n) × (n ≤ 8) × (length (rule .places) ≡ 8) × (all (placeKnown known) (take q (rule .places)) ≡ true)
+Inv-loop known rule n q₀ q =
+    (q ≤ n) × (n ≤ maxPlaces) × (length (rule .places) ≡ maxPlaces) × (all (placeKnown known) (take q (rule .places)) ≡ true)
 
 abbrev μ-loop : tie.MeasureT-loop
 μ-loop known rule n q₀ q = n - q

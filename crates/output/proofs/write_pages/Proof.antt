@@ -7,7 +7,8 @@ use borrow.Author.Needs.{needs}
 use Rattle.measure.specs.Measure.{lengthsIn}
 use Rattle.pages.specs.Page.{pageSize}
 use Rattle.pages.proofs.Paging.{some-due, none-due}
-use Rattle.output.proofs.Going.{part-long, part-small, Going, going-first, going-next, going-page, handed-done, handed-down, handed-failed}
+use Rattle.output.proofs.Going.{part-long, part-small, Going, going-first, going-next, going-page}
+use Rattle.output.proofs.Going.{handed-done, handed-down, handed-failed}
 use Rattle.output.proofs.write_pages.Statement.{statement}
 use Rattle.output.proofs.write_pages.Tie as tie
 
@@ -38,6 +39,7 @@ returns-3 c = search handed-down
 
 pub write-pages-spec : {M : Type 1} → statement M
 write-pages-spec = tie.close (tie.spec
-    Inv-loop μ-loop loop-holds (λ c κs. search needs) (λ c. omega arith) (λ c κs. (search needs, omega arith, omega arith, omega arith, omega arith))
+    Inv-loop μ-loop loop-holds (λ c κs. search needs) (λ c. omega arith)
+    (λ c κs. (search needs, omega arith, omega arith, omega arith, omega arith))
     (λ c. omega arith) (λ c. search part-long) write-requires (λ c. omega arith) returns (λ c. omega arith) (λ c. omega arith) loop-again
     (λ c. omega arith) returns-2 (λ c. omega arith) returns-3)

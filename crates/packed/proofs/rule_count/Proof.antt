@@ -1,6 +1,7 @@
 -- `packed::rule_count` meets its contract. The loop's invariant: no used rule has a number from m on.
 -- The measure is m. Assumes nothing.
 use borrow.Author.Needs.{needs}
+use Rattle.sizes.specs.Sizes.{maxRules}
 use Rattle.packed.proofs.Used.{used-all, used-fewer}
 use Rattle.packed.specs.Packed.{Used}
 use native.Mathlib.Omega.{arith}
@@ -9,7 +10,7 @@ use Rattle.packed.proofs.rule_count.Statement.{statement}
 use Rattle.packed.proofs.rule_count.Tie as tie
 
 abbrev Inv-loop : tie.InvT-loop
-Inv-loop p m₀ m = (m ≤ 128) × Used p m
+Inv-loop p m₀ m = (m ≤ maxRules) × Used p m
 
 abbrev μ-loop : tie.MeasureT-loop
 μ-loop p m₀ m = m

@@ -2,6 +2,7 @@
 -- The measure is what is left of the count. Assumes nothing.
 use Prim.Native.Nat.{_≤_, _-_}
 use native.Mathlib.Omega.{arith}
+use Rattle.sizes.specs.Sizes.{maxRules}
 use Rattle.grammar.proofs.Bounds.{valid-count, valid-each}
 use Rattle.grammar.proofs.Declared.{rules-long}
 use Rattle.packing.proofs.Rows.{Rows, rows-start, rows-step, rows-done}
@@ -9,7 +10,7 @@ use Rattle.packing.proofs.pack.Statement.{statement}
 use Rattle.packing.proofs.pack.Tie as tie
 
 abbrev Inv-loop : tie.InvT-loop
-Inv-loop g p₀ n r₀ p r = (r ≤ n) × (n ≤ 128) × Rows g r p
+Inv-loop g p₀ n r₀ p r = (r ≤ n) × (n ≤ maxRules) × Rows g r p
 
 abbrev μ-loop : tie.MeasureT-loop
 μ-loop g p₀ n r₀ p r = n - r

@@ -2,6 +2,7 @@
 -- The measure is what is left of the count. Assumes nothing.
 use Prim.Native.Nat.{_≤_, _-_}
 use native.Mathlib.Omega.{arith}
+use Rattle.sizes.specs.Sizes.{maxPlaces}
 use Rattle.grammar.proofs.Bounds.{rule-parts}
 use Rattle.grammar.proofs.Declared.{places-long}
 use Rattle.packing.proofs.Row.{Row, row-start, row-step, row-done}
@@ -9,7 +10,7 @@ use Rattle.packing.proofs.pack_rule.Statement.{statement}
 use Rattle.packing.proofs.pack_rule.Tie as tie
 
 abbrev Inv-loop : tie.InvT-loop
-Inv-loop r p₀ rule n q₀ p q = (q ≤ n) × (n ≤ 8) × Row rule r q p₀ p
+Inv-loop r p₀ rule n q₀ p q = (q ≤ n) × (n ≤ maxPlaces) × Row rule r q p₀ p
 
 abbrev μ-loop : tie.MeasureT-loop
 μ-loop r p₀ rule n q₀ p q = n - q

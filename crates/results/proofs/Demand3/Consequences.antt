@@ -9,7 +9,7 @@ use mathlib.Core.Logic.{_↔_, _⊎_, inl, inr, dite, ite}
 use mathlib.Core.Path.{_≡_, refl, sym, ap, subst, _∙_}
 use lib.ListN.{length, take, replicate}
 use lib.Seq.{take-length}
-use Rattle.sizes.specs.Sizes.{cells, outputSize, most}
+use Rattle.sizes.specs.Sizes.{cells, outputSize, most, maxInput}
 use Rattle.cfg.specs.Tree.{HasTree}
 use Rattle.cfg.specs.Listing.{L}
 use Rattle.chart.proofs.Derived.{Bounded}
@@ -55,7 +55,7 @@ larger-none g w l = dite (decLt 0 (length (L (grammarOf g) w)))
     (λ h. let s = L-some (grammarOf g) w h in let k = l .1 (s .0) (s .1) in absurd (omega arith))
     (λ h. omega arith)
 
-module _ (g : Grammar) (valid : validGrammar g ≡ true) (w : List ℕ) (low : 1 ≤ length w) (high : length w ≤ 64) where
+module _ (g : Grammar) (valid : validGrammar g ≡ true) (w : List ℕ) (low : 1 ≤ length w) (high : length w ≤ maxInput) where
   -- ---- a first and n nexts that are offered the copy
 
   module _ (chart out : List ℕ) (lent : List (List ℕ × List ℕ)) (a : AllAllowed (grammarOf g) w (first chart out ∷ nextCalls lent)) where

@@ -6,6 +6,7 @@ use mathlib.Core.List.{List, [], _∷_, _++_, map, map-append}
 use mathlib.Core.Logic.{_⊎_, inl, inr}
 use mathlib.Core.Path.{_≡_, refl, sym, ap, _∙_}
 use lib.ListN.{length, take, length-map}
+use Rattle.sizes.specs.Sizes.{maxInput}
 use Rattle.cfg.specs.Tree.{HasTree}
 use Rattle.cfg.specs.Listing.{L}
 use Rattle.grammar.specs.declared.Grammar.{Grammar}
@@ -39,7 +40,7 @@ last-first (nextCopy chart out ∷ calls) = elim (last-first calls) [ inl n ↦ 
 last-first (nextOther e chart out ∷ calls) = elim (last-first calls) [ inl n ↦ inl n | inr r ↦ inr (later-first (nextOther e chart out) r) ]
 last-first (count chart ∷ calls) = elim (last-first calls) [ inl n ↦ inl n | inr r ↦ inr (later-first (count chart) r) ]
 
-module _ (g : Grammar) (valid : validGrammar g ≡ true) (w : List ℕ) (low : 1 ≤ length w) (high : length w ≤ 64)
+module _ (g : Grammar) (valid : validGrammar g ≡ true) (w : List ℕ) (low : 1 ≤ length w) (high : length w ≤ maxInput)
     (tree : Dec (HasTree (grammarOf g) w)) where
   pub demand-3 : (calls : List Made) → AllAllowed (grammarOf g) w calls → Demand3 g w tree calls
   demand-3 calls a = record {

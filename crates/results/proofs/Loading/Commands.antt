@@ -8,6 +8,7 @@ use lib.Dec.{eqb, ltb}
 use lib.IntN.{ℤ}
 use lib.ListN.{length, getD}
 use borrow.Author.Tests.{ltb-true, ltb-false, le-leb, eqb-true, eqb-false, not-false}
+use Rattle.sizes.specs.Sizes.{maxRules, maxPlaces}
 use Rattle.laws.proofs.Bools.{or-neither}
 use Rattle.grammar.specs.declared.Symbol.{Symbol}
 use Rattle.grammar.specs.declared.Symbol.the-variants.{Nonterminal, Terminal}
@@ -40,8 +41,8 @@ module _ (g : Grammar) where
 pub record Invariant (P : Grammar → Type 0) : Type 0 where
   pub zero : P zeroGrammar
   pub start : (g : Grammar) → P g → (k : ℕ) → k ≤ 31 → P (withStart g k)
-  pub rule : (g : Grammar) → P g → (k : ℕ) (z : ℤ) → k ≤ 31 → g .count < 128 → P (withRule g k z)
-  pub place : (g : Grammar) → P g → (s : Symbol) → 0 < g .count → openRule g .count < 8 → validSymbol s ≡ true → P (withPlace g s)
+  pub rule : (g : Grammar) → P g → (k : ℕ) (z : ℤ) → k ≤ 31 → g .count < maxRules → P (withRule g k z)
+  pub place : (g : Grammar) → P g → (s : Symbol) → 0 < g .count → openRule g .count < maxPlaces → validSymbol s ≡ true → P (withPlace g s)
 
 module _ {P : Grammar → Type 0} (I : Invariant P) where
   module _ (g : Grammar) (H : P g) where

@@ -5,6 +5,7 @@ use mathlib.Core.Bool.{true}
 use mathlib.Core.Path.{_≡_, refl, _∙_}
 use lib.IntN.{ℤ}
 use lib.ListN.{length}
+use Rattle.sizes.specs.Sizes.{maxRules, maxPlaces}
 use Rattle.grammar.specs.declared.Symbol.{Symbol}
 use Rattle.grammar.specs.declared.Grammar.{Grammar}
 use Rattle.grammar.specs.Setters.{openedRule, placedRule}
@@ -19,11 +20,12 @@ module _ (g : Grammar) (v : validGrammar g ≡ true) where
   unfolding withStart
   with-start-valid k h = set-start-valid g v k h
 
-  with-rule-valid : (k : ℕ) (z : ℤ) → k ≤ 31 → g .count < 128 → validGrammar (withRule g k z) ≡ true
+  with-rule-valid : (k : ℕ) (z : ℤ) → k ≤ 31 → g .count < maxRules → validGrammar (withRule g k z) ≡ true
   unfolding withRule
   with-rule-valid k z h m = next-rule-valid g v (openedRule k z) (opened-valid k z h) m
 
-  with-place-valid : (s : Symbol) → 0 < g .count → openRule g .count < 8 → validSymbol s ≡ true → validGrammar (withPlace g s) ≡ true
+  with-place-valid : (s : Symbol) → 0 < g .count → openRule g .count < maxPlaces → validSymbol s ≡ true
+      → validGrammar (withPlace g s) ≡ true
   unfolding withPlace openRule
   with-place-valid s m h u =
       last-rule-valid g v (placedRule (openRule g) s) (placed-valid (openRule g) s (valid-each g v (g .count - 1) (omega arith)) h u) m
@@ -32,7 +34,7 @@ pub valid-invariant : Invariant (λ g. validGrammar g ≡ true)
 unfolding validGrammar all
 valid-invariant = record { zero = refl; start = with-start-valid; rule = with-rule-valid; place = with-place-valid }
 
-pub size-invariant : Invariant (λ g. length (g .rules) ≡ 128)
+pub size-invariant : Invariant (λ g. length (g .rules) ≡ maxRules)
 unfolding withStart withRule withPlace
 size-invariant = record {
   zero = refl;

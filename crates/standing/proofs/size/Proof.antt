@@ -4,15 +4,16 @@
 use Prim.Native.Nat.{_+_, _*_, _-_, _≤_}
 use native.Mathlib.Omega.{arith}
 use borrow.Author.Needs.{needs}
+use Rattle.sizes.specs.Sizes.{maxNodes}
 use Rattle.standing.proofs.Walk.{Walked, walked-start, walked-step, sized-full, sized-no-rule, sized-done}
 use Rattle.standing.proofs.size.Statement.{statement}
 use Rattle.standing.proofs.size.Tie as tie
 
 abbrev Inv-loop : tie.InvT-loop
-Inv-loop p buf at todo₀ n₀ todo n = (at + n ≤ 512) × (todo ≤ 8 * (n + 1)) × Walked p buf at n todo
+Inv-loop p buf at todo₀ n₀ todo n = (at + n ≤ maxNodes) × (todo ≤ 8 * (n + 1)) × Walked p buf at n todo
 
 abbrev μ-loop : tie.MeasureT-loop
-μ-loop p buf at todo₀ n₀ todo n = 512 - n
+μ-loop p buf at todo₀ n₀ todo n = maxNodes - n
 
 pub size-spec : {M : Type 1} → statement M
 size-spec = tie.close (tie.spec

@@ -4,6 +4,7 @@ use borrow.Author.Needs.{needs}
 use native.Mathlib.Omega.{arith}
 use mathlib.Core.Path.{_≡_}
 use Prim.Native.Nat.{_≤_, _-_}
+use Rattle.sizes.specs.Sizes.{maxPlaces}
 use Rattle.packed.specs.Packed.{countIn}
 use Rattle.begins.proofs.Rule.{BeginsTo, begins-start, begins-step, begins-done}
 use Rattle.begins.proofs.places.begins.Statement.{statement}
@@ -11,7 +12,8 @@ use Rattle.begins.proofs.places.begins.Tie as tie
 
 abbrev Inv-loop : tie.InvT-loop
 Inv-loop p r window ends starts count v₀ q₀ v q =
-    (q ≤ count) × (count ≡ countIn p r) × (count ≤ 8) × BeginsTo p r (window .i) (window .n) (window .fits) ends starts (window .last) q v
+    (q ≤ count) × (count ≡ countIn p r) × (count ≤ maxPlaces)
+    × BeginsTo p r (window .i) (window .n) (window .fits) ends starts (window .last) q v
 
 abbrev μ-loop : tie.MeasureT-loop
 μ-loop p r window ends starts count v₀ q₀ v q = count - q

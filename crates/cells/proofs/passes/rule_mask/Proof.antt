@@ -1,5 +1,6 @@
 -- `cells::passes::rule_mask` meets its contract. The loop's invariant: the set is right from place q on, and has nothing below.
 -- The measure is q. Assumes nothing.
+use Rattle.sizes.specs.Sizes.{maxPlaces}
 use Rattle.cells.proofs.Mask.{MaskFrom, mask-from-start, mask-from-step, mask-from-done}
 use Rattle.packed.specs.Packed.{countIn}
 use native.Mathlib.Omega.{arith}
@@ -8,7 +9,8 @@ use Rattle.cells.proofs.passes.rule_mask.Statement.{statement}
 use Rattle.cells.proofs.passes.rule_mask.Tie as tie
 
 abbrev Inv-loop : tie.InvT-loop
-Inv-loop p r ended empty own inner last q₀ v₀ q v = (q ≤ countIn p r) × (countIn p r ≤ 8) × MaskFrom p r ended empty own inner last q v
+Inv-loop p r ended empty own inner last q₀ v₀ q v =
+    (q ≤ countIn p r) × (countIn p r ≤ maxPlaces) × MaskFrom p r ended empty own inner last q v
 
 abbrev μ-loop : tie.MeasureT-loop
 μ-loop p r ended empty own inner last q₀ v₀ q v = q

@@ -5,15 +5,16 @@ use mathlib.Core.Path.{_≡_}
 use native.Mathlib.Omega.{arith}
 use lib.ListN.{getD}
 use borrow.Author.Count.{below-more}
+use Rattle.sizes.specs.Sizes.{maxRules}
 use Rattle.checker.proofs.Bags.{tallies-differ, tallies-same}
 use Rattle.checker.proofs.build.same_rules.Statement.{statement}
 use Rattle.checker.proofs.build.same_rules.Tie as tie
 
 abbrev Inv-loop : tie.InvT-loop
-Inv-loop a b x y r₀ r = (r ≤ 128) × ((k : ℕ) → k < r → getD x k 0 ≡ getD y k 0)
+Inv-loop a b x y r₀ r = (r ≤ maxRules) × ((k : ℕ) → k < r → getD x k 0 ≡ getD y k 0)
 
 abbrev μ-loop : tie.MeasureT-loop
-μ-loop a b x y r₀ r = 128 - r
+μ-loop a b x y r₀ r = maxRules - r
 
 returns : tie.Need-returns Inv-loop μ-loop
 returns c =

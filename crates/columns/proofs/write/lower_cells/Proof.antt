@@ -5,13 +5,14 @@ use native.Mathlib.Omega.{arith}
 use mathlib.Core.Path.{_≡_}
 use Prim.Native.Nat.{_≤_}
 use lib.ListN.{length}
+use Rattle.sizes.specs.Sizes.{maxRules}
 use Rattle.columns.proofs.Writing.{LowerTo, lower-start, lower-step, lower-done}
 use Rattle.columns.proofs.write.lower_cells.Statement.{statement}
 use Rattle.columns.proofs.write.lower_cells.Tie as tie
 
 abbrev Inv-loop : tie.InvT-loop
 Inv-loop p rules fits n ends reach lasts kinds chart₀ starts₀ live₀ insides₀ flags₀ made₀ i₀ chart starts live insides flags made i =
-    (i ≤ n) × (length insides ≡ 128) × (length flags ≡ 128) × (length made ≡ 128)
+    (i ≤ n) × (length insides ≡ maxRules) × (length flags ≡ maxRules) × (length made ≡ maxRules)
     × LowerTo p fits rules n ends reach lasts chart₀ starts₀ live₀ i chart starts live
 
 abbrev μ-loop : tie.MeasureT-loop

@@ -4,13 +4,14 @@ use borrow.Author.Needs.{needs}
 use native.Mathlib.Omega.{arith}
 use mathlib.Core.Path.{_≡_}
 use Prim.Native.Nat.{_≤_, _-_}
+use Rattle.sizes.specs.Sizes.{maxPlaces}
 use Rattle.packed.specs.Packed.{countIn}
 use Rattle.empty.proofs.Gather.{KindsTo, kinds-start, kinds-step, kinds-done}
 use Rattle.empty.proofs.kinds.kinds_of.Statement.{statement}
 use Rattle.empty.proofs.kinds.kinds_of.Tie as tie
 
 abbrev Inv-loop : tie.InvT-loop
-Inv-loop p r last count v₀ q₀ v q = (q ≤ count) × (count ≡ countIn p r) × (count ≤ 8) × KindsTo p r last q v
+Inv-loop p r last count v₀ q₀ v q = (q ≤ count) × (count ≡ countIn p r) × (count ≤ maxPlaces) × KindsTo p r last q v
 
 abbrev μ-loop : tie.MeasureT-loop
 μ-loop p r last count v₀ q₀ v q = count - q

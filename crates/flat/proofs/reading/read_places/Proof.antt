@@ -4,16 +4,17 @@ use Prim.Native.Nat.{_≤_, _-_}
 use native.Mathlib.Omega.{arith}
 use mathlib.Core.Path.{_≡_, refl}
 use lib.ListN.{length, take, length-set}
+use Rattle.sizes.specs.Sizes.{maxPlaces}
 use Rattle.rows.specs.Flat.{recordsFrom, placeIn, placesIn}
 use Rattle.rows.proofs.Records.{records-step, records-done}
 use Rattle.flat.proofs.reading.read_places.Statement.{statement}
 use Rattle.flat.proofs.reading.read_places.Tie as tie
 
 abbrev Inv-loop : tie.InvT-loop
-Inv-loop f at places₀ q₀ places q = (q ≤ 8) × (length places ≡ 8) × (take q places ≡ recordsFrom (placeIn f) 2 at q)
+Inv-loop f at places₀ q₀ places q = (q ≤ maxPlaces) × (length places ≡ maxPlaces) × (take q places ≡ recordsFrom (placeIn f) 2 at q)
 
 abbrev μ-loop : tie.MeasureT-loop
-μ-loop f at places₀ q₀ places q = 8 - q
+μ-loop f at places₀ q₀ places q = maxPlaces - q
 
 loop-holds : tie.Need-loop-holds Inv-loop μ-loop
 unfolding recordsFrom

@@ -4,16 +4,17 @@ use Prim.Native.Nat.{_≤_, _-_}
 use native.Mathlib.Omega.{arith}
 use mathlib.Core.Path.{_≡_, refl}
 use lib.ListN.{length, take, length-set}
+use Rattle.sizes.specs.Sizes.{maxRules}
 use Rattle.rows.specs.Flat.{recordsFrom, ruleIn, rulesIn, ruleNumbers}
 use Rattle.rows.proofs.Records.{records-step, records-done}
 use Rattle.flat.proofs.reading.read_rules.Statement.{statement}
 use Rattle.flat.proofs.reading.read_rules.Tie as tie
 
 abbrev Inv-loop : tie.InvT-loop
-Inv-loop f rules₀ r₀ rules r = (r ≤ 128) × (length rules ≡ 128) × (take r rules ≡ recordsFrom (ruleIn f) ruleNumbers 3 r)
+Inv-loop f rules₀ r₀ rules r = (r ≤ maxRules) × (length rules ≡ maxRules) × (take r rules ≡ recordsFrom (ruleIn f) ruleNumbers 3 r)
 
 abbrev μ-loop : tie.MeasureT-loop
-μ-loop f rules₀ r₀ rules r = 128 - r
+μ-loop f rules₀ r₀ rules r = maxRules - r
 
 loop-holds : tie.Need-loop-holds Inv-loop μ-loop
 unfolding recordsFrom

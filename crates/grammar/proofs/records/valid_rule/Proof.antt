@@ -8,13 +8,14 @@ use borrow.Author.Needs.{needs}
 use borrow.Author.Tests.{ltb-true}
 use native.Mathlib.Omega.{arith}
 use lib.ListN.{take}
+use Rattle.sizes.specs.Sizes.{maxPlaces}
 use Rattle.grammar.specs.Valid.{all, validPlace}
 use Rattle.grammar.proofs.Laws.{all-next, rule-left, rule-count, rule-place, rule-passes}
 use Rattle.grammar.proofs.records.valid_rule.Statement.{statement}
 use Rattle.grammar.proofs.records.valid_rule.Tie as tie
 
 abbrev Inv-loop : tie.InvT-loop
-Inv-loop rule n q₀ q = (q ≤ n) × (n ≤ 8) × (rule .left ≤ 31) × (all validPlace (take q (rule .places)) ≡ true)
+Inv-loop rule n q₀ q = (q ≤ n) × (n ≤ maxPlaces) × (rule .left ≤ 31) × (all validPlace (take q (rule .places)) ≡ true)
 
 abbrev μ-loop : tie.MeasureT-loop
 μ-loop rule n q₀ q = n - q

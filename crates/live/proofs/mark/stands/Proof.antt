@@ -4,13 +4,14 @@ use Prim.Native.Nat.{_≤_}
 use mathlib.Core.Bool.{true≢false}
 use native.Mathlib.Omega.{arith}
 use borrow.Author.Needs.{needs}
+use Rattle.sizes.specs.Sizes.{maxPlaces}
 use Rattle.packed.proofs.Laws.{count-le}
 use Rattle.live.proofs.Marking.{Above, above-start, above-back, above-all}
 use Rattle.live.proofs.mark.stands.Statement.{statement}
 use Rattle.live.proofs.mark.stands.Tie as tie
 
 abbrev Inv-loop : tie.InvT-loop
-Inv-loop p r i rows q₀ q = (q ≤ 8) × Above p r i rows q
+Inv-loop p r i rows q₀ q = (q ≤ maxPlaces) × Above p r i rows q
 
 abbrev μ-loop : tie.MeasureT-loop
 μ-loop p r i rows q₀ q = q

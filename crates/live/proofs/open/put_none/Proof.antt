@@ -5,6 +5,7 @@ use mathlib.Core.Path.{_≡_}
 use native.Mathlib.Omega.{arith}
 use borrow.Author.Needs.{needs}
 use lib.ListN.{length}
+use Rattle.sizes.specs.Sizes.{maxPlaces}
 use Rattle.packed.proofs.Laws.{count-le}
 use Rattle.writes.specs.Writes.{allRows}
 use Rattle.live.specs.Live.{NoneBefore}
@@ -13,7 +14,7 @@ use Rattle.live.proofs.open.put_none.Statement.{statement}
 use Rattle.live.proofs.open.put_none.Tie as tie
 
 abbrev Inv-loop : tie.InvT-loop
-Inv-loop p r i rows₀ count q₀ rows q = (count ≤ 8) × (q ≤ count + 1) × (length rows ≡ allRows) × NoneBefore p r i q rows₀ rows
+Inv-loop p r i rows₀ count q₀ rows q = (count ≤ maxPlaces) × (q ≤ count + 1) × (length rows ≡ allRows) × NoneBefore p r i q rows₀ rows
 
 abbrev μ-loop : tie.MeasureT-loop
 μ-loop p r i rows₀ count q₀ rows q = count + 1 - q

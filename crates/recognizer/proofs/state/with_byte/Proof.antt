@@ -1,5 +1,6 @@
 -- `recognizer::state::with_byte` meets its contract. The loop's invariant: the bytes passed are copied, and zeros stand behind them.
 -- The measure is what is left of the count. Assumes nothing.
+use Rattle.sizes.specs.Sizes.{maxInput}
 use Rattle.recognizer.proofs.Declared.{bytes-long}
 use Rattle.recognizer.proofs.Copied.{bytes-step, bytes-done}
 use lib.ListN.{take, drop, replicate}
@@ -11,7 +12,7 @@ use Rattle.recognizer.proofs.state.with_byte.Statement.{statement}
 use Rattle.recognizer.proofs.state.with_byte.Tie as tie
 
 abbrev Inv-loop : tie.InvT-loop
-Inv-loop byte h n bytes₀ i₀ bytes i = (i ≤ n) × (bytes ≡ take i (h .bytes) ++ drop i (replicate 64 0))
+Inv-loop byte h n bytes₀ i₀ bytes i = (i ≤ n) × (bytes ≡ take i (h .bytes) ++ drop i (replicate maxInput 0))
 
 abbrev μ-loop : tie.MeasureT-loop
 μ-loop byte h n bytes₀ i₀ bytes i = n - i

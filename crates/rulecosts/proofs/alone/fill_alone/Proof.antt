@@ -3,16 +3,17 @@
 use Prim.Native.Nat.{_-_, _≤_}
 use native.Mathlib.Omega.{arith}
 use borrow.Author.Needs.{needs}
+use Rattle.sizes.specs.Sizes.{maxRules}
 use Rattle.rulecosts.specs.Rule.{AlonesFilled}
 use Rattle.rulecosts.proofs.Filling.{filled-start, filled-step, filled-end}
 use Rattle.rulecosts.proofs.alone.fill_alone.Statement.{statement}
 use Rattle.rulecosts.proofs.alone.fill_alone.Tie as tie
 
 abbrev Inv-loop : tie.InvT-loop
-Inv-loop p empty tables₀ r₀ tables r = (r ≤ 128) × AlonesFilled p empty r tables
+Inv-loop p empty tables₀ r₀ tables r = (r ≤ maxRules) × AlonesFilled p empty r tables
 
 abbrev μ-loop : tie.MeasureT-loop
-μ-loop p empty tables₀ r₀ tables r = 128 - r
+μ-loop p empty tables₀ r₀ tables r = maxRules - r
 
 pub fill-alone-spec : {M : Type 1} → statement M
 fill-alone-spec = tie.close (tie.spec

@@ -3,16 +3,17 @@
 use Prim.Native.Nat.{_-_, _≤_}
 use native.Mathlib.Omega.{arith}
 use borrow.Author.Needs.{needs}
+use Rattle.sizes.specs.Sizes.{maxPlaces}
 use Rattle.rulecosts.specs.Rule.{AloneBefore}
 use Rattle.rulecosts.proofs.Filling.{alone-start, alone-step, alone-end}
 use Rattle.rulecosts.proofs.alone.put_alone.Statement.{statement}
 use Rattle.rulecosts.proofs.alone.put_alone.Tie as tie
 
 abbrev Inv-loop : tie.InvT-loop
-Inv-loop p r empty tables₀ sum q₀ tables q = (q ≤ 8) × AloneBefore p r empty q tables₀ tables
+Inv-loop p r empty tables₀ sum q₀ tables q = (q ≤ maxPlaces) × AloneBefore p r empty q tables₀ tables
 
 abbrev μ-loop : tie.MeasureT-loop
-μ-loop p r empty tables₀ sum q₀ tables q = 8 - q
+μ-loop p r empty tables₀ sum q₀ tables q = maxPlaces - q
 
 pub put-alone-spec : {M : Type 1} → statement M
 put-alone-spec = tie.close (tie.spec

@@ -5,6 +5,7 @@ use native.Mathlib.Omega.{arith}
 use mathlib.Core.Logic.{_⊎_, inl, inr}
 use mathlib.Core.Path.{_≡_, refl}
 use Prim.Native.Nat.{_≤_, _<_, _-_}
+use Rattle.sizes.specs.Sizes.{maxPlaces}
 use Rattle.packed.specs.Packed.{countIn}
 use Rattle.spans.proofs.Adding.{PlacesTo, places-start, places-step, places-done}
 use Rattle.spans.proofs.starts.put_places.Statement.{statement}
@@ -12,7 +13,7 @@ use Rattle.spans.proofs.starts.put_places.Tie as tie
 
 abbrev Inv-loop : tie.InvT-loop
 Inv-loop p r i flags starts₀ live₀ count q₀ starts live q =
-    (0 < q) × (count ≡ countIn p r) × (count ≤ 8) × ((q ≤ count) ⊎ (q ≡ 1)) × PlacesTo p r i flags starts₀ live₀ q starts live
+    (0 < q) × (count ≡ countIn p r) × (count ≤ maxPlaces) × ((q ≤ count) ⊎ (q ≡ 1)) × PlacesTo p r i flags starts₀ live₀ q starts live
 
 abbrev μ-loop : tie.MeasureT-loop
 μ-loop p r i flags starts₀ live₀ count q₀ starts live q = count - q
