@@ -3,7 +3,6 @@ use Prim.Native.Nat.{ℕ, zero, suc, _<_}
 use native.Mathlib.Omega.{arith}
 use mathlib.Core.Bool.{Bool, true, false}
 use mathlib.Core.Path.{_≡_, refl, sym, ap, ap₂, _∙_}
-use lib.IntN.{ℤ}
 use Rattle.results.specs.Answer.{Answer, refused, answered, Handing, handed, nothing, Figure, counted, more, LoadAnswer, refusedAt, loaded}
 use Rattle.codes.specs.Code.{codeOf, leftOf, verdictCode, lengthCode, tenthsLeft, handingCode, nodesLeft, figureCode, figureLeft}
 use Rattle.codes.specs.Code.{loadCode, offsetLeft, Known}

@@ -9,7 +9,6 @@ use native.Mathlib.Omega.{arith}
 use lib.IntN.{ℤ}
 use lib.ListN.{length, take, replicate, length-map, length-replicate}
 use Rattle.sizes.specs.Sizes.{maxRules, maxInput, cells, most}
-use Rattle.cfg.specs.Grammar.{rule}
 use Rattle.cfg.specs.Listing.{L}
 use Rattle.chart.specs.Column.{complete}
 use Rattle.chart.proofs.Truth.{filled-length}

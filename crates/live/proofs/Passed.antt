@@ -11,7 +11,7 @@ use Rattle.sizes.specs.Sizes.{tooMany}
 use Rattle.laws.proofs.Bools.{true-false, bool-false}
 use Rattle.sets.specs.Set.{has}
 use Rattle.sets.proofs.Laws.{has-insert, has-insert-same}
-use Rattle.cfg.specs.Grammar.{Symbol, nonterminal}
+use Rattle.cfg.specs.Grammar.{Symbol}
 use Rattle.costs.specs.Cut.{Fit, Cost, Cut, cut-end, cut-leaf, cut-node, within}
 use Rattle.costs.proofs.Lowest.{lowest-none}
 use Rattle.costs.proofs.Within.{within-whole, within-part}

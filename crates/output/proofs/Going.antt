@@ -1,6 +1,6 @@
 -- The loop over the pages: those handed to the write so far are the front of the text, and the counter is enough for the others.
 -- Assumes nothing.
-use Prim.Native.Nat.{ℕ, suc, _+_, _*_, _-_, _≤_, _<_}
+use Prim.Native.Nat.{ℕ, suc, _+_, _*_, _-_, _≤_}
 use native.Mathlib.Omega.{arith}
 use mathlib.Core.Bool.{Bool, true, false, not}
 use mathlib.Core.List.{List, [], _∷_, _++_, flatten, append-assoc}
@@ -12,7 +12,6 @@ use Rattle.sizes.specs.Sizes.{most}
 use Rattle.laws.proofs.Bools.{clash}
 use Rattle.text.specs.Text.{textOf}
 use Rattle.lister.specs.declared.Due.{Due}
-use Rattle.lister.specs.declared.Due.the-variants.{Nothing}
 use Rattle.lister.specs.Due.{Ahead, Sized, stepsLeft}
 use Rattle.pages.specs.Page.{pageSize, isDone, Paged}
 use Rattle.pages.specs.Pages.{Pages, empty, further}

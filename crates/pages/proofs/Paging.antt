@@ -18,7 +18,7 @@ use Rattle.lister.specs.declared.Due.the-variants.{Refusal, NoReading, Reading,
 use Rattle.lister.specs.Due.{Ahead, Sized, stepsLeft}
 use Rattle.stepper.specs.Stepped.{headLine, behind, Stepped}
 use Rattle.stepper.proofs.Lines.{lines-next}
-use Rattle.pages.specs.Page.{pageSize, room, isDone, Rest, Paged}
+use Rattle.pages.specs.Page.{room, isDone, Rest, Paged}
 
 -- ---- what is due
 

@@ -14,7 +14,7 @@ use Rattle.lister.specs.declared.Due.{Due}
 use Rattle.lister.specs.declared.Due.the-variants.{Nothing}
 use Rattle.lister.specs.Due.{Ahead, Sized, stepsLeft}
 use Rattle.lister.specs.Begun.{BookBegun}
-use Rattle.pages.specs.Page.{Rest, Paged}
+use Rattle.pages.specs.Page.{Rest}
 use Rattle.pages.specs.Pages.{Pages, empty, further}
 use Rattle.pages.proofs.Paging.{some-left, few-left}
 
