@@ -7,9 +7,8 @@ import subprocess
 
 TOP = os.path.join(os.path.dirname(os.path.abspath(__file__)), "..")
 THEOREMS = "crates/theorems/proofs/Theorems.antt"
-# the functions that the listing program calls, and the theorems about its lines
-PROGRAM = [("lister", "begin"), ("stepper", "step")]
-PRINTED = "crates/stepper/proofs/Printed.antt"
+# the functions that the listing program calls
+PROGRAM = [("lister", "begin"), ("pages", "fill_page"), ("output", "write_pages")]
 
 
 def git(*arguments):
@@ -102,9 +101,8 @@ def declarations(source):
 
 
 def theorems(state):
-    """The statements of the final theorems, and of those about the listing program's lines, by their names."""
-    found = {name: statement for name, statement, _ in declarations(state.read(THEOREMS))}
-    return found | {name: statement for name, statement, _ in declarations(state.read(PRINTED)) if name.startswith("printed-")}
+    """The statements of the final theorems by their names."""
+    return {name: statement for name, statement, _ in declarations(state.read(THEOREMS))}
 
 
 def definitions(state, paths):
