@@ -6,24 +6,20 @@ use lib.IntN.{ℤ}
 use mir.Syntax.{w32}
 use mir.Val.{SFits, toZ, ofZ}
 use mir.Facts.{toZ-ofZ}
-use Rattle.grammar.specs.declared.Refusal.{Refusal}
-use Rattle.grammar.specs.declared.Verdict.{Verdict}
-use Rattle.grammar.specs.declared.Verdict.the-variants as C
-use Rattle.grammar.specs.Number.{numberOf}
-use Rattle.checker.specs.declared.Measured.{Measured}
-use Rattle.checker.specs.declared.Measured.the-variants as M
-use Rattle.checker.specs.Calls.{measuredOf}
-use Rattle.counting.specs.declared.Counted.{Counted}
-use Rattle.counting.specs.declared.Counted.the-variants as N
-use Rattle.counting.specs.Answer.{countedOf}
-use Rattle.first.specs.declared.Handed.{Handed}
-use Rattle.first.specs.declared.Handed.the-variants as F
-use Rattle.first.specs.Answer.{handingOf}
+use Rattle.answers.specs.declared.Refusal.{Refusal}
+use Rattle.answers.specs.declared.Verdict.{Verdict}
+use Rattle.answers.specs.declared.Verdict.the-variants as C
+use Rattle.answers.specs.declared.Measured.{Measured}
+use Rattle.answers.specs.declared.Measured.the-variants as M
+use Rattle.answers.specs.declared.Counted.{Counted}
+use Rattle.answers.specs.declared.Counted.the-variants as N
+use Rattle.answers.specs.declared.Handed.{Handed}
+use Rattle.answers.specs.declared.Handed.the-variants as F
+use Rattle.answers.specs.declared.Outcome.{Outcome}
+use Rattle.answers.specs.declared.Outcome.the-variants as O
+use Rattle.answers.specs.Number.{numberOf}
+use Rattle.answers.specs.Answers.{measuredOf, countedOf, handingOf, answerOf, verdictOf}
 use Rattle.hand.specs.Hand.{rowOf}
-use Rattle.loader.specs.declared.Outcome.{Outcome}
-use Rattle.loader.specs.declared.Outcome.the-variants as O
-use Rattle.loader.specs.Answer.{answerOf}
-use Rattle.recognizer.specs.Verdict.{verdictOf}
 use Rattle.results.specs.Recognize.{State}
 use Rattle.codes.specs.Code.{verdictCode, rowLeft, loadCode, offsetLeft, lengthCode, tenthsLeft, handingCode, nodesLeft}
 use Rattle.codes.specs.Code.{figureCode, figureLeft}
