@@ -17,9 +17,9 @@ use Rattle.cfg.specs.Listing.{L}
 use Rattle.listing.proofs.Exact.{derivation-length}
 use Rattle.chart.specs.Column.{filled}
 use Rattle.grammar.specs.declared.Grammar.{Grammar}
-use Rattle.grammar.specs.declared.Refusal.{Refusal}
-use Rattle.grammar.specs.Number.{numberOf}
 use Rattle.grammar.specs.View.{grammarOf}
+use Rattle.answers.specs.declared.Refusal.{Refusal}
+use Rattle.answers.specs.Number.{numberOf}
 use Rattle.packed.specs.Packed.{cfgIn}
 use Rattle.prepare.specs.declared.Judged.{Judged}
 use Rattle.prepare.specs.declared.Judged.the-variants.{Passed, Refused}

@@ -3,17 +3,9 @@ use Prim.Native.Nat.{ℕ}
 use mathlib.Core.Bool.{Bool, not}
 use mathlib.Core.List.{List, [], _∷_}
 use lib.IntN.{ℤ}
-use Rattle.grammar.specs.Number.{numberOf}
 use Rattle.results.specs.Answer.{Answer, refused, answered, check, decide}
 use Rattle.results.specs.Check.{listed}
 use Rattle.results.specs.Measure.{sum, rounded, rulesUsed, sameBag}
-use Rattle.checker.specs.declared.Measured.{Measured}
-use Rattle.checker.specs.declared.Measured.the-variants.{Tenths, Refused}
-
--- length: tenths of a millimetre
-abbrev pub measuredOf : Measured → Answer ℤ
-measuredOf (Tenths z) = answered z
-measuredOf (Refused r) = refused (numberOf r)
 
 -- what is answered once checks 8, 9 and 10 are passed, the derivations of the input being those of the list l: check, length, same build
 abbrev pub checkAnswer : List (List ℕ) → List ℕ → Answer Bool

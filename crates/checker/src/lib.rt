@@ -1,8 +1,9 @@
 // The checker of an offered derivation (document 01: reading), its length, and the same build.
+use answers::Measured;
+use answers::Refusal;
+use answers::Verdict;
 use derivation::is_derivation;
 use grammar::Grammar;
-use grammar::Refusal;
-use grammar::Verdict;
 use numbers::wide_byte;
 use packed::Packed;
 use prepare::Judged;
@@ -12,19 +13,13 @@ ghost use Rattle.sizes.specs.Sizes.{maxRules};
 ghost use Rattle.cfg.specs.Listing.{L};
 ghost use Rattle.packed.specs.Packed.{cfgIn};
 ghost use Rattle.prepare.specs.Given.{checkingOf};
-ghost use Rattle.recognizer.specs.Verdict.{verdictOf};
+ghost use Rattle.answers.specs.Answers.{verdictOf, measuredOf};
 ghost use Rattle.results.specs.Check.{checkOf};
 ghost use Rattle.results.specs.Measure.{lengthOf, sameBuildOf};
 ghost use Rattle.measure.specs.Measure.{lengthsIn};
-ghost use Rattle.checker.specs.Calls.{measuredOf, checkAnswer, lengthAnswer, buildAnswer};
+ghost use Rattle.checker.specs.Calls.{checkAnswer, lengthAnswer, buildAnswer};
 
 mod build;
-
-// The length in tenths of a millimetre, or why the call was refused.
-pub enum Measured {
-    Tenths(i32),
-    Refused(Refusal),
-}
 
 // Whether the offered derivation is one.
 fn check_offered(p: &Packed, start: usize, input: &[u8], offered: &[u16]) -> Verdict

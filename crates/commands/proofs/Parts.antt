@@ -5,8 +5,8 @@ use mathlib.Core.Bool.{Bool, true, false, not, _||_}
 use mathlib.Core.Path.{_≡_, refl}
 use borrow.Author.Tests.{lt-ltb, le-ltb, ne-eqb}
 use Rattle.sizes.specs.Sizes.{maxRules, maxPlaces}
-use Rattle.grammar.specs.declared.Refusal.the-variants as R
 use Rattle.grammar.specs.declared.Symbol.{Symbol}
+use Rattle.answers.specs.declared.Refusal.the-variants as R
 use Rattle.results.specs.Load.{unknown}
 use Rattle.commands.specs.Class.{byteOf}
 use Rattle.commands.specs.Command.{ruleOf, placeOf, endOf}

@@ -9,9 +9,9 @@ use lib.ListN.{length, getD}
 use borrow.Author.Tests.{lt-ltb, le-ltb, ltb-false, ne-eqb}
 use Rattle.laws.proofs.Bools.{clash}
 use Rattle.grammar.specs.declared.Grammar.{Grammar}
-use Rattle.grammar.specs.declared.Refusal.the-variants as R
 use Rattle.grammar.specs.declared.Symbol.{Symbol}
 use Rattle.grammar.specs.declared.Symbol.the-variants.{Nonterminal, Terminal}
+use Rattle.answers.specs.declared.Refusal.the-variants as R
 use Rattle.results.specs.Answer.{decide}
 use Rattle.results.specs.Load.{fault, stop, next, step, commandChecks, unknown, outOfTurn, operands, after, openRule, withPlace}
 use Rattle.commands.specs.Class.{byteOf, Classified}

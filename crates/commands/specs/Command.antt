@@ -8,8 +8,8 @@ use lib.ListN.{length, getD, drop}
 use Rattle.sizes.specs.Sizes.{maxRules, maxPlaces}
 use Rattle.grammar.specs.declared.Symbol.{Symbol}
 use Rattle.grammar.specs.declared.Grammar.{Grammar}
-use Rattle.grammar.specs.declared.Refusal.the-variants as R
-use Rattle.grammar.specs.Number.{numberOf}
+use Rattle.answers.specs.declared.Refusal.the-variants as R
+use Rattle.answers.specs.Number.{numberOf}
 use Rattle.results.specs.Answer.{decide}
 use Rattle.results.specs.Load.{Step, stop, next, done, fault, signed, openRule, withStart, withRule, withPlace}
 use Rattle.results.specs.Load.{operands, after, unknown, commandChecks}

@@ -1,6 +1,6 @@
 // The parts of a step of loading that need no more than a few numbers. A command byte is classified once; its turn, its operands and its
 // limits go by the opcode.
-use grammar::Refusal;
+use answers::Refusal;
 use grammar::Symbol;
 ghost use mathlib.Core.Path.{_≡_};
 ghost use Rattle.results.specs.Load.{operands};

@@ -1,9 +1,9 @@
 // How many derivations (readings) an input has.
-use counting::Counted;
+use answers::Counted;
+use answers::Refusal;
 use counting::count_on;
 use fit::FitTable;
 use grammar::Grammar;
-use grammar::Refusal;
 use initial::build;
 use initial::exists;
 use initial::write_first;
@@ -24,7 +24,8 @@ ghost use Rattle.prepare.specs.Given.{checkingOf};
 ghost use Rattle.results.specs.Enumerate.{countOf};
 ghost use Rattle.sizes.specs.Sizes.{maxRules, maxInput, side, cells};
 ghost use Rattle.tables.specs.Exact.{ChartTrue};
-ghost use Rattle.counting.specs.Answer.{countedOf, countTree, countFilled};
+ghost use Rattle.answers.specs.Answers.{countedOf};
+ghost use Rattle.counting.specs.Answer.{countTree, countFilled};
 ghost use Rattle.counting.specs.Made.{CountedMade};
 
 // Counts the derivations over tables that are made, or refuses with 13. The buffer is this function's own.

@@ -7,17 +7,8 @@ use lib.ListN.{length}
 use Rattle.cfg.specs.Grammar.{Cfg}
 use Rattle.cfg.specs.Listing.{L}
 use Rattle.chart.specs.Column.{complete}
-use Rattle.grammar.specs.Number.{numberOf}
-use Rattle.results.specs.Answer.{Answer, refused, answered, Figure, counted, more}
+use Rattle.results.specs.Answer.{Answer, refused, answered, Figure, counted}
 use Rattle.results.specs.Enumerate.{figure}
-use Rattle.counting.specs.declared.Counted.{Counted}
-use Rattle.counting.specs.declared.Counted.the-variants.{Exactly, More, Refused}
-
--- the answer
-abbrev pub countedOf : Counted → Answer Figure
-countedOf (Exactly n) = answered (counted n)
-countedOf More = answered more
-countedOf (Refused r) = refused (numberOf r)
 
 -- what is said of the number of elements, or another answer where there is none
 unfoldable pub countOr : Answer Figure → List (List ℕ) → Answer Figure

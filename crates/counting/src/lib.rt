@@ -1,6 +1,6 @@
 // Counting the derivations one after the other, from the first one on.
+use answers::Counted;
 use fit::FitTable;
-use grammar::Refusal;
 use nodes::Root;
 use packed::Packed;
 use sizes::MOST;
@@ -9,15 +9,8 @@ use tables::layout::Tables;
 ghost use Prim.Native.Nat.{_<_, _≤_};
 ghost use lib.ListN.{length};
 ghost use Rattle.sizes.specs.Sizes.{maxRules, side, cells, outputSize};
-ghost use Rattle.counting.specs.Answer.{countedOf};
+ghost use Rattle.answers.specs.Answers.{countedOf};
 ghost use Rattle.counting.specs.Made.{CountedOn};
-
-// How many derivations there are, that there are more than 4,096, or why the call was refused.
-pub enum Counted {
-    Exactly(usize),
-    More,
-    Refused(Refusal),
-}
 
 // Counts the derivations, where the first one stands at the front of the buffer.
 pub fn count_on(

@@ -1,28 +1,24 @@
 // The codes in which the exported functions return their answers, and what each answer leaves in the place that was lent for it. A code is
 // 0 for no and none; 1 for yes, loaded, measured, handed out and counted; 2 for more; 256 + n for refusal n.
-use checker::Measured;
-use counting::Counted;
-use first::Handed;
-use grammar::Refusal;
-use grammar::Verdict;
-use loader::Outcome;
+use answers::Counted;
+use answers::Handed;
+use answers::Measured;
+use answers::Outcome;
+use answers::Refusal;
+use answers::Verdict;
 use recognizer::Recognizer;
 ghost use Prim.Native.Nat.{_+_};
 ghost use mathlib.Core.Path.{_≡_};
-ghost use Rattle.checker.specs.Calls.{measuredOf};
-ghost use Rattle.counting.specs.Answer.{countedOf};
-ghost use Rattle.first.specs.Answer.{handingOf};
-ghost use Rattle.grammar.specs.Number.{numberOf};
-ghost use Rattle.loader.specs.Answer.{answerOf};
+ghost use Rattle.answers.specs.Number.{numberOf};
+ghost use Rattle.answers.specs.Answers.{measuredOf, countedOf, handingOf, answerOf, verdictOf};
 ghost use Rattle.recognizer.specs.Recognizer.{stateIn};
-ghost use Rattle.recognizer.specs.Verdict.{verdictOf};
 ghost use Rattle.codes.specs.Code.{codeOf, leftOf, verdictCode, rowLeft, lengthCode, tenthsLeft, handingCode, nodesLeft};
 ghost use Rattle.codes.specs.Code.{figureCode, figureLeft, loadCode, offsetLeft};
 
 pub fn of_refusal(r: Refusal) -> u32
     ensures { λ c. ⌜ c ≡ 256 + numberOf r ⌝ }
 {
-    256 + (grammar::number(r) as u32)
+    256 + (answers::number(r) as u32)
 }
 
 // Opening, check and same build.

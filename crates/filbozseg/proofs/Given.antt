@@ -12,9 +12,10 @@ use Rattle.rows.specs.Flat.{grammarIn, flatOf}
 use Rattle.rows.proofs.Round.{read-write}
 use Rattle.grammar.specs.declared.Grammar.{Grammar}
 use Rattle.grammar.specs.View.{wholeOf}
+use Rattle.answers.specs.Answers.{answerOf}
 use Rattle.hand.specs.Hand.{rowOf}
 use Rattle.loader.specs.declared.Loaded.{Loaded}
-use Rattle.loader.specs.Answer.{answerOf, loadingOf}
+use Rattle.loader.specs.Answer.{loadingOf}
 use Rattle.results.specs.Answer.{Figure}
 use Rattle.results.specs.Check.{Checking}
 use Rattle.results.specs.Enumerate.{Enumeration}

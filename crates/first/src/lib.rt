@@ -1,7 +1,7 @@
 // The first derivation (reading) of an input.
+use answers::Handed;
 use fit::FitTable;
 use grammar::Grammar;
-use grammar::Refusal;
 use nodes::Root;
 use numbers::wide_byte;
 use packed::Packed;
@@ -17,16 +17,10 @@ ghost use Rattle.packed.specs.Packed.{cfgIn};
 ghost use Rattle.results.specs.Enumerate.{firstOf};
 ghost use Rattle.tables.specs.Exact.{ChartTrue};
 ghost use Rattle.initial.specs.Written.{enumerationOf, firstTree};
-ghost use Rattle.first.specs.Answer.{handingOf, firstFilled};
+ghost use Rattle.answers.specs.Answers.{handingOf};
+ghost use Rattle.first.specs.Answer.{firstFilled};
 
 pub mod made;
-
-// How many nodes the derivation handed out has, that there is none, or why the call was refused.
-pub enum Handed {
-    Nodes(usize),
-    Nothing,
-    Refused(Refusal),
-}
 
 // The first derivation, where the chart is filled, the fit table made and trees exist. The tables are this function's own.
 fn first_tree(

@@ -1,7 +1,7 @@
 // First over tables that are made.
-use super::Handed;
+use answers::Handed;
+use answers::Refusal;
 use fit::FitTable;
-use grammar::Refusal;
 use initial::exists;
 use initial::write_first;
 use nodes::Root;
@@ -10,7 +10,7 @@ use tables::layout::Tables;
 ghost use Prim.Native.Nat.{_<_, _≤_};
 ghost use lib.ListN.{length};
 ghost use Rattle.sizes.specs.Sizes.{cells, outputSize, maxRules, side};
-ghost use Rattle.first.specs.Answer.{handingOf};
+ghost use Rattle.answers.specs.Answers.{handingOf};
 ghost use Rattle.first.specs.Made.{FirstMade};
 
 // The first derivation, where trees exist: handed out, or refused with 13.
@@ -28,7 +28,8 @@ pub fn first_made(
         (now (out .entry)) (now (out .exit)) (handingOf a) ⌝ }
 {
     if exists(tables, root.start, root.n) {
-        Handed::Nodes(write_first(p, fits, chart, tables, root, out))
+        let nodes = write_first(p, fits, chart, tables, root, out);
+        Handed::Nodes(nodes)
     } else {
         Handed::Refused(Refusal::OnlyLargerTrees)
     }

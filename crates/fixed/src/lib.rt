@@ -11,9 +11,9 @@ ghost use Rattle.text.specs.Line.{refusedLine, noReadingLine, readingsLine};
 ghost use Rattle.digits.specs.Put.{Put};
 ghost use Rattle.lines.specs.Sizes.{lineSize};
 
-// A refusal and its number, one or two digits.
+// A refusal and its number, which is a byte.
 pub fn put_refused(n: usize, out: &mut [u8]) -> usize
-    requires { ⌜ (n < 100) × (lineSize ≤ length (now out)) ⌝ }
+    requires { ⌜ (n < 256) × (lineSize ≤ length (now out)) ⌝ }
     ensures { λ r. ⌜ Put (refusedLine n) 0 r (now (out .entry)) (now (out .exit)) ⌝ }
 {
     let a = put_bytes(b"REFUSED ", 0, out);

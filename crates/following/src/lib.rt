@@ -1,5 +1,5 @@
 // Next over tables that are made: the derivation after an offered one, handed out.
-use first::Handed;
+use answers::Handed;
 use fit::FitTable;
 use nodes::Root;
 use packed::Packed;
@@ -8,7 +8,7 @@ use successor::copy;
 use tables::layout::Tables;
 ghost use Prim.Native.Nat.{_<_, _≤_};
 ghost use lib.ListN.{length};
-ghost use Rattle.first.specs.Answer.{handingOf};
+ghost use Rattle.answers.specs.Answers.{handingOf};
 ghost use Rattle.sizes.specs.Sizes.{maxRules, side, cells, outputSize};
 ghost use Rattle.following.specs.Made.{NextMade};
 

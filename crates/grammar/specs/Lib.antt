@@ -3,5 +3,4 @@ pub mod Zero
 pub mod Setters
 pub mod Valid
 pub mod View
-pub mod Number
 pub mod Tagged

@@ -1,4 +1,4 @@
-// The declared types of a grammar (document 01: a loaded book), check 8 over any struct handed in, and the refusals.
+// The declared types of a grammar (document 01: a loaded book), and check 8 over any struct handed in.
 pub mod building;
 mod records;
 pub mod tagged;
@@ -7,7 +7,6 @@ use records::valid_rule;
 ghost use mathlib.Core.Path.{_≡_};
 ghost use Rattle.grammar.specs.Zero.{zeroPlace, zeroRule, zeroGrammar};
 ghost use Rattle.grammar.specs.Valid.{validGrammar};
-ghost use Rattle.grammar.specs.Number.{numberOf};
 
 // What a place holds: a nonterminal (kind) or a terminal (mark).
 pub enum Symbol {
@@ -34,55 +33,6 @@ pub struct Grammar {
     pub count: usize,
     pub depth: u8,
     pub rules: [Rule; sizes::MAX_RULES],
-}
-
-// The refusals of document 01, in the order of their numbers.
-pub enum Refusal {
-    UnexpectedEnd,
-    UnknownCommand,
-    OutOfTurn,
-    NonterminalTooLarge,
-    TooManyRules,
-    TooManyPlaces,
-    FurtherByte,
-    InvalidGrammar,
-    InputLength,
-    ChartTooShort,
-    OutputTooShort,
-    NotADerivation,
-    OnlyLargerTrees,
-    InvalidRecognizer,
-    RecognizerFull,
-}
-
-// What opening, taking, check and same build answer: yes, no, or why the call was refused.
-pub enum Verdict {
-    Yes,
-    No,
-    Refused(Refusal),
-}
-
-// The number that document 01 gives a refusal.
-pub fn number(r: Refusal) -> u8
-    ensures { λ n. ⌜ n ≡ numberOf r ⌝ }
-{
-    match r {
-        Refusal::UnexpectedEnd => 1,
-        Refusal::UnknownCommand => 2,
-        Refusal::OutOfTurn => 3,
-        Refusal::NonterminalTooLarge => 4,
-        Refusal::TooManyRules => 5,
-        Refusal::TooManyPlaces => 6,
-        Refusal::FurtherByte => 7,
-        Refusal::InvalidGrammar => 8,
-        Refusal::InputLength => 9,
-        Refusal::ChartTooShort => 10,
-        Refusal::OutputTooShort => 11,
-        Refusal::NotADerivation => 12,
-        Refusal::OnlyLargerTrees => 13,
-        Refusal::InvalidRecognizer => 14,
-        Refusal::RecognizerFull => 15,
-    }
 }
 
 // What is unused is handed back as zeros: a place, a rule record, a whole grammar.

@@ -1,10 +1,9 @@
 -- What is printed first, by what loading the book gave. Assumes nothing.
-use Prim.Native.Nat.{ℕ, _≤_}
+use Prim.Native.Nat.{ℕ, _<_}
 use mathlib.Core.Bool.{true}
 use mathlib.Core.List.{List}
 use mathlib.Core.Logic.{inl, inr}
 use mathlib.Core.Path.{_≡_, refl, sym, ap, subst, _∙_}
-use native.Mathlib.Omega.{arith}
 use lib.IntN.{ℤ}
 use lib.ListN.{length}
 use Rattle.sizes.specs.Sizes.{maxRules}
@@ -12,13 +11,13 @@ use Rattle.laws.proofs.Bools.{clash}
 use Rattle.measure.specs.Measure.{lengthsIn}
 use Rattle.demands.specs.LoadDemand.{LoadDemand}
 use Rattle.demands.proofs.LoadDemand.{load-demand}
-use Rattle.grammar.specs.declared.Refusal.{Refusal}
-use Rattle.grammar.specs.declared.Refusal.the-variants as R
-use Rattle.grammar.specs.Number.{numberOf}
 use Rattle.grammar.specs.Valid.{validGrammar}
+use Rattle.answers.specs.declared.Refusal.{Refusal}
+use Rattle.answers.specs.declared.Outcome.the-variants.{Accepted, Refused}
+use Rattle.answers.specs.Number.{numberOf}
+use Rattle.answers.specs.Answers.{answerOf}
 use Rattle.loader.specs.declared.Loaded.{Loaded}
-use Rattle.loader.specs.declared.Outcome.the-variants.{Accepted, Refused}
-use Rattle.loader.specs.Answer.{answerOf, loadingOf}
+use Rattle.loader.specs.Answer.{loadingOf}
 use Rattle.results.specs.Answer.{refusedAt, loaded}
 use Rattle.results.specs.Load.{Loading, loadOf}
 use Rattle.text.specs.Text.{inputText, loadedText, textOf}
@@ -28,24 +27,6 @@ use Rattle.lister.specs.declared.Due.the-variants.{Refusal as RefusalDue
 use Rattle.lister.specs.Due.{Ahead}
 use Rattle.lister.specs.Begun.{InputBegun, BookBegun}
 
--- no number is above 15
-number-small : (r : Refusal) → numberOf r ≤ 15
-number-small R.UnexpectedEnd = omega arith
-number-small R.UnknownCommand = omega arith
-number-small R.OutOfTurn = omega arith
-number-small R.NonterminalTooLarge = omega arith
-number-small R.TooManyRules = omega arith
-number-small R.TooManyPlaces = omega arith
-number-small R.FurtherByte = omega arith
-number-small R.InvalidGrammar = omega arith
-number-small R.InputLength = omega arith
-number-small R.ChartTooShort = omega arith
-number-small R.OutputTooShort = omega arith
-number-small R.NotADerivation = omega arith
-number-small R.OnlyLargerTrees = omega arith
-number-small R.InvalidRecognizer = omega arith
-number-small R.RecognizerFull = omega arith
-
 refused-apart : {n at : ℕ} → refusedAt n at ≡ loaded → ⊥
 refused-apart e = clash cc
 
@@ -54,15 +35,15 @@ module _ (book w : List ℕ) (b : Loaded) (load : loadingOf b ≡ loadOf book (b
   text-loaded : loadedText (loadingOf b) w ≡ textOf book w
   text-loaded = ap (λ (x : Loading). loadedText x w) load ∙ text-depth book w (b .grammar .depth)
 
-  pub book-refused : (r : Refusal) (at : ℕ) → b .outcome ≡ Refused r at → (k n : ℕ) → k ≡ numberOf r → n ≡ k
+  pub book-refused : (r : Refusal) (at : ℕ) → b .outcome ≡ Refused r at → (k n : ℕ) → k ≡ numberOf r → n ≡ k → n < 256
       → (p : List ℕ) (lengths : List ℤ) → length lengths ≡ maxRules → (chart fits tables buf : List ℕ)
       → BookBegun book w p lengths chart chart fits tables buf buf (RefusalDue n)
   unfolding loadedText
-  book-refused r at is k n e f p lengths rows chart fits tables buf = record {
+  book-refused r at is k n e f byte p lengths rows chart fits tables buf = record {
     rows = rows;
     chart-long = refl;
     long = refl;
-    sized = omega (arith, number-small r);
+    sized = byte;
     ahead = sym text-loaded ∙ rw (is, f, e);
   }
 

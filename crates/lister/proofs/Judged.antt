@@ -17,11 +17,11 @@ use Rattle.measure.proofs.Lengths.{sum-row}
 use Rattle.costs.specs.Span.{bytesOf}
 use Rattle.first.proofs.Chart.{Filling, filled-chart}
 use Rattle.grammar.specs.declared.Grammar.{Grammar}
-use Rattle.grammar.specs.declared.Refusal.{Refusal}
-use Rattle.grammar.specs.Number.{numberOf}
 use Rattle.grammar.specs.Valid.{validGrammar}
 use Rattle.grammar.specs.View.{grammarOf, lengthsOf}
 use Rattle.grammar.proofs.Bounds.{valid-bounded}
+use Rattle.answers.specs.declared.Refusal.{Refusal}
+use Rattle.answers.specs.Number.{numberOf}
 use Rattle.packed.specs.Packed.{cfgIn}
 use Rattle.prepare.specs.declared.Judged.{Judged}
 use Rattle.prepare.specs.declared.Judged.the-variants.{Passed, Refused}

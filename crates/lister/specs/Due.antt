@@ -41,9 +41,9 @@ Ahead lengths p fits chart tables buf (Total number) lines = lines ≡ readingsL
 Ahead lengths p fits chart tables buf More lines = lines ≡ readingsLine more ∷ []
 Ahead lengths p fits chart tables buf Nothing lines = lines ≡ []
 
--- the numbers are within their bounds
+-- the numbers are within their bounds: that of a refusal is a byte
 abbrev pub Sized : Due → Type 0
-Sized (Refusal number) = number ≤ 15
+Sized (Refusal number) = number < 256
 Sized NoReading = Unit {0}
 Sized (Reading s rules n i nodes) = (rules ≤ maxRules) × (n < side) × (i < most) × (nodes ≤ maxNodes)
 Sized (Total number) = number ≤ most

@@ -1,11 +1,11 @@
 // What is printed first, from the bytes of the book and of the plate.
 use super::Due;
+use answers::Outcome;
 use fit::FitTable;
 use grammar::Grammar;
 use initial::build;
 use initial::exists;
 use initial::write_first;
-use loader::Outcome;
 use measure::Lengths;
 use nodes::Root;
 use numbers::wide_byte;
@@ -96,7 +96,7 @@ fn begin_input(
         (now (fits .exit)) (now (tables .exit)) (now (buf .entry)) (now (buf .exit)) d ⌝ }
 {
     match prepare::judge(g, input.len(), chart.len()) {
-        Judged::Refused(r) => Due::Refusal(wide_byte(grammar::number(r))),
+        Judged::Refused(r) => Due::Refusal(wide_byte(answers::number(r))),
         Judged::Passed => {
             *p = prepare::fill_fits(g, input, fits, chart);
             *lengths = measure::lengths_of(g);
@@ -124,7 +124,7 @@ pub fn begin(
     let b = loader::load(book);
     let outcome = b.outcome;
     match outcome {
-        Outcome::Refused(r, _) => Due::Refusal(wide_byte(grammar::number(r))),
+        Outcome::Refused(r, _) => Due::Refusal(wide_byte(answers::number(r))),
         Outcome::Accepted => begin_input(b.grammar, input, p, lengths, chart, fits, tables, buf),
     }
 }

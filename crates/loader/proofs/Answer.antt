@@ -7,16 +7,16 @@ use Rattle.cfg.specs.Tree.{fits-node}
 use Rattle.cfg.specs.Nullable.{Nullable, Depth}
 use Rattle.sets.specs.Set.{card}
 use Rattle.grammar.specs.declared.Grammar.{Grammar}
-use Rattle.grammar.specs.declared.Refusal.{Refusal}
-use Rattle.grammar.specs.Number.{numberOf}
 use Rattle.grammar.specs.Setters.{setDepth}
 use Rattle.grammar.specs.View.{wholeOf}
 use Rattle.grammar.specs.Zero.{zeroGrammar}
 use Rattle.grammar.proofs.RuleAt.{rule-past}
+use Rattle.answers.specs.declared.Refusal.{Refusal}
+use Rattle.answers.specs.declared.Outcome.the-variants.{Accepted, Refused}
+use Rattle.answers.specs.Number.{numberOf}
 use Rattle.results.specs.Load.{acceptedLoad, refusedLoad}
 use Rattle.loader.specs.Answer.{Refuses, Accepts}
 use Rattle.nullable.specs.Nullable.{Exact}
-use Rattle.loader.specs.declared.Outcome.the-variants.{Accepted, Refused}
 use Rattle.nullable.proofs.Depth.{exact-depth}
 
 -- a grammar of no rules has no nullable nonterminal

@@ -15,12 +15,12 @@ use Rattle.numbers.specs.Numbers.{signedIn}
 use Rattle.grammar.specs.declared.Symbol.{Symbol}
 use Rattle.grammar.specs.declared.Rule.{Rule}
 use Rattle.grammar.specs.declared.Grammar.{Grammar}
-use Rattle.grammar.specs.declared.Refusal.{Refusal}
-use Rattle.grammar.specs.Number.{numberOf}
 use Rattle.grammar.specs.Setters.{openedRule, placedRule, setStart, setCount, setRule}
 use Rattle.grammar.specs.Valid.{validGrammar}
 use Rattle.grammar.specs.Zero.{zeroGrammar, noRule}
 use Rattle.grammar.proofs.Bounds.{valid-count}
+use Rattle.answers.specs.declared.Refusal.{Refusal}
+use Rattle.answers.specs.Number.{numberOf}
 use Rattle.results.specs.Load.{signed, next, step, run, loadOf, openRule}
 use Rattle.results.proofs.Loading.Run.{run-stop, run-next, run-done, step-forward, run-fuel}
 use Rattle.results.proofs.Loading.Commands.{start-set, rule-set, place-set, step-kept}

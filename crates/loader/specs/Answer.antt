@@ -2,17 +2,10 @@
 use mathlib.Core.Path.{_≡_}
 use Rattle.cfg.specs.Nullable.{Depth}
 use Rattle.grammar.specs.declared.Grammar.{Grammar}
-use Rattle.grammar.specs.Number.{numberOf}
 use Rattle.grammar.specs.View.{wholeOf}
-use Rattle.results.specs.Answer.{LoadAnswer, refusedAt, loaded}
+use Rattle.answers.specs.Answers.{answerOf}
 use Rattle.results.specs.Load.{Loading, Fault, refusedLoad, acceptedLoad}
-use Rattle.loader.specs.declared.Outcome.{Outcome}
-use Rattle.loader.specs.declared.Outcome.the-variants.{Accepted, Refused}
 use Rattle.loader.specs.declared.Loaded.{Loaded}
-
-abbrev pub answerOf : Outcome → LoadAnswer
-answerOf Accepted = loaded
-answerOf (Refused r at) = refusedAt (numberOf r) at
 
 abbrev pub loadingOf : Loaded → Loading
 loadingOf l = record { answer = answerOf (l .outcome); grammar = l .grammar }

@@ -1,22 +1,18 @@
 // The loader: from the bytes of a book to a grammar, or to the refusal and the offset of the first fault.
+use answers::Outcome;
+use answers::Refusal;
 use commands::Command;
 use commands::Turn;
 use grammar::Grammar;
-use grammar::Refusal;
 use grammar::building;
 ghost use mathlib.Core.Bool.{true};
 ghost use mathlib.Core.Path.{_≡_};
 ghost use Rattle.cfg.specs.Nullable.{Depth};
-ghost use Rattle.grammar.specs.Number.{numberOf};
 ghost use Rattle.grammar.specs.Valid.{validGrammar};
 ghost use Rattle.grammar.specs.View.{wholeOf};
+ghost use Rattle.answers.specs.Number.{numberOf};
 ghost use Rattle.results.specs.Load.{loadOf};
 ghost use Rattle.loader.specs.Answer.{loadingOf, Refuses, Accepts};
-
-pub enum Outcome {
-    Accepted,
-    Refused(Refusal, usize),
-}
 
 // What loading answers, and the grammar: that of the book, or one of zeros where the book is refused.
 pub struct Loaded {

@@ -7,9 +7,9 @@ use mathlib.Core.Path.{_≡_, sym, ap, _∙_}
 use lib.ListN.{length}
 use Rattle.cfg.specs.Listing.{L}
 use Rattle.grammar.specs.declared.Grammar.{Grammar}
-use Rattle.grammar.specs.declared.Refusal.{Refusal}
-use Rattle.grammar.specs.Number.{numberOf}
 use Rattle.grammar.specs.View.{grammarOf}
+use Rattle.answers.specs.declared.Refusal.{Refusal}
+use Rattle.answers.specs.Number.{numberOf}
 use Rattle.packed.specs.Packed.{cfgIn}
 use Rattle.prepare.specs.declared.Judged.{Judged}
 use Rattle.prepare.specs.declared.Judged.the-variants.{Passed, Refused}

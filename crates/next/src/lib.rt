@@ -1,10 +1,10 @@
 // The derivation (reading) after one that is offered.
+use answers::Handed;
+use answers::Refusal;
 use derivation::is_derivation;
-use first::Handed;
 use fit::FitTable;
 use following::next_made;
 use grammar::Grammar;
-use grammar::Refusal;
 use initial::build;
 use nodes::Root;
 use numbers::wide_byte;
@@ -19,7 +19,7 @@ ghost use Rattle.cfg.specs.Listing.{L};
 ghost use Rattle.costs.specs.Span.{bytesOf};
 ghost use Rattle.fit.specs.Fit.{Told};
 ghost use Rattle.initial.specs.Written.{enumerationOf};
-ghost use Rattle.first.specs.Answer.{handingOf};
+ghost use Rattle.answers.specs.Answers.{handingOf};
 ghost use Rattle.packed.specs.Packed.{cfgIn};
 ghost use Rattle.results.specs.Check.{listed};
 ghost use Rattle.results.specs.Enumerate.{nextOf};

@@ -9,9 +9,9 @@ use borrow.Author.Tests.{lt-ltb}
 use Rattle.sizes.specs.Sizes.{cells, outputSize}
 use Rattle.cfg.specs.Grammar.{Cfg}
 use Rattle.grammar.specs.declared.Grammar.{Grammar}
-use Rattle.grammar.specs.declared.Refusal.{Refusal}
-use Rattle.grammar.specs.Number.{numberOf}
 use Rattle.grammar.specs.View.{grammarOf}
+use Rattle.answers.specs.declared.Refusal.{Refusal}
+use Rattle.answers.specs.Number.{numberOf}
 use Rattle.results.specs.Answer.{Answer, refused, Check, decide}
 use Rattle.results.specs.Recognize.{grammarCheck, chartCheck}
 use Rattle.results.specs.Check.{inputCheck, inputChecks, Checking, onInput}

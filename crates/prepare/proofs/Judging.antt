@@ -6,9 +6,9 @@ use native.Mathlib.Omega.{arith}
 use borrow.Author.Tests.{not-true, not-false}
 use Rattle.sizes.specs.Sizes.{cells, outputSize, maxInput}
 use Rattle.grammar.specs.declared.Grammar.{Grammar}
-use Rattle.grammar.specs.declared.Refusal.{Refusal}
-use Rattle.grammar.specs.declared.Refusal.the-variants.{InvalidGrammar, InputLength, ChartTooShort, OutputTooShort}
 use Rattle.grammar.specs.Valid.{validGrammar}
+use Rattle.answers.specs.declared.Refusal.{Refusal}
+use Rattle.answers.specs.declared.Refusal.the-variants.{InvalidGrammar, InputLength, ChartTooShort, OutputTooShort}
 use Rattle.prepare.specs.declared.Judged.{Judged}
 use Rattle.prepare.specs.declared.Judged.the-variants.{Passed, Refused}
 use Rattle.prepare.specs.Judging.{Judging, passed, invalid, no-input, long-input, no-room}

@@ -4,9 +4,9 @@ use mathlib.Core.Bool.{true, false}
 use mathlib.Core.Path.{_≡_}
 use Rattle.sizes.specs.Sizes.{cells, outputSize, maxInput}
 use Rattle.grammar.specs.declared.Grammar.{Grammar}
-use Rattle.grammar.specs.declared.Refusal.{Refusal}
-use Rattle.grammar.specs.declared.Refusal.the-variants.{InvalidGrammar, InputLength, ChartTooShort, OutputTooShort}
 use Rattle.grammar.specs.Valid.{validGrammar}
+use Rattle.answers.specs.declared.Refusal.{Refusal}
+use Rattle.answers.specs.declared.Refusal.the-variants.{InvalidGrammar, InputLength, ChartTooShort, OutputTooShort}
 use Rattle.prepare.specs.declared.Judged.{Judged}
 use Rattle.prepare.specs.declared.Judged.the-variants.{Passed, Refused}
 

@@ -1,7 +1,7 @@
 // What every call on an input does before its own work: checks 8 to 11, and then the packing of the grammar and the filling of the chart.
+use answers::Refusal;
 use fit::FitTable;
 use grammar::Grammar;
-use grammar::Refusal;
 use packed::Packed;
 ghost use mathlib.Core.Path.{_≡_};
 ghost use Prim.Native.Nat.{ℕ};

@@ -1,3 +1,2 @@
 -- What the exported calls give.
-pub mod Verdict
 pub mod Recognizer

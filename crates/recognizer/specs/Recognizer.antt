@@ -4,7 +4,7 @@ use mathlib.Core.List.{List}
 use Rattle.results.specs.Recognize.{State, stateWith, Recognition}
 use Rattle.recognizer.specs.declared.Recognizer.{Recognizer}
 use Rattle.recognizer.specs.declared.Advanced.{Advanced}
-use Rattle.recognizer.specs.Verdict.{verdictOf}
+use Rattle.answers.specs.Answers.{verdictOf}
 
 -- the state
 abbrev pub stateIn : Recognizer → State

@@ -1,12 +1,12 @@
 // The recognizer (document 01: the plate in hand): opening, and taking a byte.
 mod state;
 
+use answers::Refusal;
+use answers::Verdict;
 use columns::complete;
 use columns::open_chart;
 use columns::write_column;
 use grammar::Grammar;
-use grammar::Refusal;
-use grammar::Verdict;
 use numbers::wide_byte;
 use state::blank;
 use state::with_byte;
@@ -17,11 +17,11 @@ ghost use lib.ListN.{length};
 ghost use Rattle.sizes.specs.Sizes.{cells, maxInput};
 ghost use Rattle.sets.specs.Set.{has as inSet};
 ghost use Rattle.chart.specs.Cell.{cell};
-ghost use Rattle.grammar.specs.Number.{numberOf};
 ghost use Rattle.grammar.specs.Valid.{validGrammar};
+ghost use Rattle.answers.specs.Number.{numberOf};
+ghost use Rattle.answers.specs.Answers.{verdictOf};
 ghost use Rattle.results.specs.Answer.{answered, refused as refusedWith};
 ghost use Rattle.results.specs.Recognize.{openOf, takeOf};
-ghost use Rattle.recognizer.specs.Verdict.{verdictOf};
 ghost use Rattle.recognizer.specs.Recognizer.{stateIn, recognitionOf};
 
 // The state: 64 bytes, of which the first `count` have been taken.

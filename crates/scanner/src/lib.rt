@@ -1,10 +1,10 @@
 // The commands of a book: what stands at an offset, or the fault that it is refused for. At one command the checks are 2, 3, 1, then 4,
 // then 5 or 6, or 7 after the end.
+use answers::Refusal;
 use commands::Class;
 use commands::Command;
 use commands::Opcode;
 use commands::Turn;
-use grammar::Refusal;
 use grammar::Symbol;
 ghost use Prim.Native.Nat.{_+_, _≤_, _<_};
 ghost use mathlib.Core.Path.{_≡_};

@@ -25,8 +25,8 @@ use Rattle.stepper.proofs.Lines.{lines-next}
 -- ---- the numbers of what is due
 
 module _ (d : Due) (sized : Sized d) where
-  pub refusal-small : (n : ℕ) → d ≡ Refusal n → n < 100
-  refusal-small n e = let h : n ≤ 15 = subst Sized e sized in omega arith
+  pub refusal-small : (n : ℕ) → d ≡ Refusal n → n < 256
+  refusal-small n e = subst Sized e sized
 
   pub reading-sized : (s rules n i nodes : ℕ) → d ≡ Reading s rules n i nodes
       → (rules ≤ maxRules) × (n < side) × (i < most) × (nodes ≤ maxNodes)

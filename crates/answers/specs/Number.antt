@@ -1,7 +1,7 @@
 -- The numbers that document 01 gives its refusals. Assumes nothing.
 use Prim.Native.Nat.{ℕ}
-use Rattle.grammar.specs.declared.Refusal.{Refusal}
-use Rattle.grammar.specs.declared.Refusal.the-variants as R
+use Rattle.answers.specs.declared.Refusal.{Refusal}
+use Rattle.answers.specs.declared.Refusal.the-variants as R
 
 -- the number of each refusal
 abbrev pub numberOf : Refusal → ℕ
