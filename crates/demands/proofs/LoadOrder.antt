@@ -7,7 +7,7 @@ use lib.Dec.{eqb}
 use lib.ListN.{length, getD}
 use Rattle.laws.proofs.Bools.{clash}
 use Rattle.grammar.specs.declared.Grammar.{Grammar}
-use Rattle.results.specs.Load.{Fault, fault, operandChecks, commandChecks, Step, stop, next, done, carriedOut, step}
+use Rattle.results.specs.Load.{Fault, fault, operandChecks, commandChecks, stop, next, done, carriedOut, step}
 use Rattle.demands.specs.LoadOrder.{ended, CommandOrder}
 use Rattle.demands.proofs.Decided.{decided, all-failing}
 

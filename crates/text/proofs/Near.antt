@@ -60,7 +60,8 @@ module _ (at : ℕ) (g : Grammar) (N : Near at g) where
   place-near s h =
       let e = place-open s in
       let n = N .near in
-      record { few = N .few; size = set-rule-size g (g .count - 1) (placedRule (openRule g) s) ∙ N .size; places = omega arith; near = omega arith }
+      let z = set-rule-size g (g .count - 1) (placedRule (openRule g) s) ∙ N .size in
+      record { few = N .few; size = z; places = omega arith; near = omega arith }
 
 pub near-invariant : (bytes : List ℕ) → Invariant bytes Near
 near-invariant bytes = record {

@@ -3,7 +3,7 @@
 use Prim.Native.Nat.{ℕ, zero, suc, _+_, _-_, _≤_, _<_}
 use native.Mathlib.Decide.{ℕ-discrete}
 use native.Mathlib.Omega.{arith}
-use mathlib.Core.Bool.{Bool, true, false, _&&_, _||_}
+use mathlib.Core.Bool.{true, false, _&&_, _||_}
 use mathlib.Core.List.{List}
 use mathlib.Core.Logic.{dite}
 use mathlib.Core.Path.{_≡_, refl, sym, subst}
@@ -144,6 +144,9 @@ module _ {bytes : List ℕ} {P : ℕ → Grammar → Type 0} (I : Invariant byte
     four : (h : Grammar) → P (at + 4) h → P (at + 1 + 3) h
     four h = subst (λ (n : ℕ). P n h) (omega arith)
 
+    small : ltb 31 (operand bytes at 0) ≡ false → operand bytes at 0 ≤ 31
+    small = ltb-false 31 (operand bytes at 0)
+
     placed : (s : Symbol) → valueOf s ≡ operand bytes at 0 → validSymbol s ≡ true → (eqb at 0 || eqb (g .count) 0) ≡ false
         → ltb 7 (openRule g .count) ≡ false → P (at + 1 + 1) (withPlace g s)
     placed s e v o p =
@@ -155,10 +158,9 @@ module _ {bytes : List ℕ} {P : ℕ → Grammar → Type 0} (I : Invariant byte
     kept : (c : ℕ) → unknown c ≡ false → LetThrough bytes at c g → Kept (carriedOut bytes at c g)
     unfolding carriedOut operands after outOfTurn
     kept = each-command (λ c. LetThrough bytes at c g → Kept (carriedOut bytes at c g))
-        (λ L. two _ (I .start at g H (omega (arith, ltb-false 0 at (L .turn))) (ltb-false 31 (operand bytes at 0) (L .nonterminal))))
-        (λ L. four _ (I .rule at g H (ltb-false 31 (operand bytes at 0) (L .nonterminal)) (omega (arith, ltb-false 127 (g .count) (L .rules)))))
-        (λ L. placed (Nonterminal (operand bytes at 0)) refl (le-leb (operand bytes at 0) 31 (ltb-false 31 (operand bytes at 0) (L .nonterminal)))
-        (L .turn) (L .places))
+        (λ L. two _ (I .start at g H (omega (arith, ltb-false 0 at (L .turn))) (small (L .nonterminal))))
+        (λ L. four _ (I .rule at g H (small (L .nonterminal)) (omega (arith, ltb-false 127 (g .count) (L .rules)))))
+        (λ L. placed (Nonterminal _) refl (le-leb (operand bytes at 0) 31 (small (L .nonterminal))) (L .turn) (L .places))
         (λ L. placed (Terminal (operand bytes at 0)) refl refl (L .turn) (L .places))
         (λ L. tt)
 
