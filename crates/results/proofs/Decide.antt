@@ -1,8 +1,7 @@
 -- The law of `decide`: the first check that fails decides; where all are passed, the call goes on. Assumes nothing.
 use mathlib.Core.Bool.{Bool, true, false}
 use mathlib.Core.List.{List, [], _∷_, _++_}
-use mathlib.Core.Logic.{_⊎_, inl, inr}
-use mathlib.Core.Path.{_≡_, refl, ap, _∙_}
+use mathlib.Core.Path.{_≡_, refl}
 use Rattle.results.specs.Answer.{Check, decide}
 
 -- something holds of each check
@@ -14,12 +13,11 @@ Each Q (c ∷ checks) = Q c × Each Q checks
 abbrev pub Pass : {A : Type 0} → List (Check A) → Type 0
 Pass {A} checks = Each (λ (c : Check A). c .fails ≡ false) checks
 
--- two lists whose checks agree in turn: they are the same, or both are passed
-abbrev pub Agree : {A : Type 0} → List (Check A) → List (Check A) → Type 0
-Agree [] [] = Unit {0}
-Agree [] (d ∷ m) = ⊥
-Agree (c ∷ l) [] = ⊥
-Agree (c ∷ l) (d ∷ m) = ((c ≡ d) ⊎ ((c .fails ≡ false) × (d .fails ≡ false))) × Agree l m
+-- two lists of checks that agree in turn: they are the same, or both are passed
+pub data Agree (A : Type 0) : List (Check A) → List (Check A) → Type 0 where
+  agree-end : Agree A [] []
+  agree-same : {l m : List (Check A)} (c : Check A) → Agree A l m → Agree A (c ∷ l) (c ∷ m)
+  agree-passed : {l m : List (Check A)} {c d : Check A} → c .fails ≡ false → d .fails ≡ false → Agree A l m → Agree A (c ∷ l) (d ∷ m)
 
 each : {A : Type 0} {Q : Check A → Type 0} → ((c : Check A) → Q c) → (checks : List (Check A)) → Each Q checks
 each f [] = tt
@@ -39,23 +37,17 @@ module _ {A B : Type 0} (refuse : A → B) (go : Unit {0} → B) where
   decide-passed [] p = refl
   decide-passed (c ∷ checks) p = rw (p .0) (decide-passed checks (p .1))
 
-  -- two lists whose checks agree decide the same
-  pub decide-agree : (l m : List (Check A)) → Agree l m → decide l refuse go ≡ decide m refuse go
+  -- two lists of checks that agree decide the same
+  pub decide-agree : {l m : List (Check A)} → Agree A l m → decide l refuse go ≡ decide m refuse go
   unfolding decide
-  decide-agree [] [] a = refl
-  decide-agree [] (d ∷ m) a = absurd a
-  decide-agree (c ∷ l) [] a = absurd a
-  decide-agree (c ∷ l) (d ∷ m) a = by (a .0) (decide-agree l m (a .1))
+  decide-agree agree-end = refl
+  decide-agree (agree-passed p q a) = rw (p, q) (decide-agree a)
+  decide-agree (agree-same {l} {m} c a) = by (c .fails) (decide-agree a)
     where
-      same : (b : Bool) (r : A) → decide l refuse go ≡ decide m refuse go
-          → _≡_ {A = B} (elim b [ true ↦ refuse r | false ↦ decide l refuse go ]) (elim b [ true ↦ refuse r | false ↦ decide m refuse go ])
-      same true r later = refl
-      same false r later = later
-
-      by : (c ≡ d) ⊎ ((c .fails ≡ false) × (d .fails ≡ false)) → decide l refuse go ≡ decide m refuse go
-          → decide (c ∷ l) refuse go ≡ decide (d ∷ m) refuse go
-      by (inl e) later = same (c .fails) (c .refusal) later ∙ ap (λ (x : Check A). decide (x ∷ m) refuse go) e
-      by (inr p) later = rw (p .0, p .1) later
+      by : (b : Bool) → decide l refuse go ≡ decide m refuse go → _≡_ {A = B} (elim b [ true ↦ refuse (c .refusal) | false ↦ decide l refuse go ])
+          (elim b [ true ↦ refuse (c .refusal) | false ↦ decide m refuse go ])
+      by true e = refl
+      by false e = e
 
   module _ (P : B → Type 0) where
     -- what holds of the refusal of each check that may fail, and of what comes after the checks, holds of the result

@@ -4,7 +4,7 @@ use native.Mathlib.Decide.{decLt}
 use native.Mathlib.Omega.{arith}
 use mathlib.Core.Bool.{Bool, true, false, cond, not}
 use mathlib.Core.List.{List, [], _∷_}
-use mathlib.Core.Logic.{dite, inl, inr}
+use mathlib.Core.Logic.{dite}
 use mathlib.Core.Path.{_≡_, refl, sym, ap, _∙_}
 use lib.Dec.{eqb, ltb}
 use lib.ListN.{length, getD, take}
@@ -15,7 +15,7 @@ use Rattle.grammar.specs.Zero.{zeroGrammar}
 use Rattle.results.specs.Answer.{LoadAnswer, refusedAt, loaded, Check, decide}
 use Rattle.results.specs.Load.{operands, operand, Fault, fault, operandChecks, commandChecks}
 use Rattle.results.specs.Load.{Step, stop, next, done, carriedOut, step, Loading, run, loadOf}
-use Rattle.results.proofs.Decide.{Agree, decide-agree}
+use Rattle.results.proofs.Decide.{Agree, agree-end, agree-same, agree-passed, decide-agree}
 use Rattle.results.proofs.Loading.Run.{run-stop, run-next, run-done, step-forward}
 use Rattle.results.proofs.Loading.Commands.{after-same, step-kept}
 use Rattle.text.specs.Front.{bookFront, plateFront}
@@ -66,37 +66,16 @@ module _ (s t : List ℕ) (long-s : bookFront ≤ length s) (long-t : bookFront 
     further : (b : List ℕ) → bookFront ≤ length b → ltb (at + 1) (length b) ≡ true
     further b l = lt-ltb (at + 1) (length b) (omega arith)
 
-    checks-agree : Agree (checks s) (checks t)
+    checks-agree : Agree Fault (checks s) (checks t)
     unfolding commandChecks operandChecks
-    checks-agree =
-        let e = operand-same 0 (omega arith) in
-        let f = further s long-s ∙ sym (further t long-t) in (
-          inr (begins s long-s, begins t long-t),
-          (
-            inl refl,
-            (
-              inl refl,
-              (
-                inr (whole s long-s, whole t long-t),
-                (
-                  inl (rw e),
-                  (
-                    inl refl,
-                    (
-                      inl refl,
-                      (inl (rw f), tt),
-                    ),
-                  ),
-                ),
-              ),
-            ),
-          ),
-        )
+    checks-agree = rw (operand-same 0 (omega arith), further s long-s, further t long-t) (
+        agree-passed (begins s long-s) (begins t long-t) (agree-same _ (agree-same _ (
+        agree-passed (whole s long-s) (whole t long-t) (agree-same _ (agree-same _ (agree-same _ (agree-same _ agree-end))))))))
 
   step-same : (at : ℕ) (g : Grammar) → at ≤ farthest → step s at g ≡ step t at g
   unfolding step
   step-same at g h = let c = getD t at 0 in rw (same at (omega arith))
-      (decide-agree stop (λ _. carriedOut s at c g) (checks at g h c s) (checks at g h c t) (checks-agree at g h c)
+      (decide-agree stop (λ _. carriedOut s at c g) (checks-agree at g h c)
       ∙ ap (λ (x : Step). decide (checks at g h c t) stop (λ _. x)) (carried-same at g h c))
 
   -- where enough commands are allowed for each

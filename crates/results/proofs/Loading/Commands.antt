@@ -3,7 +3,7 @@
 use Prim.Native.Nat.{ℕ, zero, suc, _+_, _-_, _≤_, _<_}
 use native.Mathlib.Decide.{ℕ-discrete}
 use native.Mathlib.Omega.{arith}
-use mathlib.Core.Bool.{true, false, _&&_, _||_}
+use mathlib.Core.Bool.{Bool, true, false, _&&_, _||_}
 use mathlib.Core.List.{List}
 use mathlib.Core.Logic.{dite}
 use mathlib.Core.Path.{_≡_, refl, sym, subst}
@@ -64,26 +64,34 @@ pub record LetThrough (bytes : List ℕ) (at c : ℕ) (g : Grammar) : Type 0 whe
   pub known : unknown c ≡ false
   pub turn : outOfTurn c at g ≡ false
   pub whole : at + 1 + operands c ≤ length bytes
-  pub nonterminal : ((eqb c 0x10 || eqb c 0x20 || eqb c 0x30) && ltb 31 (operand bytes at 0)) ≡ false
-  pub rules : (eqb c 0x20 && ltb 127 (g .count)) ≡ false
-  pub places : ((eqb c 0x30 || eqb c 0x40) && ltb 7 (openRule g .count)) ≡ false
-  pub last : (eqb c 0x50 && ltb (at + 1) (length bytes)) ≡ false
+  pub nonterminal : (eqb c 0x10 || eqb c 0x20 || eqb c 0x30) ≡ true → operand bytes at 0 ≤ 31
+  pub rules : eqb c 0x20 ≡ true → g .count ≤ 127
+  pub places : (eqb c 0x30 || eqb c 0x40) ≡ true → openRule g .count ≤ 7
+  pub last : eqb c 0x50 ≡ true → length bytes ≤ at + 1
+
+-- a limit that is kept, where it applies
+kept-to : (b : Bool) (m n : ℕ) → (b && ltb m n) ≡ false → b ≡ true → n ≤ m
+kept-to b m n e t = ltb-false m n (rw t at e)
 
 module _ (bytes : List ℕ) (at : ℕ) (g : Grammar) where
+  -- P holds of what the command c comes to
+  abbrev Case : (Step → Type 0) → ℕ → Type 0
+  Case P c = getD bytes at 0 ≡ c → LetThrough bytes at c g → P (carriedOut bytes at c g)
+
   -- what holds of each fault, and of each command that its checks let through, holds of a step
-  step-cases : (P : Step → Type 0) → ((f : Fault) → P (stop f))
-      → ((c : ℕ) → getD bytes at 0 ≡ c → LetThrough bytes at c g → P (carriedOut bytes at c g)) → P (step bytes at g)
+  step-cases : (P : Step → Type 0) → ((f : Fault) → P (stop f)) → Case P 0x10 → Case P 0x20 → Case P 0x30 → Case P 0x40 → Case P 0x50
+      → P (step bytes at g)
   unfolding step commandChecks operandChecks
-  step-cases P faulty passed =
-      decide-either stop _ P _ faulty (λ p. passed (getD bytes at 0) refl (record {
+  step-cases P faulty start rule nonterminal terminal end = decide-either stop _ P _ faulty
+      (λ p. each-command (Case P) start rule nonterminal terminal end (getD bytes at 0) (p .1 .0) refl (record {
         begins = ltb-true at (length bytes) (not-false (ltb at (length bytes)) (p .0));
         known = p .1 .0;
         turn = p .1 .1 .0;
         whole = ltb-false (length bytes) (at + 1 + operands (getD bytes at 0)) (p .1 .1 .1 .0);
-        nonterminal = p .1 .1 .1 .1 .0;
-        rules = p .1 .1 .1 .1 .1 .0;
-        places = p .1 .1 .1 .1 .1 .1 .0;
-        last = p .1 .1 .1 .1 .1 .1 .1 .0;
+        nonterminal = kept-to _ 31 (operand bytes at 0) (p .1 .1 .1 .1 .0);
+        rules = kept-to _ 127 (g .count) (p .1 .1 .1 .1 .1 .0);
+        places = kept-to _ 7 (openRule g .count) (p .1 .1 .1 .1 .1 .1 .0);
+        last = kept-to _ (at + 1) (length bytes) (p .1 .1 .1 .1 .1 .1 .1 .0);
       }))
 
 -- a command depends on its operands only
@@ -110,11 +118,8 @@ module _ (bytes : List ℕ) (at : ℕ) (g : Grammar) where
 
   step-ends : Ends (step bytes at g)
   unfolding carriedOut
-  step-ends = step-cases bytes at g Ends (λ f. tt) (λ c e L. each-command
-      (λ c. getD bytes at 0 ≡ c → LetThrough bytes at c g → Ends (carriedOut bytes at c g))
-      (λ e L. tt) (λ e L. tt) (λ e L. tt) (λ e L. tt)
-      (λ e L. record { command = e; last = omega (arith, L .begins, ltb-false (at + 1) (length bytes) (L .last)); same = refl })
-      c (L .known) e L)
+  step-ends = step-cases bytes at g Ends (λ f. tt) (λ e L. tt) (λ e L. tt) (λ e L. tt) (λ e L. tt)
+      (λ e L. record { command = e; last = omega (arith, L .begins, L .last refl); same = refl })
 
   pub step-done : (g′ : Grammar) → step bytes at g ≡ done g′ → Ended bytes at g g′
   step-done g′ e = subst Ends e step-ends
@@ -144,28 +149,23 @@ module _ {bytes : List ℕ} {P : ℕ → Grammar → Type 0} (I : Invariant byte
     four : (h : Grammar) → P (at + 4) h → P (at + 1 + 3) h
     four h = subst (λ (n : ℕ). P n h) (omega arith)
 
-    small : ltb 31 (operand bytes at 0) ≡ false → operand bytes at 0 ≤ 31
-    small = ltb-false 31 (operand bytes at 0)
-
     placed : (s : Symbol) → valueOf s ≡ operand bytes at 0 → validSymbol s ≡ true → (eqb at 0 || eqb (g .count) 0) ≡ false
-        → ltb 7 (openRule g .count) ≡ false → P (at + 1 + 1) (withPlace g s)
+        → openRule g .count ≤ 7 → P (at + 1 + 1) (withPlace g s)
     placed s e v o p =
         let n = eqb-false (g .count) 0 (or-neither (eqb at 0) (eqb (g .count) 0) o .1) in
-        let l = ltb-false 7 (openRule g .count) p in
         two _ (I .place at g H s e v (omega arith) (omega arith))
 
-    -- each command: what its checks say of it, and what it leaves
-    kept : (c : ℕ) → unknown c ≡ false → LetThrough bytes at c g → Kept (carriedOut bytes at c g)
+    step-holds : Kept (step bytes at g)
     unfolding carriedOut operands after outOfTurn
-    kept = each-command (λ c. LetThrough bytes at c g → Kept (carriedOut bytes at c g))
-        (λ L. two _ (I .start at g H (omega (arith, ltb-false 0 at (L .turn))) (small (L .nonterminal))))
-        (λ L. four _ (I .rule at g H (small (L .nonterminal)) (omega (arith, ltb-false 127 (g .count) (L .rules)))))
-        (λ L. placed (Nonterminal _) refl (le-leb (operand bytes at 0) 31 (small (L .nonterminal))) (L .turn) (L .places))
-        (λ L. placed (Terminal (operand bytes at 0)) refl refl (L .turn) (L .places))
-        (λ L. tt)
+    step-holds = step-cases bytes at g Kept (λ f. tt)
+        (λ e L. two _ (I .start at g H (omega (arith, ltb-false 0 at (L .turn))) (L .nonterminal refl)))
+        (λ e L. four _ (I .rule at g H (L .nonterminal refl) (omega (arith, L .rules refl))))
+        (λ e L. placed (Nonterminal (operand bytes at 0)) refl (le-leb (operand bytes at 0) 31 (L .nonterminal refl)) (L .turn) (L .places refl))
+        (λ e L. placed (Terminal (operand bytes at 0)) refl refl (L .turn) (L .places refl))
+        (λ e L. tt)
 
     pub step-kept : (at′ : ℕ) (g′ : Grammar) → step bytes at g ≡ next at′ g′ → P at′ g′
-    step-kept at′ g′ e = subst Kept e (step-cases bytes at g Kept (λ f. tt) (λ c e L. kept c (L .known) L))
+    step-kept at′ g′ e = subst Kept e step-holds
 
   -- of a grammar that a book leaves, the one of no rules or one of which P holds, Q holds
   pub run-kept : (d : ℕ) (Q : Grammar → Type 0) → Q zeroGrammar → ((at : ℕ) (g : Grammar) → P at g → Q (setDepth g d))

@@ -16,10 +16,6 @@ use Rattle.results.specs.Load.{operand, openRule, withStart, withRule, w
 use Rattle.results.proofs.Loading.Commands.{Invariant}
 
 module _ (g : Grammar) (v : validGrammar g ≡ true) where
-  with-start-valid : (k : ℕ) → k ≤ 31 → validGrammar (withStart g k) ≡ true
-  unfolding withStart
-  with-start-valid k h = set-start-valid g v k h
-
   with-rule-valid : (k : ℕ) (z : ℤ) → k ≤ 31 → g .count < 128 → validGrammar (withRule g k z) ≡ true
   unfolding withRule
   with-rule-valid k z h m = next-rule-valid g v (openedRule k z) (opened-valid k z h) m
@@ -31,10 +27,10 @@ module _ (g : Grammar) (v : validGrammar g ≡ true) where
 
 module _ (bytes : List ℕ) where
   pub valid-invariant : Invariant bytes (λ at g. validGrammar g ≡ true)
-  unfolding validGrammar all
+  unfolding validGrammar all withStart
   valid-invariant = record {
     zero = refl;
-    start = λ at g v e h. with-start-valid g v (operand bytes at 0) h;
+    start = λ at g v e h. set-start-valid g v (operand bytes at 0) h;
     rule = λ at g v h m. with-rule-valid g v (operand bytes at 0) _ h m;
     place = λ at g v s e u m h. with-place-valid g v s m h u;
   }
