@@ -13,7 +13,8 @@ use Rattle.grammar.specs.declared.Symbol.{Symbol}
 use Rattle.grammar.specs.declared.Symbol.the-variants.{Nonterminal, Terminal}
 use Rattle.answers.specs.declared.Refusal.the-variants as R
 use Rattle.results.specs.Answer.{decide}
-use Rattle.results.specs.Load.{fault, stop, next, step, commandChecks, unknown, outOfTurn, operands, after, openRule, withPlace}
+use Rattle.results.specs.Load.{fault, stop, next, step, operandChecks, commandChecks, carriedOut, unknown, outOfTurn}
+use Rattle.results.specs.Load.{operands, operand, after, openRule, withPlace}
 use Rattle.commands.specs.Class.{byteOf, Classified}
 use Rattle.commands.specs.Command.{tooLarge, ruleOf, placeOf, endOf, stepPast, stepAfter, Bounded, Begun, Passed, Reads}
 use Rattle.commands.specs.Turn.{late, TurnAt}
@@ -26,9 +27,10 @@ use Rattle.commands.specs.declared.Opcode.the-variants as O
 use Rattle.commands.specs.declared.Turn.{Turn}
 use Rattle.commands.proofs.Parts.{byte-known}
 
--- ---- the limits: four checks are passed, and all operands are there
+-- ---- the limits: all operands are there, the first of them is a, and it is not too large
 
-module _ (bytes : List ℕ) (at : ℕ) (k : Opcode) (a rules places : ℕ) (room : at + 1 + operands (byteOf k) ≤ length bytes) where
+module _ (bytes : List ℕ) (at : ℕ) (k : Opcode) (a rules places : ℕ) (room : at + 1 + operands (byteOf k) ≤ length bytes)
+    (first : a ≡ operand bytes at 0) where
   -- where the next command is
   two : at + 1 + 1 ≡ at + 2
   two = omega arith
@@ -36,74 +38,72 @@ module _ (bytes : List ℕ) (at : ℕ) (k : Opcode) (a rules places : ℕ) (room
   four : at + 1 + 3 ≡ at + 4
   four = omega arith
 
-  pub start-passed : k ≡ O.Start → Passed 4 bytes at (byteOf k) a rules places (Start a)
-  unfolding decide commandChecks operands after
-  start-passed e = let r = rw e at room in rw e (record { means = λ g p q. rw two; bounded = omega arith })
+  pub start-passed : k ≡ O.Start → Passed 2 bytes at (byteOf k) rules places (Start a)
+  unfolding decide operandChecks carriedOut operands after
+  start-passed e = let r = rw e at room in rw (e, first) (record { means = λ g p q. rw two; bounded = omega arith })
 
-  pub rule-passed : k ≡ O.Rule → (m : Command) (low high : ℕ) → low ≡ getD bytes (at + 2) 0 → high ≡ getD bytes (at + 3) 0
-      → m ≡ ruleOf at rules a low high → Passed 4 bytes at (byteOf k) a rules places m
-  unfolding decide commandChecks operands after
-  rule-passed e m low high l h i = let r = rw e at room in rw (e, i, l, h) (go r (ltb 127 rules) refl)
+  pub rule-passed : k ≡ O.Rule → (m : Command) (low high : ℕ) → low ≡ operand bytes at 1 → high ≡ operand bytes at 2
+      → m ≡ ruleOf at rules a low high → Passed 2 bytes at (byteOf k) rules places m
+  unfolding decide operandChecks carriedOut operands after
+  rule-passed e m low high l h i = let r = rw e at room in rw (e, i, first, l, h) (go r (ltb 127 rules) refl)
     where
-      go : at + 1 + 3 ≤ length bytes → (b : Bool) → ltb 127 rules ≡ b → Passed 4 bytes at 0x20 a rules places
-          (cond b (Fault R.TooManyRules at) (Rule a (getD bytes (at + 2) 0) (getD bytes (at + 3) 0)))
+      go : at + 1 + 3 ≤ length bytes → (b : Bool) → ltb 127 rules ≡ b → Passed 2 bytes at 0x20 rules places
+          (cond b (Fault R.TooManyRules at) (Rule (operand bytes at 0) (operand bytes at 1) (operand bytes at 2)))
       go r true f = record { means = λ g p q. rw (p, f); bounded = tt }
       go r false f = record { means = λ g p q. rw (p, f, four); bounded = (omega arith, omega (arith, ltb-false 127 rules f), refl) }
 
   -- 30 and 40, a command c of one operand whose limit is check 6, for its symbol s
   place-passed : (c : ℕ) (s : Symbol) → at + 1 + 1 ≤ length bytes → eqb c 0x10 ≡ false
-      → ((g : Grammar) → stepPast 4 bytes at c a g
+      → ((g : Grammar) → stepPast 2 bytes at c g
       ≡ decide (fault (ltb 7 (openRule g .count)) 6 at ∷ []) stop (λ _. next (at + 2) (withPlace g s)))
-      → Passed 4 bytes at c a rules places (placeOf at places s)
+      → Passed 2 bytes at c rules places (placeOf at places s)
   unfolding decide
   place-passed c s r y h = go (ltb 7 places) refl
     where
-      go : (b : Bool) → ltb 7 places ≡ b → Passed 4 bytes at c a rules places (cond b (Fault R.TooManyPlaces at) (Place s))
+      go : (b : Bool) → ltb 7 places ≡ b → Passed 2 bytes at c rules places (cond b (Fault R.TooManyPlaces at) (Place s))
       go true f = record { means = λ g p q. rw (h g, q, f); bounded = tt }
       go false f = record { means = λ g p q. rw (h g, q, f); bounded = (omega arith, omega (arith, ltb-false 7 places f), y) }
 
   pub nonterminal-passed : k ≡ O.Nonterminal → (m : Command) → m ≡ placeOf at places (Nonterminal a)
-      → Passed 4 bytes at (byteOf k) a rules places m
-  unfolding decide commandChecks operands after
-  nonterminal-passed e m i = let r = rw e at room in rw (e, i) (place-passed 0x30 (Nonterminal a) r refl (λ g. rw two))
+      → Passed 2 bytes at (byteOf k) rules places m
+  unfolding decide operandChecks carriedOut operands after
+  nonterminal-passed e m i = let r = rw e at room in rw (e, i) (place-passed 0x30 (Nonterminal a) r refl (λ g. rw (two, first)))
 
   pub terminal-passed : k ≡ O.Terminal → (m : Command) → m ≡ placeOf at places (Terminal a)
-      → Passed 4 bytes at (byteOf k) a rules places m
-  unfolding decide commandChecks operands after
-  terminal-passed e m i = let r = rw e at room in rw (e, i) (place-passed 0x40 (Terminal a) r refl (λ g. rw two))
+      → Passed 2 bytes at (byteOf k) rules places m
+  unfolding decide operandChecks carriedOut operands after
+  terminal-passed e m i = let r = rw e at room in rw (e, i) (place-passed 0x40 (Terminal a) r refl (λ g. rw (two, first)))
 
-  pub end-passed : k ≡ O.End → (m : Command) → m ≡ endOf (at + 1) (length bytes) → Passed 4 bytes at (byteOf k) a rules places m
-  unfolding decide commandChecks operands after
+  pub end-passed : k ≡ O.End → (m : Command) → m ≡ endOf (at + 1) (length bytes) → Passed 2 bytes at (byteOf k) rules places m
+  unfolding decide operandChecks carriedOut operands after
   end-passed e m i = rw (e, i) (go (ltb (at + 1) (length bytes)) refl)
     where
-      go : (b : Bool) → ltb (at + 1) (length bytes) ≡ b → Passed 4 bytes at 0x50 a rules places (cond b (Fault R.FurtherByte (at + 1)) End)
+      go : (b : Bool) → ltb (at + 1) (length bytes) ≡ b → Passed 2 bytes at 0x50 rules places (cond b (Fault R.FurtherByte (at + 1)) End)
       go true f = record { means = λ g p q. rw f; bounded = tt }
       go false f = record { means = λ g p q. rw f; bounded = tt }
 
--- ---- the operands of the command c, n of them: two checks are passed
+-- ---- the operands of the command c, n of them
 
 module _ (bytes : List ℕ) (at c n : ℕ) (N : n ≡ operands c) (rules places : ℕ) (l : at < length bytes) where
-  pub operands-short : length bytes - (at + 1) < n → (a : ℕ) → Passed 2 bytes at c a rules places (Fault R.UnexpectedEnd (length bytes))
-  unfolding decide commandChecks
-  operands-short h a = record { means = λ g p q. rw (lt-ltb (length bytes) (at + 1 + operands c) (omega arith)); bounded = tt }
+  pub operands-short : length bytes - (at + 1) < n → Passed 0 bytes at c rules places (Fault R.UnexpectedEnd (length bytes))
+  unfolding decide operandChecks
+  operands-short h = record { means = λ g p q. rw (lt-ltb (length bytes) (at + 1 + operands c) (omega arith)); bounded = tt }
 
-  module _ (h : n ≤ length bytes - (at + 1)) where
+  module _ (h : n ≤ length bytes - (at + 1)) (a : ℕ) (first : a ≡ operand bytes at 0) (large : Bool) (e : large ≡ tooLarge c a) where
     operands-room : at + 1 + operands c ≤ length bytes
     operands-room = omega arith
 
-    module _ (a : ℕ) (i : a ≡ getD bytes (at + 1) 0) (large : Bool) (e : large ≡ tooLarge c a) where
-      pub operands-large : large ≡ true → Passed 2 bytes at c (getD bytes (at + 1) 0) rules places (Fault R.NonterminalTooLarge at)
-      unfolding decide commandChecks
-      operands-large f = rw (← i)
-          (record { means = λ g p q. rw (le-ltb (length bytes) (at + 1 + operands c) operands-room, ← e, f); bounded = tt })
+    pub operands-large : large ≡ true → Passed 0 bytes at c rules places (Fault R.NonterminalTooLarge at)
+    unfolding decide operandChecks
+    operands-large f =
+        record { means = λ g p q. rw (le-ltb (length bytes) (at + 1 + operands c) operands-room, ← first, ← e, f); bounded = tt }
 
-      pub operands-read : large ≡ false → (m : Command) → Passed 4 bytes at c a rules places m
-          → Passed 2 bytes at c (getD bytes (at + 1) 0) rules places m
-      unfolding decide commandChecks
-      operands-read f m P = rw (← i) (record {
-        means = λ g p q. rw (le-ltb (length bytes) (at + 1 + operands c) operands-room, ← e, f) (P .means g p q);
-        bounded = P .bounded;
-      })
+    pub operands-read : large ≡ false → (m : Command) → Passed 2 bytes at c rules places m → Passed 0 bytes at c rules places m
+    unfolding decide operandChecks
+    operands-read f m P = record {
+      means = λ g p q. rw (le-ltb (length bytes) (at + 1 + operands c) operands-room, ← first, ← e, f) (P .means g p q);
+      bounded = P .bounded;
+    }
 
 -- ---- the whole command
 
@@ -162,11 +162,11 @@ module _ (bytes : List ℕ) (at : ℕ) (t : Turn) (rules places : ℕ) where
           record { means = λ g p q. rw (lt-ltb at (length bytes) l, known-here, late-here); bounded = tt; begun = tt }
 
       pub reads-rest : (b : Bool) → b ≡ late (byteOf k) t → b ≡ false → (m : Command)
-          → Passed 2 bytes at (byteOf k) (getD bytes (at + 1) 0) rules places m → Reads bytes at t rules places m
+          → Passed 0 bytes at (byteOf k) rules places m → Reads bytes at t rules places m
       unfolding decide
       reads-rest b i f m P =
           let in-turn : late (getD bytes at 0) t ≡ false = rw byte-here at (sym i ∙ f) in
-          let P′ : Passed 2 bytes at (getD bytes at 0) (getD bytes (at + 1) 0) rules places m = rw byte-here at P in
+          let P′ : Passed 0 bytes at (getD bytes at 0) rules places m = rw byte-here at P in
           record {
             means = λ g p q. rw (lt-ltb at (length bytes) l, known-here, in-turn) (P′ .means g p q);
             bounded = P′ .bounded;

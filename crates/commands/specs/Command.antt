@@ -1,7 +1,7 @@
 -- What a command that was read means: the step of loading that it makes, and the bounds that it keeps. Assumes nothing.
 use Prim.Native.Nat.{ℕ, _+_, _≤_, _<_}
 use mathlib.Core.Bool.{Bool, true, false, cond, not, _&&_, _||_}
-use mathlib.Core.List.{List, [], _∷_}
+use mathlib.Core.List.{List, _∷_}
 use mathlib.Core.Path.{_≡_}
 use lib.Dec.{eqb, ltb}
 use lib.ListN.{length, getD, drop}
@@ -12,7 +12,7 @@ use Rattle.answers.specs.declared.Refusal.the-variants as R
 use Rattle.answers.specs.Number.{numberOf}
 use Rattle.results.specs.Answer.{decide}
 use Rattle.results.specs.Load.{Step, stop, next, done, fault, signed, openRule, withStart, withRule, withPlace}
-use Rattle.results.specs.Load.{operands, after, unknown, commandChecks}
+use Rattle.results.specs.Load.{unknown, operandChecks, carriedOut}
 use Rattle.commands.specs.Turn.{late}
 use Rattle.commands.specs.declared.Command.{Command}
 use Rattle.commands.specs.declared.Command.the-variants.{Start, Rule, Place, End, Fault}
@@ -56,23 +56,23 @@ Begun t (Place s) = t .started ≡ true
 Begun t End = Unit {0}
 Begun t (Fault r o) = Unit {0}
 
--- the step of the command c, whose first operand is a, once the first n of its checks are passed
-abbrev pub stepPast : ℕ → List ℕ → (at c a : ℕ) → Grammar → Step
-stepPast n bytes at c a g =
-    decide (drop n (commandChecks bytes at c a g)) stop (λ _.
-    cond (eqb c 0x50) (done g) (next (at + 1 + operands c) (after c a (getD bytes (at + 2) 0) (getD bytes (at + 3) 0) g)))
+-- the step of the command c, once it is in turn and the first n checks after that are passed
+abbrev pub stepPast : ℕ → List ℕ → (at c : ℕ) → Grammar → Step
+stepPast n bytes at c g = decide (drop n (operandChecks bytes at c g)) stop (λ _. carriedOut bytes at c g)
 
--- r is what the checks of c come to once the first n are passed, for each grammar of so many rules, the last of which has so many places
-pub record Passed (n : ℕ) (bytes : List ℕ) (at c a rules places : ℕ) (r : Command) : Type 0 where
-  pub means : (g : Grammar) → g .count ≡ rules → openRule g .count ≡ places → stepOf r at g ≡ stepPast n bytes at c a g
+-- r is what c comes to once these checks are passed, for each grammar of so many rules, the last of which has so many places
+pub record Passed (n : ℕ) (bytes : List ℕ) (at c rules places : ℕ) (r : Command) : Type 0 where
+  pub means : (g : Grammar) → g .count ≡ rules → openRule g .count ≡ places → stepOf r at g ≡ stepPast n bytes at c g
   pub bounded : Bounded (length bytes) at c rules places r
 
 -- the step at an offset where t has been read, from any grammar on
 abbrev pub stepAfter : Turn → List ℕ → ℕ → Grammar → Step
 stepAfter t bytes at g =
     let c = getD bytes at 0 in
-    decide (fault (not (ltb at (length bytes))) 1 (length bytes) ∷ fault (unknown c) 2 at ∷ fault (late c t) 3 at ∷ []) stop
-    (λ _. stepPast 2 bytes at c (getD bytes (at + 1) 0) g)
+    decide (fault (not (ltb at (length bytes))) 1 (length bytes)
+    ∷ fault (unknown c) 2 at
+    ∷ fault (late c t) 3 at
+    ∷ operandChecks bytes at c g) stop (λ _. carriedOut bytes at c g)
 
 -- r is the command at an offset where t has been read, for each grammar of so many rules, the last of which has so many places
 pub record Reads (bytes : List ℕ) (at : ℕ) (t : Turn) (rules places : ℕ) (r : Command) : Type 0 where

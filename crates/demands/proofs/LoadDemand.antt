@@ -1,6 +1,6 @@
 -- Demand 1 for loading, for every list of numbers as bytes: it is refused at its first fault from the left, or read to its end.
 -- Assumes nothing.
-use Prim.Native.Nat.{ℕ, zero, suc, _+_, _-_, _≤_}
+use Prim.Native.Nat.{ℕ, zero, suc, _-_, _≤_}
 use native.Mathlib.Omega.{arith}
 use mathlib.Core.List.{List}
 use mathlib.Core.Logic.{inl, inr}
@@ -20,10 +20,10 @@ use Rattle.demands.proofs.LoadFault.{step-fault}
 use Rattle.demands.proofs.LoadUnused.{Tidy, tidy-invariant}
 
 module _ (bytes : List ℕ) where
-  -- what each command keeps holds of each grammar that is reached
-  reached-kept : {P : Grammar → Type 0} → Invariant P → {at : ℕ} {g : Grammar} → Reached bytes at g → P g
+  -- what each command keeps holds of each offset and grammar that is reached
+  reached-kept : {P : ℕ → Grammar → Type 0} → Invariant bytes P → {at : ℕ} {g : Grammar} → Reached bytes at g → P at g
   reached-kept I begin = I .zero
-  reached-kept I (further {at} {at′} {g} {g′} R e) = step-kept I bytes at g at′ g′ (reached-kept I R) e
+  reached-kept I (further {at} {at′} {g} {g′} R e) = step-kept I at g (reached-kept I R) at′ g′ e
 
   refused : (at : ℕ) (g : Grammar) (f : Fault) → Reached bytes at g → step bytes at g ≡ stop f → LoadRefused bytes (refusedLoad f)
   unfolding refusedLoad
@@ -37,7 +37,7 @@ module _ (bytes : List ℕ) where
     reached = R;
     stops = e;
     fault = step-fault bytes at g (f .number) (f .offset) e;
-    order = subst (CommandOrder bytes at (getD bytes at 0) (getD bytes (at + 1) 0) g) e (step-order bytes at g);
+    order = subst (CommandOrder bytes at (getD bytes at 0) g) e (step-order bytes at g);
   }
 
   module _ (d : ℕ) where
@@ -52,7 +52,7 @@ module _ (bytes : List ℕ) where
     unfolding acceptedLoad
     accepted at g g′ R e =
         let E = step-done bytes at g g′ e in
-        let T = depth-tidy g′ (subst Tidy (sym (E .same)) (reached-kept tidy-invariant R)) in
+        let T = depth-tidy g′ (subst Tidy (sym (E .same)) (reached-kept (tidy-invariant bytes) R)) in
         record {
           answer = refl;
           at = at;

@@ -7,7 +7,7 @@ use mathlib.Core.Path.{_≡_, subst}
 use lib.Dec.{eqb}
 use lib.ListN.{getD}
 use Rattle.grammar.specs.declared.Grammar.{Grammar}
-use Rattle.results.specs.Load.{Step, stop, next, done, step, commandChecks}
+use Rattle.results.specs.Load.{Step, stop, next, done, operandChecks, commandChecks, carriedOut, step}
 use Rattle.results.proofs.Decide.{decide-cases}
 use Rattle.demands.specs.LoadOrder.{stopped}
 use Rattle.demands.specs.LoadDemand.{FaultAt}
@@ -21,7 +21,7 @@ module _ (bytes : List ℕ) (at : ℕ) where
 
   -- omega proves at most 64 statements at once, so the last four checks stand together and the others alone
   step-stops : (g : Grammar) → Stops (step bytes at g)
-  unfolding step commandChecks
+  unfolding step commandChecks operandChecks carriedOut
   step-stops g =
       decide-cases stop _ Stops _ (omega arith, (omega arith, (omega arith, (omega arith, omega arith))))
       (λ p. either (eqb (getD bytes at 0) 0x50) _ _)

@@ -1,5 +1,5 @@
 -- Loading: at each command the first refusal that applies is given, and none without cause. Assumes nothing.
-use Prim.Native.Nat.{ℕ, _+_}
+use Prim.Native.Nat.{ℕ}
 use mathlib.Core.Bool.{Bool, true, false, cond}
 use mathlib.Core.List.{List, _∷_}
 use mathlib.Core.Path.{_≡_}
@@ -7,7 +7,7 @@ use lib.Dec.{eqb}
 use lib.ListN.{length, getD}
 use Rattle.laws.proofs.Bools.{clash}
 use Rattle.grammar.specs.declared.Grammar.{Grammar}
-use Rattle.results.specs.Load.{Fault, fault, commandChecks, stop, next, done, step}
+use Rattle.results.specs.Load.{Fault, fault, operandChecks, commandChecks, stop, next, done, carriedOut, step}
 use Rattle.demands.specs.LoadOrder.{ended, CommandOrder}
 use Rattle.demands.proofs.Decided.{decided, all-failing}
 
@@ -16,11 +16,9 @@ goes-on : (b : Bool) (at : ℕ) (g h : Grammar) (f : Fault) → cond b (done g) 
 goes-on true at g h f e = clash cc
 goes-on false at g h f e = clash cc
 
-pub step-order : (bytes : List ℕ) (at : ℕ) (g : Grammar)
-    → CommandOrder bytes at (getD bytes at 0) (getD bytes (at + 1) 0) g (step bytes at g)
-unfolding step commandChecks
+pub step-order : (bytes : List ℕ) (at : ℕ) (g : Grammar) → CommandOrder bytes at (getD bytes at 0) g (step bytes at g)
+unfolding step commandChecks operandChecks carriedOut
 step-order bytes at g =
     let c = getD bytes at 0 in
-    let a = getD bytes (at + 1) 0 in
     decided stop _ (λ s. s) _ (goes-on (eqb c 0x50) _ g _) _ _
-    (all-failing (fault (ended bytes at) 1 (length bytes) ∷ commandChecks bytes at c a g))
+    (all-failing (fault (ended bytes at) 1 (length bytes) ∷ commandChecks bytes at c g))

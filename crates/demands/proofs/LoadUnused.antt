@@ -2,6 +2,7 @@
 use Prim.Native.Nat.{ℕ, _-_, _≤_, _<_}
 use native.Mathlib.Omega.{arith}
 use mathlib.Core.Bool.{true}
+use mathlib.Core.List.{List}
 use mathlib.Core.Path.{_≡_, refl, _∙_}
 use lib.IntN.{ℤ, pos}
 use lib.ListN.{getD, length-set}
@@ -15,7 +16,7 @@ use Rattle.grammar.specs.Valid.{validGrammar}
 use Rattle.grammar.specs.Zero.{zeroPlace, zeroRule, zeroGrammar, noRule}
 use Rattle.grammar.proofs.Bounds.{valid-count}
 use Rattle.grammar.proofs.Setters.{set-rule-size}
-use Rattle.results.specs.Load.{openRule, withStart, withRule, withPlace}
+use Rattle.results.specs.Load.{operand, openRule, withStart, withRule, withPlace}
 use Rattle.results.proofs.Loading.Lists.{set-each, replicate-each, drop-next}
 use Rattle.results.proofs.Loading.Commands.{Invariant}
 use Rattle.results.proofs.Loading.Valid.{valid-invariant}
@@ -64,13 +65,13 @@ pub record Tidy (g : Grammar) : Type 0 where
   pub valid : validGrammar g ≡ true
   pub behind : ZeroBehind g
 
-pub tidy-invariant : Invariant Tidy
-tidy-invariant = record {
-  zero = record { valid = valid-invariant .zero; behind = zero-zero };
-  start = λ g T k h. record { valid = valid-invariant .start g (T .valid) k h; behind = start-zero g (T .behind) k };
-  rule = λ g T k z h m. record { valid = valid-invariant .rule g (T .valid) k z h m; behind = rule-zero g (T .behind) k z };
-  place = λ g T s m h u. record {
-    valid = valid-invariant .place g (T .valid) s m h u;
+pub tidy-invariant : (bytes : List ℕ) → Invariant bytes (λ at g. Tidy g)
+tidy-invariant bytes = let kept = valid-invariant bytes in record {
+  zero = record { valid = kept .zero; behind = zero-zero };
+  start = λ at g T e h. record { valid = kept .start at g (T .valid) e h; behind = start-zero g (T .behind) (operand bytes at 0) };
+  rule = λ at g T h m. record { valid = kept .rule at g (T .valid) h m; behind = rule-zero g (T .behind) (operand bytes at 0) _ };
+  place = λ at g T s e u m h. record {
+    valid = kept .place at g (T .valid) s e u m h;
     behind = place-zero g (T .behind) s m (valid-count g (T .valid));
   };
 }

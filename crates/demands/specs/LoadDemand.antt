@@ -55,7 +55,7 @@ pub record LoadRefused (bytes : List ℕ) (r : Loading) : Type 0 where
   pub stops : step bytes at before ≡ stopped number offset
   pub fault : FaultAt bytes at number offset
   -- of the faults that apply there it is the first in document 01's order
-  pub order : CommandOrder bytes at (getD bytes at 0) (getD bytes (at + 1) 0) before (stopped number offset)
+  pub order : CommandOrder bytes at (getD bytes at 0) before (stopped number offset)
 
 -- a book that is read to its end, with d as its nullable depth
 pub record LoadAccepted (bytes : List ℕ) (d : ℕ) (r : Loading) : Type 0 where

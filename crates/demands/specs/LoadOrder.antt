@@ -7,7 +7,7 @@ use mathlib.Core.Path.{_≡_}
 use lib.Dec.{eqb, ltb}
 use lib.ListN.{length}
 use Rattle.grammar.specs.declared.Grammar.{Grammar}
-use Rattle.results.specs.Load.{operands, openRule, unknown, outOfTurn, Fault, Step, stop}
+use Rattle.results.specs.Load.{operands, operand, openRule, unknown, outOfTurn, Fault, Step, stop}
 use Rattle.demands.specs.Cause.{Cause, cause, Decided}
 
 -- 1: the book has ended where a command or 50 is due
@@ -19,8 +19,8 @@ abbrev pub endsInside : List ℕ → ℕ → ℕ → Bool
 endsInside bytes at c = ltb (length bytes) (at + 1 + operands c)
 
 -- 4: the command c has a nonterminal as its first operand, and that is over 31
-abbrev pub nonterminalOver : ℕ → ℕ → Bool
-nonterminalOver c a = (eqb c 0x10 || eqb c 0x20 || eqb c 0x30) && ltb 31 a
+abbrev pub nonterminalOver : List ℕ → ℕ → ℕ → Bool
+nonterminalOver bytes at c = (eqb c 0x10 || eqb c 0x20 || eqb c 0x30) && ltb 31 (operand bytes at 0)
 
 -- 5: the 129th rule
 abbrev pub rulesOver : ℕ → Grammar → Bool
@@ -42,19 +42,19 @@ stopped n at = stop (record { number = n; offset = at })
 abbrev pub stops : Bool → ℕ → ℕ → Cause Fault
 stops b n at = cause (b ≡ true) (record { number = n; offset = at })
 
--- the causes at the command c at an offset, whose first operand is a, read with the grammar g so far
-abbrev pub commandCauses : List ℕ → ℕ → ℕ → ℕ → Grammar → List (Cause Fault)
-commandCauses bytes at c a g =
+-- the causes at the command c at an offset, read with the grammar g so far
+abbrev pub commandCauses : List ℕ → ℕ → ℕ → Grammar → List (Cause Fault)
+commandCauses bytes at c g =
     stops (ended bytes at) 1 (length bytes)
     ∷ stops (unknown c) 2 at
     ∷ stops (outOfTurn c at g) 3 at
     ∷ stops (endsInside bytes at c) 1 (length bytes)
-    ∷ stops (nonterminalOver c a) 4 at
+    ∷ stops (nonterminalOver bytes at c) 4 at
     ∷ stops (rulesOver c g) 5 at
     ∷ stops (placesOver c g) 6 at
     ∷ stops (furtherByte bytes at c) 7 (at + 1)
     ∷ []
 
 -- the first of them that applies decides; without any loading does not stop here
-abbrev pub CommandOrder : List ℕ → ℕ → ℕ → ℕ → Grammar → Step → Type 0
-CommandOrder bytes at c a g = Decided (commandCauses bytes at c a g) stop (λ result. (f : Fault) → result ≡ stop f → ⊥)
+abbrev pub CommandOrder : List ℕ → ℕ → ℕ → Grammar → Step → Type 0
+CommandOrder bytes at c g = Decided (commandCauses bytes at c g) stop (λ result. (f : Fault) → result ≡ stop f → ⊥)

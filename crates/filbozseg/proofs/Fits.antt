@@ -1,10 +1,10 @@
 -- The grammar that loading gives fits a flat row whole, so it is read back from its row as it was written. Assumes nothing.
-use Prim.Native.Nat.{ℕ, zero, suc, _+_, _*_, _-_, _≤_, _<_}
+use Prim.Native.Nat.{ℕ, suc, _+_, _*_, _-_, _≤_, _<_}
 use native.Mathlib.Omega.{arith}
-use mathlib.Core.Bool.{Bool, true, false, cond, _&&_, _||_}
+use mathlib.Core.Bool.{Bool, true, false, cond}
 use mathlib.Core.List.{List}
 use mathlib.Core.Path.{_≡_, refl, _∙_}
-use lib.Dec.{eqb, ltb}
+use lib.Dec.{ltb}
 use lib.IntN.{ℤ, pos, negℤ}
 use lib.ListN.{length, getD, length-set}
 use lib.Signed.{mag}
@@ -12,7 +12,6 @@ use borrow.Author.Tests.{ltb-true, ltb-false}
 use Rattle.sizes.specs.Sizes.{maxRules, maxPlaces}
 use Rattle.rows.specs.Fits.{DeclaredRule, Fits16}
 use Rattle.grammar.specs.declared.Symbol.{Symbol}
-use Rattle.grammar.specs.declared.Symbol.the-variants.{Nonterminal, Terminal}
 use Rattle.grammar.specs.declared.Place.{Place}
 use Rattle.grammar.specs.declared.Rule.{Rule}
 use Rattle.grammar.specs.declared.Grammar.{Grammar}
@@ -20,10 +19,9 @@ use Rattle.grammar.specs.Setters.{openedRule, placedRule, setDepth}
 use Rattle.grammar.specs.Tagged.{valueOf}
 use Rattle.grammar.specs.Zero.{zeroPlace, zeroRule, zeroGrammar, noRule}
 use Rattle.grammar.proofs.Setters.{set-rule-size}
-use Rattle.results.specs.Load.{signed, openRule, withStart, withRule, withPlace, after, commandChecks, Step, stop, next, done, step}
-use Rattle.results.proofs.Decide.{decide-either}
+use Rattle.results.specs.Load.{operand, signed, openRule, withStart, withRule, withPlace, loadOf}
+use Rattle.results.proofs.Loading.Commands.{Invariant, run-kept}
 use Rattle.results.proofs.Loading.Lists.{set-each, replicate-each}
-use Rattle.results.specs.Load.{Loading, refusedLoad, acceptedLoad, run, loadOf}
 
 -- ---- the grammar read so far
 
@@ -116,60 +114,23 @@ module _ (g : Grammar) (S : Small g) where
         count = omega arith;
       }
 
-  -- one command, which its checks let through
-  after-small : (c a b d : ℕ) → a < 256 → b < 256 → d < 256 → (eqb c 0x20 && ltb 127 (g .count)) ≡ false
-      → ((eqb c 0x30 || eqb c 0x40) && ltb 7 (openRule g .count)) ≡ false → Small (after c a b d g)
-  unfolding after
-  after-small c a b d ha hb hd = go (eqb c 0x10) (eqb c 0x20) (eqb c 0x30) (eqb c 0x40)
-    where
-      placed : (s : Symbol) → valueOf s < 256 → ltb 7 (openRule g .count) ≡ false → Small (withPlace g s)
-      placed s h e = place-small s h (ltb-false 7 (openRule g .count) e)
-
-      go : (t u v w : Bool) → (u && ltb 127 (g .count)) ≡ false → ((v || w) && ltb 7 (openRule g .count)) ≡ false
-          → Small (cond t (withStart g a) (cond u (withRule g a (signed b d))
-          (cond v (withPlace g (Nonterminal a)) (cond w (withPlace g (Terminal a)) g))))
-      go true u v w e f = start-small a ha
-      go false true v w e f = rule-small a (signed b d) ha (signed-small b d hb hd) (ltb-false 127 (g .count) e)
-      go false false true w e f = placed (Nonterminal a) ha f
-      go false false false true e f = placed (Terminal a) ha f
-      go false false false false e f = S
-
 -- ---- loading
 
--- the grammar of a step is small
-SmallStep : Step → Type 0
-SmallStep (stop f) = Unit {0}
-SmallStep (next at g) = Small g
-SmallStep (done g) = Small g
-
--- what is left to read after a step, where n more commands are allowed
-abbrev resume : (d n : ℕ) → List ℕ → Step → Loading
-resume d n bytes s = elim s [ stop f ↦ refusedLoad f | next at′ g′ ↦ run d bytes n at′ g′ | done g′ ↦ acceptedLoad d g′ ]
-
 module _ (bytes : List ℕ) (small : (i : ℕ) → getD bytes i 0 < 256) where
-  step-small : (at : ℕ) (g : Grammar) → Small g → SmallStep (step bytes at g)
-  unfolding step commandChecks SmallStep
-  step-small at g S =
-      decide-either stop _ SmallStep _ (λ f. tt)
-      (λ p. either (eqb (getD bytes at 0) 0x50) _ _
-      (after-small g S (getD bytes at 0) (getD bytes (at + 1) 0) (getD bytes (at + 2) 0) (getD bytes (at + 3) 0) (small (at + 1))
-      (small (at + 2)) (small (at + 3)) (p .1 .1 .1 .1 .1 .0) (p .1 .1 .1 .1 .1 .1 .0)))
-    where
-      either : (b : Bool) (m : ℕ) (h : Grammar) → Small h → SmallStep (cond b (done g) (next m h))
-      either true m h H = S
-      either false m h H = H
+  operand-small : (at i : ℕ) → operand bytes at i < 256
+  unfolding operand
+  operand-small at i = small (at + 1 + i)
 
-  run-fits : (d n at : ℕ) (g : Grammar) → d < 256 → Small g → Fits16 (run d bytes n at g .grammar)
-  unfolding run refusedLoad acceptedLoad SmallStep
-  run-fits d zero at g h S = small-fits zeroGrammar 0 zero-small (omega arith)
-  run-fits d (suc n) at g h S = go (step bytes at g) (step-small at g S) (λ at′ g′. run-fits d n at′ g′ h)
-    where
-      go : (s : Step) → SmallStep s → ((at′ : ℕ) (g′ : Grammar) → Small g′ → Fits16 (run d bytes n at′ g′ .grammar))
-          → Fits16 (resume d n bytes s .grammar)
-      go (stop f) T r = small-fits zeroGrammar 0 zero-small (omega arith)
-      go (next at′ g′) T r = r at′ g′ T
-      go (done g′) T r = small-fits g′ d T h
+  small-invariant : Invariant bytes (λ at g. Small g)
+  small-invariant = record {
+    zero = zero-small;
+    start = λ at g S e h. start-small g S (operand bytes at 0) (operand-small at 0);
+    rule = λ at g S h m. rule-small g S (operand bytes at 0) _ (operand-small at 0)
+        (signed-small (operand bytes at 1) (operand bytes at 2) (operand-small at 1) (operand-small at 2)) (omega arith);
+    place = λ at g S s e u m h. place-small g S s (omega (arith, e, operand-small at 0)) (omega arith);
+  }
 
   pub load-fits : (d : ℕ) → d < 256 → Fits16 (loadOf bytes d .grammar)
   unfolding loadOf
-  load-fits d h = run-fits d (length bytes) 0 zeroGrammar h zero-small
+  load-fits d h = run-kept small-invariant d Fits16 (small-fits zeroGrammar 0 zero-small (omega arith)) (λ at g S. small-fits g d S h)
+      (length bytes) 0 zeroGrammar zero-small

@@ -79,9 +79,9 @@ progress-first bytes g e = subst (Progress bytes 0 (record { started = false; op
   within = omega arith;
   reached = λ d. run-fuel d bytes (suc (length bytes - 0)) (length bytes) 0 zeroGrammar (omega arith) (omega arith);
   turn = record { started = refl; opened = refl };
-  valid = valid-invariant .zero;
+  valid = valid-invariant bytes .zero;
   few = omega arith;
-  size = size-invariant .zero;
+  size = size-invariant bytes .zero;
 })
 
 -- the length of a rule, as the code reads it
@@ -109,7 +109,7 @@ module _ (bytes : List ℕ) (at : ℕ) (t : Turn) (g : Grammar) (P : Progress by
       turn = T;
       valid = valid;
       few = valid-count g′ valid;
-      size = step-kept size-invariant bytes at g at′ g′ (P .size) goes;
+      size = step-kept (size-invariant bytes) at g (P .size) at′ g′ goes;
     }) T
       where
         goes : step bytes at g ≡ next at′ g′
@@ -119,7 +119,7 @@ module _ (bytes : List ℕ) (at : ℕ) (t : Turn) (g : Grammar) (P : Progress by
         fewer = let f = step-forward bytes at g at′ g′ goes in omega arith
 
         valid : validGrammar g′ ≡ true
-        valid = step-kept valid-invariant bytes at g at′ g′ (P .valid) goes
+        valid = step-kept (valid-invariant bytes) at g (P .valid) at′ g′ goes
 
     abbrev bounded : (m : Command) → c ≡ m → Bounded (length bytes) at (getD bytes at 0) (g .count) (getD (g .rules) q noRule .count) m
     bounded m e = bounds bytes at t (g .count) (getD (g .rules) q noRule .count) c R m e

@@ -12,19 +12,17 @@ use lib.ListN.{length, take, getD}
 use Rattle.sizes.specs.Sizes.{maxRules}
 use Rattle.laws.proofs.Bools.{true-false, and-parts, and-both}
 use Rattle.cfg.specs.Grammar as Abstract
-use Rattle.cfg.specs.Grammar.{Cfg, nonterminal, terminal, Of}
+use Rattle.cfg.specs.Grammar.{Symbol, nonterminal, terminal, Cfg, Of}
 use Rattle.cfg.specs.Tree.{Forest, end, node, yield, Fits, fits-end, fits-leaf, fits-node}
 use Rattle.cfg.specs.Nullable.{Nullable}
 use Rattle.shrinking.proofs.Nullable.{append-empty-left, append-empty-right}
 use Rattle.sets.specs.Set.{has, insert}
 use Rattle.sets.proofs.Laws.{has-insert-other}
-use Rattle.grammar.specs.declared.Symbol.{Symbol}
-use Rattle.grammar.specs.declared.Symbol.the-variants.{Nonterminal, Terminal}
 use Rattle.grammar.specs.declared.Place.{Place}
 use Rattle.grammar.specs.declared.Rule.{Rule}
 use Rattle.grammar.specs.declared.Grammar.{Grammar}
 use Rattle.grammar.specs.Valid.{all, validGrammar}
-use Rattle.grammar.specs.View.{symbolOf, placeOf, wholeOf}
+use Rattle.grammar.specs.View.{placeOf, wholeOf}
 use Rattle.grammar.specs.Zero.{noRule}
 use Rattle.grammar.proofs.RuleAt.{rule-at, rule-past}
 use Rattle.nullable.specs.Nullable.{symbolKnown, placeKnown, ruleKnown, widen}
@@ -35,11 +33,11 @@ abbrev pub Sound : Cfg → ℕ → Type 0
 Sound G known = (k : ℕ) → has k known ≡ true → Nullable G k
 
 -- a row over nothing
-abbrev EmptyForest : Cfg → List Abstract.Symbol → Type 0
+abbrev EmptyForest : Cfg → List Symbol → Type 0
 EmptyForest G places = (t : Forest) × Fits G places t × (yield t ≡ [])
 
 -- an empty tree before an empty row
-join : (G : Cfg) {k : ℕ} {u : Forest} {places : List Abstract.Symbol} → Fits G (nonterminal k ∷ []) u → yield u ≡ [] → EmptyForest G places
+join : (G : Cfg) {k : ℕ} {u : Forest} {places : List Symbol} → Fits G (nonterminal k ∷ []) u → yield u ≡ [] → EmptyForest G places
     → EmptyForest G (nonterminal k ∷ places)
 unfolding yield
 join G (fits-node {r} {below} {rest} o b s) e t = (
@@ -49,32 +47,22 @@ join G (fits-node {r} {below} {rest} o b s) e t = (
 )
 
 -- places that hold members have an empty row
-symbol-row : (G : Cfg) (known : ℕ) → Sound G known → (s : Symbol) → symbolKnown known s ≡ true → {places : List Abstract.Symbol}
-    → EmptyForest G places → EmptyForest G (symbolOf s ∷ places)
-symbol-row G known sound (Nonterminal k) e t = let n = sound k e in join G (n .1 .0) (n .1 .1) t
-symbol-row G known sound (Terminal m) e t = absurd (true-false e refl)
+symbol-row : (G : Cfg) (known : ℕ) → Sound G known → (s : Symbol) → symbolKnown known s ≡ true → {places : List Symbol}
+    → EmptyForest G places → EmptyForest G (s ∷ places)
+symbol-row G known sound (nonterminal k) e t = let n = sound k e in join G (n .1 .0) (n .1 .1) t
+symbol-row G known sound (terminal t) e row = absurd (true-false e refl)
 
 places-row : (G : Cfg) (known : ℕ) → Sound G known → (l : List Place) → all (placeKnown known) l ≡ true → EmptyForest G (map placeOf l)
 unfolding all yield
 places-row G known sound [] e = (end, fits-end, refl)
 places-row G known sound (p ∷ l) e =
     let h = and-parts (placeKnown known p) (all (placeKnown known) l) e in
-    symbol-row G known sound (p .symbol) (h .0) (places-row G known sound l (h .1))
+    symbol-row G known sound (placeOf p) (h .0) (places-row G known sound l (h .1))
 
--- the members of a set, in the places of an abstract rule
-symbolHas : ℕ → Abstract.Symbol → Bool
-symbolHas known (nonterminal k) = has k known
-symbolHas known (terminal t) = false
-
-symbol-has : (known : ℕ) (s : Symbol) → symbolHas known (symbolOf s) ≡ symbolKnown known s
-unfolding symbolHas
-symbol-has known (Nonterminal k) = refl
-symbol-has known (Terminal m) = refl
-
-places-has : (known : ℕ) (l : List Place) → all (symbolHas known) (map placeOf l) ≡ all (placeKnown known) l
+places-known : (known : ℕ) (l : List Place) → all (symbolKnown known) (map placeOf l) ≡ all (placeKnown known) l
 unfolding all
-places-has known [] = refl
-places-has known (p ∷ l) = ap₂ (λ (a b : Bool). a && b) (symbol-has known (p .symbol)) (places-has known l)
+places-known known [] = refl
+places-known known (p ∷ l) = ap (λ (b : Bool). placeKnown known p && b) (places-known known l)
 
 module _ (g : Grammar) (size : length (g .rules) ≡ maxRules) (valid : validGrammar g ≡ true) where
   -- the left side of a rule whose places hold members is nullable
@@ -112,7 +100,7 @@ module _ (g : Grammar) (size : length (g .rules) ≡ maxRules) (valid : validGra
       → has (getD (g .rules) i noRule .left) known ≡ true
 
   module _ (known : ℕ) (closed : Closed known) where
-    of-closed : {r k : ℕ} (o : Of (wholeOf g) r k) → all (symbolHas known) (o .the .places) ≡ true → has k known ≡ true
+    of-closed : {r k : ℕ} (o : Of (wholeOf g) r k) → all (symbolKnown known) (o .the .places) ≡ true → has k known ≡ true
     unfolding ruleKnown
     of-closed {r} {k} o e = dite (decLt r (g .count)) inside outside
       where
@@ -123,24 +111,24 @@ module _ (g : Grammar) (size : length (g .rules) ≡ maxRules) (valid : validGra
         inside h =
             let m : record { left = ρ .left; places = map placeOf (take (ρ .count) (ρ .places)) } ≡ o .the =
             Option·some-injective _ (o .the) (sym (rule-at g r size valid h) ∙ o .here) in
-            let a : all (symbolHas known) (map placeOf (take (ρ .count) (ρ .places))) ≡ true =
-            ap (λ (σ : Abstract.Rule). all (symbolHas known) (σ .places)) m ∙ e in
-            let b : ruleKnown known ρ ≡ true = sym (places-has known (take (ρ .count) (ρ .places))) ∙ a in
+            let a : all (symbolKnown known) (map placeOf (take (ρ .count) (ρ .places))) ≡ true =
+            ap (λ (σ : Abstract.Rule). all (symbolKnown known) (σ .places)) m ∙ e in
+            let b : ruleKnown known ρ ≡ true = sym (places-known known (take (ρ .count) (ρ .places))) ∙ a in
             ap (λ (j : ℕ). has j known) (sym (ap (λ (σ : Abstract.Rule). σ .left) m ∙ o .left)) ∙ closed r h b
 
         outside : ¬ (r < g .count) → has k known ≡ true
         outside n = absurd (Option·some-ne-none (o .the) (sym (o .here) ∙ rule-past g r (omega arith)))
 
-    row-closed : {places : List Abstract.Symbol} {t : Forest} → Fits (wholeOf g) places t → yield t ≡ []
-        → all (symbolHas known) places ≡ true
-    unfolding all yield symbolHas
+    row-closed : {places : List Symbol} {t : Forest} → Fits (wholeOf g) places t → yield t ≡ []
+        → all (symbolKnown known) places ≡ true
+    unfolding all yield
     row-closed fits-end e = refl
     row-closed (fits-leaf {m} {rest} f s) e = absurd (cons-ne-nil m (yield rest) e)
     row-closed (fits-node {k} {places} {below} {rest} o b s) e =
         let x = row-closed b (append-empty-left (yield below) (yield rest) e) in
         let y = row-closed s (append-empty-right (yield below) (yield rest) e) in
-        and-both (has k known) (all (symbolHas known) places) (of-closed o x) y
+        and-both (has k known) (all (symbolKnown known) places) (of-closed o x) y
 
     pub closed-complete : (k : ℕ) → Nullable (wholeOf g) k → has k known ≡ true
-    unfolding all symbolHas
+    unfolding all
     closed-complete k n = and-parts (has k known) true (row-closed (n .1 .0) (n .1 .1)) .0

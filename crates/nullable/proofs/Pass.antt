@@ -13,10 +13,12 @@ use Rattle.sizes.specs.Sizes.{maxRules, maxPlaces}
 use Rattle.laws.proofs.Bools.{and-parts}
 use Rattle.sets.specs.Set.{has, insert}
 use Rattle.sets.proofs.Laws.{insert-le, insert-lt, insert-same→has}
+use Rattle.grammar.specs.declared.Symbol.{Symbol}
 use Rattle.grammar.specs.declared.Symbol.the-variants.{Nonterminal}
 use Rattle.grammar.specs.declared.Place.{Place}
 use Rattle.grammar.specs.declared.Rule.{Rule}
 use Rattle.grammar.specs.Valid.{all, validSymbol, validPlace, validRule}
+use Rattle.grammar.specs.View.{symbolOf}
 use Rattle.grammar.specs.Zero.{zeroPlace, noRule}
 use Rattle.grammar.proofs.All.{all-at}
 use Rattle.grammar.proofs.Bounds.{rule-parts}
@@ -28,7 +30,7 @@ pub place-bound : (p : Place) (k : ℕ) → p .symbol ≡ Nonterminal k → vali
 place-bound p k e v = omega (arith, leb-true k 31 (sym (ap validSymbol e) ∙ v))
 
 pub place-member : (known : ℕ) (p : Place) (k : ℕ) (b : Bool) → p .symbol ≡ Nonterminal k → b ≡ has k known → b ≡ placeKnown known p
-place-member known p k b e h = h ∙ sym (ap (symbolKnown known) e)
+place-member known p k b e h = h ∙ sym (ap (λ (s : Symbol). symbolKnown known (symbolOf s)) e)
 
 -- ---- the places of a rule
 

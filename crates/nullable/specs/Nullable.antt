@@ -4,22 +4,23 @@ use mathlib.Core.Bool.{Bool, true, false, cond}
 use mathlib.Core.List.{List, [], _∷_}
 use mathlib.Core.Path.{_≡_}
 use lib.ListN.{take}
+use Rattle.cfg.specs.Grammar.{Symbol, nonterminal, terminal}
 use Rattle.cfg.specs.Nullable.{Nullable}
 use Rattle.sets.specs.Set.{has, insert}
-use Rattle.grammar.specs.declared.Symbol.{Symbol}
-use Rattle.grammar.specs.declared.Symbol.the-variants.{Nonterminal, Terminal}
 use Rattle.grammar.specs.declared.Place.{Place}
 use Rattle.grammar.specs.declared.Rule.{Rule}
 use Rattle.grammar.specs.declared.Grammar.{Grammar}
 use Rattle.grammar.specs.Valid.{all}
-use Rattle.grammar.specs.View.{wholeOf}
+use Rattle.grammar.specs.View.{placeOf, wholeOf}
 
+-- the symbol is a known nonterminal
 abbrev pub symbolKnown : ℕ → Symbol → Bool
-symbolKnown known (Nonterminal k) = has k known
-symbolKnown known (Terminal m) = false
+symbolKnown known (nonterminal k) = has k known
+symbolKnown known (terminal t) = false
 
+-- the place holds a known nonterminal
 abbrev pub placeKnown : ℕ → Place → Bool
-placeKnown known p = symbolKnown known (p .symbol)
+placeKnown known p = symbolKnown known (placeOf p)
 
 -- each place of the rule holds a known nonterminal
 unfoldable pub ruleKnown : ℕ → Rule → Bool

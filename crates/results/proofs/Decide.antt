@@ -13,6 +13,12 @@ Each Q (c ∷ checks) = Q c × Each Q checks
 abbrev pub Pass : {A : Type 0} → List (Check A) → Type 0
 Pass {A} checks = Each (λ (c : Check A). c .fails ≡ false) checks
 
+-- two lists of checks that agree in turn: they are the same, or both are passed
+pub data Agree (A : Type 0) : List (Check A) → List (Check A) → Type 0 where
+  agree-end : Agree A [] []
+  agree-same : {l m : List (Check A)} (c : Check A) → Agree A l m → Agree A (c ∷ l) (c ∷ m)
+  agree-passed : {l m : List (Check A)} {c d : Check A} → c .fails ≡ false → d .fails ≡ false → Agree A l m → Agree A (c ∷ l) (d ∷ m)
+
 each : {A : Type 0} {Q : Check A → Type 0} → ((c : Check A) → Q c) → (checks : List (Check A)) → Each Q checks
 each f [] = tt
 each f (c ∷ checks) = (f c, each f checks)
@@ -30,6 +36,18 @@ module _ {A B : Type 0} (refuse : A → B) (go : Unit {0} → B) where
   unfolding decide
   decide-passed [] p = refl
   decide-passed (c ∷ checks) p = rw (p .0) (decide-passed checks (p .1))
+
+  -- two lists of checks that agree decide the same
+  pub decide-agree : {l m : List (Check A)} → Agree A l m → decide l refuse go ≡ decide m refuse go
+  unfolding decide
+  decide-agree agree-end = refl
+  decide-agree (agree-passed p q a) = rw (p, q) (decide-agree a)
+  decide-agree (agree-same {l} {m} c a) = by (c .fails) (decide-agree a)
+    where
+      by : (b : Bool) → decide l refuse go ≡ decide m refuse go → _≡_ {A = B} (elim b [ true ↦ refuse (c .refusal) | false ↦ decide l refuse go ])
+          (elim b [ true ↦ refuse (c .refusal) | false ↦ decide m refuse go ])
+      by true e = refl
+      by false e = e
 
   module _ (P : B → Type 0) where
     -- what holds of the refusal of each check that may fail, and of what comes after the checks, holds of the result

@@ -18,6 +18,10 @@ use Rattle.results.specs.Answer.{LoadAnswer, refusedAt, loaded, Check, c
 unfoldable pub operands : ℕ → ℕ
 operands c = cond (eqb c 0x20) 3 (cond (eqb c 0x50) 0 1)
 
+-- operand number i, from 0, of the command at an offset: 0 past the end of the book
+unfoldable pub operand : List ℕ → ℕ → ℕ → ℕ
+operand bytes at i = getD bytes (at + 1 + i) 0
+
 -- a signed number of 16 bits in two's complement, from its low and its high byte
 unfoldable pub signed : ℕ → ℕ → ℤ
 signed low high = let n = low + 256 * high in cond (ltb n 32768) (pos n) (negℤ (pos (65536 - n)))
@@ -38,11 +42,11 @@ withRule g k hundredths = setCount (setRule g (g .count) (openedRule k hundredth
 unfoldable pub withPlace : Grammar → Symbol → Grammar
 withPlace g s = setRule g (g .count - 1) (placedRule (openRule g) s)
 
--- the grammar after the command c, whose operands are a, and b and d where it has three
-unfoldable pub after : ℕ → ℕ → ℕ → ℕ → Grammar → Grammar
-after c a b d g =
-    cond (eqb c 0x10) (withStart g a) (cond (eqb c 0x20) (withRule g a (signed b d))
-    (cond (eqb c 0x30) (withPlace g (Nonterminal a)) (cond (eqb c 0x40) (withPlace g (Terminal a)) g)))
+-- the grammar after the command c with these operands
+unfoldable pub after : ℕ → (ℕ → ℕ) → Grammar → Grammar
+after c x g =
+    cond (eqb c 0x10) (withStart g (x 0)) (cond (eqb c 0x20) (withRule g (x 0) (signed (x 1) (x 2)))
+    (cond (eqb c 0x30) (withPlace g (Nonterminal (x 0))) (cond (eqb c 0x40) (withPlace g (Terminal (x 0))) g)))
 
 -- the number of a refusal and its offset
 pub record Fault : Type 0 where
@@ -61,17 +65,19 @@ unfoldable pub outOfTurn : ℕ → ℕ → Grammar → Bool
 outOfTurn c at g =
     cond (eqb c 0x10) (ltb 0 at) (eqb at 0 || ((eqb c 0x30 || eqb c 0x40) && eqb (g .count) 0))
 
--- the checks of the command c at an offset, whose first operand is a, in their order
-unfoldable pub commandChecks : List ℕ → ℕ → ℕ → ℕ → Grammar → List (Check Fault)
-commandChecks bytes at c a g =
-    fault (unknown c) 2 at
-    ∷ fault (outOfTurn c at g) 3 at
-    ∷ fault (ltb (length bytes) (at + 1 + operands c)) 1 (length bytes)
-    ∷ fault ((eqb c 0x10 || eqb c 0x20 || eqb c 0x30) && ltb 31 a) 4 at
+-- the checks after the turn of the command c at an offset, in their order
+unfoldable pub operandChecks : List ℕ → ℕ → ℕ → Grammar → List (Check Fault)
+operandChecks bytes at c g =
+    fault (ltb (length bytes) (at + 1 + operands c)) 1 (length bytes)
+    ∷ fault ((eqb c 0x10 || eqb c 0x20 || eqb c 0x30) && ltb 31 (operand bytes at 0)) 4 at
     ∷ fault (eqb c 0x20 && ltb 127 (g .count)) 5 at
     ∷ fault ((eqb c 0x30 || eqb c 0x40) && ltb 7 (openRule g .count)) 6 at
     ∷ fault (eqb c 0x50 && ltb (at + 1) (length bytes)) 7 (at + 1)
     ∷ []
+
+-- all its checks, in their order
+unfoldable pub commandChecks : List ℕ → ℕ → ℕ → Grammar → List (Check Fault)
+commandChecks bytes at c g = fault (unknown c) 2 at ∷ fault (outOfTurn c at g) 3 at ∷ operandChecks bytes at c g
 
 -- what reading comes to: a fault, a command read, or the end of the book
 pub data Step : Type 0 where
@@ -79,13 +85,15 @@ pub data Step : Type 0 where
   next : ℕ → Grammar → Step
   done : Grammar → Step
 
+-- what the command c at an offset comes to once its checks are passed
+unfoldable pub carriedOut : List ℕ → ℕ → ℕ → Grammar → Step
+carriedOut bytes at c g = cond (eqb c 0x50) (done g) (next (at + 1 + operands c) (after c (operand bytes at) g))
+
 -- one command, from any grammar on: 1 where the book ends instead
 unfoldable pub step : List ℕ → ℕ → Grammar → Step
 step bytes at g =
     let c = getD bytes at 0 in
-    let a = getD bytes (at + 1) 0 in
-    decide (fault (not (ltb at (length bytes))) 1 (length bytes) ∷ commandChecks bytes at c a g) stop (λ _.
-    cond (eqb c 0x50) (done g) (next (at + 1 + operands c) (after c a (getD bytes (at + 2) 0) (getD bytes (at + 3) 0) g)))
+    decide (fault (not (ltb at (length bytes))) 1 (length bytes) ∷ commandChecks bytes at c g) stop (λ _. carriedOut bytes at c g)
 
 -- what loading gives: its answer and a grammar
 pub record Loading : Type 0 where

@@ -8,28 +8,35 @@ use commands::Turn;
 use grammar::Symbol;
 ghost use Prim.Native.Nat.{_+_, _≤_, _<_};
 ghost use mathlib.Core.Path.{_≡_};
-ghost use lib.ListN.{length, getD};
-ghost use Rattle.results.specs.Load.{operands};
+ghost use lib.ListN.{length};
+ghost use Rattle.results.specs.Load.{operands, operand};
 ghost use Rattle.commands.specs.Class.{byteOf};
 ghost use Rattle.commands.specs.Command.{Passed, Reads};
 
-// The byte at i, and 0 past the end.
-pub fn byte_at(bytes: &[u8], i: usize) -> u8
-    ensures { λ r. ⌜ r ≡ getD (now (bytes .entry)) i 0 ⌝ }
+// Operand number i, from 0, of the command at an offset: 0 past the end.
+pub fn operand_at(bytes: &[u8], at: usize, i: usize) -> u8
+    requires { ⌜ at < length (now bytes) ⌝ }
+    ensures { λ r. ⌜ r ≡ operand (now (bytes .entry)) at i ⌝ }
 {
-    if i < bytes.len() { bytes[i] } else { 0 }
+    let first = at + 1;
+    if i < bytes.len() - first {
+        bytes[first + i]
+    } else {
+        0
+    }
 }
 
 // The command k at an offset, with its first operand a and the others, all of them there: check 5, 6 or 7.
 pub fn limits_at(bytes: &[u8], at: usize, k: Opcode, a: u8, rules: usize, places: usize) -> Command
     requires { ⌜ at + 1 + operands (byteOf k) ≤ length (now bytes) ⌝ }
-    ensures { λ r. ⌜ Passed 4 (now (bytes .entry)) at (byteOf k) a rules places r ⌝ }
+    requires { ⌜ a ≡ operand (now bytes) at 0 ⌝ }
+    ensures { λ r. ⌜ Passed 2 (now (bytes .entry)) at (byteOf k) rules places r ⌝ }
 {
     match k {
         Opcode::Start => Command::Start(a),
         Opcode::Rule => {
-            let low = byte_at(bytes, at + 2);
-            let high = byte_at(bytes, at + 3);
+            let low = operand_at(bytes, at, 1);
+            let high = operand_at(bytes, at, 2);
             commands::rule(at, rules, a, low, high)
         }
         Opcode::Nonterminal => commands::place(at, places, Symbol::Nonterminal(a)),
@@ -41,12 +48,12 @@ pub fn limits_at(bytes: &[u8], at: usize, k: Opcode, a: u8, rules: usize, places
 // The command k at an offset with its operands: check 1, then 4, then its limits.
 pub fn operands_at(bytes: &[u8], at: usize, k: Opcode, rules: usize, places: usize) -> Command
     requires { ⌜ at < length (now bytes) ⌝ }
-    ensures { λ r. ⌜ Passed 2 (now (bytes .entry)) at (byteOf k) (getD (now (bytes .entry)) (at + 1) 0) rules places r ⌝ }
+    ensures { λ r. ⌜ Passed 0 (now (bytes .entry)) at (byteOf k) rules places r ⌝ }
 {
     let first = at + 1;
     let left = bytes.len() - first;
     let n = commands::operand_count(k);
-    let a = byte_at(bytes, first);
+    let a = operand_at(bytes, at, 0);
     let large = commands::too_large(k, a);
     if left < n {
         return Command::Fault(Refusal::UnexpectedEnd, bytes.len());

@@ -2,7 +2,7 @@
 use Prim.Native.Nat.{ℕ, zero, suc, _+_, _≤_, _<_}
 use native.Mathlib.Decide.{decLt}
 use native.Mathlib.Omega.{arith}
-use mathlib.Core.Bool.{Bool, true, false, cond, _&&_, _||_}
+use mathlib.Core.Bool.{Bool, true, false, cond, not}
 use mathlib.Core.List.{List, [], _∷_}
 use mathlib.Core.Logic.{dite}
 use mathlib.Core.Path.{_≡_, refl, sym, ap, _∙_}
@@ -13,27 +13,16 @@ use borrow.Author.Tests.{lt-ltb, le-ltb, ne-eqb}
 use Rattle.sizes.specs.Sizes.{maxInput}
 use Rattle.grammar.specs.declared.Grammar.{Grammar}
 use Rattle.grammar.specs.Zero.{zeroGrammar}
-use Rattle.results.specs.Answer.{LoadAnswer, refusedAt, loaded, decide}
-use Rattle.results.specs.Load.{operands, openRule, after, fault, unknown, outOfTurn, commandChecks}
-use Rattle.results.specs.Load.{Step, stop, next, done, step, Loading, run, loadOf}
+use Rattle.results.specs.Answer.{LoadAnswer, refusedAt, loaded, Check, decide}
+use Rattle.results.specs.Load.{operands, operand, Fault, fault, operandChecks, commandChecks}
+use Rattle.results.specs.Load.{Step, stop, next, done, carriedOut, step, Loading, run, loadOf}
+use Rattle.results.proofs.Decide.{Agree, agree-end, agree-same, agree-passed, decide-agree}
 use Rattle.results.proofs.Loading.Run.{run-stop, run-next, run-done, step-forward}
+use Rattle.results.proofs.Loading.Commands.{after-same, step-kept}
 use Rattle.text.specs.Front.{bookFront, plateFront}
 use Rattle.text.specs.Line.{refusedLine}
 use Rattle.text.specs.Text.{inputText, loadedText, textOf}
-use Rattle.text.proofs.Near.{Near, near-zero, step-near}
-
--- ---- a step near the start of a long book
-
--- one command c with its operands, where the book is long: check 1 is passed, and 50 is not the last byte
-abbrev longStep : (at c a b d : ℕ) → Grammar → Step
-longStep at c a b d g =
-    decide (fault (unknown c) 2 at
-    ∷ fault (outOfTurn c at g) 3 at
-    ∷ fault ((eqb c 0x10 || eqb c 0x20 || eqb c 0x30) && ltb 31 a) 4 at
-    ∷ fault (eqb c 0x20 && ltb 127 (g .count)) 5 at
-    ∷ fault ((eqb c 0x30 || eqb c 0x40) && ltb 7 (openRule g .count)) 6 at
-    ∷ fault (eqb c 0x50 && true) 7 (at + 1)
-    ∷ []) stop (λ _. cond (eqb c 0x50) (done g) (next (at + 1 + operands c) (after c a b d g)))
+use Rattle.text.proofs.Near.{Near, near-invariant}
 
 operands-few : (c : ℕ) → operands c ≤ 3
 unfolding operands
@@ -43,15 +32,6 @@ operands-few c = go (eqb c 0x20) (eqb c 0x50)
     go true u = omega arith
     go false true = omega arith
     go false false = omega arith
-
-step-long : (bytes : List ℕ) (at : ℕ) (g : Grammar) → at + 4 ≤ length bytes
-    → step bytes at g ≡ longStep at (getD bytes at 0) (getD bytes (at + 1) 0) (getD bytes (at + 2) 0) (getD bytes (at + 3) 0) g
-unfolding step commandChecks decide
-step-long bytes at g h =
-    let n = lt-ltb at (length bytes) (omega arith) in
-    let o = le-ltb (length bytes) (at + 1 + operands (getD bytes at 0)) (omega (arith, operands-few (getD bytes at 0))) in
-    let p = lt-ltb (at + 1) (length bytes) (omega arith) in
-    rw (n, o, p)
 
 -- ---- two long books with the same front
 
@@ -64,11 +44,40 @@ near-bound at g N = omega (arith, N .few, N .places, N .near)
 
 module _ (s t : List ℕ) (long-s : bookFront ≤ length s) (long-t : bookFront ≤ length t)
     (same : (i : ℕ) → i < bookFront → getD s i 0 ≡ getD t i 0) where
+  -- a command c near the start, in each of the books
+  module _ (at : ℕ) (g : Grammar) (h : at ≤ farthest) (c : ℕ) where
+    operand-same : (i : ℕ) → i < 3 → operand s at i ≡ operand t at i
+    unfolding operand
+    operand-same i l = same (at + 1 + i) (omega arith)
+
+    carried-same : carriedOut s at c g ≡ carriedOut t at c g
+    unfolding carriedOut
+    carried-same = rw (after-same c (operand s at) (operand t at) g operand-same)
+
+    abbrev checks : List ℕ → List (Check Fault)
+    checks b = fault (not (ltb at (length b))) 1 (length b) ∷ commandChecks b at c g
+
+    -- neither book ends here
+    begins : (b : List ℕ) → bookFront ≤ length b → not (ltb at (length b)) ≡ false
+    begins b l = rw (lt-ltb at (length b) (omega arith))
+
+    whole : (b : List ℕ) → bookFront ≤ length b → ltb (length b) (at + 1 + operands c) ≡ false
+    whole b l = le-ltb (length b) (at + 1 + operands c) (omega (arith, operands-few c))
+
+    further : (b : List ℕ) → bookFront ≤ length b → ltb (at + 1) (length b) ≡ true
+    further b l = lt-ltb (at + 1) (length b) (omega arith)
+
+    checks-agree : Agree Fault (checks s) (checks t)
+    unfolding commandChecks operandChecks
+    checks-agree = rw (operand-same 0 (omega arith), further s long-s, further t long-t) (
+        agree-passed (begins s long-s) (begins t long-t) (agree-same _ (agree-same _ (
+        agree-passed (whole s long-s) (whole t long-t) (agree-same _ (agree-same _ (agree-same _ (agree-same _ agree-end))))))))
+
   step-same : (at : ℕ) (g : Grammar) → at ≤ farthest → step s at g ≡ step t at g
-  step-same at g h =
-      step-long s at g (omega arith)
-      ∙ rw (same at (omega arith), same (at + 1) (omega arith), same (at + 2) (omega arith), same (at + 3) (omega arith))
-      (sym (step-long t at g (omega arith)))
+  unfolding step
+  step-same at g h = let c = getD t at 0 in rw (same at (omega arith))
+      (decide-agree stop (λ _. carriedOut s at c g) (checks-agree at g h c)
+      ∙ ap (λ (x : Step). decide (checks at g h c t) stop (λ _. x)) (carried-same at g h c))
 
   -- where enough commands are allowed for each
   run-same : (d m n at : ℕ) (g : Grammar) → Near at g → farthest < at + m → farthest < at + n → run d s m at g ≡ run d t n at g
@@ -84,13 +93,13 @@ module _ (s t : List ℕ) (long-s : bookFront ≤ length s) (long-t : bookFront 
           → run d s (suc m) at g ≡ run d t (suc n) at g
       go (stop f) p later = run-stop d m s at g f (e ∙ p) ∙ sym (run-stop d n t at g f p)
       go (next at′ g′) p later =
-          run-next d m s at g at′ g′ (e ∙ p) ∙ later at′ g′ (step-forward t at g at′ g′ p) (step-near t at g at′ g′ N p)
+          run-next d m s at g at′ g′ (e ∙ p) ∙ later at′ g′ (step-forward t at g at′ g′ p) (step-kept (near-invariant t) at g N at′ g′ p)
           ∙ sym (run-next d n t at g at′ g′ p)
       go (done g′) p later = run-done d m s at g g′ (e ∙ p) ∙ sym (run-done d n t at g g′ p)
 
   load-same : (d : ℕ) → loadOf s d ≡ loadOf t d
   unfolding loadOf
-  load-same d = run-same d (length s) (length t) 0 zeroGrammar near-zero (omega arith) (omega arith)
+  load-same d = run-same d (length s) (length t) 0 zeroGrammar (near-invariant s .zero) (omega arith) (omega arith)
 
 -- ---- the book
 

@@ -118,8 +118,7 @@ pub load-demand : (bytes : List ℕ) (d : ℕ) → LoadDemand bytes d (loadOf by
 load-demand = Load.load-demand
 
 -- at each command the first fault that applies decides
-pub load-order : (bytes : List ℕ) (at : ℕ) (g : Grammar)
-    → CommandOrder bytes at (getD bytes at 0) (getD bytes (at + 1) 0) g (step bytes at g)
+pub load-order : (bytes : List ℕ) (at : ℕ) (g : Grammar) → CommandOrder bytes at (getD bytes at 0) g (step bytes at g)
 load-order = LoadOrder.step-order
 
 -- DEMAND 1, for every input of every other call: of a chart only the first 4,225 cells change, of an output only the derivation handed out;

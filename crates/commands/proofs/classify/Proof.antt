@@ -1,9 +1,9 @@
 -- `commands::classify` meets its contract. Assumes nothing.
 use native.Mathlib.Omega.{arith}
-use Rattle.commands.proofs.Parts.{class-none}
+use Rattle.results.proofs.Loading.Commands.{unknown-other}
 use Rattle.commands.proofs.classify.Statement.{statement}
 use Rattle.commands.proofs.classify.Tie as tie
 
 pub classify-spec : {M : Type 1} → statement M
 classify-spec = tie.close (tie.spec
-    (λ c. omega arith) (λ c. omega arith) (λ c. omega arith) (λ c. omega arith) (λ c. omega arith) (λ c. search class-none))
+    (λ c. omega arith) (λ c. omega arith) (λ c. omega arith) (λ c. omega arith) (λ c. omega arith) (λ c. search unknown-other))

@@ -1,24 +1,30 @@
--- What every command of a book keeps of the grammar read so far, a step keeps; and what the last command of a book is. Assumes nothing.
-use Prim.Native.Nat.{ℕ, _+_, _-_, _≤_, _<_}
+-- The commands of a book: what their checks let through, what a step keeps of the offset and of the grammar read so far, and what the last
+-- command is. Assumes nothing.
+use Prim.Native.Nat.{ℕ, zero, suc, _+_, _-_, _≤_, _<_}
+use native.Mathlib.Decide.{ℕ-discrete}
 use native.Mathlib.Omega.{arith}
-use mathlib.Core.Bool.{Bool, true, false, cond, _&&_, _||_}
+use mathlib.Core.Bool.{Bool, true, false, _&&_, _||_}
 use mathlib.Core.List.{List}
-use mathlib.Core.Path.{_≡_, refl, subst}
+use mathlib.Core.Logic.{dite}
+use mathlib.Core.Path.{_≡_, refl, sym, subst}
 use lib.Dec.{eqb, ltb}
 use lib.IntN.{ℤ}
 use lib.ListN.{length, getD}
-use borrow.Author.Tests.{ltb-true, ltb-false, le-leb, eqb-true, eqb-false, not-false}
+use borrow.Author.Tests.{ltb-true, ltb-false, le-leb, eqb-false, ne-eqb, not-false}
 use Rattle.sizes.specs.Sizes.{maxRules, maxPlaces}
-use Rattle.laws.proofs.Bools.{or-neither}
+use Rattle.laws.proofs.Bools.{true-false, or-neither}
 use Rattle.grammar.specs.declared.Symbol.{Symbol}
 use Rattle.grammar.specs.declared.Symbol.the-variants.{Nonterminal, Terminal}
 use Rattle.grammar.specs.declared.Grammar.{Grammar}
-use Rattle.grammar.specs.Setters.{openedRule, placedRule, setStart, setCount, setRule}
+use Rattle.grammar.specs.Setters.{openedRule, placedRule, setStart, setCount, setDepth, setRule}
+use Rattle.grammar.specs.Tagged.{valueOf}
 use Rattle.grammar.specs.Valid.{validSymbol}
 use Rattle.grammar.specs.Zero.{zeroGrammar}
-use Rattle.results.specs.Load.{signed, openRule, withStart, withRule, withPlace, after, outOfTurn, commandChecks}
-use Rattle.results.specs.Load.{Step, stop, next, done, step}
+use Rattle.results.specs.Load.{operands, operand, signed, openRule, withStart, withRule, withPlace, after, unknown, outOfTurn}
+use Rattle.results.specs.Load.{Fault, Step, stop, next, done, operandChecks, commandChecks, carriedOut, step}
+use Rattle.results.specs.Load.{refusedLoad, acceptedLoad, run}
 use Rattle.results.proofs.Decide.{decide-either}
+use Rattle.results.proofs.Loading.Run.{run-stop, run-next, run-done}
 
 -- ---- what a command changes
 
@@ -35,61 +41,64 @@ module _ (g : Grammar) where
   unfolding withPlace
   place-set s = refl
 
--- ---- what a step keeps
+-- ---- which commands there are
 
--- P holds of the grammar of no rules, and each command that its checks let through keeps it
-pub record Invariant (P : Grammar → Type 0) : Type 0 where
-  pub zero : P zeroGrammar
-  pub start : (g : Grammar) → P g → (k : ℕ) → k ≤ 31 → P (withStart g k)
-  pub rule : (g : Grammar) → P g → (k : ℕ) (z : ℤ) → k ≤ 31 → g .count < maxRules → P (withRule g k z)
-  pub place : (g : Grammar) → P g → (s : Symbol) → 0 < g .count → openRule g .count < maxPlaces → validSymbol s ≡ true → P (withPlace g s)
+pub unknown-other : (c : ℕ) → (c ≡ 0x10 → ⊥) → (c ≡ 0x20 → ⊥) → (c ≡ 0x30 → ⊥) → (c ≡ 0x40 → ⊥) → (c ≡ 0x50 → ⊥) → unknown c ≡ true
+unfolding unknown
+unknown-other c n₁ n₂ n₃ n₄ n₅ = rw (ne-eqb c 0x10 n₁, ne-eqb c 0x20 n₂, ne-eqb c 0x30 n₃, ne-eqb c 0x40 n₄, ne-eqb c 0x50 n₅)
 
-module _ {P : Grammar → Type 0} (I : Invariant P) where
-  module _ (g : Grammar) (H : P g) where
-    placed : (at : ℕ) (s : Symbol) → validSymbol s ≡ true → (eqb at 0 || eqb (g .count) 0) ≡ false → ltb 7 (openRule g .count) ≡ false
-        → P (withPlace g s)
-    placed at s v o p =
-        let n = eqb-false (g .count) 0 (or-neither (eqb at 0) (eqb (g .count) 0) o .1) in
-        let l = ltb-false 7 (openRule g .count) p in
-        I .place g H s (omega arith) (omega arith) v
+-- what holds of each command holds of each byte that is known
+pub each-command : (K : ℕ → Type 0) → K 0x10 → K 0x20 → K 0x30 → K 0x40 → K 0x50 → (c : ℕ) → unknown c ≡ false → K c
+each-command K start rule nonterminal terminal end c k =
+    dite (ℕ-discrete c 0x10) (λ e. subst K (sym e) start) (λ n₁.
+    dite (ℕ-discrete c 0x20) (λ e. subst K (sym e) rule) (λ n₂.
+    dite (ℕ-discrete c 0x30) (λ e. subst K (sym e) nonterminal) (λ n₃.
+    dite (ℕ-discrete c 0x40) (λ e. subst K (sym e) terminal) (λ n₄.
+    dite (ℕ-discrete c 0x50) (λ e. subst K (sym e) end) (λ n₅.
+    absurd (true-false (unknown-other c n₁ n₂ n₃ n₄ n₅) k))))))
 
-    -- one command, which its checks let through
-    after-kept : (at c a b d : ℕ) → outOfTurn c at g ≡ false → ((eqb c 0x10 || eqb c 0x20 || eqb c 0x30) && ltb 31 a) ≡ false
-        → (eqb c 0x20 && ltb 127 (g .count)) ≡ false → ((eqb c 0x30 || eqb c 0x40) && ltb 7 (openRule g .count)) ≡ false
-        → P (after c a b d g)
-    unfolding after outOfTurn
-    after-kept at c a b d = go (eqb c 0x10) (eqb c 0x20) (eqb c 0x30) (eqb c 0x40)
-      where
-        go : (t u v w : Bool) → cond t (ltb 0 at) (eqb at 0 || ((v || w) && eqb (g .count) 0)) ≡ false
-            → ((t || u || v) && ltb 31 a) ≡ false → (u && ltb 127 (g .count)) ≡ false → ((v || w) && ltb 7 (openRule g .count)) ≡ false
-            → P (cond t (withStart g a) (cond u (withRule g a (signed b d))
-            (cond v (withPlace g (Nonterminal a)) (cond w (withPlace g (Terminal a)) g))))
-        go true u v w o n r p = I .start g H a (ltb-false 31 a n)
-        go false true v w o n r p = I .rule g H a (signed b d) (ltb-false 31 a n) (omega (arith, ltb-false 127 (g .count) r))
-        go false false true w o n r p = placed at (Nonterminal a) (le-leb a 31 (ltb-false 31 a n)) o p
-        go false false false true o n r p = placed at (Terminal a) refl o p
-        go false false false false o n r p = H
+-- ---- what the checks let through
 
-  -- P holds of the grammar of a step
-  abbrev Holds : Step → Type 0
-  Holds (stop f) = Unit {0}
-  Holds (next at g) = P g
-  Holds (done g) = P g
+-- the command c at an offset, with each of its checks passed
+pub record LetThrough (bytes : List ℕ) (at c : ℕ) (g : Grammar) : Type 0 where
+  pub begins : at < length bytes
+  pub known : unknown c ≡ false
+  pub turn : outOfTurn c at g ≡ false
+  pub whole : at + 1 + operands c ≤ length bytes
+  pub nonterminal : (eqb c 0x10 || eqb c 0x20 || eqb c 0x30) ≡ true → operand bytes at 0 ≤ 31
+  pub rules : eqb c 0x20 ≡ true → g .count ≤ 127
+  pub places : (eqb c 0x30 || eqb c 0x40) ≡ true → openRule g .count ≤ 7
+  pub last : eqb c 0x50 ≡ true → length bytes ≤ at + 1
 
-  step-holds : (bytes : List ℕ) (at : ℕ) (g : Grammar) → P g → Holds (step bytes at g)
-  unfolding step commandChecks
-  step-holds bytes at g H =
-      decide-either stop _ Holds _ (λ f. tt)
-      (λ p. either (eqb (getD bytes at 0) 0x50) _ _
-      (after-kept g H at (getD bytes at 0) (getD bytes (at + 1) 0) (getD bytes (at + 2) 0) (getD bytes (at + 3) 0) (p .1 .1 .0)
-      (p .1 .1 .1 .1 .0) (p .1 .1 .1 .1 .1 .0) (p .1 .1 .1 .1 .1 .1 .0)))
-    where
-      either : (b : Bool) (m : ℕ) (h : Grammar) → P h → Holds (cond b (done g) (next m h))
-      either true m h K = H
-      either false m h K = K
+-- a limit that is kept, where it applies
+kept-to : (b : Bool) (m n : ℕ) → (b && ltb m n) ≡ false → b ≡ true → n ≤ m
+kept-to b m n e t = ltb-false m n (rw t at e)
 
-  pub step-kept : (bytes : List ℕ) (at : ℕ) (g : Grammar) (at′ : ℕ) (g′ : Grammar) → P g → step bytes at g ≡ next at′ g′ → P g′
-  step-kept bytes at g at′ g′ H e = subst Holds e (step-holds bytes at g H)
+module _ (bytes : List ℕ) (at : ℕ) (g : Grammar) where
+  -- P holds of what the command c comes to
+  abbrev Case : (Step → Type 0) → ℕ → Type 0
+  Case P c = getD bytes at 0 ≡ c → LetThrough bytes at c g → P (carriedOut bytes at c g)
+
+  -- what holds of each fault, and of each command that its checks let through, holds of a step
+  step-cases : (P : Step → Type 0) → ((f : Fault) → P (stop f)) → Case P 0x10 → Case P 0x20 → Case P 0x30 → Case P 0x40 → Case P 0x50
+      → P (step bytes at g)
+  unfolding step commandChecks operandChecks
+  step-cases P faulty start rule nonterminal terminal end = decide-either stop _ P _ faulty
+      (λ p. each-command (Case P) start rule nonterminal terminal end (getD bytes at 0) (p .1 .0) refl (record {
+        begins = ltb-true at (length bytes) (not-false (ltb at (length bytes)) (p .0));
+        known = p .1 .0;
+        turn = p .1 .1 .0;
+        whole = ltb-false (length bytes) (at + 1 + operands (getD bytes at 0)) (p .1 .1 .1 .0);
+        nonterminal = kept-to _ 31 (operand bytes at 0) (p .1 .1 .1 .1 .0);
+        rules = kept-to _ 127 (g .count) (p .1 .1 .1 .1 .1 .0);
+        places = kept-to _ 7 (openRule g .count) (p .1 .1 .1 .1 .1 .1 .0);
+        last = kept-to _ (at + 1) (length bytes) (p .1 .1 .1 .1 .1 .1 .1 .0);
+      }))
+
+-- a command depends on its operands only
+pub after-same : (c : ℕ) (x y : ℕ → ℕ) (g : Grammar) → ((i : ℕ) → i < 3 → x i ≡ y i) → after c x g ≡ after c y g
+unfolding after
+after-same c x y g same = rw (same 0 (omega arith), same 1 (omega arith), same 2 (omega arith))
 
 -- ---- the last command
 
@@ -109,19 +118,65 @@ module _ (bytes : List ℕ) (at : ℕ) (g : Grammar) where
   Ends (done g′) = Ended bytes at g g′
 
   step-ends : Ends (step bytes at g)
-  unfolding step commandChecks
-  step-ends =
-      decide-either stop _ Ends _ (λ f. tt)
-      (λ p. either (eqb (getD bytes at 0) 0x50) refl _ _
-      (not-false (ltb at (length bytes)) (p .0)) (p .1 .1 .1 .1 .1 .1 .1 .0))
-    where
-      either : (b : Bool) → eqb (getD bytes at 0) 0x50 ≡ b → (m : ℕ) (h : Grammar) → ltb at (length bytes) ≡ true
-          → (b && ltb (at + 1) (length bytes)) ≡ false → Ends (cond b (done g) (next m h))
-      either true e m h i f =
-          let l = ltb-true at (length bytes) i in
-          let k = ltb-false (at + 1) (length bytes) f in
-          record { command = eqb-true (getD bytes at 0) 0x50 e; last = omega arith; same = refl }
-      either false e m h i f = tt
+  unfolding carriedOut
+  step-ends = step-cases bytes at g Ends (λ f. tt) (λ e L. tt) (λ e L. tt) (λ e L. tt) (λ e L. tt)
+      (λ e L. record { command = e; last = omega (arith, L .begins, L .last refl); same = refl })
 
   pub step-done : (g′ : Grammar) → step bytes at g ≡ done g′ → Ended bytes at g g′
   step-done g′ e = subst Ends e step-ends
+
+-- ---- what a step keeps
+
+-- P holds of the grammar of no rules at the start of the book, and each command that its checks let through keeps it
+pub record Invariant (bytes : List ℕ) (P : ℕ → Grammar → Type 0) : Type 0 where
+  pub zero : P 0 zeroGrammar
+  pub start : (at : ℕ) (g : Grammar) → P at g → at ≡ 0 → operand bytes at 0 ≤ 31 → P (at + 2) (withStart g (operand bytes at 0))
+  pub rule : (at : ℕ) (g : Grammar) → P at g → operand bytes at 0 ≤ 31 → g .count < maxRules
+      → P (at + 4) (withRule g (operand bytes at 0) (signed (operand bytes at 1) (operand bytes at 2)))
+  pub place : (at : ℕ) (g : Grammar) → P at g → (s : Symbol) → valueOf s ≡ operand bytes at 0 → validSymbol s ≡ true → 0 < g .count
+      → openRule g .count < maxPlaces → P (at + 2) (withPlace g s)
+
+module _ {bytes : List ℕ} {P : ℕ → Grammar → Type 0} (I : Invariant bytes P) where
+  module _ (at : ℕ) (g : Grammar) (H : P at g) where
+    -- P holds of what a step goes on with
+    abbrev Kept : Step → Type 0
+    Kept (stop f) = Unit {0}
+    Kept (next at′ g′) = P at′ g′
+    Kept (done g′) = Unit {0}
+
+    two : (h : Grammar) → P (at + 2) h → P (at + 1 + 1) h
+    two h = subst (λ (n : ℕ). P n h) (omega arith)
+
+    four : (h : Grammar) → P (at + 4) h → P (at + 1 + 3) h
+    four h = subst (λ (n : ℕ). P n h) (omega arith)
+
+    placed : (s : Symbol) → valueOf s ≡ operand bytes at 0 → validSymbol s ≡ true → (eqb at 0 || eqb (g .count) 0) ≡ false
+        → openRule g .count ≤ 7 → P (at + 1 + 1) (withPlace g s)
+    placed s e v o p =
+        let n = eqb-false (g .count) 0 (or-neither (eqb at 0) (eqb (g .count) 0) o .1) in
+        two _ (I .place at g H s e v (omega arith) (omega arith))
+
+    step-holds : Kept (step bytes at g)
+    unfolding carriedOut operands after outOfTurn
+    step-holds = step-cases bytes at g Kept (λ f. tt)
+        (λ e L. two _ (I .start at g H (omega (arith, ltb-false 0 at (L .turn))) (L .nonterminal refl)))
+        (λ e L. four _ (I .rule at g H (L .nonterminal refl) (omega (arith, L .rules refl))))
+        (λ e L. placed (Nonterminal (operand bytes at 0)) refl (le-leb (operand bytes at 0) 31 (L .nonterminal refl)) (L .turn) (L .places refl))
+        (λ e L. placed (Terminal (operand bytes at 0)) refl refl (L .turn) (L .places refl))
+        (λ e L. tt)
+
+    pub step-kept : (at′ : ℕ) (g′ : Grammar) → step bytes at g ≡ next at′ g′ → P at′ g′
+    step-kept at′ g′ e = subst Kept e step-holds
+
+  -- of a grammar that a book leaves, the one of no rules or one of which P holds, Q holds
+  pub run-kept : (d : ℕ) (Q : Grammar → Type 0) → Q zeroGrammar → ((at : ℕ) (g : Grammar) → P at g → Q (setDepth g d))
+      → (n at : ℕ) (g : Grammar) → P at g → Q (run d bytes n at g .grammar)
+  unfolding run refusedLoad acceptedLoad
+  run-kept d Q z f zero at g H = z
+  run-kept d Q z f (suc n) at g H = go (step bytes at g) refl (run-kept d Q z f n)
+    where
+      go : (s : Step) → step bytes at g ≡ s → ((at′ : ℕ) (g′ : Grammar) → P at′ g′ → Q (run d bytes n at′ g′ .grammar))
+          → Q (run d bytes (suc n) at g .grammar)
+      go (stop e) p later = rw (run-stop d n bytes at g e p) z
+      go (next at′ g′) p later = rw (run-next d n bytes at g at′ g′ p) (later at′ g′ (step-kept at g H at′ g′ p))
+      go (done g′) p later = rw (run-done d n bytes at g g′ p, step-done bytes at g g′ p .same) (f at g H)

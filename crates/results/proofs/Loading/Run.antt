@@ -10,7 +10,7 @@ use borrow.Author.Tests.{le-ltb}
 use Rattle.laws.proofs.Bools.{clash}
 use Rattle.grammar.specs.declared.Grammar.{Grammar}
 use Rattle.results.specs.Answer.{Check, decide}
-use Rattle.results.specs.Load.{Loading, Fault, Step, operands, stop, next, done, step, run, refusedLoad, acceptedLoad}
+use Rattle.results.specs.Load.{Loading, Fault, Step, operands, stop, next, done, carriedOut, step, run, refusedLoad, acceptedLoad}
 
 -- ---- one command
 
@@ -53,7 +53,7 @@ decide-next (c ∷ checks) go at g e = by-check (c .fails) e (decide-next checks
 
 -- a step goes forward
 pub step-forward : (bytes : List ℕ) (at : ℕ) (g : Grammar) (at′ : ℕ) (g′ : Grammar) → step bytes at g ≡ next at′ g′ → at < at′
-unfolding step
+unfolding step carriedOut
 step-forward bytes at g at′ g′ e = go (eqb (getD bytes at 0) 0x50) (operands (getD bytes at 0)) _ (decide-next _ _ at′ g′ e)
   where
     go : (b : Bool) (n : ℕ) (h : Grammar) → cond b (done g) (next (at + 1 + n) h) ≡ next at′ g′ → at < at′

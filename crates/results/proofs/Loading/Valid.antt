@@ -2,6 +2,7 @@
 use Prim.Native.Nat.{ℕ, _-_, _≤_, _<_}
 use native.Mathlib.Omega.{arith}
 use mathlib.Core.Bool.{true}
+use mathlib.Core.List.{List}
 use mathlib.Core.Path.{_≡_, refl, _∙_}
 use lib.IntN.{ℤ}
 use lib.ListN.{length}
@@ -12,14 +13,10 @@ use Rattle.grammar.specs.Setters.{openedRule, placedRule}
 use Rattle.grammar.specs.Valid.{all, validSymbol, validGrammar}
 use Rattle.grammar.proofs.Bounds.{valid-each}
 use Rattle.grammar.proofs.Setters.{opened-valid, placed-valid, set-start-valid, next-rule-valid, last-rule-valid, set-rule-size}
-use Rattle.results.specs.Load.{openRule, withStart, withRule, withPlace}
+use Rattle.results.specs.Load.{operand, openRule, withStart, withRule, withPlace}
 use Rattle.results.proofs.Loading.Commands.{Invariant}
 
 module _ (g : Grammar) (v : validGrammar g ≡ true) where
-  with-start-valid : (k : ℕ) → k ≤ 31 → validGrammar (withStart g k) ≡ true
-  unfolding withStart
-  with-start-valid k h = set-start-valid g v k h
-
   with-rule-valid : (k : ℕ) (z : ℤ) → k ≤ 31 → g .count < maxRules → validGrammar (withRule g k z) ≡ true
   unfolding withRule
   with-rule-valid k z h m = next-rule-valid g v (openedRule k z) (opened-valid k z h) m
@@ -30,15 +27,21 @@ module _ (g : Grammar) (v : validGrammar g ≡ true) where
   with-place-valid s m h u =
       last-rule-valid g v (placedRule (openRule g) s) (placed-valid (openRule g) s (valid-each g v (g .count - 1) (omega arith)) h u) m
 
-pub valid-invariant : Invariant (λ g. validGrammar g ≡ true)
-unfolding validGrammar all
-valid-invariant = record { zero = refl; start = with-start-valid; rule = with-rule-valid; place = with-place-valid }
+module _ (bytes : List ℕ) where
+  pub valid-invariant : Invariant bytes (λ at g. validGrammar g ≡ true)
+  unfolding validGrammar all withStart
+  valid-invariant = record {
+    zero = refl;
+    start = λ at g v e h. set-start-valid g v (operand bytes at 0) h;
+    rule = λ at g v h m. with-rule-valid g v (operand bytes at 0) _ h m;
+    place = λ at g v s e u m h. with-place-valid g v s m h u;
+  }
 
-pub size-invariant : Invariant (λ g. length (g .rules) ≡ maxRules)
-unfolding withStart withRule withPlace
-size-invariant = record {
-  zero = refl;
-  start = λ g z k h. z;
-  rule = λ g z k l h m. set-rule-size g (g .count) (openedRule k l) ∙ z;
-  place = λ g z s m h u. set-rule-size g (g .count - 1) (placedRule (openRule g) s) ∙ z;
-}
+  pub size-invariant : Invariant bytes (λ at g. length (g .rules) ≡ maxRules)
+  unfolding withStart withRule withPlace
+  size-invariant = record {
+    zero = refl;
+    start = λ at g z e h. z;
+    rule = λ at g z h m. set-rule-size g (g .count) (openedRule (operand bytes at 0) _) ∙ z;
+    place = λ at g z s e u m h. set-rule-size g (g .count - 1) (placedRule (openRule g) s) ∙ z;
+  }

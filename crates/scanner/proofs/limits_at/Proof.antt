@@ -6,7 +6,7 @@ use Rattle.scanner.proofs.limits_at.Tie as tie
 
 pub limits-at-spec : {M : Type 1} → statement M
 limits-at-spec = tie.close (tie.spec
-    (λ c. omega arith) (λ c. omega arith) (λ c. omega arith) (λ c κs. omega arith) (λ c. omega arith) (λ c κs. omega arith)
-    (λ c κs. omega arith) (λ c. omega arith) (λ c κs. omega arith) (λ c. omega arith) (λ c κs. omega arith) (λ c. omega arith)
-    (λ c. omega arith) (λ c κs. omega arith) (λ c. search start-passed) (λ c. search rule-passed) (λ c. search nonterminal-passed)
-    (λ c. search terminal-passed) (λ c. search end-passed))
+    (λ c. omega arith) (λ c. omega arith) (λ c κs. omega arith) (λ c κs. omega arith) (λ c κs. omega arith) (λ c. omega arith)
+    (λ c κs. omega arith) (λ c. omega arith) (λ c κs. omega arith) (λ c. omega arith) (λ c. omega arith) (λ c κs. omega arith)
+    (λ c. search start-passed) (λ c. search rule-passed) (λ c. search nonterminal-passed) (λ c. search terminal-passed)
+    (λ c. search end-passed))
