@@ -44,7 +44,8 @@ module _ {A B : Type 0} (refuse : A → B) (go : Unit {0} → B) where
   decide-agree (agree-passed p q a) = rw (p, q) (decide-agree a)
   decide-agree (agree-same {l} {m} c a) = by (c .fails) (decide-agree a)
     where
-      by : (b : Bool) → decide l refuse go ≡ decide m refuse go → _≡_ {A = B} (elim b [ true ↦ refuse (c .refusal) | false ↦ decide l refuse go ])
+      by : (b : Bool) → decide l refuse go ≡ decide m refuse go
+          → _≡_ {A = B} (elim b [ true ↦ refuse (c .refusal) | false ↦ decide l refuse go ])
           (elim b [ true ↦ refuse (c .refusal) | false ↦ decide m refuse go ])
       by true e = refl
       by false e = e

@@ -161,7 +161,8 @@ module _ {bytes : List ℕ} {P : ℕ → Grammar → Type 0} (I : Invariant byte
     step-holds = step-cases bytes at g Kept (λ f. tt)
         (λ e L. two _ (I .start at g H (omega (arith, ltb-false 0 at (L .turn))) (L .nonterminal refl)))
         (λ e L. four _ (I .rule at g H (L .nonterminal refl) (omega (arith, L .rules refl))))
-        (λ e L. placed (Nonterminal (operand bytes at 0)) refl (le-leb (operand bytes at 0) 31 (L .nonterminal refl)) (L .turn) (L .places refl))
+        (λ e L. placed (Nonterminal (operand bytes at 0)) refl (le-leb (operand bytes at 0) 31 (L .nonterminal refl)) (L .turn)
+        (L .places refl))
         (λ e L. placed (Terminal (operand bytes at 0)) refl refl (L .turn) (L .places refl))
         (λ e L. tt)
 
