@@ -26,8 +26,8 @@ pub struct Written {
     pub all: bool,
 }
 
-// Hands the bytes to the write that come in the text of book and plate after so many others: the contract says that they are these, so
-// nothing else is ever written. Where they can't be written, standard error says so.
+// Hands bytes to the write: those that come in the text of book and plate after so many others, and no others, as the `requires` says.
+// Book and plate are there for that alone. Where the bytes can't be written, standard error says so.
 fn write(book: &[u8], plate: &[u8], before: usize, bytes: &[u8]) -> Written
     requires { ⌜ (before ≤ maxText) × (length (now bytes) ≤ pageSize) × Next (now book) (now plate) before (now bytes) ⌝ }
     ensures { λ r. ⌜ r .bytes ≡ before + length (now (bytes .entry)) ⌝ }
