@@ -19,27 +19,10 @@ Inv-loop book plate p lengths fits chart tables buf₀ out₀ then₀ bytes₀ l
 abbrev μ-loop : tie.MeasureT-loop
 μ-loop book plate p lengths fits chart tables buf₀ out₀ then₀ bytes₀ left₀ buf out then bytes left = left
 
-loop-holds : tie.Need-loop-holds Inv-loop μ-loop
-loop-holds c = (search going-first, search needs)
-
-write-requires : tie.Need-write-requires Inv-loop μ-loop
-write-requires c κs = (omega arith, search part-small, search (going-next, some-due))
-
-returns : tie.Need-returns Inv-loop μ-loop
-returns c = search handed-failed
-
-loop-again : tie.Need-loop-again Inv-loop μ-loop
-loop-again c = (search (going-page, some-due), omega arith)
-
-returns-2 : tie.Need-returns-2 Inv-loop μ-loop
-returns-2 c = search (handed-done, none-due)
-
-returns-3 : tie.Need-returns-3 Inv-loop μ-loop
-returns-3 c = search handed-down
-
 pub write-pages-spec : {M : Type 1} → statement M
 write-pages-spec = tie.close (tie.spec
-    Inv-loop μ-loop loop-holds (λ c κs. search needs) (λ c. omega arith)
-    (λ c κs. (search needs, omega arith, omega arith, omega arith, omega arith))
-    (λ c. omega arith) (λ c. search part-long) write-requires (λ c. omega arith) returns (λ c. omega arith) (λ c. omega arith) loop-again
-    (λ c. omega arith) returns-2 (λ c. omega arith) returns-3)
+    Inv-loop μ-loop (λ c. (search going-first, search needs)) (λ c κs. search needs) (λ c. omega arith)
+    (λ c κs. (search needs, omega arith, omega arith, omega arith, omega arith)) (λ c. omega arith) (λ c. search part-long)
+    (λ c κs. (omega arith, search part-small, search (going-next, some-due))) (λ c. omega arith) (λ c. search handed-failed)
+    (λ c. omega arith) (λ c. omega arith) (λ c. (search (going-page, some-due), omega arith)) (λ c. omega arith)
+    (λ c. search (handed-done, none-due)) (λ c. omega arith) (λ c. search handed-down))
