@@ -38,8 +38,8 @@
 -- list/src/main.rt promises that none is left out, unless a write fails. So every byte handed to the write is proved, in its order; that
 -- the write writes it is run.
 --
--- `tools/trace-check` reads the table above and fails if a call lacks its equality or has a `requires`; README's table of the calls is held
--- to this file by it too. With the last three, demand-3 is a claim about the code's first, next and count.
+-- `tools/trace-check` reads the table above and fails if a call lacks its equality or has a `requires`; the table of the calls in
+-- docs/TOUR.md is held to this file by it too. With the last three, demand-3 is a claim about the code's first, next and count.
 -- Assumes nothing.
 use Prim.Native.Nat.{ℕ, suc, _+_, _-_, _≤_, _<_}
 use mathlib.Core.Bool.{true, false}
