@@ -8,7 +8,7 @@ import subprocess
 TOP = os.path.join(os.path.dirname(os.path.abspath(__file__)), "..")
 THEOREMS = "crates/theorems/proofs/Theorems.antt"
 # the functions that the listing program calls
-PROGRAM = [("lister", "begin"), ("pages", "fill_page"), ("output", "write_pages")]
+PROGRAM = [("print_begin", "begin"), ("print_page", "fill_page"), ("print_write", "write_pages")]
 
 
 def git(*arguments):

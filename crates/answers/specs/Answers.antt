@@ -15,9 +15,9 @@ use Rattle.answers.specs.declared.Counted.the-variants as Counts
 use Rattle.answers.specs.Number.{numberOf}
 
 -- loading: the number of the refusal and its offset, or loaded
-abbrev pub answerOf : Outcome → LoadAnswer
-answerOf Outcomes.Accepted = loaded
-answerOf (Outcomes.Refused r at) = refusedAt (numberOf r) at
+abbrev pub outcomeOf : Outcome → LoadAnswer
+outcomeOf Outcomes.Accepted = loaded
+outcomeOf (Outcomes.Refused r at) = refusedAt (numberOf r) at
 
 -- opening, taking, check and same build: yes or no
 abbrev pub verdictOf : Verdict → Answer Bool

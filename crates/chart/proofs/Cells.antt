@@ -10,7 +10,7 @@ use lib.ListN.{length, getD, drop}
 use lib.Seq.{getD-drop}
 use borrow.Author.Tests.{lt-ltb, le-ltb}
 use Rattle.cfg.specs.Grammar.{Cfg, Terminal}
-use Rattle.chart.specs.Cell.{cell, derived}
+use Rattle.chart.specs.Cell.{Fit, cell, derived}
 use Rattle.chart.specs.Column.{seen, times, least, column}
 use Rattle.chart.proofs.Cut.{cuts-cong}
 use Rattle.chart.proofs.Derived.{derived-cong, derived-lt, Bounded, bounded-at}
@@ -29,7 +29,7 @@ module _ (chart : List ℕ) (n i : ℕ) (later : List ℕ) (own a b : ℕ) where
 -- ---- one round
 
 -- one round of the rules at cell (i, n), for its own set
-unfoldable pub round : Cfg → (ℕ → Terminal → Bool) → List ℕ → ℕ → ℕ → List ℕ → ℕ → ℕ
+unfoldable pub round : Cfg → Fit → List ℕ → ℕ → ℕ → List ℕ → ℕ → ℕ
 round G fit chart n i later own = derived fit (seen chart n i later own) (G .rules) i n
 
 -- ---- the column

@@ -8,7 +8,7 @@ use native.Mathlib.Decide.{decLt, ℕ-discrete}
 use native.Mathlib.Omega.{arith}
 use Rattle.sets.specs.Set.{has}
 use Rattle.cfg.specs.Grammar.{Cfg, Terminal, Of}
-use Rattle.chart.specs.Cell.{cell}
+use Rattle.chart.specs.Cell.{Fit, cell}
 use Rattle.chart.specs.Column.{seen, times, column}
 use Rattle.chart.proofs.Cut.{Cut, InSets, cut-mono, cuts→cut, cut→cuts}
 use Rattle.chart.proofs.Derived.{Bounded, derived-by, by-derived}
@@ -20,7 +20,7 @@ abbrev pub Piece : List ℕ → ℕ → (ℕ → ℕ → Type 0) → ℕ → ℕ
 Piece chart n P k a b = (b < n → has k (cell chart a b) ≡ true) × (n ≤ b → P k a)
 
 -- the cells of column n that P describes are closed under the rules
-abbrev pub ClosedBy : Cfg → (ℕ → Terminal → Bool) → List ℕ → ℕ → (ℕ → ℕ → Type 0) → Type 0
+abbrev pub ClosedBy : Cfg → Fit → List ℕ → ℕ → (ℕ → ℕ → Type 0) → Type 0
 ClosedBy G fit chart n P = (i r k : ℕ) → i ≤ n → (o : Of G r k) → Cut fit (Piece chart n P) n (o .the .places) i → P k i
 
 module _ (G : Cfg) (fit : ℕ → Terminal → Bool) (chart : List ℕ) (n : ℕ) where

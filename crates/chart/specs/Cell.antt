@@ -17,12 +17,16 @@ index i j = side * i + j
 abbrev pub cell : List ℕ → ℕ → ℕ → ℕ
 cell chart i j = getD chart (index i j) 0
 
+-- which terminals fit the byte at a position
+abbrev pub Fit : Type 0
+Fit = ℕ → Terminal → Bool
+
 -- whether the byte at position i of the input fits a terminal: the only reading of the input
 unfoldable pub fitsAt : List ℕ → ℕ → Terminal → Bool
 fitsAt w i t = ltb i (length w) && fits t (getD w i 0)
 
 -- whether a symbol covers the span from a to b: a terminal one byte that fits, a nonterminal where the cell has it
-unfoldable pub piece : (ℕ → Terminal → Bool) → (ℕ → ℕ → ℕ) → Symbol → ℕ → ℕ → Bool
+unfoldable pub piece : Fit → (ℕ → ℕ → ℕ) → Symbol → ℕ → ℕ → Bool
 piece fit sets (nonterminal k) a b = has k (sets a b)
 piece fit sets (terminal t) a b = eqb b (suc a) && fit a t
 
@@ -32,13 +36,13 @@ someFrom a zero test = test a
 someFrom a (suc n) test = test a || someFrom (suc a) n test
 
 -- whether the places cut the span from a to n into pieces, one for each place; the rest is looked at only where the first piece is one
-unfoldable pub cuts : (ℕ → Terminal → Bool) → (ℕ → ℕ → ℕ) → List Symbol → ℕ → ℕ → Bool
+unfoldable pub cuts : Fit → (ℕ → ℕ → ℕ) → List Symbol → ℕ → ℕ → Bool
 cuts fit sets [] a n = eqb a n
 cuts fit sets (s ∷ places) a n =
     someFrom a (n - a) (λ b. elim (piece fit sets s a b) [ true ↦ cuts fit sets places b n | false ↦ false ])
 
 -- the set of the left sides of those rules whose places cut the span from a to n
-unfoldable pub derived : (ℕ → Terminal → Bool) → (ℕ → ℕ → ℕ) → List (Option Rule) → ℕ → ℕ → ℕ
+unfoldable pub derived : Fit → (ℕ → ℕ → ℕ) → List (Option Rule) → ℕ → ℕ → ℕ
 derived fit sets [] a n = 0
 derived fit sets (none ∷ rules) a n = derived fit sets rules a n
 derived fit sets (some ρ ∷ rules) a n =

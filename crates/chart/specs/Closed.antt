@@ -7,13 +7,13 @@ use mathlib.Core.Path.{_≡_}
 use lib.Dec.{ltb}
 use Rattle.sets.specs.Set.{has}
 use Rattle.cfg.specs.Grammar.{Cfg, Terminal, Of}
-use Rattle.chart.specs.Cell.{cell, cuts}
+use Rattle.chart.specs.Cell.{Fit, cell, cuts}
 
 -- earlier columns as found, column n given by f
 unfoldable pub joint : List ℕ → ℕ → (ℕ → ℕ) → ℕ → ℕ → ℕ
 joint chart n f a b = elim (ltb b n) [ true ↦ cell chart a b | false ↦ f a ]
 
 -- a nonterminal is in cell (i, n) whenever one of its rules cuts the span into pieces, each a fitting byte or a nonterminal in its cell
-abbrev pub Closed : Cfg → (ℕ → Terminal → Bool) → List ℕ → ℕ → (ℕ → ℕ) → Type 0
+abbrev pub Closed : Cfg → Fit → List ℕ → ℕ → (ℕ → ℕ) → Type 0
 Closed G fit chart n f =
     (i r k : ℕ) → i ≤ n → (o : Of G r k) → cuts fit (joint chart n f) (o .the .places) i n ≡ true → has k (f i) ≡ true

@@ -7,7 +7,7 @@ use lib.ListN.{length, getD, drop, set, replicate}
 use Rattle.sets.specs.Set.{has}
 use Rattle.cfg.specs.Grammar.{Cfg, Terminal}
 use Rattle.sizes.specs.Sizes.{cells}
-use Rattle.chart.specs.Cell.{cell, index, derived, fitsAt}
+use Rattle.chart.specs.Cell.{Fit, cell, index, derived, fitsAt}
 
 -- the sets seen from cell (i, n): its own; those of the later starts of column n; and those of earlier columns as found
 unfoldable pub seen : List ℕ → ℕ → ℕ → List ℕ → ℕ → ℕ → ℕ → ℕ
@@ -19,11 +19,11 @@ times zero step v = v
 times (suc n) step v = step (times n step v)
 
 -- cell (i, n): the least set closed under the rules. A round that adds nothing is the last that could, and there are 32 nonterminals
-unfoldable pub least : Cfg → (ℕ → Terminal → Bool) → List ℕ → ℕ → ℕ → List ℕ → ℕ
+unfoldable pub least : Cfg → Fit → List ℕ → ℕ → ℕ → List ℕ → ℕ
 least G fit chart n i later = times 32 (λ own. derived fit (seen chart n i later own) (G .rules) i n) 0
 
 -- the last m cells of column n, those of the later starts first made: (n - m + 1, n) to (n, n)
-unfoldable pub column : Cfg → (ℕ → Terminal → Bool) → List ℕ → ℕ → ℕ → List ℕ
+unfoldable pub column : Cfg → Fit → List ℕ → ℕ → ℕ → List ℕ
 column G fit chart n zero = []
 column G fit chart n (suc m) = let later = column G fit chart n m in least G fit chart n (n - m) later ∷ later
 
@@ -33,7 +33,7 @@ putColumn chart n i [] = chart
 putColumn chart n i (v ∷ vs) = putColumn (set chart (index i n) v) n (suc i) vs
 
 -- the chart after its column n is written, for an input of which the first n bytes are known
-unfoldable pub written : Cfg → (ℕ → Terminal → Bool) → ℕ → List ℕ → List ℕ
+unfoldable pub written : Cfg → Fit → ℕ → List ℕ → List ℕ
 written G fit n chart = putColumn chart n 0 (column G fit chart n (suc n))
 
 -- opening: all cells are zero, but (0, 0), which has what derives the empty span; what lies behind the cells stays

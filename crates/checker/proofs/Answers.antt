@@ -14,28 +14,28 @@ use Rattle.sizes.specs.Sizes.{outputSize}
 use Rattle.cfg.specs.Grammar.{rule}
 use Rattle.cfg.specs.Derivation.{limit}
 use Rattle.cfg.specs.Listing.{L}
-use Rattle.listing.proofs.Exact.{derivation-length}
+use Rattle.theory_listing.proofs.Exact.{derivation-length}
 use Rattle.chart.specs.Column.{filled}
 use Rattle.grammar.specs.declared.Grammar.{Grammar}
 use Rattle.grammar.specs.View.{grammarOf}
 use Rattle.answers.specs.declared.Refusal.{Refusal}
 use Rattle.answers.specs.Number.{numberOf}
 use Rattle.packed.specs.Packed.{cfgIn}
-use Rattle.prepare.specs.declared.Judged.{Judged}
-use Rattle.prepare.specs.declared.Judged.the-variants.{Passed, Refused}
-use Rattle.prepare.specs.Given.{checkingOf}
-use Rattle.prepare.specs.Judging.{Judging}
-use Rattle.prepare.proofs.Deciding.{call-refused, call-passed}
-use Rattle.prepare.proofs.Packing.{list-packed}
+use Rattle.fill_input.specs.declared.Judged.{Judged}
+use Rattle.fill_input.specs.declared.Judged.the-variants.{Passed, Refused}
+use Rattle.fill_input.specs.Given.{checkingOf}
+use Rattle.fill_input.specs.Judging.{Judging}
+use Rattle.fill_input.proofs.Deciding.{call-refused, call-passed}
+use Rattle.fill_input.proofs.Packing.{list-packed}
 use Rattle.results.specs.Answer.{Answer, refused, answered, check, decide}
 use Rattle.results.specs.Check.{listed, checkIn, checkOf}
 use Rattle.results.specs.Measure.{sum, rounded, unlisted, lengthIn, lengthOf, rulesUsed, sameBag, sameBuildIn, sameBuildOf}
 use Rattle.checker.specs.Build.{Low}
-use Rattle.measure.specs.Measure.{lengthOfRule, lengthsIn}
+use Rattle.check_length.specs.Measure.{lengthOfRule, lengthsIn}
 use Rattle.checker.specs.Calls.{checkAnswer, lengthAnswer, buildAnswer}
-use Rattle.derivation.proofs.Whole.{listed-derivation}
+use Rattle.check_walk.proofs.Whole.{listed-derivation}
 use Rattle.checker.proofs.Bags.{derivation-low}
-use Rattle.measure.proofs.Lengths.{sum-row}
+use Rattle.check_length.proofs.Lengths.{sum-row}
 
 -- ---- a row that `is_derivation` affirms
 

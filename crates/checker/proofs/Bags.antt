@@ -18,7 +18,7 @@ use Rattle.packed.specs.Packed.{cfgIn}
 use Rattle.packed.proofs.Laws.{of-in}
 use Rattle.results.specs.Measure.{rulesUsed, occurrences, sameBag}
 use Rattle.checker.specs.Build.{Tallied, Low}
-use Rattle.preorder.proofs.Nodes.{code-first}
+use Rattle.check_walk.proofs.Nodes.{code-first}
 
 -- ---- the test `all`
 

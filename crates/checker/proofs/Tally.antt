@@ -14,7 +14,7 @@ use Rattle.sizes.specs.Sizes.{maxRules}
 use Rattle.laws.proofs.Lists.{zeros-at}
 use Rattle.results.specs.Measure.{rulesUsed, occurrences}
 use Rattle.checker.specs.Build.{usedAt, Tallied}
-use Rattle.preorder.proofs.Nodes.{at-two}
+use Rattle.check_walk.proofs.Nodes.{at-two}
 
 -- ---- the rule of a node, by the tests of `used`
 

@@ -1,6 +1,6 @@
 // Whether two derivations are the same build: the rules of the nodes that cover something agree as a bag.
-use preorder::offered::number;
-use preorder::offered::rule_number;
+use check_walk::offered::number;
+use check_walk::offered::rule_number;
 ghost use mathlib.Core.Path.{_≡_};
 ghost use Prim.Native.Nat.{_*_, _+_, _<_, _≤_};
 ghost use lib.ListN.{length};

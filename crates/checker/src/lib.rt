@@ -2,21 +2,21 @@
 use answers::Measured;
 use answers::Refusal;
 use answers::Verdict;
-use derivation::is_derivation;
+use check_walk::derivation::is_derivation;
+use fill_input::Judged;
 use grammar::Grammar;
 use numbers::wide_byte;
 use packed::Packed;
-use prepare::Judged;
 ghost use mathlib.Core.Path.{_≡_};
 ghost use lib.ListN.{length};
 ghost use Rattle.sizes.specs.Sizes.{maxRules};
 ghost use Rattle.cfg.specs.Listing.{L};
 ghost use Rattle.packed.specs.Packed.{cfgIn};
-ghost use Rattle.prepare.specs.Given.{checkingOf};
+ghost use Rattle.fill_input.specs.Given.{checkingOf};
 ghost use Rattle.answers.specs.Answers.{verdictOf, measuredOf};
 ghost use Rattle.results.specs.Check.{checkOf};
 ghost use Rattle.results.specs.Measure.{lengthOf, sameBuildOf};
-ghost use Rattle.measure.specs.Measure.{lengthsIn};
+ghost use Rattle.check_length.specs.Measure.{lengthsIn};
 ghost use Rattle.checker.specs.Calls.{checkAnswer, lengthAnswer, buildAnswer};
 
 mod build;
@@ -39,7 +39,7 @@ fn measure_offered(l: &[i16], p: &Packed, start: usize, input: &[u8], offered: &
         ≡ lengthAnswer (lengthsIn (now (l .entry))) (L (cfgIn start (now (p .entry))) (now (input .entry))) (now (offered .entry)) ⌝ }
 {
     if is_derivation(p, start, input, offered) {
-        Measured::Tenths(measure::tenths(l, offered))
+        Measured::Tenths(check_length::tenths(l, offered))
     } else {
         Measured::Refused(Refusal::NotADerivation)
     }
@@ -70,10 +70,10 @@ pub fn check(g: Grammar, input: &[u8], offered: &[u16], chart: &mut [u32]) -> Ve
     ensures { λ r. ⌜ checkingOf (verdictOf r) (now (chart .exit))
         ≡ checkOf g (now (input .entry)) (now (offered .entry)) (now (chart .entry)) ⌝ }
 {
-    match prepare::judge(g, input.len(), chart.len()) {
+    match fill_input::judge(g, input.len(), chart.len()) {
         Judged::Refused(r) => Verdict::Refused(r),
         Judged::Passed => {
-            let p = prepare::fill(g, input, chart);
+            let p = fill_input::fill(g, input, chart);
             check_offered(&p, wide_byte(g.start), input, offered)
         }
     }
@@ -84,11 +84,11 @@ pub fn length(g: Grammar, input: &[u8], offered: &[u16], chart: &mut [u32]) -> M
     ensures { λ r. ⌜ checkingOf (measuredOf r) (now (chart .exit))
         ≡ lengthOf g (now (input .entry)) (now (offered .entry)) (now (chart .entry)) ⌝ }
 {
-    match prepare::judge(g, input.len(), chart.len()) {
+    match fill_input::judge(g, input.len(), chart.len()) {
         Judged::Refused(r) => Measured::Refused(r),
         Judged::Passed => {
-            let p = prepare::fill(g, input, chart);
-            let lengths = measure::lengths_of(g);
+            let p = fill_input::fill(g, input, chart);
+            let lengths = check_length::lengths_of(g);
             measure_offered(&lengths, &p, wide_byte(g.start), input, offered)
         }
     }
@@ -99,10 +99,10 @@ pub fn same_build(g: Grammar, input: &[u8], a: &[u16], b: &[u16], chart: &mut [u
     ensures { λ r. ⌜ checkingOf (verdictOf r) (now (chart .exit))
         ≡ sameBuildOf g (now (input .entry)) (now (a .entry)) (now (b .entry)) (now (chart .entry)) ⌝ }
 {
-    match prepare::judge(g, input.len(), chart.len()) {
+    match fill_input::judge(g, input.len(), chart.len()) {
         Judged::Refused(r) => Verdict::Refused(r),
         Judged::Passed => {
-            let p = prepare::fill(g, input, chart);
+            let p = fill_input::fill(g, input, chart);
             compare_offered(&p, wide_byte(g.start), input, a, b)
         }
     }

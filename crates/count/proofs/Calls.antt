@@ -5,25 +5,25 @@ use mathlib.Core.Path.{_≡_, ap₂, _∙_}
 use lib.ListN.{length}
 use Rattle.sizes.specs.Sizes.{maxInput, cells}
 use Rattle.chart.specs.Column.{complete}
-use Rattle.costs.specs.Span.{bytesOf}
-use Rattle.fit.specs.Fit.{Told}
+use Rattle.theory_costs.specs.Span.{bytesOf}
+use Rattle.packed_fit.specs.Fit.{Told}
 use Rattle.grammar.specs.declared.Grammar.{Grammar}
 use Rattle.grammar.specs.View.{grammarOf}
 use Rattle.answers.specs.declared.Refusal.{Refusal}
 use Rattle.answers.specs.Number.{numberOf}
 use Rattle.packed.specs.Packed.{cfgIn}
-use Rattle.prepare.specs.declared.Judged.{Judged}
-use Rattle.prepare.specs.declared.Judged.the-variants.{Passed, Refused}
-use Rattle.prepare.specs.Given.{checkingOf}
-use Rattle.prepare.specs.Judging.{Judging}
-use Rattle.prepare.proofs.Deciding.{call-refused, call-passed}
-use Rattle.prepare.proofs.Judging.{judged-ready}
-use Rattle.prepare.proofs.Packing.{list-packed}
+use Rattle.fill_input.specs.declared.Judged.{Judged}
+use Rattle.fill_input.specs.declared.Judged.the-variants.{Passed, Refused}
+use Rattle.fill_input.specs.Given.{checkingOf}
+use Rattle.fill_input.specs.Judging.{Judging}
+use Rattle.fill_input.proofs.Deciding.{call-refused, call-passed}
+use Rattle.fill_input.proofs.Judging.{judged-ready}
+use Rattle.fill_input.proofs.Packing.{list-packed}
 use Rattle.results.specs.Answer.{Answer, Figure, refused}
 use Rattle.results.specs.Enumerate.{treeIn, countIn, countOf}
-use Rattle.tables.specs.Exact.{ChartTrue}
+use Rattle.table_layout.specs.Exact.{ChartTrue}
 use Rattle.first.proofs.Chart.{Filling, filled-chart}
-use Rattle.counting.specs.Answer.{countOr, countFilled}
+use Rattle.count_made.specs.Answer.{countOr, countFilled}
 
 module _ (g : Grammar) (w chart : List ℕ) (j : Judged) (judging : Judging g (length w) (length chart) j) where
   pub count-refused : (r : Refusal) → j ≡ Refused r → checkingOf (refused (numberOf r)) chart ≡ countOf g w chart

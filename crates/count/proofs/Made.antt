@@ -12,19 +12,19 @@ use Rattle.sets.specs.Set.{has}
 use Rattle.cfg.specs.Listing.{L}
 use Rattle.chart.specs.Cell.{cell}
 use Rattle.chart.specs.Column.{complete}
-use Rattle.costs.specs.Span.{bytesOf}
-use Rattle.descend.specs.Descend.{Given}
+use Rattle.theory_costs.specs.Span.{bytesOf}
+use Rattle.tree_first.specs.Descend.{InputGiven}
 use Rattle.packed.specs.Packed.{cfgIn}
 use Rattle.results.specs.Answer.{Answer, Figure, refused, answered, counted}
 use Rattle.results.specs.Enumerate.{figure}
-use Rattle.tables.specs.Layout.{costIn}
-use Rattle.tables.specs.Exact.{ChartTrue}
-use Rattle.initial.specs.Written.{FirstWritten}
-use Rattle.initial.proofs.Root.{empty-incomplete}
-use Rattle.initial.proofs.Writing.{empty-larger}
-use Rattle.counting.specs.Answer.{countOr, countTree, countFilled}
-use Rattle.counting.specs.Made.{CountedOn, CountedMade}
-use Rattle.counting.proofs.Handed.{handed-first}
+use Rattle.table_layout.specs.Layout.{costIn}
+use Rattle.table_layout.specs.Exact.{ChartTrue}
+use Rattle.first_made.specs.Written.{FirstWritten}
+use Rattle.first_made.proofs.Root.{empty-incomplete}
+use Rattle.first_made.proofs.Writing.{empty-larger}
+use Rattle.count_made.specs.Answer.{countOr, countTree, countFilled}
+use Rattle.count_made.specs.Made.{CountedOn, CountedMade}
+use Rattle.count_made.proofs.Handed.{handed-first}
 
 -- ---- over tables that are made
 
@@ -55,7 +55,7 @@ module _ (p : List ℕ) (rules : ℕ) (fits chart tables : List ℕ) (s n : ℕ)
 -- ---- the tables of an input are right for it
 
 pub made-tree : (p w : List ℕ) (s rules : ℕ) (fits chart tables : List ℕ) (a : Answer Figure)
-    → (rules ≤ maxRules) × Given p rules fits chart tables w → CountedMade p rules fits chart tables s (length w) a
+    → (rules ≤ maxRules) × InputGiven p rules fits chart tables w → CountedMade p rules fits chart tables s (length w) a
     → a ≡ countTree (L (cfgIn s p) w)
 made-tree p w s rules fits chart tables a (few, given) M = M .exact w refl given
 

@@ -1,32 +1,32 @@
 // How many derivations (readings) an input has.
 use answers::Counted;
 use answers::Refusal;
-use counting::count_on;
-use fit::FitTable;
+use count_made::count_on;
+use fill_input::Judged;
+use first_made::build;
+use first_made::exists;
+use first_made::write_first;
 use grammar::Grammar;
-use initial::build;
-use initial::exists;
-use initial::write_first;
-use nodes::Root;
 use numbers::wide_byte;
 use packed::Packed;
-use prepare::Judged;
-use tables::layout::TABLES_SIZE;
-use tables::layout::Tables;
+use packed_fit::FitTable;
+use table_layout::layout::TABLES_SIZE;
+use table_layout::layout::Tables;
+use tree_node::Root;
 ghost use mathlib.Core.Path.{_≡_};
 ghost use Prim.Native.Nat.{_<_, _≤_};
 ghost use lib.ListN.{length};
 ghost use Rattle.cfg.specs.Listing.{L};
-ghost use Rattle.costs.specs.Span.{bytesOf};
-ghost use Rattle.fit.specs.Fit.{Told};
+ghost use Rattle.theory_costs.specs.Span.{bytesOf};
+ghost use Rattle.packed_fit.specs.Fit.{Told};
 ghost use Rattle.packed.specs.Packed.{cfgIn};
-ghost use Rattle.prepare.specs.Given.{checkingOf};
+ghost use Rattle.fill_input.specs.Given.{checkingOf};
 ghost use Rattle.results.specs.Enumerate.{countOf};
 ghost use Rattle.sizes.specs.Sizes.{maxRules, maxInput, side, cells};
-ghost use Rattle.tables.specs.Exact.{ChartTrue};
+ghost use Rattle.table_layout.specs.Exact.{ChartTrue};
 ghost use Rattle.answers.specs.Answers.{countedOf};
-ghost use Rattle.counting.specs.Answer.{countTree, countFilled};
-ghost use Rattle.counting.specs.Made.{CountedMade};
+ghost use Rattle.count_made.specs.Answer.{countTree, countFilled};
+ghost use Rattle.count_made.specs.Made.{CountedMade};
 
 // Counts the derivations over tables that are made, or refuses with 13. The buffer is this function's own.
 fn count_made(p: &Packed, fits: &FitTable, chart: &[u32], tables: &Tables, root: Root) -> Counted
@@ -62,7 +62,7 @@ fn count_filled(p: &Packed, start: usize, input: &[u8], fits: &FitTable, chart: 
         × Told (now p) (now input) (now fits) × ChartTrue (now p) (bytesOf (now input)) (now chart) (length (now input)) ⌝ }
     ensures { λ a. ⌜ countedOf a ≡ countFilled (cfgIn start (now (p .entry))) (now (input .entry)) (now (chart .entry)) ⌝ }
 {
-    if columns::complete(start, input.len(), chart) {
+    if fill_columns::complete(start, input.len(), chart) {
         count_tree(p, start, input, fits, chart)
     } else {
         Counted::Exactly(0)
@@ -75,11 +75,11 @@ fn count_filled(p: &Packed, start: usize, input: &[u8], fits: &FitTable, chart: 
 pub fn count(g: Grammar, input: &[u8], chart: &mut [u32]) -> Counted
     ensures { λ a. ⌜ checkingOf (countedOf a) (now (chart .exit)) ≡ countOf g (now (input .entry)) (now (chart .entry)) ⌝ }
 {
-    match prepare::judge(g, input.len(), chart.len()) {
+    match fill_input::judge(g, input.len(), chart.len()) {
         Judged::Refused(r) => Counted::Refused(r),
         Judged::Passed => {
-            let mut fits = [0u8; fit::FIT_SIZE];
-            let p = prepare::fill_fits(g, input, &mut fits, chart);
+            let mut fits = [0u8; packed_fit::FIT_SIZE];
+            let p = fill_input::fill_fits(g, input, &mut fits, chart);
             count_filled(&p, wide_byte(g.start), input, &fits, chart)
         }
     }

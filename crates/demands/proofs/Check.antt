@@ -10,7 +10,7 @@ use Rattle.cfg.specs.Derivation.{Derivation, limit}
 use Rattle.cfg.specs.Listing.{L}
 use Rattle.grammar.specs.declared.Grammar.{Grammar}
 use Rattle.grammar.specs.View.{grammarOf}
-use Rattle.listing.proofs.Exact.{listed→derivation, derivation→listed}
+use Rattle.theory_listing.proofs.Exact.{listed→derivation, derivation→listed}
 use Rattle.results.specs.Answer.{answered}
 use Rattle.results.specs.Check.{Checking, listed, checkIn, checkOf}
 use Rattle.results.specs.Ready.{Ready}

@@ -9,7 +9,7 @@ use Rattle.laws.proofs.Lists.{no-member}
 use Rattle.cfg.specs.Grammar.{Cfg}
 use Rattle.cfg.specs.Derivation.{Derivation, limit}
 use Rattle.cfg.specs.Listing.{L}
-use Rattle.listing.proofs.Exact.{listed→derivation, derivation→listed}
+use Rattle.theory_listing.proofs.Exact.{listed→derivation, derivation→listed}
 use Rattle.grammar.specs.declared.Grammar.{Grammar}
 use Rattle.grammar.specs.View.{grammarOf}
 use Rattle.results.specs.Check.{listed}

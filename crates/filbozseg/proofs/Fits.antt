@@ -10,7 +10,7 @@ use lib.ListN.{length, getD, length-set}
 use lib.Signed.{mag}
 use borrow.Author.Tests.{ltb-true, ltb-false}
 use Rattle.sizes.specs.Sizes.{maxRules, maxPlaces}
-use Rattle.rows.specs.Fits.{DeclaredRule, Fits16}
+use Rattle.c_grammar.specs.Fits.{DeclaredRule, Fits16}
 use Rattle.grammar.specs.declared.Symbol.{Symbol}
 use Rattle.grammar.specs.declared.Place.{Place}
 use Rattle.grammar.specs.declared.Rule.{Rule}

@@ -7,22 +7,22 @@ use mathlib.Core.Path.{_≡_, refl, sym, ap, _∙_, subst}
 use lib.IntN.{ℤ}
 use lib.ListN.{getD}
 use Rattle.cfg.specs.Nullable.{Depth}
-use Rattle.rows.specs.Fits.{Fits16}
-use Rattle.rows.specs.Flat.{grammarIn, flatOf}
-use Rattle.rows.proofs.Round.{read-write}
+use Rattle.c_grammar.specs.Fits.{Fits16}
+use Rattle.c_grammar.specs.Flat.{grammarIn, flatOf}
+use Rattle.c_grammar.proofs.Round.{read-write}
 use Rattle.grammar.specs.declared.Grammar.{Grammar}
 use Rattle.grammar.specs.View.{wholeOf}
-use Rattle.answers.specs.Answers.{answerOf}
-use Rattle.hand.specs.Hand.{rowOf}
-use Rattle.loader.specs.declared.Loaded.{Loaded}
-use Rattle.loader.specs.Answer.{loadingOf}
+use Rattle.answers.specs.Answers.{outcomeOf}
+use Rattle.c_hand.specs.Hand.{rowOf}
+use Rattle.load.specs.declared.Loaded.{Loaded}
+use Rattle.load.specs.Answer.{loadingOf}
 use Rattle.results.specs.Answer.{Figure}
 use Rattle.results.specs.Check.{Checking}
 use Rattle.results.specs.Enumerate.{Enumeration}
 use Rattle.results.specs.Load.{Loading, loadOf}
 use Rattle.results.specs.Recognize.{State, Recognition}
-use Rattle.codes.specs.Code.{codeOf, leftOf, verdictCode, rowLeft, lengthCode, tenthsLeft, handingCode, nodesLeft, figureCode, figureLeft}
-use Rattle.codes.specs.Code.{loadCode, offsetLeft}
+use Rattle.c_answer.specs.Code.{codeOf, leftOf, verdictCode, rowLeft, lengthCode, tenthsLeft, handingCode, nodesLeft, figureCode, figureLeft}
+use Rattle.c_answer.specs.Code.{loadCode, offsetLeft}
 use Rattle.filbozseg.specs.Calls.{Loads, Opens, Takes, Checks, Measures, Hands, Counts}
 use Rattle.filbozseg.proofs.Fits.{load-fits}
 
@@ -37,7 +37,7 @@ module _ (book : List ℕ) (small : (i : ℕ) → getD book i 0 < 256) (l : Load
 
   -- the row of the grammar that was loaded
   row-loads : (found : ℕ)
-      → Loads book found (loadCode (answerOf (l .outcome))) (flatOf (l .grammar)) (offsetLeft (answerOf (l .outcome)) found)
+      → Loads book found (loadCode (outcomeOf (l .outcome))) (flatOf (l .grammar)) (offsetLeft (outcomeOf (l .outcome)) found)
   unfolding flatOf
   row-loads found = record {
     returned = ap (λ (x : Loading). loadCode (x .answer)) loads;
@@ -47,8 +47,8 @@ module _ (book : List ℕ) (small : (i : ℕ) → getD book i 0 < 256) (l : Load
     depth = subst (λ (g : Grammar). Depth (wholeOf g) (l .grammar .depth)) (sym read-back) D;
   }
 
-  pub loads-of : (found code offset : ℕ) (row : List ℕ) → row ≡ flatOf (l .grammar) → code ≡ loadCode (answerOf (l .outcome))
-      → offset ≡ offsetLeft (answerOf (l .outcome)) found → Loads book found code row offset
+  pub loads-of : (found code offset : ℕ) (row : List ℕ) → row ≡ flatOf (l .grammar) → code ≡ loadCode (outcomeOf (l .outcome))
+      → offset ≡ offsetLeft (outcomeOf (l .outcome)) found → Loads book found code row offset
   loads-of found code offset row e f k = rw (e, f, k) (row-loads found)
 
 -- ---- the other calls: f is the call, on the grammar h, which was read as g, and v is what it gave

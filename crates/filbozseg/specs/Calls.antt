@@ -7,16 +7,16 @@ use mathlib.Core.Path.{_≡_}
 use lib.IntN.{ℤ}
 use lib.ListN.{getD}
 use Rattle.cfg.specs.Nullable.{Depth}
-use Rattle.rows.specs.Flat.{grammarIn, flatOf}
+use Rattle.c_grammar.specs.Flat.{grammarIn, flatOf}
 use Rattle.grammar.specs.View.{wholeOf}
-use Rattle.hand.specs.Hand.{rowOf}
+use Rattle.c_hand.specs.Hand.{rowOf}
 use Rattle.results.specs.Answer.{Figure}
 use Rattle.results.specs.Check.{Checking}
 use Rattle.results.specs.Enumerate.{Enumeration}
 use Rattle.results.specs.Load.{loadOf}
 use Rattle.results.specs.Recognize.{Recognition}
-use Rattle.codes.specs.Code.{codeOf, leftOf, verdictCode, rowLeft, lengthCode, tenthsLeft, handingCode, nodesLeft, figureCode, figureLeft}
-use Rattle.codes.specs.Code.{loadCode, offsetLeft}
+use Rattle.c_answer.specs.Code.{codeOf, leftOf, verdictCode, rowLeft, lengthCode, tenthsLeft, handingCode, nodesLeft, figureCode, figureLeft}
+use Rattle.c_answer.specs.Code.{loadCode, offsetLeft}
 
 -- the nullable depth that stands in a row
 abbrev pub depthIn : List ℕ → ℕ

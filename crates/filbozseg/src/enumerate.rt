@@ -1,6 +1,6 @@
 // The functions of first, next and count that C and Rust link.
-use flat::Flat;
-ghost use Rattle.rows.specs.Flat.{grammarIn};
+use c_grammar::Flat;
+ghost use Rattle.c_grammar.specs.Flat.{grammarIn};
 ghost use Rattle.results.specs.Enumerate.{firstOf, nextOf, countOf};
 ghost use Rattle.filbozseg.specs.Calls.{Hands, Counts};
 
@@ -18,8 +18,8 @@ pub extern "C" fn filbozseg_first(
         (firstOf (grammarIn (now (grammar .entry))) (now (input .entry)) (now (chart .entry)) (now (output .entry)))
         (now (nodes .entry)) c (now (chart .exit)) (now (output .exit)) (now (nodes .exit)) ⌝ }
 {
-    let handed = first::first(flat::read(grammar), input, chart, output);
-    encoding::of_handing(handed, nodes)
+    let handed = first::first(c_grammar::read::read(grammar), input, chart, output);
+    c_answer::of_handing(handed, nodes)
 }
 
 // The derivation after the offered one, written to the front of the output, and how many nodes it has; where none is handed out, the
@@ -37,8 +37,14 @@ pub extern "C" fn filbozseg_next(
         (nextOf (grammarIn (now (grammar .entry))) (now (input .entry)) (now (offered .entry)) (now (chart .entry)) (now (output .entry)))
         (now (nodes .entry)) c (now (chart .exit)) (now (output .exit)) (now (nodes .exit)) ⌝ }
 {
-    let handed = next::next(flat::read(grammar), input, offered, chart, output);
-    encoding::of_handing(handed, nodes)
+    let handed = next::next(
+        c_grammar::read::read(grammar),
+        input,
+        offered,
+        chart,
+        output,
+    );
+    c_answer::of_handing(handed, nodes)
 }
 
 // How many derivations the input has; where there are more than 4,096, and where the call is refused, the number is as found.
@@ -53,6 +59,6 @@ pub extern "C" fn filbozseg_count(
         (countOf (grammarIn (now (grammar .entry))) (now (input .entry)) (now (chart .entry)))
         (now (figure .entry)) c (now (chart .exit)) (now (figure .exit)) ⌝ }
 {
-    let counted = count::count(flat::read(grammar), input, chart);
-    encoding::of_figure(counted, figure)
+    let counted = count::count(c_grammar::read::read(grammar), input, chart);
+    c_answer::of_figure(counted, figure)
 }

@@ -3,9 +3,9 @@
 // carries it.
 pub mod enumerate;
 
-use flat::Flat;
-ghost use Rattle.rows.specs.Flat.{grammarIn};
-ghost use Rattle.hand.specs.Hand.{stateOfRow};
+use c_grammar::Flat;
+ghost use Rattle.c_grammar.specs.Flat.{grammarIn};
+ghost use Rattle.c_hand.specs.Hand.{stateOfRow};
 ghost use Rattle.results.specs.Check.{checkOf};
 ghost use Rattle.results.specs.Measure.{lengthOf, sameBuildOf};
 ghost use Rattle.results.specs.Recognize.{openOf, takeOf};
@@ -16,36 +16,36 @@ ghost use Rattle.filbozseg.specs.Calls.{Loads, Opens, Takes, Checks, Mea
 pub extern "C" fn filbozseg_load(book: &[u8], grammar: &mut Flat, offset: &mut usize) -> u32
     ensures { λ c. ⌜ Loads (now (book .entry)) (now (offset .entry)) c (now (grammar .exit)) (now (offset .exit)) ⌝ }
 {
-    let l = loader::load(book);
+    let l = load::load(book);
     let g = l.grammar;
     let outcome = l.outcome;
-    flatten::write(g, grammar);
-    encoding::of_loading(outcome, offset)
+    c_grammar::write::write(g, grammar);
+    c_answer::of_loading(outcome, offset)
 }
 
 // Opens the recognizer: the state left is that of no bytes.
 #[no_mangle]
 pub extern "C" fn filbozseg_open(
     grammar: &Flat,
-    hand: &mut [u16; hand::HAND],
+    hand: &mut [u16; c_hand::HAND],
     chart: &mut [u32],
 ) -> u32
     ensures { λ c. ⌜ Opens
         (openOf (grammarIn (now (grammar .entry))) (now (chart .entry)))
         c (now (hand .exit)) (now (chart .exit)) ⌝ }
 {
-    let a = recognizer::open(flat::read(grammar), chart);
+    let a = recognizer::open(c_grammar::read::read(grammar), chart);
     let h = a.recognizer;
     let accepted = a.accepted;
-    hand::write(h, hand);
-    encoding::of_verdict(accepted)
+    c_hand::write(h, hand);
+    c_answer::of_verdict(accepted)
 }
 
 // Takes a byte. The state left is that with the byte, or, where the call is refused, the row found.
 #[no_mangle]
 pub extern "C" fn filbozseg_take(
     grammar: &Flat,
-    hand: &mut [u16; hand::HAND],
+    hand: &mut [u16; c_hand::HAND],
     byte: u8,
     chart: &mut [u32],
 ) -> u32
@@ -53,11 +53,11 @@ pub extern "C" fn filbozseg_take(
         (takeOf (grammarIn (now (grammar .entry))) (stateOfRow (now (hand .entry))) byte (now (chart .entry)))
         (now (hand .entry)) c (now (hand .exit)) (now (chart .exit)) ⌝ }
 {
-    let found = hand::read(hand);
-    let a = found.take(flat::read(grammar), byte, chart);
+    let found = c_hand::read(hand);
+    let a = found.take(c_grammar::read::read(grammar), byte, chart);
     let next = a.recognizer;
     let accepted = a.accepted;
-    encoding::of_taking(accepted, next, hand)
+    c_answer::of_taking(accepted, next, hand)
 }
 
 // Whether the offered derivation is one (reading) of the input.
@@ -72,7 +72,7 @@ pub extern "C" fn filbozseg_check(
         (checkOf (grammarIn (now (grammar .entry))) (now (input .entry)) (now (offered .entry)) (now (chart .entry)))
         c (now (chart .exit)) ⌝ }
 {
-    encoding::of_verdict(checker::check(flat::read(grammar), input, offered, chart))
+    c_answer::of_verdict(checker::check(c_grammar::read::read(grammar), input, offered, chart))
 }
 
 // The length of an offered derivation, in tenths of a millimetre; where the call is refused, the number found.
@@ -88,8 +88,8 @@ pub extern "C" fn filbozseg_length(
         (lengthOf (grammarIn (now (grammar .entry))) (now (input .entry)) (now (offered .entry)) (now (chart .entry)))
         (now (tenths .entry)) c (now (chart .exit)) (now (tenths .exit)) ⌝ }
 {
-    let measured = checker::length(flat::read(grammar), input, offered, chart);
-    encoding::of_length(measured, tenths)
+    let measured = checker::length(c_grammar::read::read(grammar), input, offered, chart);
+    c_answer::of_length(measured, tenths)
 }
 
 // Whether two offered derivations are the same build.
@@ -105,5 +105,5 @@ pub extern "C" fn filbozseg_same_build(
         (sameBuildOf (grammarIn (now (grammar .entry))) (now (input .entry)) (now (a .entry)) (now (b .entry)) (now (chart .entry)))
         c (now (chart .exit)) ⌝ }
 {
-    encoding::of_verdict(checker::same_build(flat::read(grammar), input, a, b, chart))
+    c_answer::of_verdict(checker::same_build(c_grammar::read::read(grammar), input, a, b, chart))
 }

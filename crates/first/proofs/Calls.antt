@@ -5,23 +5,23 @@ use mathlib.Core.Path.{_≡_, sym, _∙_}
 use lib.ListN.{length}
 use Rattle.sizes.specs.Sizes.{cells, outputSize, maxInput}
 use Rattle.chart.specs.Column.{complete}
-use Rattle.costs.specs.Span.{bytesOf}
-use Rattle.fit.specs.Fit.{Told}
+use Rattle.theory_costs.specs.Span.{bytesOf}
+use Rattle.packed_fit.specs.Fit.{Told}
 use Rattle.grammar.specs.declared.Grammar.{Grammar}
 use Rattle.grammar.specs.View.{grammarOf}
 use Rattle.answers.specs.declared.Refusal.{Refusal}
 use Rattle.answers.specs.Number.{numberOf}
 use Rattle.packed.specs.Packed.{cfgIn}
-use Rattle.prepare.specs.declared.Judged.{Judged}
-use Rattle.prepare.specs.declared.Judged.the-variants.{Passed, Refused}
-use Rattle.prepare.specs.Judging.{JudgingOutput}
-use Rattle.prepare.proofs.Deciding.{output-refused, output-passed}
-use Rattle.prepare.proofs.Judging.{output-ready}
-use Rattle.prepare.proofs.Packing.{list-packed}
+use Rattle.fill_input.specs.declared.Judged.{Judged}
+use Rattle.fill_input.specs.declared.Judged.the-variants.{Passed, Refused}
+use Rattle.fill_input.specs.Judging.{JudgingOutput}
+use Rattle.fill_input.proofs.Deciding.{output-refused, output-passed}
+use Rattle.fill_input.proofs.Judging.{output-ready}
+use Rattle.fill_input.proofs.Packing.{list-packed}
 use Rattle.results.specs.Answer.{Answer, Handing, refused}
 use Rattle.results.specs.Enumerate.{treeIn, onOutput, firstIn, firstOf}
-use Rattle.tables.specs.Exact.{ChartTrue}
-use Rattle.initial.specs.Written.{enumerationOf}
+use Rattle.table_layout.specs.Exact.{ChartTrue}
+use Rattle.first_made.specs.Written.{enumerationOf}
 use Rattle.first.specs.Answer.{firstFilled}
 use Rattle.first.proofs.Chart.{Filling, filled-chart}
 

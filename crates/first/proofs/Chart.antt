@@ -8,15 +8,15 @@ use Rattle.sizes.specs.Sizes.{maxInput, cells}
 use Rattle.cfg.specs.Grammar.{rule}
 use Rattle.chart.specs.Column.{filled}
 use Rattle.chart.proofs.Truth.{filled-true, filled-length}
-use Rattle.costs.specs.Span.{bytesOf}
-use Rattle.costs.proofs.Span.{tree-parse}
+use Rattle.theory_costs.specs.Span.{bytesOf}
+use Rattle.theory_costs.proofs.Span.{tree-parse}
 use Rattle.grammar.specs.declared.Grammar.{Grammar}
 use Rattle.grammar.specs.View.{grammarOf}
 use Rattle.packed.specs.Packed.{cfgIn}
 use Rattle.packed.proofs.Laws.{cfg-in-bounded}
-use Rattle.prepare.specs.Judging.{Fillable}
-use Rattle.prepare.proofs.Packing.{filled-packed}
-use Rattle.tables.specs.Exact.{Packing, ChartTrue}
+use Rattle.fill_input.specs.Judging.{Fillable}
+use Rattle.fill_input.proofs.Packing.{filled-packed}
+use Rattle.table_layout.specs.Exact.{Packing, ChartTrue}
 
 -- a chart filled for the packed grammar leaves out no nonterminal that has a tree
 chart-true : (p w chart : List ℕ) → length w ≤ maxInput → cells ≤ length chart

@@ -7,12 +7,12 @@ use lib.Dec.{leb}
 use lib.ListN.{length}
 use borrow.Author.Tests.{leb-true}
 use Rattle.sizes.specs.Sizes.{maxRules, maxNodes}
-use Rattle.descend.specs.Descend.{Given}
+use Rattle.tree_first.specs.Descend.{InputGiven}
 use Rattle.packed.specs.Packed.{cfgIn}
 use Rattle.results.specs.Answer.{Answer, Handing, refused, answered, handed}
-use Rattle.tables.specs.Layout.{costIn}
-use Rattle.initial.specs.Written.{enumerationOf, firstTree, FirstWritten}
-use Rattle.initial.proofs.Writing.{empty-larger}
+use Rattle.table_layout.specs.Layout.{costIn}
+use Rattle.first_made.specs.Written.{enumerationOf, firstTree, FirstWritten}
+use Rattle.first_made.proofs.Writing.{empty-larger}
 use Rattle.first.specs.Made.{FirstMade}
 use Rattle.first.proofs.Root.{first-empty}
 
@@ -31,6 +31,6 @@ module _ (p : List ℕ) (rules : ℕ) (fits chart tables : List ℕ) (s n : ℕ)
 -- ---- the tables of an input are right for it
 
 pub made-tree : (p w : List ℕ) (s rules : ℕ) (fits chart tables out₀ out : List ℕ) (a : Answer Handing)
-    → (rules ≤ maxRules) × Given p rules fits chart tables w → FirstMade p rules fits chart tables s (length w) out₀ out a
+    → (rules ≤ maxRules) × InputGiven p rules fits chart tables w → FirstMade p rules fits chart tables s (length w) out₀ out a
     → enumerationOf a chart out ≡ firstTree (cfgIn s p) w chart out₀
 made-tree p w s rules fits chart tables out₀ out a (few, given) M = M .exact w refl given

@@ -8,13 +8,13 @@ use Rattle.sets.specs.Set.{has}
 use Rattle.cfg.specs.Listing.{L}
 use Rattle.chart.specs.Cell.{cell}
 use Rattle.chart.specs.Column.{complete}
-use Rattle.costs.specs.Span.{bytesOf}
+use Rattle.theory_costs.specs.Span.{bytesOf}
 use Rattle.packed.specs.Packed.{cfgIn}
 use Rattle.results.specs.Answer.{Answer, Handing, answered, nothing}
 use Rattle.results.specs.Enumerate.{Enumeration, headOf, handingOut}
-use Rattle.tables.specs.Exact.{ChartTrue}
-use Rattle.initial.specs.Written.{enumerationOf, firstTree}
-use Rattle.initial.proofs.Root.{empty-incomplete}
+use Rattle.table_layout.specs.Exact.{ChartTrue}
+use Rattle.first_made.specs.Written.{enumerationOf, firstTree}
+use Rattle.first_made.proofs.Root.{empty-incomplete}
 use Rattle.first.specs.Answer.{firstFilled}
 
 module _ (p w : List ℕ) (s : ℕ) (chart out : List ℕ) where

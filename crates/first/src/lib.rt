@@ -1,22 +1,22 @@
 // The first derivation (reading) of an input.
 use answers::Handed;
-use fit::FitTable;
+use fill_input::Judged;
 use grammar::Grammar;
-use nodes::Root;
 use numbers::wide_byte;
 use packed::Packed;
-use prepare::Judged;
-use tables::layout::TABLES_SIZE;
+use packed_fit::FitTable;
+use table_layout::layout::TABLES_SIZE;
+use tree_node::Root;
 ghost use mathlib.Core.Path.{_≡_};
 ghost use Prim.Native.Nat.{_≤_};
 ghost use lib.ListN.{length};
 ghost use Rattle.sizes.specs.Sizes.{cells, outputSize, maxInput};
-ghost use Rattle.costs.specs.Span.{bytesOf};
-ghost use Rattle.fit.specs.Fit.{Told};
+ghost use Rattle.theory_costs.specs.Span.{bytesOf};
+ghost use Rattle.packed_fit.specs.Fit.{Told};
 ghost use Rattle.packed.specs.Packed.{cfgIn};
 ghost use Rattle.results.specs.Enumerate.{firstOf};
-ghost use Rattle.tables.specs.Exact.{ChartTrue};
-ghost use Rattle.initial.specs.Written.{enumerationOf, firstTree};
+ghost use Rattle.table_layout.specs.Exact.{ChartTrue};
+ghost use Rattle.first_made.specs.Written.{enumerationOf, firstTree};
 ghost use Rattle.answers.specs.Answers.{handingOf};
 ghost use Rattle.first.specs.Answer.{firstFilled};
 
@@ -37,7 +37,7 @@ fn first_tree(
         ≡ firstTree (cfgIn start (now (p .entry))) (now (input .entry)) (now (chart .entry)) (now (out .entry)) ⌝ }
 {
     let mut tables = [0u16; TABLES_SIZE];
-    let rules = initial::build(p, input, fits, chart, &mut tables);
+    let rules = first_made::build(p, input, fits, chart, &mut tables);
     let n = input.len();
     made::first_made(p, fits, chart, &tables, Root { rules, start, n }, out)
 }
@@ -56,7 +56,7 @@ fn first_filled(
     ensures { λ a. ⌜ enumerationOf (handingOf a) (now (chart .entry)) (now (out .exit))
         ≡ firstFilled (cfgIn start (now (p .entry))) (now (input .entry)) (now (chart .entry)) (now (out .entry)) ⌝ }
 {
-    if columns::complete(start, input.len(), chart) {
+    if fill_columns::complete(start, input.len(), chart) {
         first_tree(p, start, input, fits, chart, out)
     } else {
         Handed::Nothing
@@ -70,11 +70,11 @@ pub fn first(g: Grammar, input: &[u8], chart: &mut [u32], out: &mut [u16]) -> Ha
     ensures { λ a. ⌜ enumerationOf (handingOf a) (now (chart .exit)) (now (out .exit))
         ≡ firstOf g (now (input .entry)) (now (chart .entry)) (now (out .entry)) ⌝ }
 {
-    match prepare::judge_output(g, input.len(), chart.len(), out.len()) {
+    match fill_input::judge_output(g, input.len(), chart.len(), out.len()) {
         Judged::Refused(r) => Handed::Refused(r),
         Judged::Passed => {
-            let mut fits = [0u8; fit::FIT_SIZE];
-            let p = prepare::fill_fits(g, input, &mut fits, chart);
+            let mut fits = [0u8; packed_fit::FIT_SIZE];
+            let p = fill_input::fill_fits(g, input, &mut fits, chart);
             first_filled(&p, wide_byte(g.start), input, &fits, chart, out)
         }
     }

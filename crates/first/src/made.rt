@@ -1,12 +1,12 @@
 // First over tables that are made.
 use answers::Handed;
 use answers::Refusal;
-use fit::FitTable;
-use initial::exists;
-use initial::write_first;
-use nodes::Root;
+use first_made::exists;
+use first_made::write_first;
 use packed::Packed;
-use tables::layout::Tables;
+use packed_fit::FitTable;
+use table_layout::layout::Tables;
+use tree_node::Root;
 ghost use Prim.Native.Nat.{_<_, _≤_};
 ghost use lib.ListN.{length};
 ghost use Rattle.sizes.specs.Sizes.{cells, outputSize, maxRules, side};

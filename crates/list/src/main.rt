@@ -1,14 +1,14 @@
 // The listing program: the book is the file `book.bin`, the plate is standard input, and the text goes to standard output.
-use lister::begin::begin;
-use output::Written;
-use output::write_pages;
 use packed::PACKED_SIZE;
-use tables::layout::TABLES_SIZE;
+use print_begin::begin::begin;
+use print_write::Written;
+use print_write::write_pages;
+use table_layout::layout::TABLES_SIZE;
 ghost use mathlib.Core.Path.{_≡_};
 ghost use lib.ListN.{length};
 ghost use Rattle.io.specs.Counts.{Counts};
 ghost use Rattle.text.specs.Front.{bookFront, plateFront};
-ghost use Rattle.output.specs.Listed.{Listed};
+ghost use Rattle.print_write.specs.Listed.{Listed};
 
 // The bytes of a book that are read at most: no further one changes the text.
 const BOOK: usize = 8192;
@@ -45,7 +45,7 @@ fn list(book: &[u8], plate: &[u8]) -> Written
     let mut p = [0u8; PACKED_SIZE];
     let mut lengths = [0i16; sizes::MAX_RULES];
     let mut chart = [0u32; sizes::CELLS];
-    let mut fits = [0u8; fit::FIT_SIZE];
+    let mut fits = [0u8; packed_fit::FIT_SIZE];
     let mut tables = [0u16; TABLES_SIZE];
     let mut buf = [0u16; sizes::OUTPUT];
     let due = begin(

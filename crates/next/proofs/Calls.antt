@@ -11,19 +11,19 @@ use Rattle.grammar.specs.View.{grammarOf}
 use Rattle.answers.specs.declared.Refusal.{Refusal}
 use Rattle.answers.specs.Number.{numberOf}
 use Rattle.packed.specs.Packed.{cfgIn}
-use Rattle.prepare.specs.declared.Judged.{Judged}
-use Rattle.prepare.specs.declared.Judged.the-variants.{Passed, Refused}
-use Rattle.prepare.specs.Judging.{JudgingOutput}
-use Rattle.prepare.proofs.Deciding.{output-refused, output-passed}
-use Rattle.prepare.proofs.Packing.{list-packed}
+use Rattle.fill_input.specs.declared.Judged.{Judged}
+use Rattle.fill_input.specs.declared.Judged.the-variants.{Passed, Refused}
+use Rattle.fill_input.specs.Judging.{JudgingOutput}
+use Rattle.fill_input.proofs.Deciding.{output-refused, output-passed}
+use Rattle.fill_input.proofs.Packing.{list-packed}
 use Rattle.results.specs.Answer.{Answer, Handing, refused, check}
 use Rattle.results.specs.Check.{listed}
 use Rattle.results.specs.Enumerate.{Enumeration, onOutput, nextIn, nextOf}
 use Rattle.results.specs.Measure.{unlisted}
 use Rattle.results.proofs.Decide.{decide-first, decide-passed}
-use Rattle.initial.specs.Written.{enumerationOf}
+use Rattle.first_made.specs.Written.{enumerationOf}
 use Rattle.first.proofs.Chart.{Filling}
-use Rattle.following.specs.Made.{nextTree}
+use Rattle.next_made.specs.Made.{nextTree}
 use Rattle.next.specs.Answer.{nextFilled}
 
 -- ---- whether what is offered is a derivation

@@ -6,19 +6,19 @@ use mathlib.Core.Path.{_≡_, refl}
 use lib.ListN.{length}
 use Rattle.sizes.specs.Sizes.{maxRules, outputSize}
 use Rattle.cfg.specs.Listing.{L}
-use Rattle.descend.specs.Descend.{Given}
+use Rattle.tree_first.specs.Descend.{InputGiven}
 use Rattle.packed.specs.Packed.{cfgIn}
 use Rattle.results.specs.Answer.{Answer, Handing}
 use Rattle.results.specs.Check.{listed}
 use Rattle.results.proofs.Demand3.Rows.{listed-member}
 use Rattle.results.proofs.Demand3.Listed.{reading-short}
-use Rattle.initial.specs.Written.{enumerationOf}
-use Rattle.following.specs.Made.{nextTree, NextMade}
+use Rattle.first_made.specs.Written.{enumerationOf}
+use Rattle.next_made.specs.Made.{nextTree, NextMade}
 
 -- ---- the tables of an input are right for it
 
 pub made-tree : (p w : List ℕ) (s rules : ℕ) (fits chart tables offered out₀ out : List ℕ) (a : Answer Handing)
-    → (rules ≤ maxRules) × Given p rules fits chart tables w → listed offered (L (cfgIn s p) w) ≡ true
+    → (rules ≤ maxRules) × InputGiven p rules fits chart tables w → listed offered (L (cfgIn s p) w) ≡ true
     → NextMade p rules fits chart tables s (length w) offered out₀ out a
     → enumerationOf a chart out ≡ nextTree (cfgIn s p) w offered chart out₀
 made-tree p w s rules fits chart tables offered out₀ out a (few, given) is M =

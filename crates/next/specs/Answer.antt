@@ -5,8 +5,8 @@ use Rattle.cfg.specs.Grammar.{Cfg}
 use Rattle.results.specs.Answer.{refused, check, decide}
 use Rattle.results.specs.Enumerate.{Enumeration}
 use Rattle.results.specs.Measure.{unlisted}
-use Rattle.initial.specs.Written.{enumerationOf}
-use Rattle.following.specs.Made.{nextTree}
+use Rattle.first_made.specs.Written.{enumerationOf}
+use Rattle.next_made.specs.Made.{nextTree}
 
 -- next: the derivation after the offered one or "none", or refusal 12 where what is offered is no derivation
 abbrev pub nextFilled : Cfg → List ℕ → List ℕ → List ℕ → List ℕ → Enumeration

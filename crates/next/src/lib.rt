@@ -1,31 +1,31 @@
 // The derivation (reading) after one that is offered.
 use answers::Handed;
 use answers::Refusal;
-use derivation::is_derivation;
-use fit::FitTable;
-use following::next_made;
+use check_walk::derivation::is_derivation;
+use fill_input::Judged;
+use first_made::build;
 use grammar::Grammar;
-use initial::build;
-use nodes::Root;
+use next_made::offered::next_made;
 use numbers::wide_byte;
 use packed::Packed;
-use prepare::Judged;
-use tables::layout::TABLES_SIZE;
+use packed_fit::FitTable;
+use table_layout::layout::TABLES_SIZE;
+use tree_node::Root;
 ghost use mathlib.Core.Bool.{true};
 ghost use mathlib.Core.Path.{_≡_};
 ghost use Prim.Native.Nat.{_≤_};
 ghost use lib.ListN.{length};
 ghost use Rattle.cfg.specs.Listing.{L};
-ghost use Rattle.costs.specs.Span.{bytesOf};
-ghost use Rattle.fit.specs.Fit.{Told};
-ghost use Rattle.initial.specs.Written.{enumerationOf};
+ghost use Rattle.theory_costs.specs.Span.{bytesOf};
+ghost use Rattle.packed_fit.specs.Fit.{Told};
+ghost use Rattle.first_made.specs.Written.{enumerationOf};
 ghost use Rattle.answers.specs.Answers.{handingOf};
 ghost use Rattle.packed.specs.Packed.{cfgIn};
 ghost use Rattle.results.specs.Check.{listed};
 ghost use Rattle.results.specs.Enumerate.{nextOf};
 ghost use Rattle.sizes.specs.Sizes.{maxInput, cells, outputSize};
-ghost use Rattle.tables.specs.Exact.{ChartTrue};
-ghost use Rattle.following.specs.Made.{nextTree};
+ghost use Rattle.table_layout.specs.Exact.{ChartTrue};
+ghost use Rattle.next_made.specs.Made.{nextTree};
 ghost use Rattle.next.specs.Answer.{nextFilled};
 
 // The derivation after the offered one, where the chart is filled and the fit table made. The tables are this function's own.
@@ -87,11 +87,11 @@ pub fn next(g: Grammar, input: &[u8], offered: &[u16], chart: &mut [u32], out: &
     ensures { λ a. ⌜ enumerationOf (handingOf a) (now (chart .exit)) (now (out .exit))
         ≡ nextOf g (now (input .entry)) (now (offered .entry)) (now (chart .entry)) (now (out .entry)) ⌝ }
 {
-    match prepare::judge_output(g, input.len(), chart.len(), out.len()) {
+    match fill_input::judge_output(g, input.len(), chart.len(), out.len()) {
         Judged::Refused(r) => Handed::Refused(r),
         Judged::Passed => {
-            let mut fits = [0u8; fit::FIT_SIZE];
-            let p = prepare::fill_fits(g, input, &mut fits, chart);
+            let mut fits = [0u8; packed_fit::FIT_SIZE];
+            let p = fill_input::fill_fits(g, input, &mut fits, chart);
             next_filled(&p, wide_byte(g.start), input, offered, &fits, chart, out)
         }
     }

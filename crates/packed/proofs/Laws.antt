@@ -14,52 +14,52 @@ use Rattle.sizes.specs.Sizes.{maxRules, maxPlaces}
 use Rattle.laws.proofs.Bools.{clash}
 use Rattle.cfg.specs.Grammar.{Rule, joined, rule, Of}
 use Rattle.chart.proofs.Derived.{Bounded}
-use Rattle.packed.specs.Packed.{leftIn, countIn, symbolIn, placesFrom, placesIn, ruleIn, packedRules, rulesIn, cfgIn, ruleBytes}
+use Rattle.packed.specs.Packed.{leftIn, placeCount, symbolIn, placesFrom, placesIn, ruleIn, packedRules, rulesIn, cfgIn, ruleBytes}
 
 -- ---- places
 
 -- a rule that is there has the count that its byte says
-pub count-used : (p : List ℕ) (r : ℕ) → leftIn p r < 32 → countIn p r ≡ min (getD p (ruleBytes * r + 1) 0) 8
-unfolding countIn
+pub count-used : (p : List ℕ) (r : ℕ) → leftIn p r < 32 → placeCount p r ≡ min (getD p (ruleBytes * r + 1) 0) 8
+unfolding placeCount
 count-used p r h = rw (lt-ltb (leftIn p r) 32 h)
 
 -- one that is not there has no places
-pub count-unused : (p : List ℕ) (r : ℕ) → 32 ≤ leftIn p r → countIn p r ≡ 0
-unfolding countIn
+pub count-unused : (p : List ℕ) (r : ℕ) → 32 ≤ leftIn p r → placeCount p r ≡ 0
+unfolding placeCount
 count-unused p r h = rw (le-ltb (leftIn p r) 32 h)
 
-pub count-le : (p : List ℕ) (r : ℕ) → countIn p r ≤ maxPlaces
+pub count-le : (p : List ℕ) (r : ℕ) → placeCount p r ≤ maxPlaces
 count-le p r = dite (decLt (leftIn p r) 32) (λ h. omega (arith, count-used p r h)) (λ h. omega (arith, count-unused p r (omega arith)))
 
 -- what `count` answers: the byte of a rule that is there, 8 where it is larger, and 0 for one that is not
 pub count-small : (p : List ℕ) (r k n : ℕ) → k ≡ leftIn p r → k < 32 → n ≡ getD p (ruleBytes * r + 1) 0 → n < maxPlaces
-    → (n ≡ countIn p r) × (n ≤ maxPlaces)
+    → (n ≡ placeCount p r) × (n ≤ maxPlaces)
 count-small p r k n e h f l = let c = count-used p r (omega arith) in (omega arith, omega arith)
 
 pub count-large : (p : List ℕ) (r k n : ℕ) → k ≡ leftIn p r → k < 32 → n ≡ getD p (ruleBytes * r + 1) 0 → maxPlaces ≤ n
-    → (8 ≡ countIn p r) × (maxPlaces ≤ maxPlaces)
+    → (8 ≡ placeCount p r) × (maxPlaces ≤ maxPlaces)
 count-large p r k n e h f l = let c = count-used p r (omega arith) in (omega arith, omega arith)
 
-pub count-none : (p : List ℕ) (r k : ℕ) → k ≡ leftIn p r → 32 ≤ k → (0 ≡ countIn p r) × (0 ≤ maxPlaces)
+pub count-none : (p : List ℕ) (r k : ℕ) → k ≡ leftIn p r → 32 ≤ k → (0 ≡ placeCount p r) × (0 ≤ maxPlaces)
 count-none p r k e h = let c = count-unused p r (omega arith) in (omega arith, omega arith)
 
-pub places-step : (p : List ℕ) (r q : ℕ) → q < countIn p r
-    → placesFrom p r q (countIn p r - q) ≡ symbolIn p r q ∷ placesFrom p r (suc q) (countIn p r - suc q)
+pub places-step : (p : List ℕ) (r q : ℕ) → q < placeCount p r
+    → placesFrom p r q (placeCount p r - q) ≡ symbolIn p r q ∷ placesFrom p r (suc q) (placeCount p r - suc q)
 unfolding placesFrom
 places-step p r q h =
-    let e : countIn p r - q ≡ suc (countIn p r - suc q) = omega arith in
+    let e : placeCount p r - q ≡ suc (placeCount p r - suc q) = omega arith in
     ap (placesFrom p r q) e
 
-pub places-end : (p : List ℕ) (r q : ℕ) → countIn p r ≤ q → placesFrom p r q (countIn p r - q) ≡ []
+pub places-end : (p : List ℕ) (r q : ℕ) → placeCount p r ≤ q → placesFrom p r q (placeCount p r - q) ≡ []
 unfolding placesFrom
 places-end p r q h =
-    let e : countIn p r - q ≡ 0 = omega arith in
+    let e : placeCount p r - q ≡ 0 = omega arith in
     ap (placesFrom p r q) e
 
-pub places-start : (p : List ℕ) (r : ℕ) → placesFrom p r 0 (countIn p r - 0) ≡ placesIn p r
+pub places-start : (p : List ℕ) (r : ℕ) → placesFrom p r 0 (placeCount p r - 0) ≡ placesIn p r
 unfolding placesIn
 places-start p r =
-    let e : countIn p r - 0 ≡ countIn p r = omega arith in
+    let e : placeCount p r - 0 ≡ placeCount p r = omega arith in
     ap (placesFrom p r 0) e
 
 -- ---- one rule

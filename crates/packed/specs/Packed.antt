@@ -27,8 +27,8 @@ abbrev pub Used : List ℕ → ℕ → Type 0
 Used p rules = (r : ℕ) → r < maxRules → leftIn p r < 32 → r < rules
 
 -- the number of places of rule r, 8 at most; none where there is no such rule
-unfoldable pub countIn : List ℕ → ℕ → ℕ
-countIn p r = cond (ltb (leftIn p r) 32) (min (getD p (ruleBytes * r + 1) 0) maxPlaces) 0
+unfoldable pub placeCount : List ℕ → ℕ → ℕ
+placeCount p r = cond (ltb (leftIn p r) 32) (min (getD p (ruleBytes * r + 1) 0) maxPlaces) 0
 
 -- the tag of place q of rule r
 unfoldable pub tagIn : List ℕ → ℕ → ℕ → ℕ
@@ -57,7 +57,7 @@ placesFrom p r q (suc n) = symbolIn p r q ∷ placesFrom p r (suc q) n
 
 -- the symbols of the places of rule r
 unfoldable pub placesIn : List ℕ → ℕ → List Symbol
-placesIn p r = placesFrom p r 0 (countIn p r)
+placesIn p r = placesFrom p r 0 (placeCount p r)
 
 -- rule r, if there is one
 unfoldable pub ruleIn : List ℕ → ℕ → Option Rule

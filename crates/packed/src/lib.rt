@@ -4,7 +4,7 @@ ghost use mathlib.Core.Path.{_≡_};
 ghost use Prim.Native.Nat.{_<_, _≤_};
 ghost use Rattle.sizes.specs.Sizes.{maxRules, maxPlaces};
 ghost use Rattle.sets.specs.Set.{has as inSet};
-ghost use Rattle.packed.specs.Packed.{leftIn, Used, countIn, isNonterminalIn, valueIn, symbolIn, fitsPlace, packedSize};
+ghost use Rattle.packed.specs.Packed.{leftIn, Used, placeCount, isNonterminalIn, valueIn, symbolIn, fitsPlace, packedSize};
 
 // The bytes of a rule (its left side, its count, and two for each place), and of a packed grammar.
 pub const RULE_BYTES: usize = 2 + 2 * sizes::MAX_PLACES;
@@ -45,7 +45,7 @@ pub fn rule_count(p: &Packed) -> usize
 // How many places rule r has: none where there is no such rule, so that loops pass it over.
 pub fn count(p: &Packed, r: usize) -> usize
     requires { ⌜ r < maxRules ⌝ }
-    ensures { λ n. ⌜ (n ≡ countIn (now (p .entry)) r) × (n ≤ 8) ⌝ }
+    ensures { λ n. ⌜ (n ≡ placeCount (now (p .entry)) r) × (n ≤ 8) ⌝ }
 {
     if left(p, r) < sizes::NONTERMINALS {
         let n = wide_byte(p[RULE_BYTES * r + 1]);

@@ -21,7 +21,7 @@ use Rattle.packed.proofs.Laws.{cfg-in-bounded}
 use Rattle.results.specs.Answer.{Answer, refused, answered, decide}
 use Rattle.results.specs.Recognize.{State, Recognition, stateOf, openIn, openOf, takeIn, takeOf}
 use Rattle.results.proofs.State.{state-count, state-within, state-taken}
-use Rattle.columns.specs.Columns.{columnOf}
+use Rattle.fill_columns.specs.Columns.{columnOf}
 
 -- the three parts of what a call gives
 abbrev given : Answer Bool → State → List ℕ → Recognition

@@ -7,7 +7,7 @@ use native.Mathlib.Omega.{arith}
 use lib.ListN.{length, getD, take, drop, set, replicate, length-append}
 use lib.Seq.{take-suc, length-take-le}
 use Rattle.sizes.specs.Sizes.{maxInput}
-use Rattle.columns.proofs.Filling.{set-next}
+use Rattle.fill_columns.proofs.Filling.{set-next}
 use Rattle.results.specs.Recognize.{stateWith, stateOf}
 use Rattle.results.proofs.State.{state-is}
 

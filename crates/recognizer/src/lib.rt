@@ -3,9 +3,9 @@ mod state;
 
 use answers::Refusal;
 use answers::Verdict;
-use columns::complete;
-use columns::open_chart;
-use columns::write_column;
+use fill_columns::complete;
+use fill_columns::open_chart;
+use fill_columns::write_column;
 use grammar::Grammar;
 use numbers::wide_byte;
 use state::blank;
@@ -62,7 +62,7 @@ fn opening(g: Grammar, chart: &mut [u32]) -> Advanced
     requires { ⌜ (validGrammar g ≡ true) × (cells ≤ length (now chart)) ⌝ }
     ensures { λ r. ⌜ recognitionOf r (now (chart .exit)) ≡ openOf g (now (chart .entry)) ⌝ }
 {
-    let p = packing::pack(g);
+    let p = packed_make::pack(g);
     open_chart(&p, chart);
     let accepted = says(g.start, 0, chart);
     Advanced {
@@ -89,7 +89,7 @@ fn taking(h: Recognizer, g: Grammar, byte: u8, chart: &mut [u32]) -> Advanced
     requires { ⌜ (validGrammar g ≡ true) × (h .count < maxInput) × (cells ≤ length (now chart)) ⌝ }
     ensures { λ r. ⌜ recognitionOf r (now (chart .exit)) ≡ takeOf g (stateIn h) byte (now (chart .entry)) ⌝ }
 {
-    let p = packing::pack(g);
+    let p = packed_make::pack(g);
     let next = with_byte(h, byte);
     let n = next.count;
     let bytes = next.bytes;

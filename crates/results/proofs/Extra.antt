@@ -16,7 +16,7 @@ use Rattle.results.specs.Load.{loadOf}
 use Rattle.results.specs.Recognize.{State, stateWith, openOf, takeOf}
 use Rattle.results.specs.Measure.{sameBuildOf}
 use Rattle.results.specs.Check.{checkOf}
-use Rattle.results.specs.Drawer.{T, start, newRule, place, A, close, As}
+use Rattle.results.specs.Drawer.{T, start, newRule, nonterminalPlace, A, close, As}
 use Rattle.results.specs.Starred.{grammarFrom, outcome}
 use Rattle.results.proofs.Computing.{computing}
 
@@ -32,7 +32,7 @@ gap-length = refl
 unfoldable pub build : List ℕ → List ℕ → List ℕ → List ℕ → Answer Bool
 build bytes w a b = sameBuildOf (grammarFrom bytes) w a b (replicate cells 7) .answer
 
--- T, `A`: both derivations are one build, whichever place is empty
+-- T, `A`: both derivations are one build, whichever nonterminalPlace is empty
 pub same-T : build T (As 1) (1 ∷ 0 ∷ 0 ∷ 1 ∷ 1 ∷ 2 ∷ []) (1 ∷ 0 ∷ 1 ∷ 2 ∷ 0 ∷ 1 ∷ []) ≡ answered true
 unfolding build computing
 same-T = refl
@@ -43,13 +43,13 @@ unfolding build computing
 twins-differ = refl
 
 -- 0 → 1 A, 1 → nothing, 1 → nothing: empty nodes do not count
-pub empty-same : build (start 0 (newRule 0 (place 1 (A (newRule 1 (newRule 1 close)))))) (As 1) (1 ∷ 0 ∷ 0 ∷ 1 ∷ []) (1 ∷ 0 ∷ 0 ∷ 2 ∷ [])
+pub empty-same : build (start 0 (newRule 0 (nonterminalPlace 1 (A (newRule 1 (newRule 1 close)))))) (As 1) (1 ∷ 0 ∷ 0 ∷ 1 ∷ []) (1 ∷ 0 ∷ 0 ∷ 2 ∷ [])
     ≡ answered true
 unfolding build computing
 empty-same = refl
 
 -- 31 is a nonterminal
-pub last-nonterminal : outcome (start 31 (newRule 31 (place 31 (newRule 31 (A close))))) (As 1) .list ≡ (1 ∷ 1 ∷ []) ∷ []
+pub last-nonterminal : outcome (start 31 (newRule 31 (nonterminalPlace 31 (newRule 31 (A close))))) (As 1) .list ≡ (1 ∷ 1 ∷ []) ∷ []
 unfolding computing
 last-nonterminal = refl
 

@@ -9,7 +9,7 @@ use Rattle.sizes.specs.Sizes.{cells, outputSize}
 use Rattle.results.specs.Answer.{Answer, refused, answered, Handing, handed, nothing, counted}
 use Rattle.results.specs.Recognize.{openOf, takeOf}
 use Rattle.results.specs.Enumerate.{nextOf}
-use Rattle.results.specs.Drawer.{T, bush, newRule, place, close, As}
+use Rattle.results.specs.Drawer.{T, bush, newRule, nonterminalPlace, close, As}
 use Rattle.results.specs.Starred.{grammarFrom, outcome}
 use Rattle.results.proofs.Computing.{computing}
 
@@ -33,7 +33,7 @@ limit-met = (refl, refl)
 
 -- below one node more it has trees, but no derivation
 abbrev pub larger : List ℕ
-larger = bush 4 (newRule 4 (place 0 close))
+larger = bush 4 (newRule 4 (nonterminalPlace 0 close))
 
 pub limit-passed : (outcome larger (As 1) .first ≡ refused 13) × (outcome larger (As 1) .count ≡ refused 13)
     × (outcome larger (As 1) .list ≡ [])

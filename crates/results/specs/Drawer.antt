@@ -10,9 +10,9 @@ start k rest = 0x10 ∷ k ∷ rest
 abbrev pub newRule : ℕ → List ℕ → List ℕ
 newRule k rest = 0x20 ∷ k ∷ 0 ∷ 0 ∷ rest
 
--- a place with the nonterminal k, and one with the byte `A`
-abbrev pub place : ℕ → List ℕ → List ℕ
-place k rest = 0x30 ∷ k ∷ rest
+-- a nonterminalPlace with the nonterminal k, and one with the byte `A`
+abbrev pub nonterminalPlace : ℕ → List ℕ → List ℕ
+nonterminalPlace k rest = 0x30 ∷ k ∷ rest
 
 abbrev pub A : List ℕ → List ℕ
 A rest = 0x40 ∷ 0x41 ∷ rest
@@ -32,28 +32,28 @@ T = 0x10 ∷ 0x00 ∷ 0x20 ∷ 0x00 ∷ 0xF8 ∷ 0x11 ∷ 0x30 ∷ 0x01 ∷ 0x30
 
 -- 0 → 0, 0 → A
 abbrev pub unit : List ℕ
-unit = start 0 (newRule 0 (place 0 (newRule 0 (A close))))
+unit = start 0 (newRule 0 (nonterminalPlace 0 (newRule 0 (A close))))
 
 -- 0 → 0 A, 0 → A
 abbrev pub left : List ℕ
-left = start 0 (newRule 0 (place 0 (A (newRule 0 (A close)))))
+left = start 0 (newRule 0 (nonterminalPlace 0 (A (newRule 0 (A close)))))
 
 -- 0 → 0 0, 0 → A
 abbrev pub pairs : List ℕ
-pairs = start 0 (newRule 0 (place 0 (place 0 (newRule 0 (A close)))))
+pairs = start 0 (newRule 0 (nonterminalPlace 0 (nonterminalPlace 0 (newRule 0 (A close)))))
 
 -- 0 → 0 0, 0 → A, 0 → nothing
 abbrev pub nullablePairs : List ℕ
-nullablePairs = start 0 (newRule 0 (place 0 (place 0 (newRule 0 (A (newRule 0 close))))))
+nullablePairs = start 0 (newRule 0 (nonterminalPlace 0 (nonterminalPlace 0 (newRule 0 (A (newRule 0 close))))))
 
 -- start 1; 1 → 0 A, 0 → 0, 0 → nothing
 abbrev pub emptyUnit : List ℕ
-emptyUnit = start 1 (newRule 1 (place 0 (A (newRule 0 (place 0 (newRule 0 close))))))
+emptyUnit = start 1 (newRule 1 (nonterminalPlace 0 (A (newRule 0 (nonterminalPlace 0 (newRule 0 close))))))
 
 -- 0 → A and seven of 1; 1 → eight of 2; 2 → eight of 3; 3 → nothing; with the rules of `more` after these
 abbrev pub bush : ℕ → List ℕ → List ℕ
 bush k more =
-    start k (newRule 0 (A (many 7 (place 1) (newRule 1 (many 8 (place 2) (newRule 2 (many 8 (place 3) (newRule 3 more))))))))
+    start k (newRule 0 (A (many 7 (nonterminalPlace 1) (newRule 1 (many 8 (nonterminalPlace 2) (newRule 2 (many 8 (nonterminalPlace 3) (newRule 3 more))))))))
 
 -- 0 → A, of length -25
 abbrev pub recess : List ℕ

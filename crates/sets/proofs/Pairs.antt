@@ -13,7 +13,7 @@ use lib.Dec.{eqb}
 use borrow.Author.Tests.{eq-eqb, ne-eqb}
 use Rattle.laws.proofs.Bools.{true-false, and-parts}
 use Rattle.sets.specs.Set.{has}
-use Rattle.sets.specs.Pairs.{Meeting, Lowest, FirstMember, Without}
+use Rattle.sets.specs.Pairs.{Meeting, LeastMember, FirstMember, Without}
 use Rattle.sets.proofs.Halving.{has-zero, has-suc, has-zero-true, has-zero-false, insert-fresh}
 use Rattle.sets.proofs.Laws.{has-empty}
 
@@ -99,10 +99,10 @@ first-is (suc n) w k l e = go (first-is n (w / 2) (trailingZeros n (w / 2)) (ome
         none-under t g (suc j) m = has-suc j w ∙ g j (omega arith)
 
 -- a set that is not empty has one
-pub lowest-is : (n w k : ℕ) → w < 2 ^ n → w ≢ 0 → k ≡ trailingZeros n w → Lowest n w k
+pub lowest-is : (n w k : ℕ) → w < 2 ^ n → w ≢ 0 → k ≡ trailingZeros n w → LeastMember n w k
 lowest-is n w k l d e = go (first-is n w k l e) (decLt k n)
   where
-    go : FirstMember n w k → Dec (k < n) → Lowest n w k
+    go : FirstMember n w k → Dec (k < n) → LeastMember n w k
     go F (yes m) = record { below = m; member = F .member m; least = F .before }
     go F (no m) = let (j, h, f) = member n w l d in absurd (true-false f (F .before j (omega arith)))
 

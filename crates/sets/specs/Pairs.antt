@@ -14,7 +14,7 @@ pub record Meeting (n v w : ℕ) (f : Bool) : Type 0 where
   pub all : (k : ℕ) → has k v ≡ true → has k w ≡ true → f ≡ true
 
 -- k is the least member of w
-pub record Lowest (n w k : ℕ) : Type 0 where
+pub record LeastMember (n w k : ℕ) : Type 0 where
   pub below : k < n
   pub member : has k w ≡ true
   pub least : (j : ℕ) → j < k → has j w ≡ false

@@ -7,7 +7,7 @@ ghost use mathlib.Core.Logic.{_≢_};
 ghost use mathlib.Core.Path.{_≡_};
 ghost use Prim.Native.Nat.{_<_};
 ghost use Rattle.sets.specs.Set.{has as inSet, insert};
-ghost use Rattle.sets.specs.Pairs.{Common, Lowest, Without};
+ghost use Rattle.sets.specs.Pairs.{Common, LeastMember, Without};
 
 // Whether k is in the set w.
 pub fn has(w: u32, k: usize) -> bool
@@ -35,7 +35,7 @@ pub fn common(v: u32, w: u32) -> u32
 // The least member of a set that is not empty.
 pub fn lowest(w: u32) -> usize
     requires { ⌜ w ≢ 0 ⌝ }
-    ensures { λ k. ⌜ Lowest 32 w k ⌝ }
+    ensures { λ k. ⌜ LeastMember 32 w k ⌝ }
 {
     u32::trailing_zeros(w) as usize
 }

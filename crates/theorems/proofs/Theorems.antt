@@ -23,7 +23,7 @@
 --
 -- That the code gives and leaves what these definitions say is each exported function's contract, an equality without a condition:
 --
---   loader/src/lib.rt      load         loadOf
+--   load/src/lib.rt        load         loadOf
 --   recognizer/src/lib.rt  open         openOf
 --   recognizer/src/lib.rt  take         takeOf
 --   checker/src/lib.rt     check        checkOf
@@ -33,10 +33,10 @@
 --   next/src/lib.rt        next         nextOf
 --   count/src/lib.rt       count        countOf
 --
--- The listing program reads, calls `begin` of lister/src/begin.rt and `fill_page` of pages/src/lib.rt, whose contracts are the premises of
--- pages-text, and hands each page to `write` of output/src/lib.rt, which requires that these bytes come next in the text. `list` of
--- list/src/main.rt promises that none is left out, unless a write fails. So every byte handed to the write is proved, in its order; that
--- the write writes it is run.
+-- The listing program reads, calls `begin` of print_begin/src/begin.rt and `fill_page` of print_page/src/lib.rt, whose contracts are the
+-- premises of pages-text, and hands each page to `write` of print_write/src/lib.rt, which requires that these bytes come next in the text.
+-- `list` of list/src/main.rt promises that none is left out, unless a write fails. So every byte handed to the write is proved, in its
+-- order; that the write writes it is run.
 --
 -- `tools/trace-check` reads the table above and fails if a call lacks its equality or has a `requires`; the table of the calls in
 -- docs/TOUR.md is held to this file by it too. With the last three, demand-3 is a claim about the code's first, next and count.
@@ -70,11 +70,11 @@ use Rattle.results.specs.Drawer.{T, As}
 use Rattle.text.specs.Text.{loadedText, textOf}
 use Rattle.text.specs.Sample.{listingOfT}
 use Rattle.text.specs.Front.{bookFront, plateFront}
-use Rattle.measure.specs.Measure.{lengthsIn}
-use Rattle.lister.specs.declared.Due.{Due}
-use Rattle.lister.specs.declared.Due.the-variants.{Nothing}
-use Rattle.lister.specs.Begun.{BookBegun}
-use Rattle.pages.specs.Pages.{Pages}
+use Rattle.check_length.specs.Measure.{lengthsIn}
+use Rattle.print_begin.specs.declared.Due.{Due}
+use Rattle.print_begin.specs.declared.Due.the-variants.{Nothing}
+use Rattle.print_begin.specs.Begun.{BookBegun}
+use Rattle.print_page.specs.Pages.{Pages}
 use Rattle.demands.specs.Demand1.{OpenDemand, TakeDemand, InputDemand, OutputDemand}
 use Rattle.results.specs.Ready.{Ready, ReadyOut}
 use Rattle.demands.specs.OrderAfter.{OfferedOrder, TreesOrder}
@@ -82,7 +82,7 @@ use Rattle.demands.specs.LoadOrder.{CommandOrder}
 use Rattle.demands.specs.LoadDemand.{LoadDemand}
 use Rattle.demands.specs.Taken.{Taken}
 use Rattle.demands.specs.Recognized.{Recognized}
-use Rattle.listing.proofs.Exact as Exact
+use Rattle.theory_listing.proofs.Exact as Exact
 use Rattle.results.proofs.Starred as Starred
 use Rattle.results.proofs.Demand3.Walk as Walk
 use Rattle.results.proofs.Demand3.Handed as Handed
@@ -90,7 +90,7 @@ use Rattle.results.proofs.Demand3.Consequences as Consequences
 use Rattle.text.proofs.Sample as Sample
 use Rattle.text.proofs.Depth as Depth
 use Rattle.text.proofs.Front as Front
-use Rattle.pages.proofs.Printed as Printed
+use Rattle.print_page.proofs.Printed as Printed
 use Rattle.demands.proofs.Demand1 as Demand1
 use Rattle.demands.proofs.OrderOffered as Offered
 use Rattle.demands.proofs.OrderTrees as Trees

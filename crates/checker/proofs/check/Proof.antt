@@ -1,7 +1,7 @@
 -- `checker::check` meets its contract: a check that fails refuses, and else the chart is filled and the offered derivation is judged.
 -- Assumes nothing.
 use native.Mathlib.Omega.{arith}
-use Rattle.prepare.proofs.Judging.{judged-ready}
+use Rattle.fill_input.proofs.Judging.{judged-ready}
 use Rattle.checker.proofs.Answers.{check-refused, check-answered}
 use Rattle.checker.proofs.check.Statement.{statement}
 use Rattle.checker.proofs.check.Tie as tie

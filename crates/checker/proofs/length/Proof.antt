@@ -1,7 +1,7 @@
 -- `checker::length` meets its contract: a check that fails refuses, and else the chart is filled and the offered derivation is measured.
 -- Assumes nothing.
 use native.Mathlib.Omega.{arith}
-use Rattle.prepare.proofs.Judging.{judged-ready}
+use Rattle.fill_input.proofs.Judging.{judged-ready}
 use Rattle.checker.proofs.Answers.{length-refused, length-answered}
 use Rattle.checker.proofs.length.Statement.{statement}
 use Rattle.checker.proofs.length.Tie as tie

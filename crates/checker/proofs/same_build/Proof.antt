@@ -1,7 +1,7 @@
 -- `checker::same_build` meets its contract: a check that fails refuses, and else the chart is filled and the offered derivations are
 -- compared. Assumes nothing.
 use native.Mathlib.Omega.{arith}
-use Rattle.prepare.proofs.Judging.{judged-ready}
+use Rattle.fill_input.proofs.Judging.{judged-ready}
 use Rattle.checker.proofs.Answers.{build-refused, build-answered}
 use Rattle.checker.proofs.same_build.Statement.{statement}
 use Rattle.checker.proofs.same_build.Tie as tie

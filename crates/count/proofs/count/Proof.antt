@@ -1,7 +1,7 @@
 -- `count::count` meets its contract: a check that fails refuses, and else the chart is filled and the derivations are counted.
 -- Assumes nothing.
 use native.Mathlib.Omega.{arith}
-use Rattle.prepare.proofs.Judging.{judged-ready}
+use Rattle.fill_input.proofs.Judging.{judged-ready}
 use Rattle.count.proofs.Calls.{count-refused, filled-ready, count-answered}
 use Rattle.count.proofs.count.Statement.{statement}
 use Rattle.count.proofs.count.Tie as tie

@@ -1,7 +1,7 @@
 -- `first::first` meets its contract: a check that fails refuses, and else the chart is filled and the first derivation is handed out.
 -- Assumes nothing.
 use native.Mathlib.Omega.{arith}
-use Rattle.prepare.proofs.Judging.{output-ready}
+use Rattle.fill_input.proofs.Judging.{output-ready}
 use Rattle.first.proofs.Calls.{first-refused, filled-ready, first-answered}
 use Rattle.first.proofs.first.Statement.{statement}
 use Rattle.first.proofs.first.Tie as tie

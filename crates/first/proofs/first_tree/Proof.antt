@@ -4,7 +4,7 @@ use Prim.Native.Nat.{ℕ}
 use native.Mathlib.Omega.{arith}
 use lib.ListN.{length-replicate}
 use borrow.Author.Needs.{needs}
-use Rattle.tables.specs.Layout.{tablesSize}
+use Rattle.table_layout.specs.Layout.{tablesSize}
 use Rattle.first.proofs.Handing.{made-tree}
 use Rattle.first.proofs.first_tree.Statement.{statement}
 use Rattle.first.proofs.first_tree.Tie as tie

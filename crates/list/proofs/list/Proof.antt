@@ -5,8 +5,8 @@ use native.Mathlib.Omega.{arith}
 use lib.IntN.{ℤ, pos}
 use lib.ListN.{length-replicate}
 use Rattle.sizes.specs.Sizes.{maxRules, cells, outputSize}
-use Rattle.tables.specs.Layout.{tablesSize}
-use Rattle.output.proofs.Going.{listed}
+use Rattle.table_layout.specs.Layout.{tablesSize}
+use Rattle.print_write.proofs.Going.{listed}
 use Rattle.list.proofs.list.Statement.{statement}
 use Rattle.list.proofs.list.Tie as tie
 

@@ -1,7 +1,7 @@
 -- `next::next` meets its contract: a check that fails refuses, and else the chart is filled and what comes after is handed out.
 -- Assumes nothing.
 use native.Mathlib.Omega.{arith}
-use Rattle.prepare.proofs.Judging.{output-ready}
+use Rattle.fill_input.proofs.Judging.{output-ready}
 use Rattle.first.proofs.Calls.{filled-ready}
 use Rattle.next.proofs.Calls.{next-refused, next-answered}
 use Rattle.next.proofs.next.Statement.{statement}

@@ -4,7 +4,7 @@ use Prim.Native.Nat.{ℕ}
 use native.Mathlib.Omega.{arith}
 use lib.ListN.{length-replicate}
 use borrow.Author.Needs.{needs}
-use Rattle.tables.specs.Layout.{tablesSize}
+use Rattle.table_layout.specs.Layout.{tablesSize}
 use Rattle.next.proofs.Handing.{made-tree, offered-short}
 use Rattle.next.proofs.next_tree.Statement.{statement}
 use Rattle.next.proofs.next_tree.Tie as tie

@@ -11,9 +11,9 @@ use Rattle.cfg.specs.Grammar.{Cfg}
 use Rattle.cfg.specs.Tree.{Forest, nodes, Parse, HasTree}
 use Rattle.cfg.specs.Derivation.{Derivation, Rising, limit}
 use Rattle.cfg.specs.Listing.{L}
-use Rattle.listing.proofs.Exact.{listed→derivation, derivation→listed, derivations-rising, listed-not-empty}
-use Rattle.listing.proofs.Unique.{length-code}
-use Rattle.shrinking.proofs.Shrink.{no-derivation→large}
+use Rattle.theory_listing.proofs.Exact.{listed→derivation, derivation→listed, derivations-rising, listed-not-empty}
+use Rattle.theory_listing.proofs.Unique.{length-code}
+use Rattle.theory_shrinking.proofs.Shrink.{no-derivation→large}
 
 module _ (G : Cfg) (w : List ℕ) where
   pub L-rising : Rising (L G w)

@@ -12,9 +12,9 @@ use lib.Dec.{eqb}
 use lib.ListN.{length, getD}
 use borrow.Author.Tests.{eqb-true, eq-eqb}
 use Rattle.cfg.specs.Derivation.{_≺_, Rising}
-use Rattle.listing.proofs.Members.{Pairs, pairs-none, pairs-more}
-use Rattle.listing.proofs.Order.{≺-different}
-use Rattle.listing.proofs.Rising.{rising→pairs}
+use Rattle.theory_listing.proofs.Members.{Pairs, pairs-none, pairs-more}
+use Rattle.theory_listing.proofs.Order.{≺-different}
+use Rattle.theory_listing.proofs.Rising.{rising→pairs}
 use Rattle.results.specs.Check.{same, listed}
 use Rattle.results.specs.Enumerate.{headOf, afterIn}
 

@@ -14,7 +14,7 @@ use Rattle.cfg.specs.Tree.{HasTree}
 use Rattle.cfg.specs.Derivation.{Derivation, limit}
 use Rattle.cfg.specs.Listing.{L}
 use Rattle.chart.proofs.Derived.{Bounded}
-use Rattle.listing.proofs.Exact.{listed→derivation}
+use Rattle.theory_listing.proofs.Exact.{listed→derivation}
 use Rattle.results.specs.Walk.{Said, Move, handsOut, hands, noDerivation, noneLeft, refuses, counts, N, reading, walk}
 use Rattle.results.specs.Walk as Walk
 use Rattle.results.specs.Answer.{Answer, refused, answered, Handing, nothing, counted}

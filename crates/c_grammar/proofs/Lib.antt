@@ -1,0 +1,6 @@
+-- The laws of flat rows. What others cite: Judged, Round.
+pub mod Records
+pub mod Parts
+pub mod Round
+pub mod Judged
+pub mod Written

@@ -1,0 +1,58 @@
+-- The parts of a grammar as they are read: a symbol by its tag and its value, and a place, a rule and a grammar of what was read.
+-- Assumes nothing.
+use Prim.Native.Nat.{ℕ, _+_, _≤_, _<_}
+use native.Mathlib.Omega.{arith}
+use mathlib.Core.List.{List}
+use mathlib.Core.Path.{_≡_, _∙_}
+use lib.IntN.{ℤ}
+use lib.ListN.{getD}
+use borrow.Author.Tests.{ne-eqb, le-leb, lt-leb}
+use mir.Syntax.{w16}
+use mir.Val.{SFits, toZ, ofZ}
+use mir.Facts.{toZ-ofZ}
+use Rattle.grammar.specs.declared.Symbol.{Symbol}
+use Rattle.grammar.specs.declared.Symbol.the-variants.{Nonterminal, Terminal}
+use Rattle.grammar.specs.declared.Place.{Place}
+use Rattle.grammar.specs.declared.Rule.{Rule}
+use Rattle.grammar.specs.Setters.{ruleWith, grammarWith}
+use Rattle.grammar.proofs.Setters.{rule-same, grammar-same}
+use Rattle.numbers.specs.Numbers.{byteIn, signedIn}
+use Rattle.c_grammar.specs.Flat.{rowSymbol, rowPlace, rowPlaces, rowRule, rowRules, grammarIn}
+
+module _ (tag value v : ℕ) (e : v ≡ byteIn value) where
+  pub symbol-nonterminal : tag ≡ 0 → Nonterminal v ≡ rowSymbol tag value
+  unfolding rowSymbol
+  symbol-nonterminal t = rw (e, t)
+
+  pub symbol-terminal : tag ≡ 1 → value ≤ 255 → Terminal v ≡ rowSymbol tag value
+  unfolding rowSymbol
+  symbol-terminal t h =
+      let d : v ≡ value = omega arith in
+      rw (d, t, le-leb value 255 h)
+
+  -- a value too large for a terminal
+  pub symbol-large : tag ≡ 1 → 255 < value → Nonterminal 255 ≡ rowSymbol tag value
+  unfolding rowSymbol
+  symbol-large t h = rw (t, lt-leb value 255 h)
+
+  -- no tag
+  pub symbol-other : (tag ≡ 0 → ⊥) → (tag ≡ 1 → ⊥) → Nonterminal 255 ≡ rowSymbol tag value
+  unfolding rowSymbol
+  symbol-other z o = rw (ne-eqb tag 0 z, ne-eqb tag 1 o)
+
+pub read-place-of : (f : List ℕ) (at : ℕ) (s : Symbol) → s ≡ rowSymbol (getD f at 0) (getD f (at + 1) 0)
+    → _≡_ {A = Place} (record { symbol = s }) (rowPlace f at)
+unfolding rowPlace
+read-place-of f at s e = λ i. record { symbol = e i }
+
+-- the length went through a local
+pub read-rule-of : (f : List ℕ) (at l k : ℕ) (z : ℤ) (p : List Place) → l ≡ byteIn (getD f at 0) → z ≡ signedIn (getD f (at + 1) 0)
+    → SFits w16 z → k ≡ getD f (at + 2) 0 → p ≡ rowPlaces f (at + 3)
+    → ruleWith l (toZ w16 (ofZ w16 z)) k p ≡ rowRule f at
+unfolding rowRule
+read-rule-of f at l k z p el ez s ek ep = rule-same (ruleWith l (toZ w16 (ofZ w16 z)) k p) (rowRule f at) el (toZ-ofZ s ∙ ez) ek ep
+
+pub read-grammar-of : (f : List ℕ) (s k d : ℕ) (r : List Rule) → s ≡ byteIn (getD f 0 0) → k ≡ getD f 1 0 → d ≡ byteIn (getD f 2 0)
+    → r ≡ rowRules f → grammarWith s k d r ≡ grammarIn f
+unfolding grammarIn
+read-grammar-of f s k d r es ek ed er = grammar-same (grammarWith s k d r) (grammarIn f) es ek ed er

@@ -1,0 +1,88 @@
+-- Records written one after the other into a flat row, behind what stands there already. Assumes nothing.
+use Prim.Native.Nat.{ℕ, _+_, _*_, _≤_, _<_}
+use native.Mathlib.Omega.{arith}
+use mathlib.Core.List.{List, [], _∷_, _++_, flatMap, append-assoc, append-nil}
+use mathlib.Core.Path.{_≡_, refl, sym, ap, _∙_}
+use lib.ListN.{length, getD, take, set}
+use lib.Seq.{take-all}
+use mir.Syntax.{w16}
+use mir.Val.{SFits, toZ, ofZ}
+use mir.Facts.{toZ-ofZ}
+use Rattle.sizes.specs.Sizes.{maxRules, maxPlaces}
+use Rattle.grammar.specs.declared.Place.{Place}
+use Rattle.grammar.specs.declared.Rule.{Rule}
+use Rattle.grammar.specs.declared.Grammar.{Grammar}
+use Rattle.grammar.specs.Tagged.{tagOf, valueOf}
+use Rattle.numbers.specs.Numbers.{saturated, unsignedOf}
+use Rattle.c_grammar.specs.Flat.{flatPlace, flatRule, flatOf, flatSize, ruleNumbers}
+use Rattle.c_grammar.proofs.Records.{put-two, put-three, flat-step}
+
+-- in f, what stands before b is as in f₀, and the first q elements of l follow, w numbers each
+pub record Written {A : Type 0} (flat : A → List ℕ) (w b : ℕ) (l : List A) (f₀ : List ℕ) (q : ℕ) (f : List ℕ) : Type 0 where
+  pub long : length f ≡ flatSize
+  pub front : take (b + w * q) f ≡ take b f₀ ++ flatMap flat (take q l)
+
+module _ {A : Type 0} (flat : A → List ℕ) (w b : ℕ) (l : List A) where
+  pub written-start : (f : List ℕ) → length f ≡ flatSize → Written flat w b l f 0 f
+  unfolding flatMap
+  written-start f h =
+      let e : b + w * 0 ≡ b = omega arith in
+      record { long = h; front = ap (λ (k : ℕ). take k f) e ∙ sym (append-nil (take b f)) }
+
+  pub written-step : (d : A) (q : ℕ) (f₀ f g : List ℕ) → q < length l → length g ≡ flatSize
+      → take (b + w * q + w) g ≡ take (b + w * q) f ++ flat (getD l q d) → Written flat w b l f₀ q f → Written flat w b l f₀ (q + 1) g
+  written-step d q f₀ f g h n e r =
+      let k : b + w * (q + 1) ≡ b + w * q + w = omega arith in
+      record {
+        long = n;
+        front =
+            ap (λ (j : ℕ). take j g) k
+            ∙ flat-step flat l d q (take b f₀) (take (b + w * q) f) (take (b + w * q + w) g) h (r .front) e;
+      }
+
+  -- all of l is written
+  pub written-all : (q m : ℕ) (f₀ f : List ℕ) → q ≡ length l → m ≡ b + w * q → Written flat w b l f₀ q f
+      → take m f ≡ take b f₀ ++ flatMap flat l
+  written-all q m f₀ f e h r =
+      ap (λ (j : ℕ). take j f) h ∙ r .front ∙ ap (λ (x : List A). take b f₀ ++ flatMap flat x) (take-all q l (omega arith))
+
+-- ---- a place
+
+pub place-done : (p : Place) (at : ℕ) (f : List ℕ) (t v : ℕ) → at + 2 ≤ flatSize → length f ≡ flatSize
+    → t ≡ tagOf (p .symbol) → v ≡ valueOf (p .symbol) → take (at + 2) (set (set f at t) (at + 1) v) ≡ take at f ++ flatPlace p
+unfolding flatPlace
+place-done p at f t v h n et ev =
+    put-two f at (at + 1) (at + 2) t v refl refl (omega arith) ∙ λ i. take at f ++ (et i ∷ ev i ∷ [])
+
+-- ---- a rule
+
+module _ (ρ : Rule) (at : ℕ) (low : at + ruleNumbers ≤ flatSize) where
+  -- the whole rule
+  pub rule-done : (f₀ f : List ℕ) (u k q : ℕ) → length f₀ ≡ flatSize → length (ρ .places) ≡ maxPlaces → SFits w16 (ρ .length)
+      → q ≤ maxPlaces → maxPlaces ≤ q
+      → u ≡ unsignedOf (toZ w16 (ofZ w16 (ρ .length))) → k ≡ saturated (ρ .count)
+      → Written flatPlace 2 (at + 3) (ρ .places) (set (set (set f₀ at (ρ .left)) (at + 1) u) (at + 2) k) q f
+      → take (at + ruleNumbers) f ≡ take at f₀ ++ flatRule ρ
+  unfolding flatRule
+  rule-done f₀ f u k q n m s h j eu ek r =
+      let e : u ≡ unsignedOf (ρ .length) = eu ∙ ap unsignedOf (toZ-ofZ s) in
+      written-all flatPlace 2 (at + 3) (ρ .places) q (at + ruleNumbers) _ f (omega arith) (omega arith) r
+      ∙ ap (λ (x : List ℕ). x ++ flatMap flatPlace (ρ .places))
+      (put-three f₀ at (at + 1) (at + 2) (at + 3) (ρ .left) u k (omega arith) (omega arith) (omega arith) (omega arith)
+      ∙ λ i. take at f₀ ++ (ρ .left ∷ e i ∷ ek i ∷ []))
+      ∙ append-assoc (take at f₀) (ρ .left ∷ unsignedOf (ρ .length) ∷ saturated (ρ .count) ∷ []) (flatMap flatPlace (ρ .places))
+
+-- ---- a grammar
+
+pub grammar-done : (g : Grammar) (f₀ f : List ℕ) (k r : ℕ) → length f₀ ≡ flatSize → length (g .rules) ≡ maxRules → r ≤ maxRules
+    → maxRules ≤ r
+    → k ≡ saturated (g .count)
+    → Written flatRule ruleNumbers 3 (g .rules) (set (set (set f₀ 0 (g .start)) 1 k) 2 (g .depth)) r f
+    → f ≡ flatOf g
+unfolding flatOf
+grammar-done g f₀ f k r n m h j ek w =
+    sym (take-all flatSize f (omega (arith, w .long)))
+    ∙ written-all flatRule ruleNumbers 3 (g .rules) r flatSize _ f (omega arith) (omega arith) w
+    ∙ ap (λ (x : List ℕ). x ++ flatMap flatRule (g .rules))
+    (put-three f₀ 0 1 2 3 (g .start) k (g .depth) (omega arith) (omega arith) (omega arith) (omega arith)
+    ∙ λ i. g .start ∷ ek i ∷ g .depth ∷ [])

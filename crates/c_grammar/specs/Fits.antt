@@ -1,0 +1,29 @@
+-- What the declared types give of a grammar: 128 rules of 8 places, every field but the counts within the bits that a flat row has for it.
+-- The counts may be any numbers. A grammar whose counts are of 16 bits too is one that a flat row holds whole. Assumes nothing.
+use Prim.Native.Nat.{ℕ, _<_}
+use mathlib.Core.Path.{_≡_}
+use lib.ListN.{length, getD}
+use lib.Signed.{mag}
+use Rattle.sizes.specs.Sizes.{maxRules, maxPlaces}
+use Rattle.grammar.specs.declared.Rule.{Rule}
+use Rattle.grammar.specs.declared.Grammar.{Grammar}
+use Rattle.grammar.specs.Tagged.{valueOf}
+use Rattle.grammar.specs.Zero.{zeroPlace, noRule}
+
+-- `mag (ρ .length) < 32768` says that the length is at least -32768 and below 32768
+pub record DeclaredRule (ρ : Rule) : Type 0 where
+  pub left : ρ .left < 256
+  pub magnitude : mag (ρ .length) < 32768
+  pub places : length (ρ .places) ≡ maxPlaces
+  pub values : (q : ℕ) → q < maxPlaces → valueOf (getD (ρ .places) q zeroPlace .symbol) < 256
+
+pub record DeclaredGrammar (g : Grammar) : Type 0 where
+  pub start : g .start < 256
+  pub depth : g .depth < 256
+  pub rules : length (g .rules) ≡ maxRules
+  pub each : (r : ℕ) → r < maxRules → DeclaredRule (getD (g .rules) r noRule)
+
+pub record Fits16 (g : Grammar) : Type 0 where
+  pub declared : DeclaredGrammar g
+  pub count : g .count < 65536
+  pub counts : (r : ℕ) → r < maxRules → getD (g .rules) r noRule .count < 65536

@@ -1,0 +1,72 @@
+-- A flat row is a row of numbers of 16 bits: the start symbol, the number of rules used, the nullable depth, and the numbers of each of 128
+-- rules: the left side, the length (two's complement), the number of places used, and for each of 8 places a tag (0 a nonterminal, 1 a
+-- terminal) and a value. The grammar of a row, and the row of a grammar. Each number of a row is judged whole: one that is too large for
+-- its place is read as a value that check 8 refuses where it is used, and a count too large for a row is written as one that it refuses.
+-- Assumes nothing.
+use Prim.Native.Nat.{ℕ, zero, suc, _+_, _*_}
+use mathlib.Core.Bool.{cond, _&&_}
+use mathlib.Core.List.{List, [], _∷_, flatMap}
+use lib.Dec.{eqb, leb}
+use lib.ListN.{getD}
+use Rattle.sizes.specs.Sizes.{maxRules, maxPlaces}
+use Rattle.numbers.specs.Numbers.{byteIn, saturated, signedIn, unsignedOf}
+use Rattle.grammar.specs.declared.Symbol.{Symbol}
+use Rattle.grammar.specs.declared.Symbol.the-variants.{Nonterminal, Terminal}
+use Rattle.grammar.specs.declared.Place.{Place}
+use Rattle.grammar.specs.declared.Rule.{Rule}
+use Rattle.grammar.specs.declared.Grammar.{Grammar}
+use Rattle.grammar.specs.Setters.{ruleWith, grammarWith}
+use Rattle.grammar.specs.Tagged.{tagOf, valueOf}
+
+-- the numbers of a rule, and of a row
+abbrev pub ruleNumbers : ℕ
+ruleNumbers = 3 + 2 * maxPlaces
+
+abbrev pub flatSize : ℕ
+flatSize = 3 + maxRules * ruleNumbers
+
+-- ---- the grammar of a row
+
+-- n records of w numbers each, from an index on
+unfoldable pub recordsFrom : {A : Type 0} → (ℕ → A) → ℕ → ℕ → ℕ → List A
+recordsFrom read w at zero = []
+recordsFrom read w at (suc n) = read at ∷ recordsFrom read w (at + w) n
+
+-- the symbol of a tag and a value: a nonterminal, a terminal of one byte, or else the nonterminal 255
+unfoldable pub rowSymbol : ℕ → ℕ → Symbol
+rowSymbol tag value =
+    cond (eqb tag 0) (Nonterminal (byteIn value)) (cond (eqb tag 1 && leb value 255) (Terminal value) (Nonterminal 255))
+
+-- the place at an index
+unfoldable pub rowPlace : List ℕ → ℕ → Place
+rowPlace f at = record { symbol = rowSymbol (getD f at 0) (getD f (at + 1) 0) }
+
+-- the 8 places from an index on
+unfoldable pub rowPlaces : List ℕ → ℕ → List Place
+rowPlaces f at = recordsFrom (rowPlace f) 2 at maxPlaces
+
+-- the rule at an index
+unfoldable pub rowRule : List ℕ → ℕ → Rule
+rowRule f at = ruleWith (byteIn (getD f at 0)) (signedIn (getD f (at + 1) 0)) (getD f (at + 2) 0) (rowPlaces f (at + 3))
+
+-- the 128 rules
+unfoldable pub rowRules : List ℕ → List Rule
+rowRules f = recordsFrom (rowRule f) ruleNumbers 3 maxRules
+
+-- the grammar of a row
+unfoldable pub grammarIn : List ℕ → Grammar
+grammarIn f = grammarWith (byteIn (getD f 0 0)) (getD f 1 0) (byteIn (getD f 2 0)) (rowRules f)
+
+-- ---- the row of a grammar
+
+-- the two numbers of a place
+unfoldable pub flatPlace : Place → List ℕ
+flatPlace p = tagOf (p .symbol) ∷ valueOf (p .symbol) ∷ []
+
+-- the numbers of a rule
+unfoldable pub flatRule : Rule → List ℕ
+flatRule r = r .left ∷ unsignedOf (r .length) ∷ saturated (r .count) ∷ flatMap flatPlace (r .places)
+
+-- the row of a grammar
+unfoldable pub flatOf : Grammar → List ℕ
+flatOf g = g .start ∷ saturated (g .count) ∷ g .depth ∷ flatMap flatRule (g .rules)

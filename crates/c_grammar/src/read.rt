@@ -1,0 +1,77 @@
+// A grammar, read from its row.
+use super::Flat;
+use super::RULE_NUMBERS;
+use super::symbol::symbol;
+use grammar::Grammar;
+use grammar::Place;
+use grammar::Rule;
+ghost use mathlib.Core.Path.{_≡_};
+ghost use Prim.Native.Nat.{_+_, _*_, _≤_};
+ghost use Rattle.sizes.specs.Sizes.{maxPlaces};
+ghost use Rattle.c_grammar.specs.Flat.{rowPlace, rowPlaces, rowRule, rowRules, flatSize, ruleNumbers, grammarIn};
+
+fn read_place(f: &Flat, at: usize) -> Place
+    requires { ⌜ at + 2 ≤ flatSize ⌝ }
+    ensures { λ p. ⌜ p ≡ rowPlace (now (f .entry)) at ⌝ }
+{
+    Place {
+        symbol: symbol(f[at], f[at + 1]),
+    }
+}
+
+fn read_places(f: &Flat, at: usize) -> [Place; sizes::MAX_PLACES]
+    requires { ⌜ at + 2 * maxPlaces ≤ flatSize ⌝ }
+    ensures { λ l. ⌜ l ≡ rowPlaces (now (f .entry)) at ⌝ }
+{
+    let mut places = [grammar::zero_place(); sizes::MAX_PLACES];
+    let mut q = 0;
+    while q < sizes::MAX_PLACES {
+        places[q] = read_place(f, at + 2 * q);
+        q += 1;
+    }
+    places
+}
+
+fn read_rule(f: &Flat, at: usize) -> Rule
+    requires { ⌜ at + ruleNumbers ≤ flatSize ⌝ }
+    ensures { λ r. ⌜ r ≡ rowRule (now (f .entry)) at ⌝ }
+{
+    let left = numbers::byte(f[at]);
+    let length = numbers::signed(f[at + 1]);
+    let count = numbers::wide(f[at + 2]);
+    let places = read_places(f, at + 3);
+    Rule {
+        left: left,
+        length: length,
+        count: count,
+        places: places,
+    }
+}
+
+fn read_rules(f: &Flat) -> [Rule; sizes::MAX_RULES]
+    ensures { λ l. ⌜ l ≡ rowRules (now (f .entry)) ⌝ }
+{
+    let mut rules = [grammar::zero_rule(); sizes::MAX_RULES];
+    let mut r = 0;
+    while r < sizes::MAX_RULES {
+        rules[r] = read_rule(f, 3 + RULE_NUMBERS * r);
+        r += 1;
+    }
+    rules
+}
+
+// The grammar of a row.
+pub fn read(f: &Flat) -> Grammar
+    ensures { λ g. ⌜ g ≡ grammarIn (now (f .entry)) ⌝ }
+{
+    let start = numbers::byte(f[0]);
+    let count = numbers::wide(f[1]);
+    let depth = numbers::byte(f[2]);
+    let rules = read_rules(f);
+    Grammar {
+        start: start,
+        count: count,
+        depth: depth,
+        rules: rules,
+    }
+}

@@ -1,0 +1,23 @@
+// The symbol of two numbers of a flat row. Each number is judged whole: one that is too large for its place is read as a value that check 8
+// refuses.
+use grammar::Symbol;
+ghost use mathlib.Core.Path.{_≡_};
+ghost use Rattle.c_grammar.specs.Flat.{rowSymbol};
+
+// The symbol of a tag and a value. What is neither a nonterminal nor a terminal is the nonterminal 255.
+pub fn symbol(tag: u16, value: u16) -> Symbol
+    ensures { λ s. ⌜ s ≡ rowSymbol tag value ⌝ }
+{
+    let v = numbers::byte(value);
+    match tag {
+        0 => Symbol::Nonterminal(v),
+        1 => {
+            if value <= 255 {
+                Symbol::Terminal(v)
+            } else {
+                Symbol::Nonterminal(255)
+            }
+        }
+        _ => Symbol::Nonterminal(255),
+    }
+}

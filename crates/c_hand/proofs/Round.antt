@@ -1,0 +1,83 @@
+-- A state that is written to a row is read back, with a count of at most 65535; check 14 judges the row as it judges the state.
+-- Assumes nothing.
+use Prim.Native.Nat.{ℕ, zero, suc, _<_}
+use native.Mathlib.Decide.{decLt}
+use native.Mathlib.Omega.{arith}
+use mathlib.Core.Bool.{true}
+use mathlib.Core.List.{List, [], _∷_, _++_, map}
+use mathlib.Core.Logic.{dite}
+use mathlib.Core.Path.{_≡_, refl, sym, ap, _∙_}
+use lib.Dec.{ltb}
+use lib.ListN.{length, getD, take}
+use lib.Seq.{take-at, getD-at}
+use borrow.Author.Tests.{lt-ltb, le-leb}
+use Rattle.grammar.specs.Valid.{all}
+use Rattle.results.specs.Recognize.{State, setTaken, stateCheck}
+use Rattle.results.proofs.State.{state-same}
+use Rattle.c_hand.specs.Declared.{DeclaredState}
+use Rattle.sizes.specs.Sizes.{maxInput}
+use Rattle.numbers.specs.Numbers.{byteIn, saturated}
+use Rattle.c_hand.specs.Hand.{isByte, bytesIn, handCount, stateOfRow, rowOf}
+
+-- ---- bytes
+
+-- each element is a byte
+abbrev Bytes : List ℕ → Type 0
+Bytes l = (i : ℕ) → getD l i 0 < 256
+
+bytes-front : (l r : List ℕ) → Bytes l → take (length l) (map byteIn (l ++ r)) ≡ l
+bytes-front [] r b = refl
+bytes-front (a ∷ l) r b =
+    let e : byteIn a ≡ a = omega (arith, b 0) in
+    let t = bytes-front l r (λ i. b (suc i)) in
+    λ i. e i ∷ t i
+
+bytes-all : (l : List ℕ) (n : ℕ) → Bytes l → all isByte (take n l) ≡ true
+unfolding all
+bytes-all l zero b = refl
+bytes-all [] (suc n) b = refl
+bytes-all (a ∷ l) (suc n) b = rw (le-leb a 255 (omega (arith, b 0)), bytes-all l n (λ i. b (suc i)))
+
+-- ---- a state
+
+-- the state with a count that a row holds
+abbrev pub kept : State → State
+kept s = setTaken s (saturated (s .count))
+
+module _ (s : State) (d : DeclaredState s) where
+  bytes-back : bytesIn (rowOf s) ≡ s .bytes
+  unfolding bytesIn rowOf
+  bytes-back =
+      ap (λ (n : ℕ). take n (map byteIn (s .bytes ++ (saturated (s .count) ∷ [])))) (sym (d .long))
+      ∙ bytes-front (s .bytes) (saturated (s .count) ∷ []) (d .each)
+
+  count-back : handCount (rowOf s) ≡ saturated (s .count)
+  unfolding handCount rowOf
+  count-back =
+      rw (
+        getD-at (s .bytes) (saturated (s .count)) [] 0 maxInput (d .long),
+        take-at (s .bytes) (saturated (s .count) ∷ []) maxInput (d .long),
+        bytes-all (s .bytes) (saturated (s .count)) (d .each),
+      )
+
+  pub read-kept : stateOfRow (rowOf s) ≡ kept s
+  unfolding stateOfRow
+  read-kept = state-same (stateOfRow (rowOf s)) (kept s) bytes-back count-back
+
+  -- a state whose count is one of 16 bits is read back as it was written
+  pub read-write : s .count < 65536 → stateOfRow (rowOf s) ≡ s
+  read-write h =
+      let e : saturated (s .count) ≡ s .count = omega arith in
+      read-kept ∙ ap (setTaken s) e
+
+  -- what is written is refused exactly if the state is
+  pub write-judged : stateCheck (stateOfRow (rowOf s)) .fails ≡ stateCheck s .fails
+  write-judged = ap (λ (x : State). stateCheck x .fails) read-kept ∙ dite (decLt (s .count) 65536) small large
+    where
+      small : s .count < 65536 → ltb maxInput (saturated (s .count)) ≡ ltb maxInput (s .count)
+      small h =
+          let e : saturated (s .count) ≡ s .count = omega arith in
+          ap (ltb maxInput) e
+
+      large : (s .count < 65536 → ⊥) → ltb maxInput (saturated (s .count)) ≡ ltb maxInput (s .count)
+      large h = lt-ltb maxInput (saturated (s .count)) (omega arith) ∙ sym (lt-ltb maxInput (s .count) (omega arith))

@@ -1,0 +1,10 @@
+-- What the declared type of a state gives: 64 bytes. The count may be any number. Assumes nothing.
+use Prim.Native.Nat.{ℕ, _<_}
+use mathlib.Core.Path.{_≡_}
+use lib.ListN.{length, getD}
+use Rattle.sizes.specs.Sizes.{maxInput}
+use Rattle.results.specs.Recognize.{State}
+
+pub record DeclaredState (s : State) : Type 0 where
+  pub long : length (s .bytes) ≡ maxInput
+  pub each : (i : ℕ) → getD (s .bytes) i 0 < 256

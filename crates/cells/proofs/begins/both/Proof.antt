@@ -1,8 +1,0 @@
--- `cells::begins::both` meets its contract. Assumes nothing.
-use native.Mathlib.Omega.{arith}
-use Rattle.cells.proofs.Bits.{and-then, and-stop}
-use Rattle.cells.proofs.begins.both.Statement.{statement}
-use Rattle.cells.proofs.begins.both.Tie as tie
-
-pub both-spec : {M : Type 1} → statement M
-both-spec = tie.close (tie.spec (λ c κs. omega arith) (λ c κs. omega arith) (λ c. search and-then) (λ c. search and-stop))

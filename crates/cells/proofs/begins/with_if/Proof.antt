@@ -1,8 +1,0 @@
--- `cells::begins::with_if` meets its contract. Assumes nothing.
-use native.Mathlib.Omega.{arith}
-use Rattle.cells.proofs.Bits.{if-true, if-false}
-use Rattle.cells.proofs.begins.with_if.Statement.{statement}
-use Rattle.cells.proofs.begins.with_if.Tie as tie
-
-pub with-if-spec : {M : Type 1} → statement M
-with-if-spec = tie.close (tie.spec (λ c κs. omega arith) (λ c. search if-true) (λ c. search if-false))

@@ -1,0 +1,82 @@
+// The total length of a derivation: the rule lengths of its nodes added up, and the sum rounded to tenths.
+use check_walk::offered::rule_number;
+use grammar::Grammar;
+use grammar::Rule;
+ghost use mathlib.Core.List.{map};
+ghost use mathlib.Core.Path.{_≡_};
+ghost use Prim.Native.Nat.{_<_, _≤_};
+ghost use lib.ListN.{length};
+ghost use lib.Signed.{mag};
+ghost use Rattle.sizes.specs.Sizes.{maxRules, outputSize};
+ghost use Rattle.results.specs.Measure.{sum as sumOf, rounded as roundedOf};
+ghost use Rattle.check_length.specs.Measure.{lengthsIn, lengthOfRule};
+
+// The lengths of the rules, by their numbers.
+pub type Lengths = [i16; sizes::MAX_RULES];
+
+// Hundredths of a millimetre rounded to tenths, halves away from zero.
+pub fn rounded(sum: i32) -> i32
+    requires { ⌜ mag sum ≤ 16777216 ⌝ }
+    ensures { λ r. ⌜ r ≡ roundedOf sum ⌝ }
+{
+    if sum < 0 {
+        (sum - 5) / 10
+    } else {
+        (sum + 5) / 10
+    }
+}
+
+// The length of a rule.
+pub fn length_of(rule: Rule) -> i16
+    ensures { λ z. ⌜ z ≡ lengthOfRule rule ⌝ }
+{
+    let z = rule.length;
+    z
+}
+
+// The lengths of a grammar's rules.
+pub fn lengths_of(g: Grammar) -> Lengths
+    ensures { λ l. ⌜ l ≡ map lengthOfRule (g .rules) ⌝ }
+{
+    let mut l = [0i16; sizes::MAX_RULES];
+    let mut r = 0;
+    while r < sizes::MAX_RULES {
+        let rule = g.rules[r];
+        l[r] = length_of(rule);
+        r += 1;
+    }
+    l
+}
+
+// A length, as a wider number.
+pub fn widened(z: i16) -> i32
+    ensures { λ y. ⌜ (y ≡ z) × (mag y < 32768) ⌝ }
+{
+    z as i32
+}
+
+// The rule lengths of all nodes of an offered derivation, empty ones too, added up.
+pub fn total(l: &[i16], e: &[u16]) -> i32
+    requires { ⌜ (length (now e) ≤ outputSize) × (length (now l) ≡ maxRules) ⌝ }
+    ensures { λ r. ⌜ (r ≡ sumOf (lengthsIn (now (l .entry))) (now (e .entry))) × (mag r ≤ 16777216) ⌝ }
+{
+    let n = e.len() / 2;
+    let mut sum: i32 = 0;
+    let mut i = 0;
+    while i < n {
+        let r = rule_number(e, i);
+        if r < sizes::MAX_RULES {
+            sum += widened(l[r]);
+        }
+        i += 1;
+    }
+    sum
+}
+
+// The total length of a derivation, in tenths.
+pub fn tenths(l: &[i16], e: &[u16]) -> i32
+    requires { ⌜ (length (now e) ≤ outputSize) × (length (now l) ≡ maxRules) ⌝ }
+    ensures { λ r. ⌜ r ≡ roundedOf (sumOf (lengthsIn (now (l .entry))) (now (e .entry))) ⌝ }
+{
+    rounded(total(l, e))
+}

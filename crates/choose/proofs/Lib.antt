@@ -1,2 +1,0 @@
--- Laws of these choices, by the tests that the code makes.
-pub mod Chosen

@@ -1,2 +1,0 @@
--- Which rule and which end are chosen.
-pub mod Chosen

@@ -1,1 +1,0 @@
-// The codes: definitions and theorems only.

@@ -1,8 +1,0 @@
--- `cuts::within::nonterminal_at` meets its contract. Assumes nothing.
-use borrow.Author.Needs.{needs}
-use Rattle.cuts.proofs.Inner.{nonterminal-inside}
-use Rattle.cuts.proofs.within.nonterminal_at.Statement.{statement}
-use Rattle.cuts.proofs.within.nonterminal_at.Tie as tie
-
-pub nonterminal-at-spec : {M : Type 1} → statement M
-nonterminal-at-spec = tie.close (tie.spec (λ c κs. search needs) (λ c κs. search needs) (λ c. search (needs, nonterminal-inside)))

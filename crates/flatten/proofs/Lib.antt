@@ -1,2 +1,0 @@
--- The laws of writing a flat row.
-pub mod Written

@@ -1,2 +1,0 @@
--- Laws of what next hands out, once the tables are made.
-pub mod Handing

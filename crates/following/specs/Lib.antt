@@ -1,2 +1,0 @@
--- What next hands out, once the tables are made.
-pub mod Made

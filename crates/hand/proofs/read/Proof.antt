@@ -1,8 +1,0 @@
--- `hand::read` meets its contract: the state of the parts that were read. Assumes nothing.
-use native.Mathlib.Omega.{arith}
-use Rattle.hand.proofs.Copies.{read-of}
-use Rattle.hand.proofs.read.Statement.{statement}
-use Rattle.hand.proofs.read.Tie as tie
-
-pub read-spec : {M : Type 1} → statement M
-read-spec = tie.close (tie.spec (λ c κs. omega arith) (λ c κs. omega arith) (λ c. search read-of))

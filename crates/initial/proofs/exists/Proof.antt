@@ -1,8 +1,0 @@
--- `initial::exists` meets its contract. Assumes nothing.
-use native.Mathlib.Omega.{arith}
-use Rattle.initial.proofs.Writing.{exists-told}
-use Rattle.initial.proofs.exists.Statement.{statement}
-use Rattle.initial.proofs.exists.Tie as tie
-
-pub exists-spec : {M : Type 1} → statement M
-exists-spec = tie.close (tie.spec (λ c κs. omega arith) (λ c κs. omega arith) (λ c. search exists-told))

@@ -1,0 +1,159 @@
+-- The loop of loading: what holds of what has been read so far, that each command keeps it, and what the end and a fault make of it.
+-- Assumes nothing.
+use Prim.Native.Nat.{ℕ, suc, _+_, _*_, _-_, _^_, _≤_, _<_}
+use native.Mathlib.Omega.{arith}
+use mathlib.Core.Bool.{true, false}
+use mathlib.Core.List.{List}
+use mathlib.Core.Path.{_≡_, refl, sym, ap, _∙_, subst}
+use lib.Dec.{ltb}
+use lib.ListN.{length, getD}
+use borrow.Author.Tests.{lt-ltb}
+use mir.Syntax.{w64}
+use mir.Val.{Fits}
+use Rattle.sizes.specs.Sizes.{maxRules, maxPlaces}
+use Rattle.numbers.specs.Numbers.{signedIn}
+use Rattle.grammar.specs.declared.Symbol.{Symbol}
+use Rattle.grammar.specs.declared.Rule.{Rule}
+use Rattle.grammar.specs.declared.Grammar.{Grammar}
+use Rattle.grammar.specs.Setters.{openedRule, placedRule, setStart, setCount, setRule}
+use Rattle.grammar.specs.Valid.{validGrammar}
+use Rattle.grammar.specs.Zero.{zeroGrammar, noRule}
+use Rattle.grammar.proofs.Bounds.{valid-count}
+use Rattle.answers.specs.declared.Refusal.{Refusal}
+use Rattle.answers.specs.Number.{numberOf}
+use Rattle.results.specs.Load.{signed, next, step, run, loadOf, openRule}
+use Rattle.results.proofs.Loading.Run.{run-stop, run-next, run-done, step-forward, run-fuel}
+use Rattle.results.proofs.Loading.Commands.{start-set, rule-set, place-set, step-kept}
+use Rattle.results.proofs.Loading.Valid.{valid-invariant, size-invariant}
+use Rattle.load.specs.Answer.{loadingOf, Refuses, Accepts}
+use Rattle.load_commands.specs.Command.{stepOf, Bounded, Begun, CommandRead}
+use Rattle.load_commands.specs.Turn.{TurnAt}
+use Rattle.load_commands.proofs.Steps.{turn-step}
+use Rattle.load.specs.declared.Loaded.{Loaded}
+use Rattle.load_commands.specs.declared.opcode.Command.{Command}
+use Rattle.load_commands.specs.declared.opcode.Command.the-variants as C
+use Rattle.load_commands.specs.declared.opcode.Turn.{Turn}
+
+-- ---- the bounds of a command that was read
+
+module _ (bytes : List ℕ) (at : ℕ) (t : Turn) (rules places : ℕ) (c : Command) (R : CommandRead bytes at t rules places c) where
+  abbrev bounds : (m : Command) → c ≡ m → Bounded (length bytes) at (getD bytes at 0) rules places m
+  bounds m e = subst (Bounded (length bytes) at (getD bytes at 0) rules places) e (R .bounded)
+
+  pub start-room : (k : ℕ) → c ≡ C.Start k → at + 2 ≤ length bytes
+  start-room k e = bounds (C.Start k) e
+
+  pub rule-room : (k low high : ℕ) → c ≡ C.Rule k low high → at + 4 ≤ length bytes
+  rule-room k low high e = bounds (C.Rule k low high) e .0
+
+  pub rule-few : (k low high : ℕ) → c ≡ C.Rule k low high → rules < maxRules
+  rule-few k low high e = bounds (C.Rule k low high) e .1
+
+  pub place-few : (s : Symbol) → c ≡ C.Place s → places < maxPlaces
+  place-few s e = bounds (C.Place s) e .1
+
+  pub place-room : (s : Symbol) → c ≡ C.Place s → at + 2 ≤ length bytes
+  place-room s e = bounds (C.Place s) e .0
+
+-- an offset that moves on within the bytes fits, and leaves fewer of them
+pub moved-fits : (len at n : ℕ) → at + n ≤ len → len < 2 ^ 64 → Fits w64 (at + n)
+moved-fits len at n h l = record { fits = omega arith }
+
+pub moved-less : (len at n : ℕ) → 0 < n → at + n ≤ len → len - (at + n) < len - at
+moved-less len at n z h = omega arith
+
+-- ---- the loop
+
+-- before the command at an offset: reading from here comes to what loading comes to, t has been read, and the grammar read so far is valid
+pub record Progress (bytes : List ℕ) (at : ℕ) (t : Turn) (g : Grammar) : Type 0 where
+  pub within : at ≤ length bytes
+  pub reached : (d : ℕ) → run d bytes (suc (length bytes - at)) at g ≡ loadOf bytes d
+  pub turn : TurnAt at g t
+  pub valid : validGrammar g ≡ true
+  pub few : g .count ≤ maxRules
+  pub size : length (g .rules) ≡ maxRules
+
+pub progress-first : (bytes : List ℕ) (g : Grammar) → g ≡ zeroGrammar → Progress bytes 0 (record { started = false; opened = false }) g
+unfolding loadOf
+progress-first bytes g e = subst (Progress bytes 0 (record { started = false; opened = false })) (sym e) (record {
+  within = omega arith;
+  reached = λ d. run-fuel d bytes (suc (length bytes - 0)) (length bytes) 0 zeroGrammar (omega arith) (omega arith);
+  turn = record { started = refl; opened = refl };
+  valid = valid-invariant bytes .zero;
+  few = omega arith;
+  size = size-invariant bytes .zero;
+})
+
+-- the length of a rule, as the code reads it
+signed-bytes : (low high : ℕ) → signedIn (low + 256 * high) ≡ signed low high
+unfolding signed signedIn
+signed-bytes low high = refl
+
+-- something has been read
+some : (n : ℕ) → 0 < n → true ≡ ltb 0 n
+some n h = sym (lt-ltb 0 n h)
+
+module _ (bytes : List ℕ) (at : ℕ) (t : Turn) (g : Grammar) (P : Progress bytes at t g) where
+  -- the command that was read, after so many rules, the last of which, number q, has so many places
+  module _ (q : ℕ) (c : Command) (f : q ≡ g .count - 1) (R : CommandRead bytes at t (g .count) (getD (g .rules) q noRule .count) c) where
+    means : stepOf c at g ≡ step bytes at g
+    unfolding openRule
+    means = R .means g refl (ap (λ (i : ℕ). getD (g .rules) i noRule .count) (sym f)) ∙ turn-step bytes at g t (P .turn)
+
+    progress-next : (m : Command) (at′ : ℕ) (t′ : Turn) (g′ h : Grammar) → c ≡ m → stepOf m at g ≡ next at′ g′ → at′ ≤ length bytes
+        → TurnAt at′ h t′ → h ≡ g′ → Progress bytes at′ t′ h
+    progress-next m at′ t′ g′ h e s l T i = subst (λ (x : Grammar). TurnAt at′ x t′ → Progress bytes at′ t′ x) (sym i) (λ T. record {
+      within = l;
+      reached = λ d. run-fuel d bytes (suc (length bytes - at′)) (length bytes - at) at′ g′ (omega arith) fewer
+          ∙ sym (run-next d (length bytes - at) bytes at g at′ g′ goes) ∙ P .reached d;
+      turn = T;
+      valid = valid;
+      few = valid-count g′ valid;
+      size = step-kept (size-invariant bytes) at g (P .size) at′ g′ goes;
+    }) T
+      where
+        goes : step bytes at g ≡ next at′ g′
+        goes = sym means ∙ ap (λ (n : Command). stepOf n at g) e ∙ s
+
+        fewer : length bytes - at′ ≤ length bytes - at
+        fewer = let f = step-forward bytes at g at′ g′ goes in omega arith
+
+        valid : validGrammar g′ ≡ true
+        valid = step-kept (valid-invariant bytes) at g (P .valid) at′ g′ goes
+
+    abbrev bounded : (m : Command) → c ≡ m → Bounded (length bytes) at (getD bytes at 0) (g .count) (getD (g .rules) q noRule .count) m
+    bounded m e = bounds bytes at t (g .count) (getD (g .rules) q noRule .count) c R m e
+
+    pub progress-start : (k : ℕ) → c ≡ C.Start k → Progress bytes (at + 2) (record { started = true; opened = t .opened }) (setStart g k)
+    progress-start k e =
+        progress-next (C.Start k) _ _ _ _ e refl (bounded (C.Start k) e)
+        (record { started = some (at + 2) (omega arith); opened = P .turn .opened }) (start-set g k)
+
+    pub progress-rule : (k low high : ℕ) (r : Rule) → c ≡ C.Rule k low high → r ≡ openedRule k (signedIn (low + 256 * high))
+        → Progress bytes (at + 4) (record { started = t .started; opened = true }) (setCount (setRule g (g .count) r) (g .count + 1))
+    progress-rule k low high r e o =
+        let b = subst (Begun t) e (R .begun) in
+        progress-next (C.Rule k low high) _ _ _ _ e refl (bounded (C.Rule k low high) e .0)
+        (record { started = b ∙ some (at + 4) (omega arith); opened = some (g .count + 1) (omega arith) })
+        (ap (λ (m : Rule). setCount (setRule g (g .count) m) (g .count + 1)) (o ∙ ap (openedRule k) (signed-bytes low high))
+        ∙ rule-set g k (signed low high))
+
+    pub progress-place : (s : Symbol) (r : Rule) → c ≡ C.Place s → r ≡ placedRule (getD (g .rules) q noRule) s
+        → Progress bytes (at + 2) t (setRule g q r)
+    unfolding openRule
+    progress-place s r e o =
+        let b = subst (Begun t) e (R .begun) in
+        progress-next (C.Place s) _ _ _ _ e refl (bounded (C.Place s) e .0)
+        (record { started = b ∙ some (at + 2) (omega arith); opened = P .turn .opened })
+        (ap (setRule g q) o ∙ ap (λ (i : ℕ). setRule g i (placedRule (getD (g .rules) i noRule) s)) f ∙ place-set g s)
+
+    pub loads-end : (l : Loaded) → c ≡ C.End → Accepts g l → loadingOf l ≡ loadOf bytes (l .grammar .depth)
+    loads-end l e A =
+        let r = run-done (l .grammar .depth) (length bytes - at) bytes at g g (sym means ∙ ap (λ (m : Command). stepOf m at g) e) in
+        A .book ∙ sym r ∙ P .reached (l .grammar .depth)
+
+    pub loads-fault : (l : Loaded) (r : Refusal) (o : ℕ) → c ≡ C.Fault r o → Refuses (record { number = numberOf r; offset = o }) l
+        → loadingOf l ≡ loadOf bytes (l .grammar .depth)
+    loads-fault l r o e F =
+        let s = run-stop (l .grammar .depth) (length bytes - at) bytes at g _ (sym means ∙ ap (λ (m : Command). stepOf m at g) e) in
+        F .book ∙ sym s ∙ P .reached (l .grammar .depth)

@@ -1,0 +1,87 @@
+// The loader: from the bytes of a book to a grammar, or to the refusal and the offset of the first fault.
+use answers::Outcome;
+use answers::Refusal;
+use grammar::Grammar;
+use grammar::building;
+use load_commands::opcode::Command;
+use load_commands::opcode::Turn;
+ghost use mathlib.Core.Bool.{true};
+ghost use mathlib.Core.Path.{_≡_};
+ghost use Rattle.cfg.specs.Nullable.{Depth};
+ghost use Rattle.grammar.specs.Valid.{validGrammar};
+ghost use Rattle.grammar.specs.View.{wholeOf};
+ghost use Rattle.answers.specs.Number.{numberOf};
+ghost use Rattle.results.specs.Load.{loadOf};
+ghost use Rattle.load.specs.Answer.{loadingOf, Refuses, Accepts};
+
+// What loading answers, and the grammar: that of the book, or one of zeros where the book is refused.
+pub struct Loaded {
+    pub outcome: Outcome,
+    pub grammar: Grammar,
+}
+
+// A book refused at an offset.
+fn refused(r: Refusal, at: usize) -> Loaded
+    ensures { λ l. ⌜ Refuses (record { number = numberOf r; offset = at }) l ⌝ }
+{
+    Loaded {
+        outcome: Outcome::Refused(r, at),
+        grammar: grammar::zero_grammar(),
+    }
+}
+
+// A book read to its end, as the grammar g, with its nullable depth.
+fn accepted(g: Grammar) -> Loaded
+    requires { ⌜ validGrammar g ≡ true ⌝ }
+    ensures { λ l. ⌜ Accepts g l ⌝ }
+{
+    let set = load_nullable::nullable_set(g);
+    let mut h = g;
+    h.depth = load_nullable::nullable_depth(set);
+    Loaded {
+        outcome: Outcome::Accepted,
+        grammar: h,
+    }
+}
+
+// Loads a book: one command a turn, each added to the grammar in place.
+pub fn load(bytes: &[u8]) -> Loaded
+    ensures { λ r. ⌜ loadingOf r ≡ loadOf (now (bytes .entry)) (r .grammar .depth) ⌝ }
+    ensures depth { λ r. ⌜ Depth (wholeOf (r .grammar)) (r .grammar .depth) ⌝ }
+{
+    let mut g = grammar::zero_grammar();
+    let mut turn = Turn {
+        started: false,
+        opened: false,
+    };
+    let mut at = 0;
+    loop {
+        let n = g.count;
+        let q = building::last_of(n);
+        let open = g.rules[q];
+        let command = load_commands::scan::command_at(bytes, at, turn, n, open.count);
+        match command {
+            Command::Start(k) => {
+                g.start = k;
+                turn.started = true;
+                at += 2;
+            }
+            Command::Rule(k, low, high) => {
+                g.rules[n] = building::opened(k, low, high);
+                g.count = n + 1;
+                turn.opened = true;
+                at += 4;
+            }
+            Command::Place(s) => {
+                g.rules[q] = building::placed(open, s);
+                at += 2;
+            }
+            Command::End => {
+                return accepted(g);
+            }
+            Command::Fault(r, o) => {
+                return refused(r, o);
+            }
+        }
+    }
+}

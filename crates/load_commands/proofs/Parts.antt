@@ -1,0 +1,79 @@
+-- The parts of a step, by the tests that the code makes of them. Assumes nothing.
+use Prim.Native.Nat.{ℕ, _≤_, _<_}
+use native.Mathlib.Omega.{arith}
+use mathlib.Core.Bool.{Bool, true, false, not, _||_}
+use mathlib.Core.Path.{_≡_, refl}
+use borrow.Author.Tests.{lt-ltb, le-ltb}
+use Rattle.sizes.specs.Sizes.{maxRules, maxPlaces}
+use Rattle.grammar.specs.declared.Symbol.{Symbol}
+use Rattle.answers.specs.declared.Refusal.the-variants as R
+use Rattle.results.specs.Load.{unknown}
+use Rattle.load_commands.specs.Class.{byteOf}
+use Rattle.load_commands.specs.Command.{ruleCommand, placeCommand, endCommand}
+use Rattle.load_commands.specs.Turn.{late}
+use Rattle.load_commands.specs.declared.opcode.Command.the-variants.{Rule, Place, End, Fault}
+use Rattle.load_commands.specs.declared.opcode.Opcode.{Opcode}
+use Rattle.load_commands.specs.declared.opcode.Opcode.the-variants as O
+use Rattle.load_commands.specs.declared.opcode.Turn.{Turn}
+
+-- ---- the class of a command byte
+
+pub byte-known : (k : Opcode) → unknown (byteOf k) ≡ false
+unfolding unknown
+byte-known O.Start = refl
+byte-known O.Rule = refl
+byte-known O.Nonterminal = refl
+byte-known O.Terminal = refl
+byte-known O.End = refl
+
+-- ---- the turn, of each opcode
+
+or-false : (b : Bool) → (b || false) ≡ b
+or-false true = refl
+or-false false = refl
+
+module _ (k : Opcode) (t : Turn) where
+  pub late-start : k ≡ O.Start → t .started ≡ late (byteOf k) t
+  late-start e = rw e
+
+  pub late-rule : k ≡ O.Rule → not (t .started) ≡ late (byteOf k) t
+  late-rule e = rw (e, or-false (not (t .started)))
+
+  pub late-nonterminal : k ≡ O.Nonterminal → late (byteOf k) t ≡ (not (t .started) || not (t .opened))
+  late-nonterminal e = rw e
+
+  pub late-terminal : k ≡ O.Terminal → late (byteOf k) t ≡ (not (t .started) || not (t .opened))
+  late-terminal e = rw e
+
+  pub late-end : k ≡ O.End → not (t .started) ≡ late (byteOf k) t
+  late-end e = rw (e, or-false (not (t .started)))
+
+  -- a place, where no start has been read, and where one has
+  module _ (p : late (byteOf k) t ≡ (not (t .started) || not (t .opened))) where
+    pub late-first : not (t .started) ≡ true → not (t .started) ≡ late (byteOf k) t
+    late-first n = rw (p, n)
+
+    pub late-closed : not (t .started) ≡ false → not (t .opened) ≡ late (byteOf k) t
+    late-closed n = rw (p, n)
+
+-- ---- the limits. A law that refuses takes any m of the code's own test that is not below the limit
+module _ (at : ℕ) where
+  module _ (rules left low high : ℕ) where
+    pub rule-many : (m : ℕ) → m ≤ rules → maxRules ≤ m → Fault R.TooManyRules at ≡ ruleCommand at rules left low high
+    rule-many m h k = rw (lt-ltb 127 rules (omega arith))
+
+    pub rule-read : rules < maxRules → Rule left low high ≡ ruleCommand at rules left low high
+    rule-read h = rw (le-ltb 127 rules (omega arith))
+
+  module _ (places : ℕ) (s : Symbol) where
+    pub place-many : (m : ℕ) → m ≤ places → maxPlaces ≤ m → Fault R.TooManyPlaces at ≡ placeCommand at places s
+    place-many m h k = rw (lt-ltb 7 places (omega arith))
+
+    pub place-read : places < maxPlaces → Place s ≡ placeCommand at places s
+    place-read h = rw (le-ltb 7 places (omega arith))
+
+  pub end-more : (len : ℕ) → at < len → Fault R.FurtherByte at ≡ endCommand at len
+  end-more len h = rw (lt-ltb at len h)
+
+  pub end-read : (len : ℕ) → len ≤ at → End ≡ endCommand at len
+  end-read len h = rw (le-ltb at len h)

@@ -1,0 +1,174 @@
+-- One step of loading, by the opcode and the tests that the code makes, in their order: from the limits backwards. Assumes nothing.
+use Prim.Native.Nat.{ℕ, zero, suc, _+_, _-_, _≤_, _<_}
+use native.Mathlib.Omega.{arith}
+use mathlib.Core.Bool.{Bool, true, false, cond, not, _&&_, _||_}
+use mathlib.Core.List.{List, [], _∷_}
+use mathlib.Core.Path.{_≡_, refl, sym, _∙_}
+use lib.Dec.{eqb, ltb}
+use lib.ListN.{length, getD}
+use borrow.Author.Tests.{lt-ltb, le-ltb, ltb-false, ne-eqb}
+use Rattle.laws.proofs.Bools.{clash}
+use Rattle.grammar.specs.declared.Grammar.{Grammar}
+use Rattle.grammar.specs.declared.Symbol.{Symbol}
+use Rattle.grammar.specs.declared.Symbol.the-variants.{Nonterminal, Terminal}
+use Rattle.answers.specs.declared.Refusal.the-variants as R
+use Rattle.results.specs.Answer.{decide}
+use Rattle.results.specs.Load.{fault, stop, next, step, operandChecks, commandChecks, carriedOut, unknown, outOfTurn}
+use Rattle.results.specs.Load.{operands, operand, after, openRule, withPlace}
+use Rattle.load_commands.specs.Class.{byteOf, Classified}
+use Rattle.load_commands.specs.Command.{tooLarge, ruleCommand, placeCommand, endCommand, stepPast, stepAfter, Bounded, Begun, ChecksPassed, CommandRead}
+use Rattle.load_commands.specs.Turn.{late, TurnAt}
+use Rattle.load_commands.specs.declared.opcode.Class.{Class}
+use Rattle.load_commands.specs.declared.opcode.Class.the-variants.{Known, Unknown}
+use Rattle.load_commands.specs.declared.opcode.Command.{Command}
+use Rattle.load_commands.specs.declared.opcode.Command.the-variants.{Start, Rule, Place, End, Fault}
+use Rattle.load_commands.specs.declared.opcode.Opcode.{Opcode}
+use Rattle.load_commands.specs.declared.opcode.Opcode.the-variants as O
+use Rattle.load_commands.specs.declared.opcode.Turn.{Turn}
+use Rattle.load_commands.proofs.Parts.{byte-known}
+
+-- ---- the limits: all operands are there, the first of them is a, and it is not too large
+
+module _ (bytes : List ℕ) (at : ℕ) (k : Opcode) (a rules places : ℕ) (room : at + 1 + operands (byteOf k) ≤ length bytes)
+    (first : a ≡ operand bytes at 0) where
+  -- where the next command is
+  two : at + 1 + 1 ≡ at + 2
+  two = omega arith
+
+  four : at + 1 + 3 ≡ at + 4
+  four = omega arith
+
+  pub start-passed : k ≡ O.Start → ChecksPassed 2 bytes at (byteOf k) rules places (Start a)
+  unfolding decide operandChecks carriedOut operands after
+  start-passed e = let r = rw e at room in rw (e, first) (record { means = λ g p q. rw two; bounded = omega arith })
+
+  pub rule-passed : k ≡ O.Rule → (m : Command) (low high : ℕ) → low ≡ operand bytes at 1 → high ≡ operand bytes at 2
+      → m ≡ ruleCommand at rules a low high → ChecksPassed 2 bytes at (byteOf k) rules places m
+  unfolding decide operandChecks carriedOut operands after
+  rule-passed e m low high l h i = let r = rw e at room in rw (e, i, first, l, h) (go r (ltb 127 rules) refl)
+    where
+      go : at + 1 + 3 ≤ length bytes → (b : Bool) → ltb 127 rules ≡ b → ChecksPassed 2 bytes at 0x20 rules places
+          (cond b (Fault R.TooManyRules at) (Rule (operand bytes at 0) (operand bytes at 1) (operand bytes at 2)))
+      go r true f = record { means = λ g p q. rw (p, f); bounded = tt }
+      go r false f = record { means = λ g p q. rw (p, f, four); bounded = (omega arith, omega (arith, ltb-false 127 rules f), refl) }
+
+  -- 30 and 40, a command c of one operand whose limit is check 6, for its symbol s
+  place-passed : (c : ℕ) (s : Symbol) → at + 1 + 1 ≤ length bytes → eqb c 0x10 ≡ false
+      → ((g : Grammar) → stepPast 2 bytes at c g
+      ≡ decide (fault (ltb 7 (openRule g .count)) 6 at ∷ []) stop (λ _. next (at + 2) (withPlace g s)))
+      → ChecksPassed 2 bytes at c rules places (placeCommand at places s)
+  unfolding decide
+  place-passed c s r y h = go (ltb 7 places) refl
+    where
+      go : (b : Bool) → ltb 7 places ≡ b → ChecksPassed 2 bytes at c rules places (cond b (Fault R.TooManyPlaces at) (Place s))
+      go true f = record { means = λ g p q. rw (h g, q, f); bounded = tt }
+      go false f = record { means = λ g p q. rw (h g, q, f); bounded = (omega arith, omega (arith, ltb-false 7 places f), y) }
+
+  pub nonterminal-passed : k ≡ O.Nonterminal → (m : Command) → m ≡ placeCommand at places (Nonterminal a)
+      → ChecksPassed 2 bytes at (byteOf k) rules places m
+  unfolding decide operandChecks carriedOut operands after
+  nonterminal-passed e m i = let r = rw e at room in rw (e, i) (place-passed 0x30 (Nonterminal a) r refl (λ g. rw (two, first)))
+
+  pub terminal-passed : k ≡ O.Terminal → (m : Command) → m ≡ placeCommand at places (Terminal a)
+      → ChecksPassed 2 bytes at (byteOf k) rules places m
+  unfolding decide operandChecks carriedOut operands after
+  terminal-passed e m i = let r = rw e at room in rw (e, i) (place-passed 0x40 (Terminal a) r refl (λ g. rw (two, first)))
+
+  pub end-passed : k ≡ O.End → (m : Command) → m ≡ endCommand (at + 1) (length bytes) → ChecksPassed 2 bytes at (byteOf k) rules places m
+  unfolding decide operandChecks carriedOut operands after
+  end-passed e m i = rw (e, i) (go (ltb (at + 1) (length bytes)) refl)
+    where
+      go : (b : Bool) → ltb (at + 1) (length bytes) ≡ b → ChecksPassed 2 bytes at 0x50 rules places (cond b (Fault R.FurtherByte (at + 1)) End)
+      go true f = record { means = λ g p q. rw f; bounded = tt }
+      go false f = record { means = λ g p q. rw f; bounded = tt }
+
+-- ---- the operands of the command c, n of them
+
+module _ (bytes : List ℕ) (at c n : ℕ) (N : n ≡ operands c) (rules places : ℕ) (l : at < length bytes) where
+  pub operands-short : length bytes - (at + 1) < n → ChecksPassed 0 bytes at c rules places (Fault R.UnexpectedEnd (length bytes))
+  unfolding decide operandChecks
+  operands-short h = record { means = λ g p q. rw (lt-ltb (length bytes) (at + 1 + operands c) (omega arith)); bounded = tt }
+
+  module _ (h : n ≤ length bytes - (at + 1)) (a : ℕ) (first : a ≡ operand bytes at 0) (large : Bool) (e : large ≡ tooLarge c a) where
+    operands-room : at + 1 + operands c ≤ length bytes
+    operands-room = omega arith
+
+    pub operands-large : large ≡ true → ChecksPassed 0 bytes at c rules places (Fault R.NonterminalTooLarge at)
+    unfolding decide operandChecks
+    operands-large f =
+        record { means = λ g p q. rw (le-ltb (length bytes) (at + 1 + operands c) operands-room, ← first, ← e, f); bounded = tt }
+
+    pub operands-read : large ≡ false → (m : Command) → ChecksPassed 2 bytes at c rules places m → ChecksPassed 0 bytes at c rules places m
+    unfolding decide operandChecks
+    operands-read f m P = record {
+      means = λ g p q. rw (le-ltb (length bytes) (at + 1 + operands c) operands-room, ← first, ← e, f) (P .means g p q);
+      bounded = P .bounded;
+    }
+
+-- ---- the whole command
+
+not-pos : (n : ℕ) → not (ltb 0 n) ≡ eqb n 0
+not-pos zero = refl
+not-pos (suc n) = rw (lt-ltb 0 (suc n) (omega arith), ne-eqb (suc n) 0 (λ e. omega arith))
+
+-- the turn by what has been read is that by the offset and the rules
+pub turn-law : (c at : ℕ) (g : Grammar) (t : Turn) → TurnAt at g t → late c t ≡ outOfTurn c at g
+unfolding outOfTurn
+turn-law c at g t T = rw (T .started, T .opened, not-pos at, not-pos (g .count))
+
+-- so a step by what has been read is a step of loading
+pub turn-step : (bytes : List ℕ) (at : ℕ) (g : Grammar) (t : Turn) → TurnAt at g t → stepAfter t bytes at g ≡ step bytes at g
+unfolding step decide commandChecks
+turn-step bytes at g t T = rw (turn-law (getD bytes at 0) at g t T)
+
+-- after the turn, each command but 10 has a start before it
+begun : (c : ℕ) (t : Turn) → late c t ≡ false → eqb c 0x10 ≡ false → t .started ≡ true
+begun c t f e = go (t .started) (rw e at f)
+  where
+    go : (b : Bool) → (not b || ((eqb c 0x30 || eqb c 0x40) && not (t .opened))) ≡ false → b ≡ true
+    go true f = refl
+    go false f = clash cc
+
+begun-all : (c : ℕ) (t : Turn) → late c t ≡ false → (len at rules places : ℕ) (m : Command) → Bounded len at c rules places m → Begun t m
+begun-all c t f len at rules places (Start k) B = tt
+begun-all c t f len at rules places (Rule k low high) B = begun c t f (B .2)
+begun-all c t f len at rules places (Place s) B = begun c t f (B .2)
+begun-all c t f len at rules places End B = tt
+begun-all c t f len at rules places (Fault r o) B = tt
+
+module _ (bytes : List ℕ) (at : ℕ) (t : Turn) (rules places : ℕ) where
+  pub reads-ended : length bytes ≤ at → CommandRead bytes at t rules places (Fault R.UnexpectedEnd (length bytes))
+  unfolding decide
+  reads-ended h = record { means = λ g p q. rw (le-ltb at (length bytes) h); bounded = tt; begun = tt }
+
+  module _ (l : at < length bytes) (r : Class) (C : Classified (getD bytes at 0) r) where
+    pub reads-unknown : r ≡ Unknown → CommandRead bytes at t rules places (Fault R.UnknownCommand at)
+    unfolding decide
+    reads-unknown e =
+        let u : unknown (getD bytes at 0) ≡ true = rw e at C in
+        record { means = λ g p q. rw (lt-ltb at (length bytes) l, u); bounded = tt; begun = tt }
+
+    module _ (k : Opcode) (e : r ≡ Known k) where
+      byte-here : byteOf k ≡ getD bytes at 0
+      byte-here = rw e at C
+
+      known-here : unknown (getD bytes at 0) ≡ false
+      known-here = rw (← byte-here) (byte-known k)
+
+      pub reads-late : (b : Bool) → b ≡ late (byteOf k) t → b ≡ true → CommandRead bytes at t rules places (Fault R.OutOfTurn at)
+      unfolding decide
+      reads-late b i f =
+          let late-here : late (getD bytes at 0) t ≡ true = rw byte-here at (sym i ∙ f) in
+          record { means = λ g p q. rw (lt-ltb at (length bytes) l, known-here, late-here); bounded = tt; begun = tt }
+
+      pub reads-rest : (b : Bool) → b ≡ late (byteOf k) t → b ≡ false → (m : Command)
+          → ChecksPassed 0 bytes at (byteOf k) rules places m → CommandRead bytes at t rules places m
+      unfolding decide
+      reads-rest b i f m P =
+          let in-turn : late (getD bytes at 0) t ≡ false = rw byte-here at (sym i ∙ f) in
+          let P′ : ChecksPassed 0 bytes at (getD bytes at 0) rules places m = rw byte-here at P in
+          record {
+            means = λ g p q. rw (lt-ltb at (length bytes) l, known-here, in-turn) (P′ .means g p q);
+            bounded = P′ .bounded;
+            begun = begun-all (getD bytes at 0) t in-turn (length bytes) at rules places m (P′ .bounded);
+          }

@@ -1,0 +1,12 @@
+-- `load_commands::scan::limits_at` meets its contract: each return by its law. Assumes nothing.
+use native.Mathlib.Omega.{arith}
+use Rattle.load_commands.proofs.Steps.{start-passed, rule-passed, nonterminal-passed, terminal-passed, end-passed}
+use Rattle.load_commands.proofs.scan.limits_at.Statement.{statement}
+use Rattle.load_commands.proofs.scan.limits_at.Tie as tie
+
+pub limits-at-spec : {M : Type 1} → statement M
+limits-at-spec = tie.close (tie.spec
+    (λ c. omega arith) (λ c. omega arith) (λ c κs. omega arith) (λ c κs. omega arith) (λ c κs. omega arith) (λ c. omega arith)
+    (λ c κs. omega arith) (λ c. omega arith) (λ c κs. omega arith) (λ c. omega arith) (λ c. omega arith) (λ c κs. omega arith)
+    (λ c. search start-passed) (λ c. search rule-passed) (λ c. search nonterminal-passed) (λ c. search terminal-passed)
+    (λ c. search end-passed))

@@ -1,0 +1,81 @@
+-- What a command that was read means: the step of loading that it makes, and the bounds that it keeps. Assumes nothing.
+use Prim.Native.Nat.{ℕ, _+_, _≤_, _<_}
+use mathlib.Core.Bool.{Bool, true, false, cond, not, _&&_, _||_}
+use mathlib.Core.List.{List, _∷_}
+use mathlib.Core.Path.{_≡_}
+use lib.Dec.{eqb, ltb}
+use lib.ListN.{length, getD, drop}
+use Rattle.sizes.specs.Sizes.{maxRules, maxPlaces}
+use Rattle.grammar.specs.declared.Symbol.{Symbol}
+use Rattle.grammar.specs.declared.Grammar.{Grammar}
+use Rattle.answers.specs.declared.Refusal.the-variants as R
+use Rattle.answers.specs.Number.{numberOf}
+use Rattle.results.specs.Answer.{decide}
+use Rattle.results.specs.Load.{Step, stop, next, done, fault, signed, openRule, withStart, withRule, withPlace}
+use Rattle.results.specs.Load.{unknown, operandChecks, carriedOut}
+use Rattle.load_commands.specs.Turn.{late}
+use Rattle.load_commands.specs.declared.opcode.Command.{Command}
+use Rattle.load_commands.specs.declared.opcode.Command.the-variants.{Start, Rule, Place, End, Fault}
+use Rattle.load_commands.specs.declared.opcode.Turn.{Turn}
+
+-- check 4, for the command c: its first operand a is a nonterminal, and over 31
+abbrev pub tooLarge : (c a : ℕ) → Bool
+tooLarge c a = (eqb c 0x10 || eqb c 0x20 || eqb c 0x30) && ltb 31 a
+
+-- 20 at an offset after so many rules; 30 and 40 in a rule of so many places; 50, which ends at an offset, in a book of so many bytes
+abbrev pub ruleCommand : (at rules left low high : ℕ) → Command
+ruleCommand at rules left low high = cond (ltb 127 rules) (Fault R.TooManyRules at) (Rule left low high)
+
+abbrev pub placeCommand : (at places : ℕ) → Symbol → Command
+placeCommand at places s = cond (ltb 7 places) (Fault R.TooManyPlaces at) (Place s)
+
+abbrev pub endCommand : (past len : ℕ) → Command
+endCommand past len = cond (ltb past len) (Fault R.FurtherByte past) End
+
+-- the step that a command at an offset makes
+abbrev pub stepOf : Command → ℕ → Grammar → Step
+stepOf (Start k) at g = next (at + 2) (withStart g k)
+stepOf (Rule k low high) at g = next (at + 4) (withRule g k (signed low high))
+stepOf (Place s) at g = next (at + 2) (withPlace g s)
+stepOf End at g = done g
+stepOf (Fault r o) at g = stop (record { number = numberOf r; offset = o })
+
+-- the bounds of a command, whose byte is c, in a book of so many bytes, after so many rules, the last of which has so many places
+abbrev pub Bounded : (len at c rules places : ℕ) → Command → Type 0
+Bounded len at c rules places (Start k) = at + 2 ≤ len
+Bounded len at c rules places (Rule k low high) = (at + 4 ≤ len) × (rules < maxRules) × (eqb c 0x10 ≡ false)
+Bounded len at c rules places (Place s) = (at + 2 ≤ len) × (places < maxPlaces) × (eqb c 0x10 ≡ false)
+Bounded len at c rules places End = Unit {0}
+Bounded len at c rules places (Fault r o) = Unit {0}
+
+-- before a rule or a place a start has been read
+abbrev pub Begun : Turn → Command → Type 0
+Begun t (Start k) = Unit {0}
+Begun t (Rule k low high) = t .started ≡ true
+Begun t (Place s) = t .started ≡ true
+Begun t End = Unit {0}
+Begun t (Fault r o) = Unit {0}
+
+-- the step of the command c, once it is in turn and the first n checks after that are passed
+abbrev pub stepPast : ℕ → List ℕ → (at c : ℕ) → Grammar → Step
+stepPast n bytes at c g = decide (drop n (operandChecks bytes at c g)) stop (λ _. carriedOut bytes at c g)
+
+-- r is what c comes to once these checks are passed, for each grammar of so many rules, the last of which has so many places
+pub record ChecksPassed (n : ℕ) (bytes : List ℕ) (at c rules places : ℕ) (r : Command) : Type 0 where
+  pub means : (g : Grammar) → g .count ≡ rules → openRule g .count ≡ places → stepOf r at g ≡ stepPast n bytes at c g
+  pub bounded : Bounded (length bytes) at c rules places r
+
+-- the step at an offset where t has been read, from any grammar on
+abbrev pub stepAfter : Turn → List ℕ → ℕ → Grammar → Step
+stepAfter t bytes at g =
+    let c = getD bytes at 0 in
+    decide (fault (not (ltb at (length bytes))) 1 (length bytes)
+    ∷ fault (unknown c) 2 at
+    ∷ fault (late c t) 3 at
+    ∷ operandChecks bytes at c g) stop (λ _. carriedOut bytes at c g)
+
+-- r is the command at an offset where t has been read, for each grammar of so many rules, the last of which has so many places
+pub record CommandRead (bytes : List ℕ) (at : ℕ) (t : Turn) (rules places : ℕ) (r : Command) : Type 0 where
+  pub means : (g : Grammar) → g .count ≡ rules → openRule g .count ≡ places → stepOf r at g ≡ stepAfter t bytes at g
+  pub bounded : Bounded (length bytes) at (getD bytes at 0) rules places r
+  pub begun : Begun t r

@@ -1,0 +1,130 @@
+// The parts of a step of loading that need no more than a few numbers. A command byte is classified once; its turn, its operands and its
+// limits go by the opcode.
+use answers::Refusal;
+use grammar::Symbol;
+ghost use mathlib.Core.Path.{_≡_};
+ghost use Rattle.results.specs.Load.{operands};
+ghost use Rattle.load_commands.specs.Class.{byteOf, Classified};
+ghost use Rattle.load_commands.specs.Command.{tooLarge, ruleCommand, placeCommand, endCommand};
+ghost use Rattle.load_commands.specs.Turn.{late};
+
+// A book has at most this many rules, and a rule this many places.
+const RULES: usize = sizes::MAX_RULES;
+
+const PLACES: usize = sizes::MAX_PLACES;
+
+// A nonterminal (kind) is below this.
+const NONTERMINALS: u8 = 32;
+
+// A command without its operands.
+pub enum Opcode {
+    Start,
+    Rule,
+    Nonterminal,
+    Terminal,
+    End,
+}
+
+// What a command byte says: an opcode, or nothing.
+pub enum Class {
+    Known(Opcode),
+    Unknown,
+}
+
+// A command with its operands, or the refusal of the command and the offset that the refusal names.
+pub enum Command {
+    Start(u8),
+    Rule(u8, u8, u8),
+    Place(Symbol),
+    End,
+    Fault(Refusal, usize),
+}
+
+// What has been read before a command: a start, and a rule, to which places can be added.
+pub struct Turn {
+    pub started: bool,
+    pub opened: bool,
+}
+
+// The only function that looks at the value of a command byte.
+pub fn classify(c: u8) -> Class
+    ensures { λ r. ⌜ Classified c r ⌝ }
+{
+    match c {
+        0x10 => Class::Known(Opcode::Start),
+        0x20 => Class::Known(Opcode::Rule),
+        0x30 => Class::Known(Opcode::Nonterminal),
+        0x40 => Class::Known(Opcode::Terminal),
+        0x50 => Class::Known(Opcode::End),
+        _ => Class::Unknown,
+    }
+}
+
+// How many operands a command has.
+pub fn operand_count(k: Opcode) -> usize
+    ensures { λ r. ⌜ r ≡ operands (byteOf k) ⌝ }
+{
+    match k {
+        Opcode::Start => 1,
+        Opcode::Rule => 3,
+        Opcode::Nonterminal => 1,
+        Opcode::Terminal => 1,
+        Opcode::End => 0,
+    }
+}
+
+// Check 3: a start not first or again, another command first, a place before any rule.
+pub fn out_of_turn(k: Opcode, turn: Turn) -> bool
+    ensures { λ r. ⌜ r ≡ late (byteOf k) turn ⌝ }
+{
+    match k {
+        Opcode::Start => turn.started,
+        Opcode::Rule => !turn.started,
+        Opcode::Nonterminal => !turn.started || !turn.opened,
+        Opcode::Terminal => !turn.started || !turn.opened,
+        Opcode::End => !turn.started,
+    }
+}
+
+// Check 4, for a command whose first operand is a.
+pub fn too_large(k: Opcode, a: u8) -> bool
+    ensures { λ r. ⌜ r ≡ tooLarge (byteOf k) a ⌝ }
+{
+    match k {
+        Opcode::Start => a >= NONTERMINALS,
+        Opcode::Rule => a >= NONTERMINALS,
+        Opcode::Nonterminal => a >= NONTERMINALS,
+        Opcode::Terminal => false,
+        Opcode::End => false,
+    }
+}
+
+// Command 20 after so many rules: check 5.
+pub fn rule(at: usize, rules: usize, left: u8, low: u8, high: u8) -> Command
+    ensures { λ r. ⌜ r ≡ ruleCommand at rules left low high ⌝ }
+{
+    if rules >= RULES {
+        return Command::Fault(Refusal::TooManyRules, at);
+    }
+    Command::Rule(left, low, high)
+}
+
+// Commands 30 and 40, in an open rule of so many places: check 6.
+pub fn place(at: usize, places: usize, symbol: Symbol) -> Command
+    ensures { λ r. ⌜ r ≡ placeCommand at places symbol ⌝ }
+{
+    if places >= PLACES {
+        return Command::Fault(Refusal::TooManyPlaces, at);
+    }
+    Command::Place(symbol)
+}
+
+// Command 50, in a book of so many bytes, after which the offset is next: check 7.
+pub fn end(next: usize, len: usize) -> Command
+    ensures { λ r. ⌜ r ≡ endCommand next len ⌝ }
+{
+    if next < len {
+        return Command::Fault(Refusal::FurtherByte, next);
+    }
+    Command::End
+}

@@ -1,0 +1,134 @@
+-- The search for nullable nonterminals in trees: what a rule over nullable nonterminals adds is nullable, and a set to which no rule adds
+-- anything has every nullable nonterminal. Assumes nothing.
+use Prim.Native.Nat.{ℕ, _<_}
+use native.Mathlib.Decide.{ℕ-discrete, decLt}
+use native.Mathlib.Omega.{arith}
+use mathlib.Core.Bool.{Bool, true, false, _&&_}
+use mathlib.Core.List.{List, [], _∷_, _++_, map, append-nil, cons-ne-nil}
+use mathlib.Core.Logic.{dite}
+use mathlib.Core.Option.{Option·some-injective, Option·some-ne-none}
+use mathlib.Core.Path.{_≡_, refl, sym, ap, ap₂, _∙_, subst}
+use lib.ListN.{length, take, getD}
+use Rattle.sizes.specs.Sizes.{maxRules}
+use Rattle.laws.proofs.Bools.{true-false, and-parts, and-both}
+use Rattle.cfg.specs.Grammar as Abstract
+use Rattle.cfg.specs.Grammar.{Symbol, nonterminal, terminal, Cfg, Of}
+use Rattle.cfg.specs.Tree.{Forest, end, node, yield, Fits, fits-end, fits-leaf, fits-node}
+use Rattle.cfg.specs.Nullable.{Nullable}
+use Rattle.theory_shrinking.proofs.Nullable.{append-empty-left, append-empty-right}
+use Rattle.sets.specs.Set.{has, insert}
+use Rattle.sets.proofs.Laws.{has-insert-other}
+use Rattle.grammar.specs.declared.Place.{Place}
+use Rattle.grammar.specs.declared.Rule.{Rule}
+use Rattle.grammar.specs.declared.Grammar.{Grammar}
+use Rattle.grammar.specs.Valid.{all, validGrammar}
+use Rattle.grammar.specs.View.{placeOf, wholeOf}
+use Rattle.grammar.specs.Zero.{noRule}
+use Rattle.grammar.proofs.RuleAt.{rule-at, rule-past}
+use Rattle.load_nullable.specs.Nullable.{symbolKnown, placeKnown, ruleKnown, widen}
+use Rattle.load_nullable.proofs.Pass.{widen-in, widen-out}
+
+-- each member is nullable
+abbrev pub Sound : Cfg → ℕ → Type 0
+Sound G known = (k : ℕ) → has k known ≡ true → Nullable G k
+
+-- a row over nothing
+abbrev EmptyForest : Cfg → List Symbol → Type 0
+EmptyForest G places = (t : Forest) × Fits G places t × (yield t ≡ [])
+
+-- an empty tree before an empty row
+join : (G : Cfg) {k : ℕ} {u : Forest} {places : List Symbol} → Fits G (nonterminal k ∷ []) u → yield u ≡ [] → EmptyForest G places
+    → EmptyForest G (nonterminal k ∷ places)
+unfolding yield
+join G (fits-node {r} {below} {rest} o b s) e t = (
+  node r below (t .0),
+  fits-node o b (t .1),
+  ap₂ (λ (x y : List ℕ). x ++ y) (append-empty-left (yield below) (yield rest) e) (t .2),
+)
+
+-- places that hold members have an empty row
+symbol-row : (G : Cfg) (known : ℕ) → Sound G known → (s : Symbol) → symbolKnown known s ≡ true → {places : List Symbol}
+    → EmptyForest G places → EmptyForest G (s ∷ places)
+symbol-row G known sound (nonterminal k) e t = let n = sound k e in join G (n .1 .0) (n .1 .1) t
+symbol-row G known sound (terminal t) e row = absurd (true-false e refl)
+
+places-row : (G : Cfg) (known : ℕ) → Sound G known → (l : List Place) → all (placeKnown known) l ≡ true → EmptyForest G (map placeOf l)
+unfolding all yield
+places-row G known sound [] e = (end, fits-end, refl)
+places-row G known sound (p ∷ l) e =
+    let h = and-parts (placeKnown known p) (all (placeKnown known) l) e in
+    symbol-row G known sound (placeOf p) (h .0) (places-row G known sound l (h .1))
+
+places-known : (known : ℕ) (l : List Place) → all (symbolKnown known) (map placeOf l) ≡ all (placeKnown known) l
+unfolding all
+places-known known [] = refl
+places-known known (p ∷ l) = ap (λ (b : Bool). placeKnown known p && b) (places-known known l)
+
+module _ (g : Grammar) (size : length (g .rules) ≡ maxRules) (valid : validGrammar g ≡ true) where
+  -- the left side of a rule whose places hold members is nullable
+  rule-nullable : (known i : ℕ) → Sound (wholeOf g) known → i < g .count → ruleKnown known (getD (g .rules) i noRule) ≡ true
+      → Nullable (wholeOf g) (getD (g .rules) i noRule .left)
+  unfolding ruleKnown yield
+  rule-nullable known i sound h e =
+      let r = getD (g .rules) i noRule in
+      let t = places-row (wholeOf g) known sound (take (r .count) (r .places)) e in
+      let o : Of (wholeOf g) i (r .left) = record {
+        the = record { left = r .left; places = map placeOf (take (r .count) (r .places)) };
+        here = rule-at g i size valid h;
+        left = refl;
+      } in
+      (node i (t .0) end, (fits-node o (t .1) fits-end, append-nil (yield (t .0)) ∙ t .2))
+
+  pub widen-sound : (known i : ℕ) → Sound (wholeOf g) known → i < g .count → Sound (wholeOf g) (widen (getD (g .rules) i noRule) known)
+  widen-sound known i sound h = go (ruleKnown known r) refl
+    where
+      r : Rule
+      r = getD (g .rules) i noRule
+
+      inserted : ruleKnown known r ≡ true → (k : ℕ) → has k (insert (r .left) known) ≡ true → Nullable (wholeOf g) k
+      inserted e k m = dite (ℕ-discrete k (r .left))
+          (λ p. subst (Nullable (wholeOf g)) (sym p) (rule-nullable known i sound h e))
+          (λ n. sound k (sym (has-insert-other k (r .left) known n) ∙ m))
+
+      go : (b : Bool) → ruleKnown known r ≡ b → Sound (wholeOf g) (widen r known)
+      go true e = subst (Sound (wholeOf g)) (widen-in known r true (sym e) refl) (inserted e)
+      go false e = subst (Sound (wholeOf g)) (widen-out known r false (sym e) refl) sound
+
+  -- each rule whose places hold members has its left side in the set
+  abbrev pub Closed : ℕ → Type 0
+  Closed known = (i : ℕ) → i < g .count → ruleKnown known (getD (g .rules) i noRule) ≡ true
+      → has (getD (g .rules) i noRule .left) known ≡ true
+
+  module _ (known : ℕ) (closed : Closed known) where
+    of-closed : {r k : ℕ} (o : Of (wholeOf g) r k) → all (symbolKnown known) (o .the .places) ≡ true → has k known ≡ true
+    unfolding ruleKnown
+    of-closed {r} {k} o e = dite (decLt r (g .count)) inside outside
+      where
+        ρ : Rule
+        ρ = getD (g .rules) r noRule
+
+        inside : r < g .count → has k known ≡ true
+        inside h =
+            let m : record { left = ρ .left; places = map placeOf (take (ρ .count) (ρ .places)) } ≡ o .the =
+            Option·some-injective _ (o .the) (sym (rule-at g r size valid h) ∙ o .here) in
+            let a : all (symbolKnown known) (map placeOf (take (ρ .count) (ρ .places))) ≡ true =
+            ap (λ (σ : Abstract.Rule). all (symbolKnown known) (σ .places)) m ∙ e in
+            let b : ruleKnown known ρ ≡ true = sym (places-known known (take (ρ .count) (ρ .places))) ∙ a in
+            ap (λ (j : ℕ). has j known) (sym (ap (λ (σ : Abstract.Rule). σ .left) m ∙ o .left)) ∙ closed r h b
+
+        outside : ¬ (r < g .count) → has k known ≡ true
+        outside n = absurd (Option·some-ne-none (o .the) (sym (o .here) ∙ rule-past g r (omega arith)))
+
+    row-closed : {places : List Symbol} {t : Forest} → Fits (wholeOf g) places t → yield t ≡ []
+        → all (symbolKnown known) places ≡ true
+    unfolding all yield
+    row-closed fits-end e = refl
+    row-closed (fits-leaf {m} {rest} f s) e = absurd (cons-ne-nil m (yield rest) e)
+    row-closed (fits-node {k} {places} {below} {rest} o b s) e =
+        let x = row-closed b (append-empty-left (yield below) (yield rest) e) in
+        let y = row-closed s (append-empty-right (yield below) (yield rest) e) in
+        and-both (has k known) (all (symbolKnown known) places) (of-closed o x) y
+
+    pub closed-complete : (k : ℕ) → Nullable (wholeOf g) k → has k known ≡ true
+    unfolding all
+    closed-complete k n = and-parts (has k known) true (row-closed (n .1 .0) (n .1 .1)) .0

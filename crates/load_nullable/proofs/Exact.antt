@@ -1,0 +1,74 @@
+-- A set to which a pass adds nothing, and whose members are nullable, has exactly the nullable nonterminals: the steps of the loop of the
+-- search, with premises as its code gives them. Assumes nothing.
+use Prim.Native.Nat.{ℕ, zero, suc, _-_, _^_, _≤_, _<_}
+use native.Mathlib.Numerals.{add-one}
+use native.Mathlib.Omega.{arith}
+use mathlib.Core.Bool.{true}
+use mathlib.Core.Path.{_≡_, sym, _∙_, subst}
+use lib.ListN.{length, take, getD, length-take}
+use lib.Seq.{getD-take}
+use Rattle.sizes.specs.Sizes.{maxRules}
+use Rattle.laws.proofs.Bools.{true-false}
+use Rattle.sets.proofs.Laws.{has-empty}
+use Rattle.grammar.specs.declared.Grammar.{Grammar}
+use Rattle.grammar.specs.Valid.{validGrammar}
+use Rattle.grammar.specs.View.{wholeOf}
+use Rattle.grammar.specs.Zero.{noRule}
+use Rattle.grammar.proofs.Bounds.{valid-count, grammar-parts}
+use Rattle.load_nullable.specs.Nullable.{pass, ExactNullable}
+use Rattle.load_nullable.proofs.Pass.{pass-le, pass-word, pass-next, pass-same, widen-same}
+use Rattle.load_nullable.proofs.Empty.{Sound, widen-sound, Closed, closed-complete}
+
+-- ---- the loop of the search
+
+-- after a number of passes: the set is a word of nullable nonterminals, and next is what a pass makes of it
+pub record Searched (g : Grammar) (known next : ℕ) : Type 0 where
+  pub word : known < 2 ^ 32
+  pub sound : Sound (wholeOf g) known
+  pub passed : next ≡ pass (take (g .count) (g .rules)) known
+
+pub searched-first : (g : Grammar) (next : ℕ) → next ≡ pass (take (g .count) (g .rules)) 0 → Searched g 0 next
+searched-first g next e = record {
+  word = omega arith;
+  sound = λ k h. absurd (true-false h (has-empty k));
+  passed = e;
+}
+
+module _ (g : Grammar) (size : length (g .rules) ≡ maxRules) (valid : validGrammar g ≡ true) where
+  pass-sound : (known n : ℕ) → Sound (wholeOf g) known → n ≤ g .count → Sound (wholeOf g) (pass (take n (g .rules)) known)
+  unfolding pass
+  pass-sound known zero sound h = sound
+  pass-sound known (suc n) sound h =
+      let l : n < length (g .rules) = omega (arith, valid-count g valid) in
+      let e = rw add-one at (pass-next (g .rules) n known l) in
+      let w = widen-sound g size valid (pass (take n (g .rules)) known) n (pass-sound known n sound (omega arith)) h in
+      subst (Sound (wholeOf g)) (sym e) w
+
+  pub searched-next : (known next after : ℕ) → Searched g known next → after ≡ pass (take (g .count) (g .rules)) next
+      → Searched g next after
+  searched-next known next after S e =
+      let p = S .passed in
+      record {
+        word = subst (λ (n : ℕ). n < 2 ^ 32) (sym p) (pass-word (take (g .count) (g .rules)) known (grammar-parts g valid .2) (S .word));
+        sound = subst (Sound (wholeOf g)) (sym p) (pass-sound known (g .count) (S .sound) (omega arith));
+        passed = e;
+      }
+
+  pub searched-falls : (known next : ℕ) → Searched g known next → (next ≡ known → ⊥) → 2 ^ 32 - next < 2 ^ 32 - known
+  searched-falls known next S n =
+      let p = S .passed in
+      let w = S .word in
+      omega (arith, pass-le (take (g .count) (g .rules)) known)
+
+  closed-of : (known : ℕ) → pass (take (g .count) (g .rules)) known ≡ known → Closed g size valid known
+  closed-of known e i h r =
+      let l : i < length (take (g .count) (g .rules)) = simp length-take (omega (arith, valid-count g valid)) in
+      let w = rw getD-take at (pass-same (take (g .count) (g .rules)) known e i l) in
+      widen-same known (getD (g .rules) i noRule) w r
+
+  pub searched-exact : (known next : ℕ) → Searched g known next → next ≡ known → ExactNullable g known
+  searched-exact known next S e = record {
+    word = S .word;
+    sound = S .sound;
+    complete = closed-complete g size valid known (closed-of known (sym (S .passed) ∙ e));
+  }

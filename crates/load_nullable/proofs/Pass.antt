@@ -1,0 +1,136 @@
+-- The search for nullable nonterminals as numbers: a pass keeps the members and the width, a pass that adds nothing says that no rule adds
+-- anything, and the steps of the loops, with premises as their code gives them. Assumes nothing.
+use Prim.Native.Nat.{ℕ, zero, suc, _+_, _^_, _≤_, _<_}
+use native.Mathlib.Nat.{le-refl, le-trans, le-antisymm, le-of-suc-le-suc, not-suc-le-zero}
+use native.Mathlib.Numerals.{add-one}
+use native.Mathlib.Omega.{arith}
+use mathlib.Core.Bool.{Bool, true, false, not, and-false}
+use mathlib.Core.List.{List, [], _∷_}
+use mathlib.Core.Path.{_≡_, refl, sym, ap, _∙_}
+use lib.ListN.{length, take, getD}
+use borrow.Author.Tests.{not-true, leb-true}
+use Rattle.sizes.specs.Sizes.{maxRules, maxPlaces}
+use Rattle.laws.proofs.Bools.{and-parts}
+use Rattle.sets.specs.Set.{has, insert}
+use Rattle.sets.proofs.Laws.{insert-le, insert-lt, insert-same→has}
+use Rattle.grammar.specs.declared.Symbol.{Symbol}
+use Rattle.grammar.specs.declared.Symbol.the-variants.{Nonterminal}
+use Rattle.grammar.specs.declared.Place.{Place}
+use Rattle.grammar.specs.declared.Rule.{Rule}
+use Rattle.grammar.specs.Valid.{all, validSymbol, validPlace, validRule}
+use Rattle.grammar.specs.View.{symbolOf}
+use Rattle.grammar.specs.Zero.{zeroPlace, noRule}
+use Rattle.grammar.proofs.All.{all-at}
+use Rattle.grammar.proofs.Bounds.{rule-parts}
+use Rattle.load_nullable.specs.Nullable.{symbolKnown, placeKnown, ruleKnown, widen, pass}
+
+-- ---- a place
+
+pub place-bound : (p : Place) (k : ℕ) → p .symbol ≡ Nonterminal k → validPlace p ≡ true → k < 32
+place-bound p k e v = omega (arith, leb-true k 31 (sym (ap validSymbol e) ∙ v))
+
+pub place-member : (known : ℕ) (p : Place) (k : ℕ) (b : Bool) → p .symbol ≡ Nonterminal k → b ≡ has k known → b ≡ placeKnown known p
+place-member known p k b e h = h ∙ sym (ap (λ (s : Symbol). symbolKnown known (symbolOf s)) e)
+
+-- ---- the places of a rule
+
+-- an element that is there and does not pass
+all-stops : {A : Type 0} (test : A → Bool) (d : A) (l : List A) (n q : ℕ) → q < n → q < length l → test (getD l q d) ≡ false
+    → all test (take n l) ≡ false
+unfolding all
+all-stops test d [] n q h k e = absurd (not-suc-le-zero k)
+all-stops test d (a ∷ l) zero q h k e = absurd (not-suc-le-zero h)
+all-stops test d (a ∷ l) (suc n) zero h k e = rw e
+all-stops test d (a ∷ l) (suc n) (suc q) h k e =
+    rw (all-stops test d l n q (le-of-suc-le-suc h) (le-of-suc-le-suc k) e) (and-false (test a))
+
+pub rule-place-valid : (r : Rule) (q : ℕ) → validRule r ≡ true → q < r .count → validPlace (getD (r .places) q zeroPlace) ≡ true
+rule-place-valid r q v h = all-at validPlace zeroPlace refl (r .places) (r .count) q h (rule-parts r v .2)
+
+module _ (known : ℕ) (r : Rule) where
+  pub rule-stops : (q : ℕ) (b : Bool) → b ≡ placeKnown known (getD (r .places) q zeroPlace) → not b ≡ true → q < r .count
+      → r .count ≤ maxPlaces → length (r .places) ≡ maxPlaces → false ≡ ruleKnown known r
+  unfolding ruleKnown
+  rule-stops q b e t h m k =
+      sym (all-stops (placeKnown known) zeroPlace (r .places) (r .count) q h (omega arith) (sym e ∙ not-true b t))
+
+  pub rule-whole : (q : ℕ) → q ≤ r .count → r .count ≤ q → all (placeKnown known) (take q (r .places)) ≡ true → true ≡ ruleKnown known r
+  unfolding ruleKnown
+  rule-whole q h k e = rw (le-antisymm k h) (sym e)
+
+  pub widen-in : (b : Bool) → b ≡ ruleKnown known r → b ≡ true → insert (r .left) known ≡ widen r known
+  unfolding widen
+  widen-in b e t = rw (sym e ∙ t)
+
+  pub widen-with : (b : Bool) (s : ℕ) → b ≡ ruleKnown known r → b ≡ true → s ≡ insert (r .left) known → s ≡ widen r known
+  widen-with b s e t h = h ∙ widen-in b e t
+
+  pub widen-out : (b : Bool) → b ≡ ruleKnown known r → b ≡ false → known ≡ widen r known
+  unfolding widen
+  widen-out b e t = rw (sym e ∙ t)
+
+  pub widen-le : known ≤ widen r known
+  widen-le = go (ruleKnown known r) refl
+    where
+      go : (b : Bool) → ruleKnown known r ≡ b → known ≤ widen r known
+      go true e = omega (arith, insert-le (r .left) known, widen-in true (sym e) refl)
+      go false e = omega (arith, widen-out false (sym e) refl)
+
+  pub widen-word : r .left ≤ 31 → known < 2 ^ 32 → widen r known < 2 ^ 32
+  widen-word h l = go (ruleKnown known r) refl
+    where
+      go : (b : Bool) → ruleKnown known r ≡ b → widen r known < 2 ^ 32
+      go true e = omega (arith, insert-lt (r .left) known (omega arith) l, widen-in true (sym e) refl)
+      go false e = omega (arith, widen-out false (sym e) refl)
+
+  -- a rule that adds nothing: its left side is in the set where its places are
+  pub widen-same : widen r known ≡ known → ruleKnown known r ≡ true → has (r .left) known ≡ true
+  widen-same s e = insert-same→has (r .left) known (widen-in true (sym e) refl ∙ s)
+
+pub rule-left-bound : (r : Rule) → validRule r ≡ true → r .left < 32
+rule-left-bound r v = omega (arith, rule-parts r v .0)
+
+-- ---- a pass over the rules
+
+pub pass-le : (l : List Rule) (known : ℕ) → known ≤ pass l known
+unfolding pass
+pass-le [] known = le-refl known
+pass-le (r ∷ l) known = le-trans (widen-le known r) (pass-le l (widen r known))
+
+pub pass-word : (l : List Rule) (known : ℕ) → all validRule l ≡ true → known < 2 ^ 32 → pass l known < 2 ^ 32
+unfolding pass all
+pass-word [] known v h = h
+pass-word (r ∷ l) known v h =
+    let p = and-parts (validRule r) (all validRule l) v in
+    pass-word l (widen r known) (p .1) (widen-word known r (rule-parts r (p .0) .0) h)
+
+pass-suc : (l : List Rule) (i known : ℕ) → i < length l → pass (take (suc i) l) known ≡ widen (getD l i noRule) (pass (take i l) known)
+unfolding pass
+pass-suc [] i known h = absurd (not-suc-le-zero h)
+pass-suc (r ∷ l) zero known h = refl
+pass-suc (r ∷ l) (suc i) known h = pass-suc l i (widen r known) (le-of-suc-le-suc h)
+
+-- one rule more
+pub pass-next : (l : List Rule) (i known : ℕ) → i < length l → pass (take (i + 1) l) known ≡ widen (getD l i noRule) (pass (take i l) known)
+pass-next l i known h = rw add-one (pass-suc l i known h)
+
+-- the steps of the loop over the rules of g
+pub pass-first : (l : List Rule) (known : ℕ) → known ≡ pass (take 0 l) known
+unfolding pass
+pass-first l known = refl
+
+pub pass-again : (l : List Rule) (i n known s t : ℕ) → s ≡ pass (take i l) known → t ≡ widen (getD l i noRule) s → i < n → n ≤ maxRules
+    → length l ≡ maxRules → t ≡ pass (take (i + 1) l) known
+pass-again l i n known s t e f h m k = f ∙ ap (widen (getD l i noRule)) e ∙ sym (pass-next l i known (omega arith))
+
+pub pass-last : (l : List Rule) (i n known s : ℕ) → s ≡ pass (take i l) known → i ≤ n → n ≤ i → s ≡ pass (take n l) known
+pass-last l i n known s e h k = e ∙ ap (λ (m : ℕ). pass (take m l) known) (le-antisymm h k)
+
+-- a pass that adds nothing: no rule adds anything
+pub pass-same : (l : List Rule) (known : ℕ) → pass l known ≡ known → (i : ℕ) → i < length l → widen (getD l i noRule) known ≡ known
+unfolding pass
+pass-same [] known e i h = absurd (not-suc-le-zero h)
+pass-same (r ∷ l) known e zero h = omega (arith, widen-le known r, pass-le l (widen r known))
+pass-same (r ∷ l) known e (suc i) h =
+    let w : widen r known ≡ known = omega (arith, widen-le known r, pass-le l (widen r known)) in
+    pass-same l known (ap (pass l) (sym w) ∙ e) i (le-of-suc-le-suc h)

@@ -1,0 +1,98 @@
+// The nullable nonterminals of a grammar, as a set, and the nullable depth.
+use grammar::Grammar;
+use grammar::Place;
+use grammar::Rule;
+use grammar::Symbol;
+ghost use mathlib.Core.Bool.{true};
+ghost use mathlib.Core.Path.{_≡_};
+ghost use lib.ListN.{take};
+ghost use Rattle.sets.specs.Set.{card};
+ghost use Rattle.grammar.specs.Valid.{validPlace, validRule, validGrammar};
+ghost use Rattle.load_nullable.specs.Nullable.{placeKnown, ruleKnown, widen, pass, ExactNullable};
+
+// Whether the place holds a known nonterminal.
+pub fn place_in(p: Place, known: u32) -> bool
+    requires { ⌜ validPlace p ≡ true ⌝ }
+    ensures { λ r. ⌜ r ≡ placeKnown known p ⌝ }
+{
+    let s = p.symbol;
+    match s {
+        Symbol::Nonterminal(k) => sets::has(known, k as usize),
+        Symbol::Terminal(_) => false,
+    }
+}
+
+// Whether each place of the rule holds a known nonterminal.
+pub fn rule_in(rule: Rule, known: u32) -> bool
+    requires { ⌜ validRule rule ≡ true ⌝ }
+    ensures { λ r. ⌜ r ≡ ruleKnown known rule ⌝ }
+{
+    let n = rule.count;
+    let mut q = 0;
+    while q < n {
+        let p = rule.places[q];
+        if !place_in(p, known) {
+            return false;
+        }
+        q += 1;
+    }
+    true
+}
+
+// What is known, with the rule's left side where each of its places holds a known nonterminal.
+pub fn widened(rule: Rule, known: u32) -> u32
+    requires { ⌜ validRule rule ≡ true ⌝ }
+    ensures { λ r. ⌜ r ≡ widen rule known ⌝ }
+{
+    let k = rule.left;
+    if rule_in(rule, known) {
+        sets::with(known, k as usize)
+    } else {
+        known
+    }
+}
+
+// One pass over all rules, each of which finds what those before it added.
+pub fn nullable_pass(g: Grammar, known: u32) -> u32
+    requires { ⌜ validGrammar g ≡ true ⌝ }
+    ensures { λ r. ⌜ r ≡ pass (take (g .count) (g .rules)) known ⌝ }
+{
+    let n = g.count;
+    let mut s = known;
+    let mut i = 0;
+    while i < n {
+        let rule = g.rules[i];
+        s = widened(rule, s);
+        i += 1;
+    }
+    s
+}
+
+// The nullable nonterminals: passes until one adds nothing.
+pub fn nullable_set(g: Grammar) -> u32
+    requires { ⌜ validGrammar g ≡ true ⌝ }
+    ensures { λ r. ⌜ ExactNullable g r ⌝ }
+{
+    let mut known = 0;
+    let mut next = nullable_pass(g, known);
+    while next != known {
+        known = next;
+        next = nullable_pass(g, known);
+    }
+    known
+}
+
+// A nullable depth: how many nonterminals are nullable.
+pub fn nullable_depth(known: u32) -> u8
+    ensures { λ r. ⌜ r ≡ card known ⌝ }
+{
+    let mut n = 0u8;
+    let mut k = 0;
+    while k < sizes::NONTERMINALS {
+        if sets::has(known, k) {
+            n += 1;
+        }
+        k += 1;
+    }
+    n
+}

@@ -1,8 +1,0 @@
--- `loader::refused` meets its contract. Assumes nothing.
-use native.Mathlib.Omega.{arith}
-use Rattle.loader.proofs.Answer.{refuses}
-use Rattle.loader.proofs.refused.Statement.{statement}
-use Rattle.loader.proofs.refused.Tie as tie
-
-pub refused-spec : {M : Type 1} → statement M
-refused-spec = tie.close (tie.spec (λ c κs. omega arith) (λ c. search refuses))

@@ -1,7 +1,0 @@
--- `measure::widened` meets its contract: a number of 16 bits is one of 32 bits. Assumes nothing.
-use Rattle.measure.proofs.Lengths.{wide-fits, wide, wide-size}
-use Rattle.measure.proofs.widened.Statement.{statement}
-use Rattle.measure.proofs.widened.Tie as tie
-
-pub widened-spec : {M : Type 1} → statement M
-widened-spec = tie.close (tie.spec (λ c. search wide-fits) (λ c. (search wide, search wide-size)))

@@ -1,0 +1,3 @@
+-- The derivation after one, and what next hands out, once the tables are made.
+pub mod Advanced
+pub mod Made

@@ -1,0 +1,38 @@
+-- `packed_make::pack_rule` meets its contract. The loop's invariant: row r has the places passed, and the other rows are as found.
+-- The measure is what is left of the count. Assumes nothing.
+use Prim.Native.Nat.{_≤_, _-_}
+use native.Mathlib.Omega.{arith}
+use Rattle.sizes.specs.Sizes.{maxPlaces}
+use Rattle.grammar.proofs.Bounds.{rule-parts}
+use Rattle.grammar.proofs.Declared.{places-long}
+use Rattle.packed_make.proofs.Row.{Row, row-start, row-step, row-done}
+use Rattle.packed_make.proofs.pack_rule.Statement.{statement}
+use Rattle.packed_make.proofs.pack_rule.Tie as tie
+
+abbrev Inv-loop : tie.InvT-loop
+Inv-loop r p₀ rule n q₀ p q = (q ≤ n) × (n ≤ maxPlaces) × Row rule r q p₀ p
+
+abbrev μ-loop : tie.MeasureT-loop
+μ-loop r p₀ rule n q₀ p q = n - q
+
+loop-again : tie.Need-loop-again Inv-loop μ-loop
+loop-again c = (
+  omega arith,
+  omega arith,
+  row-step _ _ (c .before .before .before .before .before .pre .0) _ _ _ _ _ (omega arith)
+      (c .before .before .before .before .loop .inv .2) (c .before .tag-of .ensures) (c .value-of .ensures),
+)
+
+returns : tie.Need-returns Inv-loop μ-loop
+returns c =
+    row-done _ _ _ (c .before .before .args .p .now) _ (search places-long)
+    (c .before .before .pre .1) (omega arith) (c .before .loop .inv .2)
+
+pub pack-rule-spec : {M : Type 1} → statement M
+pack-rule-spec = tie.close (tie.spec
+    Inv-loop μ-loop (λ c. omega arith) (λ c. omega arith) (λ c. omega (arith, rule-parts _ (c .pre .1) .1)) (λ c. omega arith)
+    (λ c. omega arith) (λ c. omega arith)
+    (λ c. (omega arith, rule-parts _ (c .pre .1) .1, row-start _ _ (c .pre .0) (c .args .p .now) (c .pre .2))) (λ c. omega arith)
+    (λ c. omega arith) (λ c κs. omega arith) (λ c. omega arith) (λ c. omega arith) (λ c. omega arith) (λ c. omega arith)
+    (λ c. omega arith) (λ c κs. omega arith) (λ c. omega arith) (λ c. omega arith) (λ c. omega arith) (λ c. omega arith)
+    (λ c. omega arith) (λ c. omega arith) (λ c. omega arith) loop-again returns)

@@ -1,0 +1,70 @@
+-- What is printed first, by what loading the book gave. Assumes nothing.
+use Prim.Native.Nat.{ℕ, _<_}
+use mathlib.Core.Bool.{true}
+use mathlib.Core.List.{List}
+use mathlib.Core.Logic.{inl, inr}
+use mathlib.Core.Path.{_≡_, refl, sym, ap, subst, _∙_}
+use lib.IntN.{ℤ}
+use lib.ListN.{length}
+use Rattle.sizes.specs.Sizes.{maxRules}
+use Rattle.laws.proofs.Bools.{clash}
+use Rattle.check_length.specs.Measure.{lengthsIn}
+use Rattle.demands.specs.LoadDemand.{LoadDemand}
+use Rattle.demands.proofs.LoadDemand.{load-demand}
+use Rattle.grammar.specs.Valid.{validGrammar}
+use Rattle.answers.specs.declared.Refusal.{Refusal}
+use Rattle.answers.specs.declared.Outcome.the-variants.{Accepted, Refused}
+use Rattle.answers.specs.Number.{numberOf}
+use Rattle.answers.specs.Answers.{outcomeOf}
+use Rattle.load.specs.declared.Loaded.{Loaded}
+use Rattle.load.specs.Answer.{loadingOf}
+use Rattle.results.specs.Answer.{refusedAt, loaded}
+use Rattle.results.specs.Load.{Loading, loadOf}
+use Rattle.text.specs.Text.{inputText, loadedText, textOf}
+use Rattle.text.proofs.Depth.{text-depth}
+use Rattle.print_begin.specs.declared.Due.{Due}
+use Rattle.print_begin.specs.declared.Due.the-variants.{Refusal as RefusalDue}
+use Rattle.print_begin.specs.Due.{Ahead}
+use Rattle.print_begin.specs.Begun.{InputBegun, BookBegun}
+
+refused-apart : {n at : ℕ} → refusedAt n at ≡ loaded → ⊥
+refused-apart e = clash cc
+
+module _ (book w : List ℕ) (b : Loaded) (load : loadingOf b ≡ loadOf book (b .grammar .depth)) where
+  -- the text by what loading gave
+  text-loaded : loadedText (loadingOf b) w ≡ textOf book w
+  text-loaded = ap (λ (x : Loading). loadedText x w) load ∙ text-depth book w (b .grammar .depth)
+
+  pub book-refused : (r : Refusal) (at : ℕ) → b .outcome ≡ Refused r at → (k n : ℕ) → k ≡ numberOf r → n ≡ k → n < 256
+      → (p : List ℕ) (lengths : List ℤ) → length lengths ≡ maxRules → (chart fits tables buf : List ℕ)
+      → BookBegun book w p lengths chart chart fits tables buf buf (RefusalDue n)
+  unfolding loadedText
+  book-refused r at is k n e f byte p lengths rows chart fits tables buf = record {
+    rows = rows;
+    chart-long = refl;
+    long = refl;
+    sized = byte;
+    ahead = sym text-loaded ∙ rw (is, f, e);
+  }
+
+  module _ (is : b .outcome ≡ Accepted) where
+    pub book-valid : validGrammar (b .grammar) ≡ true
+    book-valid = go (subst (LoadDemand book (b .grammar .depth)) (sym load) (load-demand book (b .grammar .depth)))
+      where
+        go : LoadDemand book (b .grammar .depth) (loadingOf b) → validGrammar (b .grammar) ≡ true
+        go (inl R) = absurd (refused-apart (sym (R .answer) ∙ ap outcomeOf is))
+        go (inr A) = A .valid
+
+    pub book-begun : (p : List ℕ) (lengths : List ℤ) (chart chart' fits tables buf₀ buf : List ℕ) (d : Due)
+        → InputBegun (b .grammar) w p lengths chart chart' fits tables buf₀ buf d
+        → BookBegun book w p lengths chart chart' fits tables buf₀ buf d
+    unfolding loadedText
+    book-begun p lengths chart chart' fits tables buf₀ buf d I =
+        let e : loadedText (loadingOf b) w ≡ inputText (b .grammar) w = rw is in
+        record {
+          rows = I .rows;
+          chart-long = I .chart-long;
+          long = I .long;
+          sized = I .sized;
+          ahead = subst (Ahead (lengthsIn lengths) p fits chart' tables buf d) (sym e ∙ text-loaded) (I .ahead);
+        }

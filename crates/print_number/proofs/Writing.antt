@@ -1,0 +1,44 @@
+-- Bytes written into a buffer: nothing, one byte, one piece behind another. Assumes nothing.
+use Prim.Native.Nat.{ℕ, _+_, _≤_, _<_}
+use native.Mathlib.Numerals.{add-one}
+use native.Mathlib.Omega.{arith}
+use mathlib.Core.List.{List, [], _∷_, _++_, append-assoc, append-nil}
+use mathlib.Core.Path.{_≡_, refl, sym, ap, subst, _∙_}
+use lib.ListN.{length, getD, take, set, length-set, length-append}
+use lib.Seq.{take-suc, take-suc-set, take-all}
+use Rattle.print_number.specs.Put.{Put}
+
+pub put-none : (at end : ℕ) (o : List ℕ) → end ≡ at → Put [] at end o o
+put-none at end o e = record { long = refl; grown = omega arith; front = ap (λ (k : ℕ). take k o) e ∙ sym (append-nil (take at o)) }
+
+pub put-one : (b at : ℕ) (o : List ℕ) → at < length o → Put (b ∷ []) at (at + 1) o (set o at b)
+put-one b at o h =
+    record { long = length-set o at b; grown = refl; front = ap (λ (k : ℕ). take k (set o at b)) (add-one at) ∙ take-suc-set o at b h }
+
+-- one piece behind another
+pub put-append : {x y : List ℕ} {at mid end : ℕ} {o₁ o₂ o₃ : List ℕ} → Put x at mid o₁ o₂ → Put y mid end o₂ o₃
+    → Put (x ++ y) at end o₁ o₃
+put-append {x} {y} {at} {mid} {end} {o₁} p q =
+    record {
+      long = q .long ∙ p .long;
+      grown = omega (arith, p .grown, q .grown, length-append x y);
+      front = q .front ∙ ap (λ (l : List ℕ). l ++ y) (p .front) ∙ append-assoc (take at o₁) x y;
+    }
+
+pub put-same : {x y : List ℕ} {at end : ℕ} {o₁ o₂ : List ℕ} → x ≡ y → Put x at end o₁ o₂ → Put y at end o₁ o₂
+put-same {at = at} {end} {o₁} {o₂} e p = subst (λ (l : List ℕ). Put l at end o₁ o₂) e p
+
+-- ---- bytes, one after the other
+
+module _ (s : List ℕ) (at : ℕ) (o₀ o : List ℕ) (i : ℕ) where
+  pub bytes-step : i < length s → at + i < length o → Put (take i s) at (at + i) o₀ o
+      → Put (take (i + 1) s) at (at + (i + 1)) o₀ (set o (at + i) (getD s i 0))
+  bytes-step h l p =
+      let e : at + i + 1 ≡ at + (i + 1) = omega arith in
+      subst (λ (k : ℕ). Put (take (i + 1) s) at k o₀ (set o (at + i) (getD s i 0))) e
+      (put-same (sym (take-suc s i 0 h) ∙ ap (λ (k : ℕ). take k s) (sym (add-one i))) (put-append p (put-one (getD s i 0) (at + i) o l)))
+
+  pub bytes-done : (n : ℕ) → n ≡ length s → i ≤ n → n ≤ i → Put (take i s) at (at + i) o₀ o → Put s at (at + n) o₀ o
+  bytes-done n e h l p =
+      let d : i ≡ n = omega arith in
+      put-same (take-all i s (omega arith)) (subst (λ (k : ℕ). Put (take i s) at (at + k) o₀ o) d p)

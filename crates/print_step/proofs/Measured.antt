@@ -1,0 +1,39 @@
+-- The length of the derivation at the front of the buffer, and its line. Assumes nothing.
+use Prim.Native.Nat.{ℕ, _≤_, _<_}
+use mathlib.Core.List.{List}
+use mathlib.Core.Path.{_≡_, sym, ap, subst, _∙_}
+use native.Mathlib.Omega.{arith}
+use lib.IntN.{ℤ}
+use lib.Signed.{mag}
+use mir.Syntax.{w32}
+use mir.Val.{toZ, ofZ}
+use Rattle.check_length.proofs.Signed.{through}
+use Rattle.print_number.specs.Put.{Put}
+use Rattle.print_line.proofs.Bounds.{tenths-size}
+use Rattle.results.specs.Measure.{sum, rounded}
+use Rattle.text.specs.Line.{line}
+
+-- a number that is small enough is kept by 32 bits
+abbrev kept : ℤ → ℤ
+kept z = toZ w32 (ofZ w32 z)
+
+pub kept-small : (z : ℤ) (n : ℕ) → n ≤ 16777216 → mag z ≤ n → mag (kept z) ≤ n
+kept-small z n k h = subst (λ (x : ℤ). mag x ≤ n) (sym (through z (omega arith))) h
+
+module _ (lengths : ℕ → ℤ) (e : List ℕ) (t u : ℤ) (total : (t ≡ sum lengths e) × (mag t ≤ 16777216)) (tenths : u ≡ rounded (kept t)) where
+  pub tenths-small : mag (kept u) ≤ 1677722
+  tenths-small =
+      kept-small u 1677722 (omega arith)
+      (subst (λ (x : ℤ). mag x ≤ 1677722) (sym tenths) (tenths-size (kept t) (kept-small t 16777216 (omega arith) (total .1))))
+
+  pub line-put : (place r : ℕ) (out₀ out : List ℕ) → Put (line place e (kept u)) 0 r out₀ out
+      → Put (line place e (rounded (sum lengths e))) 0 r out₀ out
+  line-put place r out₀ out P =
+      let small : mag u < 2147483648 =
+      omega (
+        arith,
+        subst (λ (x : ℤ). mag x ≤ 1677722) (sym tenths)
+            (tenths-size (kept t) (kept-small t 16777216 (omega arith) (total .1))),
+      ) in
+      let same : kept t ≡ sum lengths e = through t (omega (arith, total .1)) ∙ total .0 in
+      subst (λ (z : ℤ). Put (line place e z) 0 r out₀ out) (through u small ∙ tenths ∙ ap rounded same) P

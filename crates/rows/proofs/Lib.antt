@@ -1,5 +1,0 @@
--- The laws of flat rows. What others cite: Judged, Round.
-pub mod Records
-pub mod Parts
-pub mod Round
-pub mod Judged

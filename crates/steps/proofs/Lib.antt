@@ -1,2 +1,0 @@
--- Laws of what comes next, by the tests that the code makes.
-pub mod Looking

@@ -1,2 +1,0 @@
--- What comes next at a place of a rule.
-pub mod Looked

@@ -1,3 +1,0 @@
--- Laws of the derivation after one, once the tables are made.
-pub mod Copies
-pub mod Root

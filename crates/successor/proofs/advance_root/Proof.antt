@@ -1,8 +1,0 @@
--- `successor::advance_root` meets its contract: the tree after the one that stands, at the root. Assumes nothing.
-use native.Mathlib.Omega.{arith}
-use Rattle.successor.proofs.Root.{root-next}
-use Rattle.successor.proofs.advance_root.Statement.{statement}
-use Rattle.successor.proofs.advance_root.Tie as tie
-
-pub advance-root-spec : {M : Type 1} → statement M
-advance-root-spec = tie.close (tie.spec (λ c κs. omega arith) (λ c. omega arith) (λ c. search root-next))

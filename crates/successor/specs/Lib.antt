@@ -1,2 +1,0 @@
--- The derivation after one, once the tables are made.
-pub mod Advanced

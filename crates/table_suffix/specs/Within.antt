@@ -1,0 +1,46 @@
+-- The least costs of the places of a rule from one start on, inside a span from i to j, as they stand in the rows of the rule.
+-- Assumes nothing.
+use Prim.Native.Nat.{ℕ, _+_, _*_, _≤_, _<_}
+use mathlib.Core.Bool.{false}
+use mathlib.Core.List.{List, []}
+use mathlib.Core.Logic.{_≢_}
+use mathlib.Core.Path.{_≡_}
+use lib.ListN.{length, getD}
+use Rattle.sizes.specs.Sizes.{side}
+use Rattle.sets.specs.Set.{has}
+use Rattle.chart.specs.Cell.{Fit}
+use Rattle.packed.specs.Packed.{placeCount, isNonterminalIn, terminalIn}
+use Rattle.table_cut.specs.Suffix.{EndsPassedOver}
+pub use Rattle.table_cut.specs.Within.{tailIn, InsideCost}
+
+-- where the cost of the places from q on and from a on stands, in the rows of one rule that begin at `at`
+abbrev pub rowAt : ℕ → ℕ → ℕ → ℕ
+rowAt at q a = at + side * q + a
+
+-- the word tells for each terminal of rule r whether it fits the byte at a
+abbrev pub Word : Fit → List ℕ → ℕ → ℕ → ℕ → ℕ → Type 0
+Word fit p r a j word = (q : ℕ) → q < placeCount p r → isNonterminalIn p r q ≡ false → a < j → has q word ≡ fit a (terminalIn p r q)
+
+-- the rows of rule r hold the costs from the starts behind a
+abbrev pub LaterStarts : Fit → List ℕ → ℕ → List ℕ → List ℕ → ℕ → ℕ → ℕ → List ℕ → ℕ → Type 0
+LaterStarts fit p r tables full i a j rows at = (q c : ℕ) → q ≤ placeCount p r → a < c → c ≤ j
+    → InsideCost fit tables full i j (tailIn p r q) c (getD rows (rowAt at q c) 0)
+
+-- each end behind a and before both `from` and j costs too many: itself, or each suffix of rule r behind its first place from there on
+abbrev pub EndsPassed : List ℕ → ℕ → List ℕ → ℕ → ℕ → ℕ → List ℕ → ℕ → Type 0
+EndsPassed p r tables a from j rows at = (q : ℕ) → 0 < q → q ≤ placeCount p r → EndsPassedOver tables a from j rows (at + side * q)
+
+-- the rows of rule r with the costs from the start a written, those of the places from q on and before the end; all others are as found
+pub record ColumnFrom (p : List ℕ) (r word : ℕ) (tables full : List ℕ) (i a from j at q : ℕ) (rows₀ rows : List ℕ) : Type 0 where
+  pub long : length rows ≡ length rows₀
+  pub other : (n : ℕ) → ((s : ℕ) → s < placeCount p r → n ≢ rowAt at s a) → getD rows n 0 ≡ getD rows₀ n 0
+  pub exact : (fit : Fit) → Word fit p r a j word → EndsPassed p r tables a from j rows₀ at → LaterStarts fit p r tables full i a j rows₀ at
+      → InsideCost fit tables full i j [] a (getD rows₀ (rowAt at (placeCount p r) a) 0)
+      → (s : ℕ) → q ≤ s → s ≤ placeCount p r → InsideCost fit tables full i j (tailIn p r s) a (getD rows (rowAt at s a) 0)
+
+-- the rows of rule r with all costs from the start a written; all others are as found
+pub record ColumnPut (p : List ℕ) (r word : ℕ) (tables full : List ℕ) (i a from j at : ℕ) (rows₀ rows : List ℕ) : Type 0 where
+  pub long : length rows ≡ length rows₀
+  pub other : (n : ℕ) → ((s : ℕ) → s ≤ placeCount p r → n ≢ rowAt at s a) → getD rows n 0 ≡ getD rows₀ n 0
+  pub exact : (fit : Fit) → Word fit p r a j word → EndsPassed p r tables a from j rows₀ at → LaterStarts fit p r tables full i a j rows₀ at
+      → (s : ℕ) → s ≤ placeCount p r → InsideCost fit tables full i j (tailIn p r s) a (getD rows (rowAt at s a) 0)

@@ -1,0 +1,106 @@
+-- The least cost of cutting a span: without places, of a terminal and the rest, of a nonterminal and the rest as a minimum over its ends;
+-- and it depends only on the costs of the spans inside. Assumes nothing.
+use Prim.Native.Nat.{ℕ, suc, _+_, _≤_, _<_, min}
+use mathlib.Core.Bool.{Bool, true, false, true≢false}
+use mathlib.Core.List.{List, [], _∷_, List·Memᴰ, List·Memᴰ·head, List·Memᴰ·tail}
+use mathlib.Core.Path.{_≡_, refl, sym, ap, _∙_}
+use native.Mathlib.Omega.{arith}
+use Rattle.sizes.specs.Sizes.{tooMany}
+use Rattle.cfg.specs.Grammar.{Symbol, nonterminal, terminal, Terminal}
+use Rattle.theory_costs.specs.Lowest.{Lowest, NoNumber, Seen, seen-first, seen-at}
+use Rattle.theory_costs.specs.Cut.{Cut, cut-end, cut-leaf, cut-node, First, LeastCut}
+use Rattle.theory_costs.proofs.Lowest.{lowest-none, lowest-at, lowest-same, seen-step}
+
+module _ {fit : ℕ → Terminal → Bool} {cost : ℕ → ℕ → ℕ → ℕ} {b : ℕ} where
+  -- ---- no places
+
+  pub leastcut-end : LeastCut fit cost [] b b 0
+  leastcut-end = lowest-at (omega arith) (cut-end refl) (λ u c. omega arith)
+
+  pub leastcut-end-short : {a : ℕ} → a < b → LeastCut fit cost [] a b tooMany
+  leastcut-end-short {a} l = lowest-none go
+    where
+      go : (u : ℕ) → Cut fit cost b [] a u → tooMany ≤ u
+      go _ (cut-end e) = absurd (omega arith)
+
+  -- ---- a terminal and the rest
+
+  pub leastcut-leaf : {t : Terminal} {places : List Symbol} {a v : ℕ} → a < b → fit a t ≡ true → LeastCut fit cost places (suc a) b v
+      → LeastCut fit cost (terminal t ∷ places) a b v
+  leastcut-leaf {t} {places} {a} l q = lowest-same (λ u _ c. cut-leaf l q c) (λ u _ c. (u, omega arith, go c))
+    where
+      go : {u : ℕ} → Cut fit cost b (terminal t ∷ places) a u → Cut fit cost b places (suc a) u
+      go (cut-leaf m r c) = c
+
+  pub leastcut-misfit : {t : Terminal} {places : List Symbol} {a : ℕ} → fit a t ≡ false
+      → LeastCut fit cost (terminal t ∷ places) a b tooMany
+  leastcut-misfit {t} {places} {a} q = lowest-none go
+    where
+      go : (u : ℕ) → Cut fit cost b (terminal t ∷ places) a u → tooMany ≤ u
+      go _ (cut-leaf m r c) = absurd (true≢false (sym r ∙ q))
+
+  pub leastcut-no-byte : {t : Terminal} {places : List Symbol} {a : ℕ} → b ≤ a → LeastCut fit cost (terminal t ∷ places) a b tooMany
+  leastcut-no-byte {t} {places} {a} l = lowest-none go
+    where
+      go : (u : ℕ) → Cut fit cost b (terminal t ∷ places) a u → tooMany ≤ u
+      go _ (cut-leaf m r c) = absurd (omega arith)
+
+  -- ---- a nonterminal and the rest: the minimum over the ends, and its steps
+
+  module _ {k : ℕ} {places : List Symbol} {a : ℕ} where
+    pub leastcut-node : {v : ℕ} → Lowest (Seen NoNumber (First fit cost k places a b) a (suc b)) v
+        → LeastCut fit cost (nonterminal k ∷ places) a b v
+    leastcut-node = lowest-same (λ u _ s. cut s) (λ u _ c. (u, omega arith, seen c))
+      where
+        cut : {u : ℕ} → Seen NoNumber (First fit cost k places a b) a (suc b) u → Cut fit cost b (nonterminal k ∷ places) a u
+        cut (seen-first p) = absurd p
+        cut (seen-at c l m p) = cut-node c l (omega arith) (p .cut) (p .sum)
+
+        seen : {u : ℕ} → Cut fit cost b (nonterminal k ∷ places) a u → Seen NoNumber (First fit cost k places a b) a (suc b) u
+        seen (cut-node {v = v} c l m d e) = seen-at c l (omega arith) (record { later = v; cut = d; sum = e })
+
+    module _ {c v x y : ℕ} (h : a ≤ c) (L : Lowest (Seen NoNumber (First fit cost k places a b) a c) v)
+        (R : LeastCut fit cost places c b y) (e : x ≡ cost k a c + y) where
+      reached : x < tooMany → First fit cost k places a b c x
+      reached l = record { later = y; cut = R .reached (omega arith); sum = e }
+
+      below : (u : ℕ) → First fit cost k places a b c u → x ≤ u
+      below u p = let m = R .below (p .later) (p .cut) in let q = p .sum in omega arith
+
+      pub first-step : {z : ℕ} → z ≡ min v x → Lowest (Seen NoNumber (First fit cost k places a b) a (suc c)) z
+      first-step = seen-step h L reached below
+
+-- ---- only the costs of the spans from i on count, and only those that are at most the total
+
+pub cut-map : {fit fit' : ℕ → Terminal → Bool} {cost cost' : ℕ → ℕ → ℕ → ℕ} (i b n : ℕ)
+    → ((a : ℕ) (t : Terminal) → i ≤ a → a < b → fit a t ≡ true → fit' a t ≡ true)
+    → ((k a c : ℕ) → i ≤ a → a ≤ c → c ≤ b → cost k a c ≤ n → cost k a c ≡ cost' k a c)
+    → {places : List Symbol} {a u : ℕ} → i ≤ a → u ≤ n → Cut fit cost b places a u → Cut fit' cost' b places a u
+cut-map i b n f p h l (cut-end e) = cut-end e
+cut-map i b n f p h l (cut-leaf {t} {a = a} m q c) = cut-leaf m (f a t h m q) (cut-map i b n f p (omega arith) l c)
+cut-map {cost = cost} {cost'} i b n f p {places} {a} {u} h l (cut-node {k} {v = v} c m m' d e) =
+    let q : cost k a c ≡ cost' k a c = p k a c h m m' (omega arith) in
+    cut-node c m m' (cut-map i b n f p (omega arith) (omega arith) d) (e ∙ ap (λ (x : ℕ). x + v) q)
+
+pub leastcut-same : {fit : ℕ → Terminal → Bool} {cost cost' : ℕ → ℕ → ℕ → ℕ} (a b : ℕ)
+    → ((k c d : ℕ) → a ≤ c → c ≤ d → d ≤ b → cost k c d ≡ cost' k c d)
+    → {places : List Symbol} {v : ℕ} → LeastCut fit cost places a b v → LeastCut fit cost' places a b v
+leastcut-same a b p = lowest-same
+    (λ u _ c. cut-map a b u (λ _ _ _ _ q. q) (λ k c d l m h _. p k c d l m h) (omega arith) (omega arith) c)
+    (λ u _ c. (u, omega arith, cut-map a b u (λ _ _ _ _ q. q) (λ k c d l m h _. sym (p k c d l m h)) (omega arith) (omega arith) c))
+
+-- ---- only the costs of the nonterminals of the places count
+
+pub cut-places : {fit : ℕ → Terminal → Bool} {cost cost' : ℕ → ℕ → ℕ → ℕ} {b : ℕ} {places : List Symbol}
+    → ((k a c : ℕ) → List·Memᴰ (nonterminal k) places → cost k a c ≡ cost' k a c)
+    → {a u : ℕ} → Cut fit cost b places a u → Cut fit cost' b places a u
+cut-places p (cut-end e) = cut-end e
+cut-places p (cut-leaf m q c) = cut-leaf m q (cut-places (λ k a c i. p k a c (List·Memᴰ·tail i)) c)
+cut-places p {a} (cut-node {k} {v = v} c m m' d e) =
+    cut-node c m m' (cut-places (λ l x y i. p l x y (List·Memᴰ·tail i)) d)
+    (e ∙ ap (λ (x : ℕ). x + v) (p k a c (List·Memᴰ·head refl)))
+
+pub leastcut-places : {fit : ℕ → Terminal → Bool} {cost cost' : ℕ → ℕ → ℕ → ℕ} {places : List Symbol} {a b v : ℕ}
+    → ((k a c : ℕ) → List·Memᴰ (nonterminal k) places → cost k a c ≡ cost' k a c)
+    → LeastCut fit cost places a b v → LeastCut fit cost' places a b v
+leastcut-places p = lowest-same (λ u _ c. cut-places p c) (λ u _ c. (u, omega arith, cut-places (λ k a c i. sym (p k a c i)) c))
