@@ -30,7 +30,7 @@ abbrev pub measuredOf : Measured → Answer ℤ
 measuredOf (Measures.Tenths z) = answered z
 measuredOf (Measures.Refused r) = refused (numberOf r)
 
--- first and next: the number of nodes, or none
+-- first and next: the number of nodes, or that there is none
 abbrev pub handingOf : Handed → Answer Handing
 handingOf (Handings.Nodes n) = answered (handed n)
 handingOf Handings.Nothing = answered nothing

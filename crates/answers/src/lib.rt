@@ -40,14 +40,14 @@ pub enum Measured {
     Refused(Refusal),
 }
 
-// First and next: how many nodes the derivation handed out has, that there is none, or why the call was refused.
+// First and next: how many nodes the derivation handed out has; that there is none; or why the call was refused.
 pub enum Handed {
     Nodes(usize),
     Nothing,
     Refused(Refusal),
 }
 
-// Count: how many derivations there are, that there are more than 4,096, or why the call was refused.
+// Count: how many derivations there are; that there are more than 4,096; or why the call was refused.
 pub enum Counted {
     Exactly(usize),
     More,

@@ -27,12 +27,12 @@ grammar rules = record { start = 0; rules = rules }
 abbrev pub pairs : Cfg
 pairs = grammar (0 ⇒ (nonterminal 0 ∷ nonterminal 0 ∷ []) ∷ 0 ⇒ (A ∷ []) ∷ [])
 
--- L, with all that it is made of open
+-- L for n bytes `A`, with all definitions that it uses unfolded
 unfoldable pub listOf : Cfg → ℕ → List (List ℕ)
 unfolding fits joined over when from among keep rulesFrom items upTo listing derivations
 listOf G n = L G (replicate n 65)
 
--- both derivations of AAA, the one whose first child covers less in front
+-- both derivations of AAA: the one whose first child covers less comes first
 pub pairs-listed : listOf pairs 3
     ≡ (3 ∷ 0 ∷ 1 ∷ 1 ∷ 2 ∷ 0 ∷ 1 ∷ 1 ∷ 1 ∷ 1 ∷ []) ∷ (3 ∷ 0 ∷ 2 ∷ 0 ∷ 1 ∷ 1 ∷ 1 ∷ 1 ∷ 1 ∷ 1 ∷ []) ∷ []
 unfolding listOf
@@ -42,7 +42,7 @@ pairs-listed = refl
 pub pairs-rising : Rising ((3 ∷ 0 ∷ 1 ∷ 1 ∷ []) ∷ (3 ∷ 0 ∷ 2 ∷ 0 ∷ []) ∷ [])
 pairs-rising = rising-more (first-same (first-same (first-less {a = 1} {b = 2} (omega arith)))) rising-one
 
--- twin rules count as two, the smaller number in front; a number without a rule counts all the same
+-- twin rules count as two, and the smaller number comes first; a number without a rule is counted too
 pub twins-listed : listOf (grammar (0 ⇒ (A ∷ []) ∷ none ∷ 0 ⇒ (A ∷ []) ∷ [])) 1 ≡ (1 ∷ 0 ∷ []) ∷ (1 ∷ 2 ∷ []) ∷ []
 unfolding listOf
 twins-listed = refl
@@ -90,7 +90,7 @@ cycle-superfluous =
     super-here {k = 0} (record { the = record { left = 0; places = nonterminal 1 ∷ [] }; here = refl; left = refl })
     (has-below (has-here (record { the = record { left = 0; places = A ∷ [] }; here = refl; left = refl }) refl))
 
--- a row of leaves has no node, so none that is superfluous
+-- a row of leaves has no node, so no superfluous recursion
 no-node : {G : Cfg} {k n m : ℕ} → Has G k n (leaf m end) → ⊥
 no-node (has-after h) = elim h [ ]
 
@@ -112,7 +112,7 @@ nested-plain (super-beside h) = elim h [ ]
 abbrev pub chain : Cfg
 chain = grammar (0 ⇒ (nonterminal 1 ∷ []) ∷ 1 ⇒ (A ∷ []) ∷ [])
 
--- rule 1 of that grammar is one of 1 only
+-- rules 0 and 1 of that grammar are not of one nonterminal
 chain-left : {k : ℕ} → Of chain 1 k → Of chain 0 k → ⊥
 unfolding joined
 chain-left o p =

@@ -30,7 +30,7 @@ pub record Cfg : Type 0 where
   pub start : ℕ
   pub rules : List (Option Rule)
 
--- what is there, if anything is
+-- the value inside both options, or none
 unfoldable pub joined : {A : Type 0} → Option (Option A) → Option A
 joined none = none
 joined (some o) = o

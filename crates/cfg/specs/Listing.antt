@@ -1,5 +1,5 @@
--- The list L of all derivations of an input, in rising order, as a function: it tries the covers of the next node from the
--- smallest, for each the rules from the smallest, and for each of these goes on from the left. Assumes nothing.
+-- The list L of all derivations of an input, in rising order, as a function. It tries each cover of the next node from the smallest, for
+-- each cover each rule from the smallest, and for each rule it goes on from the left. Assumes nothing.
 use Prim.Native.Nat.{ℕ, zero, suc}
 use mathlib.Core.Bool.{Bool, true, false, _&&_, _||_, not}
 use mathlib.Core.List.{List, [], _∷_, _++_, map}
@@ -9,17 +9,17 @@ use lib.ListN.{length, take, drop}
 use Rattle.cfg.specs.Grammar.{Cfg, Rule, Symbol, nonterminal, terminal, Terminal, fits}
 use Rattle.cfg.specs.Derivation.{limit}
 
--- the lists that f gives for the elements, one after the other
+-- the lists that f gives for the elements, joined in their order
 unfoldable pub over : {A : Type 0} → List A → (A → List (List ℕ)) → List (List ℕ)
 over [] f = []
 over (a ∷ l) f = f a ++ over l f
 
--- nothing where the test fails
+-- the list if the test passes, else the empty list
 unfoldable pub when : Bool → (Unit {0} → List (List ℕ)) → List (List ℕ)
 when true f = f tt
 when false f = []
 
--- the numbers from a on, n of them
+-- the n numbers from a on
 unfoldable pub from : ℕ → ℕ → List ℕ
 from a zero = []
 from a (suc n) = a ∷ from (suc a) n
@@ -39,7 +39,7 @@ pub record Numbered : Type 0 where
   pub number : ℕ
   pub places : List Symbol
 
--- the rule of number r in front, if it is one of the nonterminal k
+-- the list with rule number r in front, if that is a rule of the nonterminal k
 unfoldable pub keep : ℕ → ℕ → Option Rule → List Numbered → List Numbered
 keep k r none l = l
 keep k r (some ρ) l = elim (eqb (ρ .left) k) [ true ↦ record { number = r; places = ρ .places } ∷ l | false ↦ l ]
@@ -49,8 +49,8 @@ unfoldable pub rulesFrom : ℕ → ℕ → List (Option Rule) → List Numbered
 rulesFrom k r [] = []
 rulesFrom k r (o ∷ l) = keep k r o (rulesFrom k (suc r) l)
 
--- what is still to be done, from the left: a leaf for a terminal; a node of a nonterminal, below nodes of these spans; or the end of a row,
--- which has used up its bytes, after which these come
+-- what is to be done next: make a leaf for a terminal; make a node of a nonterminal, below nodes of these spans; or end a row, whose bytes
+-- must be used up by then, and go on with these bytes
 pub data Item : Type 0 where
   eat : Terminal → Item
   find : ℕ → List Span → Item
@@ -62,7 +62,7 @@ items above [] = []
 items above (nonterminal k ∷ places) = find k above ∷ items above places
 items above (terminal t ∷ places) = eat t ∷ items above places
 
--- the items up to the next node, which `found` lists with all that comes after it
+-- the items up to the next node; `found` lists that node with all that comes after it
 unfoldable pub upTo : (ℕ → List Span → List Item → List ℕ → List (List ℕ)) → List Item → List ℕ → List (List ℕ)
 upTo found [] [] = [] ∷ []
 upTo found [] (m ∷ w) = []

@@ -19,13 +19,13 @@ yield end = []
 yield (leaf m rest) = m ∷ yield rest
 yield (node r below rest) = yield below ++ yield rest
 
--- how many nodes (parts) there are; a leaf is none
+-- how many nodes (parts) there are; a leaf is not a node
 unfoldable pub nodes : Forest → ℕ
 nodes end = 0
 nodes (leaf m rest) = nodes rest
 nodes (node r below rest) = suc (nodes below + nodes rest)
 
--- nodes on the longest way down: a node with nothing below it has height 1
+-- the number of nodes on the longest way down: a node with nothing below it has height 1
 unfoldable pub height : Forest → ℕ
 height end = 0
 height (leaf m rest) = height rest

@@ -1,8 +1,8 @@
--- The cells of a column: each is the rounds of the rules over its own set, the later cells of the column and the earlier columns; what
--- such a cell sees; and that a column looks only at the cells of earlier columns and at the bytes before it. Assumes nothing.
+-- The cells of a column: each is 32 rounds of the rules over what it sees: its own set, the later cells of its column and earlier columns.
+-- A column depends only on the cells of earlier columns and on the bytes before it. Assumes nothing.
 use Prim.Native.Nat.{ℕ, zero, suc, _+_, _-_, _^_, _≤_, _<_}
-use mathlib.Core.Bool.{Bool}
 use mathlib.Core.List.{List, _∷_}
+use mathlib.Core.Logic.{dite}
 use mathlib.Core.Path.{_≡_, refl, sym, ap, _∙_, fun-ext}
 use native.Mathlib.Decide.{decLt}
 use native.Mathlib.Omega.{arith}
@@ -34,12 +34,12 @@ round G fit chart n i later own = derived fit (seen chart n i later own) (G .rul
 
 -- ---- the column
 
-pub column-length : (G : Cfg) (fit : ℕ → Terminal → Bool) (chart : List ℕ) (n m : ℕ) → length (column G fit chart n m) ≡ m
+pub column-length : (G : Cfg) (fit : Fit) (chart : List ℕ) (n m : ℕ) → length (column G fit chart n m) ≡ m
 unfolding column
 column-length G fit chart n zero = refl
 column-length G fit chart n (suc m) = ap suc (column-length G fit chart n m)
 
-module _ (G : Cfg) (fit : ℕ → Terminal → Bool) (chart : List ℕ) (n : ℕ) where
+module _ (G : Cfg) (fit : Fit) (chart : List ℕ) (n : ℕ) where
   pub column-drop : (d m l : ℕ) → m ≡ d + l → drop d (column G fit chart n m) ≡ column G fit chart n l
   unfolding column
   column-drop zero m l e = let q : m ≡ l = omega arith in ap (column G fit chart n) q
@@ -72,7 +72,7 @@ module _ (G : Cfg) (fit : ℕ → Terminal → Bool) (chart : List ℕ) (n : ℕ
       let z : i - i ≡ 0 = omega arith in
       seen-column chart n i (column G fit chart n (n - i)) own i b m ∙ ap (λ (p : ℕ). getD (own ∷ column G fit chart n (n - i)) p 0) z
 
-  -- later starts are seen whatever its own set is
+  -- a cell sees later starts whatever its own set is
   pub seen-later : (i own a b : ℕ) → i ≤ n → i < a → n ≤ b → seen chart n i (column G fit chart n (n - i)) own a b ≡ inColumn a
   unfolding column
   seen-later i own a b h l m =
@@ -89,7 +89,7 @@ unfolding times
 rounds-lt step h zero = omega arith
 rounds-lt step h (suc t) = h (times t step 0)
 
-pub column-lt : (G : Cfg) → Bounded G → (fit : ℕ → Terminal → Bool) (chart : List ℕ) (n m i : ℕ)
+pub column-lt : (G : Cfg) → Bounded G → (fit : Fit) (chart : List ℕ) (n m i : ℕ)
     → getD (column G fit chart n m) i 0 < 2 ^ 32
 unfolding column least
 column-lt G h fit chart n zero i = omega arith
@@ -98,19 +98,15 @@ column-lt G h fit chart n (suc m) zero =
     (λ v. derived-lt fit (seen chart n (n - m) (column G fit chart n m) v) (n - m) n (G .rules) (bounded-at G h)) 32
 column-lt G h fit chart n (suc m) (suc i) = column-lt G h fit chart n m i
 
--- ---- what a column looks at
+-- ---- what a column depends on
 
-module _ (G : Cfg) (fit fit' : ℕ → Terminal → Bool) (chart chart' : List ℕ) (n : ℕ)
+module _ (G : Cfg) (fit fit' : Fit) (chart chart' : List ℕ) (n : ℕ)
     (f : (a : ℕ) (t : Terminal) → a < n → fit a t ≡ fit' a t)
     (c : (a b : ℕ) → a ≤ b → b < n → cell chart a b ≡ cell chart' a b) where
   seen-cong : (i own : ℕ) (later : List ℕ) (a b : ℕ) → a ≤ b → seen chart n i later own a b ≡ seen chart' n i later own a b
-  seen-cong i own later a b h = go (decLt b n)
-    where
-      go : Dec (b < n) → seen chart n i later own a b ≡ seen chart' n i later own a b
-      go (yes l) = seen-earlier chart n i later own a b l ∙ c a b h l ∙ sym (seen-earlier chart' n i later own a b l)
-      go (no l) =
-          let m : n ≤ b = omega arith in
-          seen-column chart n i later own a b m ∙ sym (seen-column chart' n i later own a b m)
+  seen-cong i own later a b h = dite (decLt b n)
+      (λ l. seen-earlier chart n i later own a b l ∙ c a b h l ∙ sym (seen-earlier chart' n i later own a b l))
+      (λ l. let m : n ≤ b = omega arith in seen-column chart n i later own a b m ∙ sym (seen-column chart' n i later own a b m))
 
   round-cong : (i : ℕ) → i ≤ n → (own : ℕ) (later : List ℕ) → round G fit chart n i later own ≡ round G fit' chart' n i later own
   unfolding round

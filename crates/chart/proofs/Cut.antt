@@ -1,31 +1,32 @@
 -- When the places of a rule cut a span into pieces, as a relation over any pieces: equivalent to the test `cuts`, and monotone in the
 -- pieces. Assumes nothing.
 use Prim.Native.Nat.{ℕ, zero, suc, _+_, _-_, _≤_, _<_}
-use mathlib.Core.Bool.{Bool, true, false, _||_, false≢true, and-eq-true-iff}
+use mathlib.Core.Bool.{Bool, true, false, false≢true, and-eq-true-iff}
 use mathlib.Core.List.{List, [], _∷_}
+use mathlib.Core.Logic.{dite}
 use mathlib.Core.Path.{_≡_, refl, sym, ap, _∙_, subst}
 use native.Mathlib.Decide.{ℕ-discrete}
 use native.Mathlib.Omega.{arith}
 use lib.Dec.{eqb}
 use borrow.Author.Tests.{eq-eqb, eqb-true}
-use Rattle.laws.proofs.Bools.{bool-ext}
+use Rattle.laws.proofs.Bools.{by-test, bool-ext}
 use Rattle.sets.specs.Set.{has}
 use Rattle.cfg.specs.Grammar.{Symbol, nonterminal, terminal, Terminal}
-use Rattle.chart.specs.Cell.{piece, someFrom, cuts}
+use Rattle.chart.specs.Cell.{Fit, piece, someFrom, cuts}
 
 -- the places cut the span from a to n, where `covers k a b` says that the nonterminal k may cover the span from a to b
-pub data Cut (fit : ℕ → Terminal → Bool) (covers : ℕ → ℕ → ℕ → Type 0) (n : ℕ) : List Symbol → ℕ → Type 0 where
+pub data Cut (fit : Fit) (covers : ℕ → ℕ → ℕ → Type 0) (n : ℕ) : List Symbol → ℕ → Type 0 where
   cut-end : {a : ℕ} → a ≡ n → Cut fit covers n [] a
   cut-leaf : {t : Terminal} {places : List Symbol} {a : ℕ}
       → a < n → fit a t ≡ true → Cut fit covers n places (suc a) → Cut fit covers n (terminal t ∷ places) a
   cut-node : {k : ℕ} {places : List Symbol} {a : ℕ} (b : ℕ)
       → a ≤ b → b ≤ n → covers k a b → Cut fit covers n places b → Cut fit covers n (nonterminal k ∷ places) a
 
--- the pieces that the sets have
+-- the nonterminal k may cover the span from a to b if the set of that span has it
 abbrev pub InSets : (ℕ → ℕ → ℕ) → ℕ → ℕ → ℕ → Type 0
 InSets sets k a b = has k (sets a b) ≡ true
 
-pub cut-mono : {fit fit' : ℕ → Terminal → Bool} {covers covers' : ℕ → ℕ → ℕ → Type 0} (i n : ℕ)
+pub cut-mono : {fit fit' : Fit} {covers covers' : ℕ → ℕ → ℕ → Type 0} (i n : ℕ)
     → ((a : ℕ) (t : Terminal) → a < n → fit a t ≡ true → fit' a t ≡ true)
     → ((k a b : ℕ) → i ≤ a → a ≤ b → b ≤ n → covers k a b → covers' k a b)
     → {places : List Symbol} {a : ℕ} → i ≤ a → Cut fit covers n places a → Cut fit' covers' n places a
@@ -38,41 +39,28 @@ cut-mono i n f p h (cut-node {k = k} {a = a} b l m q c) = cut-node b l m (p k a 
 pub some-find : (a m : ℕ) (test : ℕ → Bool) → someFrom a m test ≡ true → (b : ℕ) × (a ≤ b) × (b ≤ a + m) × (test b ≡ true)
 unfolding someFrom
 some-find a zero test e = (a, omega arith, omega arith, e)
-some-find a (suc m) test e = go (test a) refl (some-find (suc a) m test)
-  where
-    go : (t : Bool) → test a ≡ t
-        → (someFrom (suc a) m test ≡ true → (b : ℕ) × (suc a ≤ b) × (b ≤ suc a + m) × (test b ≡ true))
-        → (b : ℕ) × (a ≤ b) × (b ≤ a + suc m) × (test b ≡ true)
-    go true q later = (a, omega arith, omega arith, q)
-    go false q later = let r = later (rw q at e) in (r .0, omega arith, omega arith, r .3)
+some-find a (suc m) test e = by-test (test a) (λ q. (a, omega arith, omega arith, q))
+    (λ q. let r = some-find (suc a) m test (rw q at e) in (r .0, omega arith, omega arith, r .3))
 
 pub some-at : (a m : ℕ) (test : ℕ → Bool) (b : ℕ) → a ≤ b → b ≤ a + m → test b ≡ true → someFrom a m test ≡ true
 unfolding someFrom
 some-at a zero test b l h e = let q : b ≡ a = omega arith in rw q at e
-some-at a (suc m) test b l h e = go (test a) refl (ℕ-discrete b a) (some-at (suc a) m test b)
-  where
-    go : (t : Bool) → test a ≡ t → Dec (b ≡ a) → (suc a ≤ b → b ≤ suc a + m → test b ≡ true → someFrom (suc a) m test ≡ true)
-        → test a || someFrom (suc a) m test ≡ true
-    go true q d later = rw q
-    go false q (yes p) later = absurd (false≢true (sym q ∙ ap test (sym p) ∙ e))
-    go false q (no p) later = rw q (later (let z : ¬ (b ≡ a) = p in omega arith) (omega arith) e)
+some-at a (suc m) test b l h e = by-test (test a) (λ q. rw q) (λ q. dite (ℕ-discrete b a)
+    (λ p. absurd (false≢true (sym q ∙ ap test (sym p) ∙ e)))
+    (λ p. let z : ¬ (b ≡ a) = p in rw q (some-at (suc a) m test b (omega arith) (omega arith) e)))
 
 -- ---- the test and the relation
 
-module _ (fit : ℕ → Terminal → Bool) (sets : ℕ → ℕ → ℕ) (n : ℕ) where
-  -- where the first of the places covers the span from a to b, the test goes on at b
+module _ (fit : Fit) (sets : ℕ → ℕ → ℕ) (n : ℕ) where
+  -- the test goes on at b if the first of the places covers the span from a to b
   after : Symbol → List Symbol → ℕ → ℕ → Bool
   after s places a b = elim (piece fit sets s a b) [ true ↦ cuts fit sets places b n | false ↦ false ]
 
   after-true : (s : Symbol) (places : List Symbol) (a b : ℕ) → after s places a b ≡ true
       → (piece fit sets s a b ≡ true) × (cuts fit sets places b n ≡ true)
   unfolding after
-  after-true s places a b e = go (piece fit sets s a b) refl e
-    where
-      go : (t : Bool) → piece fit sets s a b ≡ t → elim t as (λ _. Bool) [ true ↦ cuts fit sets places b n | false ↦ false ] ≡ true
-          → (piece fit sets s a b ≡ true) × (cuts fit sets places b n ≡ true)
-      go true q h = (q, h)
-      go false q h = absurd (false≢true h)
+  after-true s places a b e = by-test (piece fit sets s a b)
+      (λ q. (q, rw (q, after) at e)) (λ q. absurd (false≢true (rw (q, after) at e)))
 
   true-after : (s : Symbol) (places : List Symbol) (a b : ℕ) → piece fit sets s a b ≡ true → cuts fit sets places b n ≡ true
       → after s places a b ≡ true
@@ -105,7 +93,7 @@ module _ (fit : ℕ → Terminal → Bool) (sets : ℕ → ℕ → ℕ) (n : ℕ
 
 -- ---- the test looks only at bytes before n, and at spans from i on and up to n
 
-module _ {fit fit' : ℕ → Terminal → Bool} {sets sets' : ℕ → ℕ → ℕ} (i n : ℕ) (h : i ≤ n) where
+module _ {fit fit' : Fit} {sets sets' : ℕ → ℕ → ℕ} (i n : ℕ) (h : i ≤ n) where
   pub cuts-cong : ((a : ℕ) (t : Terminal) → a < n → fit a t ≡ fit' a t)
       → ((a b : ℕ) → i ≤ a → a ≤ b → b ≤ n → sets a b ≡ sets' a b)
       → (places : List Symbol) → cuts fit sets places i n ≡ cuts fit' sets' places i n

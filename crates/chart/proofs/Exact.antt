@@ -3,12 +3,14 @@
 use Prim.Native.Nat.{ℕ, suc, _+_, _≤_, _<_}
 use mathlib.Core.Bool.{true}
 use mathlib.Core.List.{List, [], _∷_, _++_, append-nil}
+use mathlib.Core.Logic.{dite}
 use mathlib.Core.Path.{_≡_, sym, ap, _∙_, subst}
-use native.Mathlib.Decide.{ℕ-discrete}
+use native.Mathlib.Decide.{decLt}
 use native.Mathlib.Omega.{arith}
 use lib.ListN.{length}
 use lib.Seq.{slice, append-snoc}
 use Rattle.sizes.specs.Sizes.{cells, maxInput}
+use Rattle.laws.proofs.Lists.{below-step}
 use Rattle.sets.specs.Set.{has}
 use Rattle.cfg.specs.Grammar.{Cfg}
 use Rattle.chart.specs.Cell.{cell, fitsAt}
@@ -31,20 +33,12 @@ pub record Exact (G : Cfg) (w : List ℕ) (m : ℕ) (chart : List ℕ) : Type 0 
 
 module _ (G : Cfg) (low : Bounded G) (w : List ℕ) (n : ℕ) (l : n ≤ length w) (chart : List ℕ) (x : Exact G w n chart) where
   nodes-closed : ClosedBy G (fitsAt w) chart n (λ (k a : ℕ). Node G k (slice a n w))
-  nodes-closed i r k h o c = (r, o, cut→row G w n l (cut-mono i n (λ a t _ q. q) piece h' c))
+  nodes-closed i r k h o c = (r, o, cut→row G w n l (cut-mono i n (λ a t _ q. q) piece (omega arith) c))
     where
-      h' : i ≤ i
-      h' = omega arith
-
       piece : (j a b : ℕ) → i ≤ a → a ≤ b → b ≤ n → Piece chart n (λ (k a : ℕ). Node G k (slice a n w)) j a b → Node G j (slice a b w)
-      piece j a b u u' u'' p = go (ℕ-discrete b n)
-        where
-          go : Dec (b ≡ n) → Node G j (slice a b w)
-          go (yes e) = subst (λ (y : ℕ). Node G j (slice a y w)) (sym e) (p .1 (omega arith))
-          go (no e) =
-              let f : ¬ (b ≡ n) = e in
-              let m : b < n = omega arith in
-              x .sound a b j u' m (p .0 m)
+      piece j a b u u' u'' p = dite (decLt b n)
+          (λ m. x .sound a b j u' m (p .0 m))
+          (λ m. let e : n ≡ b = omega arith in subst (λ (y : ℕ). Node G j (slice a y w)) e (p .1 (omega arith)))
 
   pub column-sound : (i k : ℕ) → i ≤ n → has k (inColumn G (fitsAt w) chart n i) ≡ true → Node G k (slice i n w)
   column-sound = column-inside G (fitsAt w) chart n (λ (k a : ℕ). Node G k (slice a n w)) nodes-closed
@@ -57,36 +51,23 @@ module _ (G : Cfg) (low : Bounded G) (w : List ℕ) (n : ℕ) (l : n ≤ length 
 
 pub exact-written : (G : Cfg) → Bounded G → (w : List ℕ) (n : ℕ) → n ≤ length w → n ≤ maxInput → (chart : List ℕ) → cells ≤ length chart
     → Exact G w n chart → Exact G w (suc n) (written G (fitsAt w) n chart)
-exact-written G low w n l h chart c x = record { sound = sound; full = full }
+exact-written G low w n l h chart c x = record {
+  sound = λ i j k a b. below-step (λ (y : ℕ). i ≤ y → has k (cell made i y) ≡ true → Node G k (slice i y w)) n
+      (λ y m u e. x .sound i y k u m (ap (has k) (sym (same i y m)) ∙ e))
+      (λ u e. column-sound G low w n l chart x i k u (ap (has k) (sym (last i u)) ∙ e)) j (omega arith) a;
+  full = λ i j k a b. below-step (λ (y : ℕ). i ≤ y → Node G k (slice i y w) → has k (cell made i y) ≡ true) n
+      (λ y m u t. ap (has k) (same i y m) ∙ x .full i y k u m t)
+      (λ u t. ap (has k) (last i u) ∙ column-full G low w n l chart x i k u t) j (omega arith) a;
+}
   where
     made : List ℕ
     made = written G (fitsAt w) n chart
 
-    same : (i j : ℕ) → i ≤ j → j < suc n → ¬ (j ≡ n) → cell made i j ≡ cell chart i j
-    same i j a b d = written-cell-other G (fitsAt w) n chart h i j (omega arith) (λ e. absurd (d e))
+    same : (i j : ℕ) → j < n → cell made i j ≡ cell chart i j
+    same i j m = written-cell-other G (fitsAt w) n chart h i j (omega arith) (λ e. omega arith)
 
-    last : (i j : ℕ) → i ≤ j → j ≡ n → cell made i j ≡ inColumn G (fitsAt w) chart n i
-    last i j a e = ap (cell made i) e ∙ written-cell G (fitsAt w) n chart h c i (omega arith)
-
-    sound : (i j k : ℕ) → i ≤ j → j < suc n → has k (cell made i j) ≡ true → Node G k (slice i j w)
-    sound i j k a b e = go (ℕ-discrete j n)
-      where
-        go : Dec (j ≡ n) → Node G k (slice i j w)
-        go (yes d) = subst (λ (y : ℕ). Node G k (slice i y w)) (sym d)
-            (column-sound G low w n l chart x i k (omega arith) (ap (has k) (sym (last i j a d)) ∙ e))
-        go (no d) =
-            let f : ¬ (j ≡ n) = d in
-            x .sound i j k a (omega arith) (ap (has k) (sym (same i j a b d)) ∙ e)
-
-    full : (i j k : ℕ) → i ≤ j → j < suc n → Node G k (slice i j w) → has k (cell made i j) ≡ true
-    full i j k a b t = go (ℕ-discrete j n)
-      where
-        go : Dec (j ≡ n) → has k (cell made i j) ≡ true
-        go (yes d) = ap (has k) (last i j a d)
-            ∙ column-full G low w n l chart x i k (omega arith) (subst (λ (y : ℕ). Node G k (slice i y w)) d t)
-        go (no d) =
-            let f : ¬ (j ≡ n) = d in
-            ap (has k) (same i j a b d) ∙ x .full i j k a (omega arith) t
+    last : (i : ℕ) → i ≤ n → cell made i n ≡ inColumn G (fitsAt w) chart n i
+    last i u = written-cell G (fitsAt w) n chart h c i u
 
 -- ---- opening, and taking bytes
 
@@ -96,7 +77,7 @@ exact-opened G low chart c = exact-written G low [] 0 (omega arith) (omega arith
     (omega (arith, cleared-length cells chart c))
     (record { sound = λ i j k a b. absurd (omega arith); full = λ i j k a b. absurd (omega arith) })
 
--- a longer input, for the same columns
+-- the same columns are exact for a longer input
 pub exact-longer : (G : Cfg) (v u : List ℕ) (m : ℕ) (chart : List ℕ) → m ≤ suc (length v) → Exact G v m chart → Exact G (v ++ u) m chart
 exact-longer G v u m chart h x =
     record {

@@ -1,20 +1,20 @@
--- Opening and taking bytes, one after the other: which cells change, and what lies in front of and behind the chart's end. Assumes nothing.
+-- Opening and taking bytes, one after the other: which cells change; what comes after the cells stays and does not matter.
+-- Assumes nothing.
 use Prim.Native.Nat.{ℕ, suc, _+_, _≤_, _<_}
-use mathlib.Core.Bool.{Bool}
 use mathlib.Core.List.{List, [], _∷_, _++_, append-nil}
 use mathlib.Core.Path.{_≡_, refl, sym, ap, _∙_}
 use native.Mathlib.Omega.{arith}
 use lib.ListN.{length, getD, take, drop, replicate, length-append, length-drop, length-replicate, getD-replicate, List·getD-append}
 use lib.Seq.{append-snoc, getD-take, take-at, drop-at}
 use Rattle.sizes.specs.Sizes.{cells, maxInput}
-use Rattle.cfg.specs.Grammar.{Cfg, Terminal}
-use Rattle.chart.specs.Cell.{cell, index, fitsAt}
+use Rattle.cfg.specs.Grammar.{Cfg}
+use Rattle.chart.specs.Cell.{Fit, cell, index, fitsAt}
 use Rattle.chart.specs.Column.{column, putColumn, written, opened, extended, extendedBy, filled}
 use Rattle.chart.proofs.Written.{put-before, written-length, written-behind, written-cell-other}
 use Rattle.chart.proofs.Cells.{column-cong, column-length}
 
 -- what is written depends only on the cells
-pub written-before : (G : Cfg) (fit : ℕ → Terminal → Bool) (n : ℕ) (chart : List ℕ) → n ≤ maxInput
+pub written-before : (G : Cfg) (fit : Fit) (n : ℕ) (chart : List ℕ) → n ≤ maxInput
     → take cells (written G fit n chart) ≡ written G fit n (take cells chart)
 unfolding written
 written-before G fit n chart h =
@@ -34,20 +34,24 @@ module _ (G : Cfg) where
   unfolding extended
   extended-length w chart = written-length G (fitsAt w) (length w) chart
 
-  pub extendedBy-length : (v u chart : List ℕ) → length (extendedBy G v u chart) ≡ length chart
-  unfolding extendedBy
-  extendedBy-length v [] chart = refl
-  extendedBy-length v (m ∷ u) chart =
-      let v' = v ++ (m ∷ []) in
-      extendedBy-length v' u (extended G v' chart) ∙ extended-length v' chart
-
-  pub extendedBy-behind : (v u chart : List ℕ) → length v + length u ≤ maxInput → drop cells (extendedBy G v u chart) ≡ drop cells chart
+  -- if each column that comes after the bytes v keeps f of a chart, then taking the bytes u keeps it
+  extendedBy-keeps : {A : Type 0} (f : List ℕ → A) (v u chart : List ℕ)
+      → ((x c : List ℕ) → length v < length x → length x ≤ length v + length u → f (written G (fitsAt x) (length x) c) ≡ f c)
+      → f (extendedBy G v u chart) ≡ f chart
   unfolding extendedBy extended
-  extendedBy-behind v [] chart h = refl
-  extendedBy-behind v (m ∷ u) chart h =
+  extendedBy-keeps f v [] chart k = refl
+  extendedBy-keeps f v (m ∷ u) chart k =
       let v' = v ++ (m ∷ []) in
       let e : length v' ≡ suc (length v) = length-snoc v m in
-      extendedBy-behind v' u (extended G v' chart) (omega arith) ∙ written-behind G (fitsAt v') (length v') chart (omega arith)
+      extendedBy-keeps f v' u (extended G v' chart) (λ x c a b. k x c (omega arith) (omega arith))
+      ∙ k v' chart (omega arith) (omega arith)
+
+  pub extendedBy-length : (v u chart : List ℕ) → length (extendedBy G v u chart) ≡ length chart
+  extendedBy-length v u chart = extendedBy-keeps length v u chart (λ x c a b. written-length G (fitsAt x) (length x) c)
+
+  pub extendedBy-behind : (v u chart : List ℕ) → length v + length u ≤ maxInput → drop cells (extendedBy G v u chart) ≡ drop cells chart
+  extendedBy-behind v u chart h =
+      extendedBy-keeps (drop cells) v u chart (λ x c a b. written-behind G (fitsAt x) (length x) c (omega arith))
 
   pub extendedBy-before : (v u chart : List ℕ) → length v + length u ≤ maxInput
       → take cells (extendedBy G v u chart) ≡ extendedBy G v u (take cells chart)
@@ -59,16 +63,11 @@ module _ (G : Cfg) where
       extendedBy-before v' u (extended G v' chart) (omega arith)
       ∙ ap (extendedBy G v' u) (written-before G (fitsAt v') (length v') chart (omega arith))
 
-  -- a cell that is in none of the columns of the bytes taken stays
+  -- a cell outside the columns of the bytes taken stays
   pub extendedBy-other : (v u chart : List ℕ) (i j : ℕ) → length v + length u ≤ maxInput → j ≤ maxInput
       → ((n : ℕ) → length v < n → n ≤ length v + length u → j ≡ n → n < i) → cell (extendedBy G v u chart) i j ≡ cell chart i j
-  unfolding extendedBy extended
-  extendedBy-other v [] chart i j h l d = refl
-  extendedBy-other v (m ∷ u) chart i j h l d =
-      let v' = v ++ (m ∷ []) in
-      let e : length v' ≡ suc (length v) = length-snoc v m in
-      extendedBy-other v' u (extended G v' chart) i j (omega arith) l (λ n x y z. d n (omega arith) (omega arith) z)
-      ∙ written-cell-other G (fitsAt v') (length v') chart (omega arith) i j l (d (length v') (omega arith) (omega arith))
+  extendedBy-other v u chart i j h l d = extendedBy-keeps (λ (c : List ℕ). cell c i j) v u chart
+      (λ x c a b. written-cell-other G (fitsAt x) (length x) c (omega arith) i j l (d (length x) a b))
 
   pub extendedBy-append : (v x y chart : List ℕ) → extendedBy G v (x ++ y) chart ≡ extendedBy G (v ++ x) y (extendedBy G v x chart)
   unfolding extendedBy
@@ -89,7 +88,7 @@ module _ (G : Cfg) where
 
 -- ---- opening
 
--- c times 0, and then what stood behind
+-- c zeros, and then what came after the first c numbers
 module _ (c : ℕ) (chart : List ℕ) where
   abbrev pub cleared : List ℕ
   cleared = replicate c 0 ++ drop c chart

@@ -1,13 +1,14 @@
--- A column is closed under the rules, and inside whatever is closed under them: over any predicate on the cells of the column, so that
--- what is not a set of bits (there is a tree) can bound it. Assumes nothing.
+-- A column is closed under the rules, and it is inside whatever is closed under them. The bound may be any predicate on the cells of the
+-- column, also one that is no set of bits, such as "there is a tree". Assumes nothing.
 use Prim.Native.Nat.{ℕ, zero, suc, _-_, _≤_, _<_}
-use mathlib.Core.Bool.{Bool, true}
+use mathlib.Core.Bool.{true}
 use mathlib.Core.List.{List}
+use mathlib.Core.Logic.{dite}
 use mathlib.Core.Path.{_≡_, sym, ap, _∙_, subst}
 use native.Mathlib.Decide.{decLt, ℕ-discrete}
 use native.Mathlib.Omega.{arith}
 use Rattle.sets.specs.Set.{has}
-use Rattle.cfg.specs.Grammar.{Cfg, Terminal, Of}
+use Rattle.cfg.specs.Grammar.{Cfg, Of}
 use Rattle.chart.specs.Cell.{Fit, cell}
 use Rattle.chart.specs.Column.{seen, times, column}
 use Rattle.chart.proofs.Cut.{Cut, InSets, cut-mono, cuts→cut, cut→cuts}
@@ -15,7 +16,7 @@ use Rattle.chart.proofs.Derived.{Bounded, derived-by, by-derived}
 use Rattle.chart.proofs.Rounds.{Sub, rounds-in, rounds-closed}
 use Rattle.chart.proofs.Cells.{seen-earlier, seen-own, seen-later, round, inColumn, cell-rounds}
 
--- the pieces of earlier columns as found, those of column n as P says
+-- the pieces: in earlier columns as found, in column n as P says
 abbrev pub Piece : List ℕ → ℕ → (ℕ → ℕ → Type 0) → ℕ → ℕ → ℕ → Type 0
 Piece chart n P k a b = (b < n → has k (cell chart a b) ≡ true) × (n ≤ b → P k a)
 
@@ -23,8 +24,8 @@ Piece chart n P k a b = (b < n → has k (cell chart a b) ≡ true) × (n ≤ b 
 abbrev pub ClosedBy : Cfg → Fit → List ℕ → ℕ → (ℕ → ℕ → Type 0) → Type 0
 ClosedBy G fit chart n P = (i r k : ℕ) → i ≤ n → (o : Of G r k) → Cut fit (Piece chart n P) n (o .the .places) i → P k i
 
-module _ (G : Cfg) (fit : ℕ → Terminal → Bool) (chart : List ℕ) (n : ℕ) where
-  -- what cell (i, n) sees, its own set being `own`
+module _ (G : Cfg) (fit : Fit) (chart : List ℕ) (n : ℕ) where
+  -- what cell (i, n) sees if its own set is `own`
   abbrev sees : ℕ → ℕ → ℕ → ℕ → ℕ
   sees i own = seen chart n i (column G fit chart n (n - i)) own
 
@@ -32,7 +33,7 @@ module _ (G : Cfg) (fit : ℕ → Terminal → Bool) (chart : List ℕ) (n : ℕ
   abbrev once : ℕ → ℕ → ℕ
   once i = round G fit chart n i (column G fit chart n (n - i))
 
-  -- a member that one round gives, by a rule and a cut
+  -- a member that one round gives comes from a rule and a cut
   once-by : (i own k : ℕ) → i ≤ n → has k (once i own) ≡ true
       → (r : ℕ) × (o : Of G r k) × Cut fit (InSets (sees i own)) n (o .the .places) i
   unfolding round
@@ -48,18 +49,13 @@ module _ (G : Cfg) (fit : ℕ → Terminal → Bool) (chart : List ℕ) (n : ℕ
   -- what is seen, by cases: an earlier column, the own set, a later start
   seen-cases : (P : ℕ → Type 0) (i own a b : ℕ) → i ≤ n → i ≤ a → (b < n → P (cell chart a b)) → (n ≤ b → a ≡ i → P own)
       → (n ≤ b → i < a → P (inColumn G fit chart n a)) → P (sees i own a b)
-  seen-cases P i own a b h l x y z = go (decLt b n) (ℕ-discrete a i)
-    where
-      go : Dec (b < n) → Dec (a ≡ i) → P (sees i own a b)
-      go (yes m) d = subst P (sym (seen-earlier chart n i (column G fit chart n (n - i)) own a b m)) (x m)
-      go (no m) (yes d) =
-          let o : n ≤ b = omega arith in
-          subst P (sym (ap (λ (p : ℕ). sees i own p b) d ∙ seen-own G fit chart n i own b o)) (y o d)
-      go (no m) (no d) =
-          let o : n ≤ b = omega arith in
-          let f : ¬ (a ≡ i) = d in
-          let p : i < a = omega arith in
-          subst P (sym (seen-later G fit chart n i own a b h p o)) (z o p)
+  seen-cases P i own a b h l x y z = dite (decLt b n)
+      (λ m. subst P (sym (seen-earlier chart n i (column G fit chart n (n - i)) own a b m)) (x m))
+      (λ m. let o : n ≤ b = omega arith in dite (ℕ-discrete a i)
+      (λ d. subst P (sym (ap (λ (p : ℕ). sees i own p b) d ∙ seen-own G fit chart n i own b o)) (y o d))
+      (λ d. let f : ¬ (a ≡ i) = d in
+      let p : i < a = omega arith in
+      subst P (sym (seen-later G fit chart n i own a b h p o)) (z o p)))
 
   seen-mono : (i v w : ℕ) → i ≤ n → Sub v w → (k a b : ℕ) → i ≤ a → has k (sees i v a b) ≡ true → has k (sees i w a b) ≡ true
   seen-mono i v w h s k a b l =
@@ -76,7 +72,7 @@ module _ (G : Cfg) (fit : ℕ → Terminal → Bool) (chart : List ℕ) (n : ℕ
   once-low : Bounded G → (i : ℕ) → i ≤ n → (v k : ℕ) → has k (once i v) ≡ true → k < 32
   once-low low i h v k e = let (r, o, c) = once-by i v k h e in low r k o
 
-  -- the column is closed
+  -- the column is closed under the rules
   pub column-closed-by : Bounded G → ClosedBy G fit chart n (λ (k a : ℕ). has k (inColumn G fit chart n a) ≡ true)
   column-closed-by low i r k h o c =
       let x = inColumn G fit chart n i in
@@ -89,7 +85,7 @@ module _ (G : Cfg) (fit : ℕ → Terminal → Bool) (chart : List ℕ) (n : ℕ
       subst (λ (y : ℕ). has k (once i y) ≡ true → has k y ≡ true) (sym e)
       (rounds-closed (once i) (once-mono i h) (once-low low i h) k) (by-once i x r k h o d)
 
-  -- and inside all that is closed
+  -- the column is inside all that is closed under the rules
   module _ (P : ℕ → ℕ → Type 0) (closed : ClosedBy G fit chart n P) where
     inside-at : (i : ℕ) → i ≤ n → ((a k : ℕ) → i < a → a ≤ n → has k (inColumn G fit chart n a) ≡ true → P k a)
         → (k : ℕ) → has k (inColumn G fit chart n i) ≡ true → P k i

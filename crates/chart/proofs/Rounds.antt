@@ -1,11 +1,12 @@
--- A step on sets that is monotone and gives members below 32 only: 32 rounds from the empty set come to a set closed under the step,
--- and to the least one. Assumes nothing.
+-- A step on sets that is monotone and gives only members below 32: 32 rounds of it from the empty set give a set that is closed under the
+-- step, and the least such set. Assumes nothing.
 use Prim.Native.Nat.{ℕ, zero, suc, _<_}
-use mathlib.Core.Bool.{Bool, true, false, false≢true}
-use mathlib.Core.Logic.{_⊎_, inl, inr}
-use mathlib.Core.Path.{_≡_, refl, sym, _∙_}
+use mathlib.Core.Bool.{true, false≢true}
+use mathlib.Core.Logic.{_⊎_, inl, inr, dite}
+use mathlib.Core.Path.{_≡_, sym, _∙_}
 use native.Mathlib.Decide.{decLt}
 use native.Mathlib.Omega.{arith}
+use Rattle.laws.proofs.Bools.{by-test}
 use Rattle.sets.specs.Set.{has, card}
 use Rattle.sets.proofs.Laws.{has-empty}
 use Rattle.sets.proofs.Card.{card-le, card-strict}
@@ -17,7 +18,7 @@ Sub v w = (k : ℕ) → has k v ≡ true → has k w ≡ true
 pub sub-empty : (w : ℕ) → Sub 0 w
 sub-empty w k e = absurd (false≢true (sym (has-empty k) ∙ e))
 
--- what the step keeps inside P, the rounds keep inside P
+-- if each step keeps the set inside P, the rounds do
 pub rounds-in : (step : ℕ → ℕ) (P : ℕ → Type 0)
     → ((v : ℕ) → ((k : ℕ) → has k v ≡ true → P k) → (k : ℕ) → has k (step v) ≡ true → P k)
     → (t k : ℕ) → has k (times t step 0) ≡ true → P k
@@ -31,21 +32,14 @@ module _ (step : ℕ → ℕ) (mono : (v w : ℕ) → Sub v w → Sub (step v) (
   rising zero = sub-empty (step 0)
   rising (suc t) = mono (times t step 0) (step (times t step 0)) (rising t)
 
-  -- a step that adds no member is closed already
+  -- a set to which the step adds no member is closed
   same-closed : (v : ℕ) → Sub v (step v) → ¬ (card v < card (step v)) → Sub (step v) v
-  same-closed v s c k e = go (has k v) refl
-    where
-      go : (b : Bool) → has k v ≡ b → has k v ≡ true
-      go true q = q
-      go false q = absurd (c (card-strict v (step v) k (low v k e) s q e))
+  same-closed v s c k e = by-test (has k v) (λ q. q) (λ q. absurd (c (card-strict v (step v) k (low v k e) s q e)))
 
   closed-or-larger : (t : ℕ) → Sub (step (times t step 0)) (times t step 0) ⊎ (t < card (step (times t step 0)))
   unfolding times
-  closed-or-larger zero = go (decLt (card 0) (card (step 0)))
-    where
-      go : Dec (card 0 < card (step 0)) → Sub (step 0) 0 ⊎ (0 < card (step 0))
-      go (yes l) = inr (omega arith)
-      go (no l) = inl (same-closed 0 (sub-empty (step 0)) l)
+  closed-or-larger zero = dite (decLt (card 0) (card (step 0)))
+      (λ l. inr (omega arith)) (λ l. inl (same-closed 0 (sub-empty (step 0)) l))
   closed-or-larger (suc t) = go (closed-or-larger t) (decLt (card x) (card (step x)))
     where
       x : ℕ

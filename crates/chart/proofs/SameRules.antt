@@ -1,21 +1,21 @@
 -- Grammars that give each number the same rule have the same charts: neither column is larger than the other, since each is closed under
 -- the rules of both. Assumes nothing.
 use Prim.Native.Nat.{ℕ, suc, _≤_}
-use mathlib.Core.Bool.{Bool, true}
+use mathlib.Core.Bool.{true}
 use mathlib.Core.List.{List, [], _∷_, _++_}
 use mathlib.Core.Path.{_≡_, refl, sym, ap, _∙_}
 use native.Mathlib.Omega.{arith}
-use lib.ListN.{length, getD, drop, replicate}
+use lib.ListN.{length, drop, replicate}
 use lib.Seq.{ext-getD}
 use Rattle.laws.proofs.Bools.{bool-ext}
 use Rattle.sets.specs.Set.{has}
 use Rattle.sets.proofs.Laws.{set-ext}
-use Rattle.cfg.specs.Grammar.{Cfg, Terminal, rule, Of}
+use Rattle.cfg.specs.Grammar.{Cfg, rule, Of}
 use Rattle.sizes.specs.Sizes.{cells}
-use Rattle.chart.specs.Cell.{fitsAt}
+use Rattle.chart.specs.Cell.{Fit, fitsAt}
 use Rattle.chart.specs.Column.{column, putColumn, written, opened, extended, extendedBy, filled}
 use Rattle.chart.proofs.Derived.{Bounded}
-use Rattle.chart.specs.Closed.{Closed}
+use Rattle.chart.proofs.Cells.{inColumn}
 use Rattle.chart.proofs.Least.{column-length, column-lt, column-closed, column-least}
 
 -- each number has the same rule in both, or none
@@ -33,37 +33,29 @@ pub bounded-same : (G G' : Cfg) → SameRules G G' → Bounded G → Bounded G'
 bounded-same G G' same low r k o = low r k (of-same G' G (same-sym G G' same) r k o)
 
 -- what one column has, the other has
-column-sub : (G G' : Cfg) → SameRules G G' → Bounded G' → (fit : ℕ → Terminal → Bool) (chart : List ℕ) (n i k : ℕ) → i ≤ n
-    → has k (getD (column G fit chart n (suc n)) i 0) ≡ true → has k (getD (column G' fit chart n (suc n)) i 0) ≡ true
+column-sub : (G G' : Cfg) → SameRules G G' → Bounded G' → (fit : Fit) (chart : List ℕ) (n i k : ℕ) → i ≤ n
+    → has k (inColumn G fit chart n i) ≡ true → has k (inColumn G' fit chart n i) ≡ true
 unfolding of-same
-column-sub G G' same low fit chart n = column-least G fit chart n (λ (i : ℕ). getD (column G' fit chart n (suc n)) i 0) closed
-  where
-    closed : Closed G fit chart n (λ (i : ℕ). getD (column G' fit chart n (suc n)) i 0)
-    closed i r k h o = column-closed G' fit chart n low i r k h (of-same G G' same r k o)
+column-sub G G' same low fit chart n = column-least G fit chart n (inColumn G' fit chart n)
+    (λ i r k h o. column-closed G' fit chart n low i r k h (of-same G G' same r k o))
 
 module _ (G G' : Cfg) (same : SameRules G G') (low : Bounded G) where
-  pub column-same-rules : (fit : ℕ → Terminal → Bool) (chart : List ℕ) (n : ℕ)
+  pub column-same-rules : (fit : Fit) (chart : List ℕ) (n : ℕ)
       → column G fit chart n (suc n) ≡ column G' fit chart n (suc n)
   column-same-rules fit chart n =
       ext-getD 0 (column G fit chart n (suc n)) (column G' fit chart n (suc n))
       (column-length G fit chart n (suc n) ∙ sym (column-length G' fit chart n (suc n)))
-      (λ i h. set-ext (inG i) (inG' i) (column-lt G low fit chart n (suc n) i) (column-lt G' low' fit chart n (suc n) i)
+      (λ i h. set-ext _ _ (column-lt G low fit chart n (suc n) i) (column-lt G' low' fit chart n (suc n) i)
       (λ k _. members i k (omega (arith, column-length G fit chart n (suc n)))))
     where
-      inG : ℕ → ℕ
-      inG i = getD (column G fit chart n (suc n)) i 0
-
-      inG' : ℕ → ℕ
-      inG' i = getD (column G' fit chart n (suc n)) i 0
-
       low' : Bounded G'
       low' = bounded-same G G' same low
 
-      members : (i k : ℕ) → i ≤ n → has k (inG i) ≡ has k (inG' i)
-      members i k h = bool-ext (has k (inG i)) (has k (inG' i)) (column-sub G G' same low' fit chart n i k h)
+      members : (i k : ℕ) → i ≤ n → has k (inColumn G fit chart n i) ≡ has k (inColumn G' fit chart n i)
+      members i k h = bool-ext _ _ (column-sub G G' same low' fit chart n i k h)
           (column-sub G' G (same-sym G G' same) low fit chart n i k h)
 
-  pub written-same-rules : (fit : ℕ → Terminal → Bool) (n : ℕ) (chart : List ℕ) → written G fit n chart ≡ written G' fit n chart
+  pub written-same-rules : (fit : Fit) (n : ℕ) (chart : List ℕ) → written G fit n chart ≡ written G' fit n chart
   unfolding written
   written-same-rules fit n chart = ap (putColumn chart n 0) (column-same-rules fit chart n)
 

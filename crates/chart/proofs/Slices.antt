@@ -15,7 +15,7 @@ slice-append a b n w h l m =
     ∙ sym (drop-append-le a (take b u) (drop b u) (omega arith))
     ∙ ap (drop a) (take-append-drop b u)
 
--- two lists put together in the same way twice, the first ones as long
+-- if x ++ y is u ++ v, and x is as long as u, then x is u and y is v
 pub append-inj : (x y u v : List ℕ) → length x ≡ length u → x ++ y ≡ u ++ v → (x ≡ u) × (y ≡ v)
 append-inj x y u v l e = (
   sym (take-append-seam x y) ∙ ap (take (length x)) e ∙ ap (λ (n : ℕ). take n (u ++ v)) l ∙ take-append-seam u v,
@@ -45,6 +45,6 @@ module _ (a n : ℕ) (w : List ℕ) (h : a ≤ n) (l : n ≤ length w) where
       let p : x ∷ y ≡ getD w a 0 ∷ slice (suc a) n w = e ∙ slice-cons a n w 0 m l in
       (m, ap (λ (z : List ℕ). getD z 0 0) p, ap (drop 1) p)
 
--- a slice of a beginning
+-- a slice that ends inside v is a slice of v
 pub slice-before : (i j : ℕ) (v u : List ℕ) → j ≤ length v → slice i j (v ++ u) ≡ slice i j v
 slice-before i j v u h = ap (drop i) (take-append-le j v u h)

@@ -1,5 +1,5 @@
--- Cuts and trees: a cut whose pieces are nodes gives a row over the span, and a row over the span gives a cut, over a chart that has
--- every node that ends before the column, and cells of the column that are closed under the rules. Assumes nothing.
+-- Cuts and trees: a cut whose pieces are nodes gives a row over the span. A row over the span gives a cut, if the chart has every node that
+-- ends before the column, and the cells of the column are closed under the rules. Assumes nothing.
 use Prim.Native.Nat.{ℕ, suc, _+_, _≤_, _<_}
 use mathlib.Core.Bool.{true, and-eq-true-iff}
 use mathlib.Core.List.{List, [], _∷_, _++_, append-nil}

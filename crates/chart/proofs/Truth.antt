@@ -1,5 +1,5 @@
 -- What a filled chart says: its cells have exactly the nonterminals with a parse tree over the span, it is complete exactly if the input
--- has a tree, and neither what was found in the chart nor what lies behind it matters. Assumes nothing.
+-- has a tree, and neither what was found in the chart nor what comes after its cells matters. Assumes nothing.
 use Prim.Native.Nat.{ℕ, suc, _+_, _≤_, _<_}
 use mathlib.Core.Bool.{true}
 use mathlib.Core.List.{List, []}
@@ -52,7 +52,7 @@ module _ (G : Cfg) where
       (take-length w)
       (filled-true low w chart h c 0 (length w) (G .start) (omega arith) (omega arith))
 
-  -- a column is made by the bytes before it alone
+  -- a column depends only on the bytes before it
   pub filled-prefix : (w chart : List ℕ) → length w ≤ maxInput → (i j : ℕ) → i ≤ j → j ≤ length w
       → cell (filled G w chart) i j ≡ cell (filled G (take j w) chart) i j
   filled-prefix w chart h i j a b =
@@ -68,7 +68,7 @@ module _ (G : Cfg) where
   unfolding filled
   filled-length w chart c = extendedBy-length G [] w (opened G chart) ∙ opened-length G chart c
 
-  -- what lies behind the cells stays
+  -- what comes after the cells stays
   pub filled-behind : (w chart : List ℕ) → length w ≤ maxInput → drop cells (filled G w chart) ≡ drop cells chart
   unfolding filled
   filled-behind w chart h = extendedBy-behind G [] w (opened G chart) (omega arith) ∙ opened-behind G chart

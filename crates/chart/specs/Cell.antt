@@ -9,7 +9,7 @@ use Rattle.sizes.specs.Sizes.{side}
 use Rattle.sets.specs.Set.{has, insert}
 use Rattle.cfg.specs.Grammar.{Rule, Symbol, nonterminal, terminal, Terminal, fits}
 
--- where the cell of the span from i to j stands
+-- the index of the cell of the span from i to j
 abbrev pub index : ℕ → ℕ → ℕ
 index i j = side * i + j
 
@@ -21,11 +21,11 @@ cell chart i j = getD chart (index i j) 0
 abbrev pub Fit : Type 0
 Fit = ℕ → Terminal → Bool
 
--- whether the byte at position i of the input fits a terminal: the only reading of the input
+-- whether the byte at position i of the input fits a terminal: a chart depends on the input only through this
 unfoldable pub fitsAt : List ℕ → ℕ → Terminal → Bool
 fitsAt w i t = ltb i (length w) && fits t (getD w i 0)
 
--- whether a symbol covers the span from a to b: a terminal one byte that fits, a nonterminal where the cell has it
+-- whether a symbol covers the span from a to b: a terminal covers one byte that fits it, a nonterminal each span whose cell has it
 unfoldable pub piece : Fit → (ℕ → ℕ → ℕ) → Symbol → ℕ → ℕ → Bool
 piece fit sets (nonterminal k) a b = has k (sets a b)
 piece fit sets (terminal t) a b = eqb b (suc a) && fit a t
@@ -35,7 +35,7 @@ unfoldable pub someFrom : ℕ → ℕ → (ℕ → Bool) → Bool
 someFrom a zero test = test a
 someFrom a (suc n) test = test a || someFrom (suc a) n test
 
--- whether the places cut the span from a to n into pieces, one for each place; the rest is looked at only where the first piece is one
+-- whether the places cut the span from a to n into pieces, one for each place; the rest is tried only after a first piece that fits
 unfoldable pub cuts : Fit → (ℕ → ℕ → ℕ) → List Symbol → ℕ → ℕ → Bool
 cuts fit sets [] a n = eqb a n
 cuts fit sets (s ∷ places) a n =

@@ -1,15 +1,15 @@
--- When given cells of one column are closed under the rules, earlier columns as found. The least such cells are the column that taking
--- writes. Assumes nothing.
+-- When the cells of one column are closed under the rules, with earlier columns as found. Taking a byte writes the least such cells.
+-- Assumes nothing.
 use Prim.Native.Nat.{ℕ, _≤_}
-use mathlib.Core.Bool.{Bool, true, false}
+use mathlib.Core.Bool.{true, false}
 use mathlib.Core.List.{List}
 use mathlib.Core.Path.{_≡_}
 use lib.Dec.{ltb}
 use Rattle.sets.specs.Set.{has}
-use Rattle.cfg.specs.Grammar.{Cfg, Terminal, Of}
+use Rattle.cfg.specs.Grammar.{Cfg, Of}
 use Rattle.chart.specs.Cell.{Fit, cell, cuts}
 
--- earlier columns as found, column n given by f
+-- the set of each cell: in earlier columns as found, in column n as f says
 unfoldable pub joint : List ℕ → ℕ → (ℕ → ℕ) → ℕ → ℕ → ℕ
 joint chart n f a b = elim (ltb b n) [ true ↦ cell chart a b | false ↦ f a ]
 

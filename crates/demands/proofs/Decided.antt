@@ -1,33 +1,30 @@
 -- A call that decides by a list of checks is decided by a list of causes, where each check fails exactly if its cause applies.
 -- Assumes nothing.
-use mathlib.Core.Bool.{Bool, true, false}
+use mathlib.Core.Bool.{true, false}
 use mathlib.Core.List.{List, [], _∷_, map}
 use mathlib.Core.Logic.{_↔_}
 use mathlib.Core.Path.{_≡_, refl}
+use Rattle.laws.proofs.Bools.{bool-false}
 use Rattle.results.specs.Answer.{Check, decide}
 use Rattle.demands.specs.Cause.{Cause, cause, Decided}
 
--- a check fails exactly if a cause applies, and has its refusal
+-- a check fails exactly if a cause applies, and both have the same refusal
 pub record Tells {A : Type 0} (k : Check A) (c : Cause A) : Type 0 where
   pub exact : (k .fails ≡ true) ↔ c .applies
   pub same : k .refusal ≡ c .refusal
 
--- each check of a list tells the cause at its place in another
+-- each check of a list tells the cause at the same place of another list
 abbrev pub AllTell : {A : Type 0} → List (Check A) → List (Cause A) → Type 0
 AllTell [] [] = Unit {0}
 AllTell [] (c ∷ causes) = ⊥
 AllTell (k ∷ checks) [] = ⊥
 AllTell (k ∷ checks) (c ∷ causes) = Tells k c × AllTell checks causes
 
--- without its cause a check is passed
+-- a check is passed if its cause does not apply
 tells-passed : {A : Type 0} {k : Check A} {c : Cause A} → Tells k c → (c .applies → ⊥) → k .fails ≡ false
-tells-passed {A} {k} {c} t f = by (k .fails) refl
-  where
-    by : (b : Bool) → k .fails ≡ b → b ≡ false
-    by true e = absurd (f (t .exact .0 e))
-    by false e = refl
+tells-passed {A} {k} t f = bool-false (k .fails) (λ e. f (t .exact .0 e))
 
--- what is told of the result of a call is decided by the causes, where `passed` holds of what comes after the checks
+-- the part `told` of a call's result is decided by the causes, if `passed` holds of what comes after the checks
 module _ {A B C : Type 0} (refuse : A → B) (go : Unit {0} → B) (told : B → C) (passed : C → Type 0) (holds : passed (told (go tt))) where
   pub decided : (checks : List (Check A)) (causes : List (Cause A)) → AllTell checks causes
       → Decided causes (λ a. told (refuse a)) passed (told (decide checks refuse go))
@@ -38,7 +35,7 @@ module _ {A B C : Type 0} (refuse : A → B) (go : Unit {0} → B) (told : B →
     λ f. rw (tells-passed (t .0) f) (decided checks causes (t .1)),
   )
 
--- the cause that a check names by itself
+-- the cause that is just the failing of a check
 abbrev pub failing : {A : Type 0} → Check A → Cause A
 failing k = cause (k .fails ≡ true) (k .refusal)
 

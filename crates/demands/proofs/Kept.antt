@@ -1,5 +1,5 @@
--- Whatever is handed in: a call keeps the length of the chart and what lies behind its 4,225 cells; first and next keep the length of the
--- output and what lies behind a derivation handed out, and the whole output where none is. Assumes nothing.
+-- Whatever is handed in: a call keeps the length of the chart and what comes after its 4,225 cells; first and next keep the length of the
+-- output and what comes after a derivation handed out, and the whole output if none is. Assumes nothing.
 use Prim.Native.Nat.{ℕ, _*_, _/_, _≤_}
 use mathlib.Core.List.{List, [], _∷_, _++_, List·Memᴰ}
 use mathlib.Core.Option.{Option, none, some}
@@ -44,8 +44,10 @@ filled-kept g w chart r = record {
 pub open-kept : (g : Grammar) (chart : List ℕ) → ChartKept chart (openOf g chart .chart)
 unfolding openOf openIn
 open-kept g chart =
-    decide-either _ _ (λ (r : Recognition). ChartKept chart (r .chart)) _ (λ n. chart-same chart) (λ p. record {
-      same-length = opened-length (grammarOf g) chart (ltb-false (length chart) cells (p .1 .0));
+    decide-either _ _ (λ (r : Recognition). ChartKept chart (r .chart)) _ (λ n. chart-same chart) (λ p.
+    let (valid, (room, u)) = p in
+    record {
+      same-length = opened-length (grammarOf g) chart (ltb-false (length chart) cells room);
       behind = opened-behind (grammarOf g) chart;
     })
 
@@ -54,8 +56,9 @@ unfolding takeOf takeIn extended
 take-kept g h m chart =
     let w = take (h .count) (h .bytes) ++ (m ∷ []) in
     decide-either _ _ (λ (r : Recognition). ChartKept chart (r .chart)) _ (λ n. chart-same chart) (λ p.
-    let c : h .count ≤ maxInput = ltb-false maxInput (h .count) (p .1 .0) in
-    let d : ¬ (h .count ≡ maxInput) = eqb-false (h .count) maxInput (p .1 .1 .1 .0) in
+    let (valid, (small, (room, (free, u)))) = p in
+    let c : h .count ≤ maxInput = ltb-false maxInput (h .count) small in
+    let d : ¬ (h .count ≡ maxInput) = eqb-false (h .count) maxInput free in
     let l : length w ≤ maxInput = omega (arith, length-append (take (h .count) (h .bytes)) (m ∷ []), length-take (h .count) (h .bytes)) in
     record {
       same-length = extended-length (grammarOf g) w chart;
@@ -104,7 +107,7 @@ unfolding handingOut
 handing-chart none answer chart out = refl
 handing-chart (some e) answer chart out = refl
 
--- what is handed out of the list
+-- a derivation that is handed out is in the list
 module _ (g : Grammar) (w chart out : List ℕ) (answer : Answer Handing) (space : outputSize ≤ length out) where
   handing-kept : (o : Option (List ℕ)) → ((e : List ℕ) → o ≡ some e → List·Memᴰ e (L (grammarOf g) w))
       → OutputKept (writes (handingOut o answer chart out .answer)) out (handingOut o answer chart out .output)
@@ -114,34 +117,30 @@ module _ (g : Grammar) (w chart out : List ℕ) (answer : Answer Handing) (space
       let i = m e refl in
       output-handed e out (reading-even (grammarOf g) w e i) (omega (arith, reading-short (grammarOf g) w e i))
 
--- the chart and the output
-Both : (chart out : List ℕ) → Enumeration → Type 0
+-- what a call with an output keeps of both
+abbrev pub Both : (chart out : List ℕ) → Enumeration → Type 0
 Both chart out r = ChartKept chart (r .chart) × OutputKept (writes (r .answer)) out (r .output)
 
 module _ (g : Grammar) (w chart out : List ℕ) where
   handing-both : ReadyOut g w chart out → (answer : Answer Handing) (o : Option (List ℕ))
       → ((e : List ℕ) → o ≡ some e → List·Memᴰ e (L (grammarOf g) w))
       → Both chart out (handingOut o answer (filled (grammarOf g) w chart) out)
-  unfolding Both
   handing-both r answer o m = (
     rw (handing-chart o answer (filled (grammarOf g) w chart) out) (filled-kept g w chart (r .input)),
     handing-kept g w (filled (grammarOf g) w chart) out answer (r .space) o m,
   )
 
   refused-both : (n : ℕ) → Both chart out (record { answer = refused n; chart = chart; output = out })
-  unfolding Both
   refused-both n = (chart-same chart, output-same 0 out)
 
-  pub first-kept : ChartKept chart (firstOf g w chart out .chart)
-      × OutputKept (writes (firstOf g w chart out .answer)) out (firstOf g w chart out .output)
-  unfolding firstOf onOutput firstIn Both
+  pub first-kept : Both chart out (firstOf g w chart out)
+  unfolding firstOf onOutput firstIn
   first-kept =
       decide-either _ _ (Both chart out) _ refused-both
       (λ p. handing-both (pass→readyOut g w chart out p) _ _ (headOf-member (L (grammarOf g) w)))
 
-  pub next-kept : (offered : List ℕ) → ChartKept chart (nextOf g w offered chart out .chart)
-      × OutputKept (writes (nextOf g w offered chart out .answer)) out (nextOf g w offered chart out .output)
-  unfolding nextOf onOutput nextIn Both
+  pub next-kept : (offered : List ℕ) → Both chart out (nextOf g w offered chart out)
+  unfolding nextOf onOutput nextIn
   next-kept offered =
       decide-either _ _ (Both chart out) _ refused-both
       (λ p. let r = pass→readyOut g w chart out p in

@@ -17,12 +17,12 @@ use Rattle.demands.specs.Order.{OnlyLater}
 use Rattle.results.proofs.Decide.{decide-cases}
 use Rattle.results.proofs.Answers.{refused-inj, answered-apart}
 
--- 13 alone
+-- a choice between 13 and an answer
 larger-later : {A : Type 0} (b : Bool) (a : A) → OnlyLater (cond b (refused 13) (answered a))
 larger-later true a n e = omega (arith, refused-inj e)
 larger-later false a n e = absurd (answered-apart e)
 
--- where a derivation is handed out, nothing is refused
+-- if a derivation is handed out, nothing is refused
 pub handing-refused : (o : Option (List ℕ)) (answer : Answer Handing) (chart out : List ℕ) (n : ℕ)
     → handingOut o answer chart out .answer ≡ refused n → answer ≡ refused n
 unfolding handingOut

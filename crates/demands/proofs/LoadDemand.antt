@@ -41,7 +41,7 @@ module _ (bytes : List ℕ) where
   }
 
   module _ (d : ℕ) where
-    -- the nullable depth is not looked at
+    -- another nullable depth does not change this
     depth-tidy : (g : Grammar) → Tidy g → Tidy (setDepth g d)
     depth-tidy g T = record {
       valid = set-depth-valid g (T .valid) d;
@@ -66,7 +66,7 @@ module _ (bytes : List ℕ) where
           behind = T .behind;
         }
 
-    -- from each offset that is reached, where so many commands are allowed as bytes are left
+    -- from each offset that is reached, if at least as many commands are allowed as bytes are left
     run-demand : (n at : ℕ) (g : Grammar) → length bytes - at ≤ n → Reached bytes at g → LoadDemand bytes d (run d bytes n at g)
     unfolding run
     run-demand zero at g h R = inl (refused at g _ R (step-past bytes at g (omega arith)))

@@ -19,7 +19,7 @@ module _ (bytes : List ℕ) (at : ℕ) where
   Stops (next at′ g) = Unit {0}
   Stops (done g) = Unit {0}
 
-  -- omega proves at most 64 statements at once, so the last four checks stand together and the others alone
+  -- omega proves at most 64 statements at once: the last four checks are proved together, and the others one by one
   step-stops : (g : Grammar) → Stops (step bytes at g)
   unfolding step commandChecks operandChecks carriedOut
   step-stops g =

@@ -1,4 +1,4 @@
--- Loading: at each command the first refusal that applies is given, and none without cause. Assumes nothing.
+-- Loading: at each command the first refusal that applies is given, and none without a cause. Assumes nothing.
 use Prim.Native.Nat.{ℕ}
 use mathlib.Core.Bool.{Bool, true, false, cond}
 use mathlib.Core.List.{List, _∷_}
@@ -11,7 +11,7 @@ use Rattle.results.specs.Load.{Fault, fault, operandChecks, commandChecks, stop
 use Rattle.demands.specs.LoadOrder.{ended, CommandOrder}
 use Rattle.demands.proofs.Decided.{decided, all-failing}
 
--- what comes after the checks is no stop
+-- loading does not stop after the checks
 goes-on : (b : Bool) (at : ℕ) (g h : Grammar) (f : Fault) → cond b (done g) (next at h) ≡ stop f → ⊥
 goes-on true at g h f e = clash cc
 goes-on false at g h f e = clash cc

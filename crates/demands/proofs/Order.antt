@@ -1,4 +1,4 @@
--- Opening, taking and the calls on an input: of the refusals 8 to 11, 14 and 15 the first that applies is given, and none without cause.
+-- Opening, taking and the calls on an input: of the refusals 8 to 11, 14 and 15 the first that applies is given, and none without a cause.
 -- Assumes nothing.
 use Prim.Native.Nat.{ℕ, _<_}
 use mathlib.Core.Bool.{Bool, true, false, _||_, not}

@@ -1,6 +1,6 @@
--- Refusal 12 of next, length and same build is given exactly where an offered derivation is none of the input. Assumes nothing.
+-- Refusal 12 of next, length and same build is given exactly if what is offered is no derivation of the input. Assumes nothing.
 use Prim.Native.Nat.{ℕ}
-use mathlib.Core.Bool.{Bool, true, false}
+use mathlib.Core.Bool.{true}
 use mathlib.Core.List.{List, [], _∷_}
 use mathlib.Core.Logic.{_⊎_, inl, inr, ⊎-elim}
 use mathlib.Core.Path.{_≡_, refl, sym, ap, _∙_}
@@ -8,7 +8,7 @@ use Rattle.cfg.specs.Grammar.{Cfg}
 use Rattle.cfg.specs.Derivation.{Derivation, limit}
 use Rattle.grammar.specs.declared.Grammar.{Grammar}
 use Rattle.grammar.specs.View.{grammarOf}
-use Rattle.laws.proofs.Bools.{true-false}
+use Rattle.laws.proofs.Bools.{true-false, by-test}
 use Rattle.results.specs.Answer.{Answer, refused, check}
 use Rattle.results.specs.Check.{Checking, onInput}
 use Rattle.results.specs.Measure.{unlisted, lengthIn, lengthOf, sameBuildIn, sameBuildOf}
@@ -28,15 +28,11 @@ module _ (g : Grammar) (w : List ℕ) where
   abbrev pub Offered : List ℕ → Type 0
   Offered e = Derivation (grammarOf g) limit w e
 
-  -- which is decided
+  -- it is, or it is not in L
   offered-or : (e : List ℕ) → (unlisted (grammarOf g) w e ≡ true) ⊎ Offered e
-  offered-or e = by (unlisted (grammarOf g) w e) refl
-    where
-      by : (b : Bool) → unlisted (grammarOf g) w e ≡ b → (unlisted (grammarOf g) w e ≡ true) ⊎ Offered e
-      by true p = inl p
-      by false p = inr (offered→derivation g w e p)
+  offered-or e = by-test (unlisted (grammarOf g) w e) (λ p. inl p) (λ p. inr (offered→derivation g w e p))
 
-  -- what is offered is none
+  -- what is offered is no derivation
   abbrev cause12 : Type 0 → Cause ℕ
   cause12 offered = cause (offered → ⊥) 12
 
@@ -46,7 +42,7 @@ module _ (g : Grammar) (w : List ℕ) where
     same = refl;
   }
 
-  -- two rows in turn are both of them together
+  -- causes for two rows, one after the other, are one cause for both
   both : {A : Type 0} (a b : List ℕ) (answer : Answer A)
       → Decided (cause12 (Offered a) ∷ cause12 (Offered b) ∷ []) refused NoRefusal answer
       → Decided (cause12 (Offered a × Offered b) ∷ []) refused NoRefusal answer
@@ -56,7 +52,7 @@ module _ (g : Grammar) (w : List ℕ) where
     λ f. D .1 (λ n. f (λ d. n (d .0))) .1 (λ n. f (λ d. n (d .1))),
   )
 
-  -- the order after the checks before
+  -- the refusals after the checks 8 to 11
   after : {A ready offered : Type 0} {answer later : Answer A} → (ready → answer ≡ later)
       → Decided (cause12 offered ∷ []) refused NoRefusal later → OfferedOrder ready offered answer
   unfolding Decided

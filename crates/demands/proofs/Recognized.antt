@@ -2,7 +2,7 @@
 use Prim.Native.Nat.{ℕ, _+_, _≤_, _<_}
 use mathlib.Core.Bool.{true, false, not}
 use mathlib.Core.List.{List, [], _∷_, _++_, append-nil}
-use mathlib.Core.Logic.{_↔_, _⊎_}
+use mathlib.Core.Logic.{_↔_, _⊎_, dite}
 use mathlib.Core.Path.{_≡_, refl, sym, ap, _∙_}
 use native.Mathlib.Decide.{decLt}
 use native.Mathlib.Omega.{arith}
@@ -36,7 +36,7 @@ unfolding fed
 fed-append g r [] v = refl
 fed-append g r (m ∷ u) v = fed-append g (takeOf g (r .state) m (r .chart)) u v
 
--- the result after taking the bytes u, n of them, with this chart
+-- the result after n bytes u have been taken, with this chart
 abbrev pub result : Grammar → List ℕ → ℕ → List ℕ → Recognition
 result g u n c = record { answer = answered (complete (grammarOf g) n c); state = stateOf u; chart = c }
 
@@ -45,7 +45,7 @@ module _ (g : Grammar) (found : List ℕ) where
   abbrev pub after : List ℕ → Recognition
   after u = result g u (length u) (filled (grammarOf g) u found)
 
-  -- the result after more than 64 bytes, the first 64 of them being u
+  -- the result after more than 64 bytes, where u is the first 64
   abbrev pub beyond : List ℕ → Recognition
   beyond u = record { answer = refused 15; state = stateOf u; chart = filled (grammarOf g) u found }
 
@@ -66,7 +66,7 @@ module _ (g : Grammar) (found : List ℕ) where
         ∙ ap (λ (i : ℕ). result g v i (extended (grammarOf g) v c)) n
         ∙ ap (result g v (length v)) (sym (filled-snoc (grammarOf g) u m found))
 
-    -- a row of bytes, while there are at most 64
+    -- a row of bytes, if there are at most 64 in all
     fed-after : (u v : List ℕ) → length u + length v ≤ maxInput → fed g (after u) v ≡ after (u ++ v)
     unfolding fed
     fed-after u [] l = ap after (sym (append-nil u))
@@ -162,10 +162,6 @@ module _ (g : Grammar) (found : List ℕ) where
         }
 
     pub recognized : (ms : List ℕ) → Recognized (grammarOf g) found ms (fed g (openOf g found) ms)
-    recognized ms = by (decLt maxInput (length ms))
-      where
-        by : Dec (maxInput < length ms) → Recognized (grammarOf g) found ms (fed g (openOf g found) ms)
-        by (yes l) = recognized-long ms l (fed g (openOf g found) ms) (fed-long ms l)
-        by (no l) =
-            let h : length ms ≤ maxInput = omega arith in
-            recognized-short ms h (fed g (openOf g found) ms) (fed-short ms h)
+    recognized ms = dite (decLt maxInput (length ms))
+        (λ l. recognized-long ms l (fed g (openOf g found) ms) (fed-long ms l))
+        (λ l. let h : length ms ≤ maxInput = omega arith in recognized-short ms h (fed g (openOf g found) ms) (fed-short ms h))

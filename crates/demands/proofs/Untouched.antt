@@ -1,5 +1,5 @@
--- Whatever is handed in: refusals 8 to 11, 14 and 15 leave the chart, the output and the state as found. Of a call that refuses only with
--- these every refusal is meant, of the others those below 12. Assumes nothing.
+-- Whatever is handed in: refusals 8 to 11, 14 and 15 leave the chart, the output and the state as found. For a call that gives no other
+-- refusals this is said of every refusal, for the others of those below 12. Assumes nothing.
 use Prim.Native.Nat.{ℕ, _<_}
 use mathlib.Core.List.{List, []}
 use mathlib.Core.Path.{_≡_, refl}

@@ -1,4 +1,4 @@
--- Demand 1 for each call: what it keeps, which refusal it gives, and what it leaves after each. Assumes nothing.
+-- Demand 1 for each call: what it keeps, which refusal it gives, and what each refusal leaves. Assumes nothing.
 use Prim.Native.Nat.{ℕ, _≤_, _<_}
 use mathlib.Core.Bool.{true}
 use mathlib.Core.List.{List, []}
@@ -21,16 +21,16 @@ use Rattle.demands.specs.Order.{OpenOrder, TakeOrder, InputOrder, Output
 pub record OpenDemand (g : Grammar) (chart : List ℕ) (r : Recognition) : Type 0 where
   pub kept : ChartKept chart (r .chart)
   pub order : OpenOrder g chart (r .answer)
-  -- refused, it leaves the chart as found and gives a state of zeros
+  -- if it is refused, it leaves the chart as found and gives a state of zeros
   pub untouched : (n : ℕ) → r .answer ≡ refused n → (r .chart ≡ chart) × (r .state ≡ stateOf [])
-  -- else the chart is the one of no bytes
+  -- else the chart is the one that is filled with no bytes
   pub opened : validGrammar g ≡ true → cells ≤ length chart → r .chart ≡ filled (grammarOf g) [] chart
 
 -- taking
 pub record TakeDemand (g : Grammar) (h : State) (chart : List ℕ) (r : Recognition) : Type 0 where
   pub kept : ChartKept chart (r .chart)
   pub order : TakeOrder g h chart (r .answer)
-  -- refused, it leaves the chart and the state as found
+  -- if it is refused, it leaves the chart and the state as found
   pub untouched : (n : ℕ) → r .answer ≡ refused n → (r .chart ≡ chart) × (r .state ≡ h)
 
 -- check, length, same build and count

@@ -10,7 +10,7 @@ use Rattle.results.specs.Answer.{Answer, refused, answered, Handing, handed, no
 pub record ChartKept (before after : List ℕ) : Type 0 where
   -- the chart is as long as found
   pub same-length : length after ≡ length before
-  -- what lies behind the cells is as found
+  -- what comes after the cells is as found
   pub behind : drop cells after ≡ drop cells before
 
 -- how many numbers first and next write to the front of the output: two for each node of a derivation handed out, else none
@@ -23,5 +23,5 @@ writes (answered nothing) = 0
 pub record OutputKept (n : ℕ) (before after : List ℕ) : Type 0 where
   -- the output is as long as found
   pub same-length : length after ≡ length before
-  -- what lies behind the numbers written is as found, and the whole output where none are
+  -- what comes after the numbers written is as found: the whole output if none are written
   pub rest : drop n after ≡ drop n before

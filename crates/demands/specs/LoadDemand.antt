@@ -20,23 +20,23 @@ pub data Reached (bytes : List ℕ) : ℕ → Grammar → Type 0 where
   begin : Reached bytes 0 zeroGrammar
   further : {at at′ : ℕ} {g g′ : Grammar} → Reached bytes at g → step bytes at g ≡ next at′ g′ → Reached bytes at′ g′
 
--- a fault of the command at this offset, or of the end that stands there: its number, and the offset that is given for it
+-- a fault of the command at this offset, or of a book that ends there: its number, and the offset that is given for it
 pub record FaultAt (bytes : List ℕ) (at number offset : ℕ) : Type 0 where
   pub low : 1 ≤ number
   pub high : number ≤ 7
-  -- for 1 the book's length
+  -- the offset for 1: the book's length
   pub one : number ≡ 1 → offset ≡ length bytes
-  -- of the command
+  -- for 2 to 6: the offset of the command
   pub two-to-six : 2 ≤ number → number ≤ 6 → offset ≡ at
-  -- for 7 the byte after 50
+  -- for 7: the offset of the byte after 50
   pub seven : number ≡ 7 → offset ≡ at + 1
 
--- a rule record of 8 places, which are zeros from its count on
+-- a rule record has 8 places, and those from its count on are zeros
 pub record ZeroPlaces (r : Rule) : Type 0 where
   pub size : length (r .places) ≡ 8
   pub unused : drop (r .count) (r .places) ≡ replicate (8 - r .count) zeroPlace
 
--- a grammar of 128 rule records, which are zeros from its count on, and so are the unused places of each
+-- a grammar has 128 rule records; those from its count on are zeros, and so are the unused places of each record
 pub record ZeroBehind (g : Grammar) : Type 0 where
   pub size : length (g .rules) ≡ maxRules
   pub unused : drop (g .count) (g .rules) ≡ replicate (maxRules - g .count) zeroRule

@@ -1,4 +1,4 @@
--- Loading, at one command: the refusal given is the first that applies, in document 01's order: 1 where the book has ended, then 2, 3, 1,
+-- Loading, at one command: the refusal given is the first that applies, in document 01's order: 1 if the book has ended, then 2, 3, 1,
 -- 4, then 5 or 6, and 7 after 50. Assumes nothing.
 use Prim.Native.Nat.{ℕ, _+_}
 use mathlib.Core.Bool.{Bool, true, _&&_, _||_, not}
@@ -42,7 +42,7 @@ stopped n at = stop (record { number = n; offset = at })
 abbrev pub stops : Bool → ℕ → ℕ → Cause Fault
 stops b n at = cause (b ≡ true) (record { number = n; offset = at })
 
--- the causes at the command c at an offset, read with the grammar g so far
+-- the causes for the command c at an offset; g is the grammar read so far
 abbrev pub commandCauses : List ℕ → ℕ → ℕ → Grammar → List (Cause Fault)
 commandCauses bytes at c g =
     stops (ended bytes at) 1 (length bytes)
@@ -55,6 +55,6 @@ commandCauses bytes at c g =
     ∷ stops (furtherByte bytes at c) 7 (at + 1)
     ∷ []
 
--- the first of them that applies decides; without any loading does not stop here
+-- the first of them that applies decides; if none applies, loading does not stop here
 abbrev pub CommandOrder : List ℕ → ℕ → ℕ → Grammar → Step → Type 0
 CommandOrder bytes at c g = Decided (commandCauses bytes at c g) stop (λ result. (f : Fault) → result ≡ stop f → ⊥)

@@ -41,7 +41,7 @@ cause15 h = cause (h .count ≡ maxInput) 15
 abbrev pub NoRefusal : {A : Type 0} → Answer A → Type 0
 NoRefusal answer = (n : ℕ) → answer ≡ refused n → ⊥
 
--- of refusals only those after the checks 8 to 11 are given
+-- only refusals after the checks 8 to 11 are given
 abbrev pub OnlyLater : {A : Type 0} → Answer A → Type 0
 OnlyLater answer = (n : ℕ) → answer ≡ refused n → 11 < n
 

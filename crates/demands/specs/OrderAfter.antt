@@ -8,9 +8,9 @@ use Rattle.cfg.specs.Tree.{HasTree}
 use Rattle.cfg.specs.Derivation.{Derivation, limit}
 use Rattle.results.specs.Answer.{Answer, refused}
 
--- next, length and same build, once the checks before are passed (`ready`); `offered` says that the offered derivations are such
+-- next, length and same build, once the checks before are passed (`ready`); `offered` says that the rows offered are derivations
 pub record OfferedOrder {A : Type 0} (ready offered : Type 0) (answer : Answer A) : Type 0 where
-  -- an offered derivation is none: 12
+  -- a row offered is no derivation: 12
   pub twelve : ready → (offered → ⊥) → answer ≡ refused 12
   -- else nothing is refused
   pub passed : ready → offered → (n : ℕ) → answer ≡ refused n → ⊥

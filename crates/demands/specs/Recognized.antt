@@ -1,4 +1,4 @@
--- What opening and then taking any row of bytes gives: the first 64 bytes count, each byte beyond them is refused and changes nothing.
+-- What opening and then taking any row of bytes gives: the first 64 bytes count; each byte after them is refused and changes nothing.
 -- Assumes nothing.
 use Prim.Native.Nat.{ℕ, _≤_, _<_}
 use mathlib.Core.Bool.{true, false}
@@ -16,11 +16,11 @@ use Rattle.chart.specs.Column.{filled}
 use Rattle.results.specs.Answer.{refused, answered}
 use Rattle.results.specs.Recognize.{stateOf, Recognition}
 
--- the result of feeding ms after opening over the chart found, for the grammar G
+-- the result r of opening over the chart found and then taking the bytes ms, for the grammar G
 pub record Recognized (G : Cfg) (found ms : List ℕ) (r : Recognition) : Type 0 where
-  -- the state has taken the first 64 bytes, or all of fewer
+  -- the state has taken the first 64 bytes, or all if there are fewer
   pub state : r .state ≡ stateOf (take maxInput ms)
-  -- the chart is the one that is filled with these
+  -- the chart is the one that is filled with these bytes
   pub chart : r .chart ≡ filled G (take maxInput ms) found
   -- up to 64 bytes: "complete" exactly if the bytes have a tree; without bytes this is opening's own answer
   pub tree : length ms ≤ maxInput → (r .answer ≡ answered true) ↔ HasTree G ms

@@ -1,5 +1,5 @@
--- Taking a byte over ANY chart and any state, rubbish in them or not: what is left, and what "complete" says. The chart need not come from
--- an opening, and the byte need not follow the bytes that the chart was made for. Assumes nothing.
+-- Taking a byte over ANY chart and any state, whatever they hold: what is left, and what "complete" says. The chart need not come from an
+-- opening, and the byte need not follow the bytes that the chart was made for. Assumes nothing.
 use Prim.Native.Nat.{ℕ, _≤_}
 use mathlib.Core.Bool.{true}
 use mathlib.Core.List.{List, [], _∷_, _++_}
@@ -13,18 +13,18 @@ use Rattle.chart.specs.Closed.{Closed}
 use Rattle.results.specs.Answer.{answered}
 use Rattle.results.specs.Recognize.{State, stateOf, Recognition}
 
--- the bytes taken, with the new one
+-- the bytes that have been taken, with the new one
 abbrev pub input : State → ℕ → List ℕ
 input h m = take (h .count) (h .bytes) ++ (m ∷ [])
 
--- the result r of taking the byte m in the state h over the chart found, the n-th byte being taken
+-- the result r of taking the byte m, which is the n-th, in the state h over the chart found
 pub record Taken (G : Cfg) (h : State) (m : ℕ) (found : List ℕ) (n : ℕ) (r : Recognition) : Type 0 where
-  -- the state has the byte, and zeros behind it
+  -- the state has the byte, and zeros after it
   pub state : r .state ≡ stateOf (input h m)
   -- the chart is as long as found, and of its numbers only the cells (i, n) for i = 0 to n are written
   pub long : length (r .chart) ≡ length found
   pub others : (p : ℕ) → ((i : ℕ) → i ≤ n → p ≢ index i n) → getD (r .chart) p 0 ≡ getD found p 0
-  -- these cells are closed under the rules, earlier columns as found
+  -- these cells are closed under the rules, with earlier columns as found
   pub closed : Closed G (fitsAt (input h m)) found n (λ (i : ℕ). cell (r .chart) i n)
   -- and they are the least such cells
   pub least : (f : ℕ → ℕ) → Closed G (fitsAt (input h m)) found n f → (i k : ℕ) → i ≤ n → has k (cell (r .chart) i n) ≡ true

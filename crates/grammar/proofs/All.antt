@@ -7,7 +7,7 @@ use mathlib.Core.Bool.{Bool, true, false, and-false}
 use mathlib.Core.List.{List, [], _∷_}
 use mathlib.Core.Path.{_≡_, refl}
 use lib.ListN.{take, getD, set}
-use Rattle.laws.proofs.Bools.{true-false, and-parts, and-both}
+use Rattle.laws.proofs.Bools.{true-false, by-test, and-parts, and-both}
 use Rattle.grammar.specs.Valid.{all}
 
 module _ {A : Type 0} (test : A → Bool) (d : A) where
@@ -24,7 +24,7 @@ module _ {A : Type 0} (test : A → Bool) (d : A) where
   all-more l q h e = rw add-one (all-suc l q h e)
 
   module _ (fine : test d ≡ true) where
-    -- an element that is looked at and does not pass
+    -- the test fails if it fails at an element of the front
     pub all-refuses : (l : List A) (n q : ℕ) → q < n → test (getD l q d) ≡ false → all test (take n l) ≡ false
     unfolding all
     all-refuses [] n q h e = absurd (true-false fine e)
@@ -32,16 +32,12 @@ module _ {A : Type 0} (test : A → Bool) (d : A) where
     all-refuses (a ∷ l) (suc n) zero h e = rw e
     all-refuses (a ∷ l) (suc n) (suc q) h e = rw (all-refuses l n q (le-of-suc-le-suc h) e) (and-false (test a))
 
-    -- each element that is looked at passes
+    -- if the test passes, each element of the front passes
     pub all-at : (l : List A) (n q : ℕ) → q < n → all test (take n l) ≡ true → test (getD l q d) ≡ true
-    all-at l n q h e = go (test (getD l q d)) refl
-      where
-        go : (b : Bool) → test (getD l q d) ≡ b → test (getD l q d) ≡ true
-        go true t = t
-        go false t = absurd (true-false e (all-refuses l n q h t))
+    all-at l n q h e = by-test (test (getD l q d)) (λ t. t) (λ t. absurd (true-false e (all-refuses l n q h t)))
 
 module _ {A : Type 0} (test : A → Bool) where
-  -- the front of a list with one element set at its end
+  -- the test passes on a front if it passes before its last element, and that is set to one that passes
   pub all-set : (l : List A) (q : ℕ) (v : A) → all test (take q l) ≡ true → test v ≡ true → all test (take (suc q) (set l q v)) ≡ true
   unfolding all
   all-set [] q v h e = refl
@@ -58,7 +54,7 @@ module _ {A : Type 0} (test : A → Bool) where
       let p = and-parts (test a) (all test (take (suc q) l)) h in
       and-both (test a) (all test (take q l)) (p .0) (all-front l q (p .1))
 
-  -- the last of the first n elements is set
+  -- the test still passes on the first n elements after the last of them is set to one that passes
   pub all-last : (l : List A) (n : ℕ) (v : A) → 0 < n → all test (take n l) ≡ true → test v ≡ true
       → all test (take n (set l (n - 1) v)) ≡ true
   all-last l zero v z h e = absurd (omega arith)

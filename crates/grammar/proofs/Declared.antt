@@ -1,5 +1,5 @@
 -- What is known of a rule and of a grammar because their types are declared: how long their arrays are, and that a length is of 16 bits. A
--- need hands this over as a path into the record's fields (`c .good .0`), and here each path has its name. Assumes nothing.
+-- need gives this as a path into the record's fields (`c .good .0`), and here each path has a name. Assumes nothing.
 use mathlib.Core.List.{List}
 use mathlib.Core.Path.{_≡_}
 use lib.ListN.{length, length-map}

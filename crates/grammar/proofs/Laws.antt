@@ -1,40 +1,21 @@
--- What the functions of the crate need, with premises as their code gives them: zeros made of a zero, and what a test of check 8 that fails
--- says of the whole, and the tests that pass together. Assumes nothing.
+-- What the functions of check 8 need, with premises as their code gives them: check 8 refuses if one of its tests fails, and passes if
+-- all of them pass. Assumes nothing.
 use Prim.Native.Nat.{ℕ, _+_, _≤_, _<_}
 use native.Mathlib.Nat.{le-antisymm}
 use mathlib.Core.Bool.{Bool, true, false, not, and-false}
 use mathlib.Core.List.{List}
 use mathlib.Core.Path.{_≡_, refl, sym, ap, _∙_}
 use lib.Dec.{leb}
-use lib.ListN.{replicate, take, getD}
+use lib.ListN.{take, getD}
 use borrow.Author.Tests.{lt-leb, le-leb, not-true, not-false}
 use Rattle.sizes.specs.Sizes.{maxRules, maxPlaces}
 use Rattle.grammar.specs.declared.Symbol.the-variants.{Nonterminal}
 use Rattle.grammar.specs.declared.Place.{Place}
 use Rattle.grammar.specs.declared.Rule.{Rule}
 use Rattle.grammar.specs.declared.Grammar.{Grammar}
-use Rattle.grammar.specs.Setters.{setPlaces, setRules}
 use Rattle.grammar.specs.Valid.{all, validSymbol, validPlace, validRule, validGrammar}
-use Rattle.grammar.specs.Zero.{zeroPlace, zeroRule, zeroGrammar, noRule}
+use Rattle.grammar.specs.Zero.{zeroPlace, noRule}
 use Rattle.grammar.proofs.All.{all-more, all-refuses}
-
--- ---- zeros
-
--- a rule of zeros whose places all hold p
-abbrev pub ruleAll : Place → Rule
-ruleAll p = setPlaces zeroRule (replicate maxPlaces p)
-
-pub zero-rule-of : (p : Place) → p ≡ zeroPlace → ruleAll p ≡ zeroRule
-zero-rule-of p e = ap ruleAll e
-
--- a grammar of zeros whose rules are all r
-abbrev pub grammarAll : Rule → Grammar
-grammarAll r = setRules zeroGrammar (replicate maxRules r)
-
-pub zero-grammar-of : (r : Rule) → r ≡ zeroRule → grammarAll r ≡ zeroGrammar
-zero-grammar-of r e = ap grammarAll e
-
--- ---- check 8
 
 pub place-nonterminal : (p : Place) (k : ℕ) → p .symbol ≡ Nonterminal k → leb k 31 ≡ validPlace p
 place-nonterminal p k e = sym (ap validSymbol e)
@@ -43,12 +24,16 @@ pub noRule-valid : validRule noRule ≡ true
 unfolding validRule all
 noRule-valid = refl
 
--- b is the test's answer at the element q, and it is true: one more element passes
+-- b is what the test says of element q, and it is true: so one more element passes
 pub all-next : {A : Type 0} (test : A → Bool) (d : A) (l : List A) (q : ℕ) (b : Bool) → b ≡ test (getD l q d) → not b ≡ false
     → all test (take q l) ≡ true → all test (take (q + 1) l) ≡ true
 all-next test d l q b e t h = all-more test d l q h (sym e ∙ not-false b t)
 
 module _ (r : Rule) where
+  pub valid-rule-of : r .left ≤ 31 → r .count ≤ maxPlaces → all validPlace (take (r .count) (r .places)) ≡ true → validRule r ≡ true
+  unfolding validRule
+  valid-rule-of h k e = simp (le-leb (r .left) 31 h, le-leb (r .count) 8 k, e)
+
   pub rule-left : 31 < r .left → false ≡ validRule r
   unfolding validRule
   rule-left h = simp (lt-leb (r .left) 31 h)
@@ -63,12 +48,13 @@ module _ (r : Rule) where
 
   pub rule-passes : (q : ℕ) → q ≤ r .count → r .count ≤ maxPlaces → r .left ≤ 31 → all validPlace (take q (r .places)) ≡ true → r .count ≤ q
       → true ≡ validRule r
-  unfolding validRule
-  rule-passes q h k l e m =
-      let a : all validPlace (take (r .count) (r .places)) ≡ true = rw (le-antisymm m h) e in
-      simp (le-leb (r .left) 31 l, le-leb (r .count) 8 k, a)
+  rule-passes q h k l e m = sym (valid-rule-of l k (rw (le-antisymm m h) e))
 
 module _ (g : Grammar) where
+  pub valid-grammar-of : g .start ≤ 31 → g .count ≤ maxRules → all validRule (take (g .count) (g .rules)) ≡ true → validGrammar g ≡ true
+  unfolding validGrammar
+  valid-grammar-of h k e = simp (le-leb (g .start) 31 h, le-leb (g .count) maxRules k, e)
+
   pub grammar-start : 31 < g .start → false ≡ validGrammar g
   unfolding validGrammar
   grammar-start h = simp (lt-leb (g .start) 31 h)
@@ -82,9 +68,5 @@ module _ (g : Grammar) where
   grammar-rule i b e t h = simp (all-refuses validRule noRule noRule-valid (g .rules) (g .count) i h (sym e ∙ not-true b t), and-false)
 
   pub grammar-passes : (i : ℕ) → i ≤ g .count → g .count ≤ maxRules → g .start ≤ 31 → all validRule (take i (g .rules)) ≡ true
-      → g .count ≤ i
-      → true ≡ validGrammar g
-  unfolding validGrammar
-  grammar-passes i h k l e m =
-      let a : all validRule (take (g .count) (g .rules)) ≡ true = rw (le-antisymm m h) e in
-      simp (le-leb (g .start) 31 l, le-leb (g .count) maxRules k, a)
+      → g .count ≤ i → true ≡ validGrammar g
+  grammar-passes i h k l e m = sym (valid-grammar-of l k (rw (le-antisymm m h) e))

@@ -1,4 +1,4 @@
--- The laws of the setters: two records are one if their fields are; what check 8 says after a field is set; how many rules there are.
+-- The laws of the setters: two records are equal if their fields are; what check 8 says after a field is set; how many rules there are.
 -- Assumes nothing.
 use Prim.Native.Nat.{ℕ, _+_, _-_, _≤_, _<_}
 use native.Mathlib.Numerals.{add-one}
@@ -6,9 +6,8 @@ use native.Mathlib.Omega.{arith}
 use mathlib.Core.Bool.{true}
 use mathlib.Core.Path.{_≡_, refl, ap₂, _∙_}
 use lib.IntN.{ℤ}
-use lib.ListN.{length, getD, take, replicate, length-set}
+use lib.ListN.{length, getD, replicate, length-set}
 use lib.Seq.{getD-set-same}
-use borrow.Author.Tests.{le-leb}
 use mir.Syntax.{w16}
 use mir.Val.{SFits, toZ, ofZ}
 use mir.Facts.{toZ-ofZ}
@@ -21,6 +20,7 @@ use Rattle.grammar.specs.Setters.{ruleWith, openedRule, placedRule, setS
 use Rattle.grammar.specs.Valid.{all, validSymbol, validPlace, validRule, validGrammar}
 use Rattle.grammar.specs.Zero.{zeroPlace, noRule}
 use Rattle.grammar.proofs.All.{all-set, all-last}
+use Rattle.grammar.proofs.Laws.{valid-rule-of, valid-grammar-of}
 use Rattle.grammar.proofs.Bounds.{rule-parts, grammar-parts}
 
 -- ---- records of the same fields
@@ -33,14 +33,10 @@ grammar-same g h start count depth rules = λ i. record { start = start i; count
 
 -- ---- rules
 
--- a rule whose length went through a local, and whose places are all p
+-- a rule whose length was stored in a local, and whose places are all p
 pub opened-of : (k : ℕ) (y z : ℤ) (p : Place) → z ≡ y → SFits w16 z → p ≡ zeroPlace
     → ruleWith k (toZ w16 (ofZ w16 z)) 0 (replicate maxPlaces p) ≡ openedRule k y
 opened-of k y z p f s e = ap₂ (λ (l : ℤ) (m : Place). ruleWith k l 0 (replicate maxPlaces m)) (toZ-ofZ s ∙ f) e
-
-valid-rule-of : (r : Rule) → r .left ≤ 31 → r .count ≤ maxPlaces → all validPlace (take (r .count) (r .places)) ≡ true → validRule r ≡ true
-unfolding validRule
-valid-rule-of r h k e = simp (le-leb (r .left) 31 h, le-leb (r .count) 8 k, e)
 
 pub opened-valid : (k : ℕ) (z : ℤ) → k ≤ 31 → validRule (openedRule k z) ≡ true
 unfolding all
@@ -55,16 +51,11 @@ placed-valid r s v h e =
 
 -- ---- grammars
 
-valid-grammar-of : (g : Grammar) → g .start ≤ 31 → g .count ≤ maxRules → all validRule (take (g .count) (g .rules)) ≡ true
-    → validGrammar g ≡ true
-unfolding validGrammar
-valid-grammar-of g h k e = simp (le-leb (g .start) 31 h, le-leb (g .count) maxRules k, e)
-
 module _ (g : Grammar) (v : validGrammar g ≡ true) where
   pub set-start-valid : (k : ℕ) → k ≤ 31 → validGrammar (setStart g k) ≡ true
   set-start-valid k h = let p = grammar-parts g v in valid-grammar-of (setStart g k) h (p .1) (p .2)
 
-  -- the nullable depth is not looked at
+  -- check 8 does not look at the nullable depth
   pub set-depth-valid : (d : ℕ) → validGrammar (setDepth g d) ≡ true
   set-depth-valid d = let p = grammar-parts g v in valid-grammar-of (setDepth g d) (p .0) (p .1) (p .2)
 
@@ -76,7 +67,7 @@ module _ (g : Grammar) (v : validGrammar g ≡ true) where
         let a = all-set validRule (g .rules) (g .count) r (p .2) w in
         valid-grammar-of (setCount (setRule g (g .count) r) (g .count + 1)) (p .0) (omega arith) (rw add-one a)
 
-    -- the last rule that is used
+    -- another last rule
     pub last-rule-valid : 0 < g .count → validGrammar (setRule g (g .count - 1) r) ≡ true
     last-rule-valid m =
         let p = grammar-parts g v in

@@ -1,5 +1,5 @@
 -- A rule and a grammar with one field changed. Definitions and proofs outside this crate make and change both by these and by the zeros:
--- they spell no record out, so a new field moves nothing else. Assumes nothing.
+-- they spell out no record, so a new field changes nothing else. Assumes nothing.
 use Prim.Native.Nat.{ℕ, _+_}
 use mathlib.Core.List.{List}
 use lib.IntN.{ℤ}
@@ -12,11 +12,11 @@ use Rattle.grammar.specs.Zero.{zeroRule}
 
 -- ---- a rule
 
--- the rule of these fields: what a row of numbers holds of it
+-- the rule of these fields, as a row of numbers gives them
 abbrev pub ruleWith : ℕ → ℤ → ℕ → List Place → Rule
 ruleWith k hundredths n places = record { left = k; length = hundredths; count = n; places = places }
 
--- with another left side, length, number of places, list of places, or place q
+-- the rule with another left side, length, number of places, list of places, or place q
 abbrev pub setLeft : Rule → ℕ → Rule
 setLeft r k = record { left = k; length = r .length; count = r .count; places = r .places }
 
@@ -42,11 +42,11 @@ placedRule r s = setPlaceCount (setPlace r (r .count) (record { symbol = s })) (
 
 -- ---- a grammar
 
--- the grammar of these fields: what a row of numbers holds of it
+-- the grammar of these fields, as a row of numbers gives them
 abbrev pub grammarWith : ℕ → ℕ → ℕ → List Rule → Grammar
 grammarWith k n d rules = record { start = k; count = n; depth = d; rules = rules }
 
--- with another start symbol, number of rules, nullable depth, list of rules, or rule i
+-- the grammar with another start symbol, number of rules, nullable depth, list of rules, or rule i
 abbrev pub setStart : Grammar → ℕ → Grammar
 setStart g k = record { start = k; count = g .count; depth = g .depth; rules = g .rules }
 

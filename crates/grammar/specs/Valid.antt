@@ -1,5 +1,5 @@
--- Check 8: start or a used nonterminal (kind) over 31, more than 128 rules, or more than 8 places is refused. Only what the counts say
--- is used is looked at; the nullable depth, the lengths and unused records may hold anything. Assumes nothing.
+-- Check 8: start or a used nonterminal (kind) over 31, more than 128 rules, or more than 8 places is refused. Only what is used, as the
+-- counts say, is checked; the nullable depth, the lengths and unused records may hold anything. Assumes nothing.
 use mathlib.Core.Bool.{Bool, true, _&&_}
 use mathlib.Core.List.{List, [], _∷_}
 use lib.Dec.{leb}
@@ -21,14 +21,14 @@ abbrev pub validSymbol : Symbol → Bool
 validSymbol (Nonterminal k) = leb k 31
 validSymbol (Terminal m) = true
 
--- per place
+-- check 8 for a place
 abbrev pub validPlace : Place → Bool
 validPlace p = validSymbol (p .symbol)
 
--- per rule: its left side, its count, and its used places
+-- check 8 for a rule: its left side, its count, and its used places
 unfoldable pub validRule : Rule → Bool
 validRule r = leb (r .left) 31 && leb (r .count) 8 && all validPlace (take (r .count) (r .places))
 
--- per grammar: its start symbol, its count, and its used rules
+-- check 8 for a grammar: its start symbol, its count, and its used rules
 unfoldable pub validGrammar : Grammar → Bool
 validGrammar g = leb (g .start) 31 && leb (g .count) maxRules && all validRule (take (g .count) (g .rules))

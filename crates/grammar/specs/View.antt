@@ -12,24 +12,24 @@ use Rattle.grammar.specs.declared.Rule.{Rule}
 use Rattle.grammar.specs.declared.Grammar.{Grammar}
 use Rattle.grammar.specs.Zero.{noRule}
 
--- a symbol
+-- the symbol that a declared symbol means
 abbrev pub symbolOf : Symbol → Abstract.Symbol
 symbolOf (Nonterminal k) = Abstract.nonterminal k
 symbolOf (Terminal m) = Abstract.terminal (Abstract.byte m)
 
--- a place
+-- the symbol that a declared place means
 abbrev pub placeOf : Place → Abstract.Symbol
 placeOf p = symbolOf (p .symbol)
 
--- a rule record: its used places count
+-- the rule that a rule record means: its used places count
 abbrev pub ruleOf : Rule → Option Abstract.Rule
 ruleOf r = some (record { left = r .left; places = map placeOf (take (r .count) (r .places)) })
 
--- the whole grammar (book): its used rule records count, each under its own number. Loading and the nullable depth speak of it
+-- the whole grammar (book): its used rule records count, each under its own number. Loading and the nullable depth are about it
 abbrev pub wholeOf : Grammar → Abstract.Cfg
 wholeOf g = record { start = g .start; rules = map ruleOf (take (g .count) (g .rules)) }
 
--- the grammar that reads an input: today the whole one. All calls on an input or a recognizer speak of it
+-- the grammar by which an input is read: today the whole one. All calls on an input or a recognizer are about it
 abbrev pub grammarOf : Grammar → Abstract.Cfg
 grammarOf g = wholeOf g
 

@@ -16,10 +16,10 @@ zeroPlace = record { symbol = Nonterminal 0 }
 abbrev pub zeroRule : Rule
 zeroRule = record { left = 0; length = pos 0; count = 0; places = replicate maxPlaces zeroPlace }
 
--- the grammar of a book without rules: what a refused book leaves
+-- the grammar of a book without rules, which a refused book gives too
 abbrev pub zeroGrammar : Grammar
 zeroGrammar = record { start = 0; count = 0; depth = 0; rules = replicate maxRules zeroRule }
 
--- what a read past the end of an array of rules is taken for
+-- what a read past the end of an array of rules gives
 abbrev pub noRule : Rule
 noRule = record { left = 0; length = pos 0; count = 0; places = [] }

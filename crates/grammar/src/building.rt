@@ -1,5 +1,5 @@
-// The rules of a grammar that is read: a rule as command 20 opens it, and with the place that commands 30 and 40 add. The loader stores
-// them in the grammar in place; the setters of specs/ say what such a store changes.
+// The rules of a grammar while it is loaded: a rule as command 20 opens it, and a rule with the place that command 30 or 40 adds. The
+// loader stores them in the grammar in place; the setters of specs/ say what such a store changes.
 use super::Place;
 use super::Rule;
 use super::Symbol;
@@ -10,8 +10,8 @@ ghost use Rattle.sizes.specs.Sizes.{maxPlaces};
 ghost use Rattle.numbers.specs.Numbers.{signedIn};
 ghost use Rattle.grammar.specs.Setters.{openedRule, placedRule};
 
-// A rule with no places yet; its length is the signed number of a low and a high byte. It is made at once: a copy of the zero rule with two
-// fields set costs 6 ns a rule more.
+// A rule with no places yet; its length is the signed number of a low and a high byte. It is written out whole: a copy of the zero rule
+// with two fields set costs 6 ns more a rule.
 pub fn opened(left: u8, low: u8, high: u8) -> Rule
     ensures { λ r. ⌜ r ≡ openedRule left (signedIn (low + 256 * high)) ⌝ }
 {
@@ -36,7 +36,7 @@ pub fn placed(rule: Rule, symbol: Symbol) -> Rule
     r
 }
 
-// The number of the last of n rules, and 0 where there is none.
+// The number of the last of n rules, and 0 if there is none.
 pub fn last_of(n: usize) -> usize
     ensures { λ r. ⌜ r ≡ n - 1 ⌝ }
 {

@@ -66,7 +66,7 @@ pub fn zero_grammar() -> Grammar
     }
 }
 
-// Check 8: over any struct, and looking only at what the counts say is used.
+// Check 8, for any struct. It looks only at what is used, as the counts say.
 pub fn valid(g: Grammar) -> bool
     ensures { λ r. ⌜ r ≡ validGrammar g ⌝ }
 {

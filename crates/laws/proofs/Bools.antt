@@ -4,19 +4,24 @@ use native.Mathlib.Omega.{arith}
 use mathlib.Core.Bool.{Bool, true, false, _&&_, _||_}
 use mathlib.Core.Path.{_≡_, refl, sym}
 
--- where the facts at hand make two constructors equal, `clash cc` proves anything
+-- if the facts at hand make two different constructors equal, `clash cc` proves anything
 pub clash : {A : Type 0} → _≡_ {A = ℕ} 0 1 → A
 clash e = absurd (omega arith)
 
 pub true-false : {b : Bool} → b ≡ true → b ≡ false → ⊥
 true-false e f = clash cc
 
+-- a proof by the two answers of a test
+pub by-test : {P : Type 0} (b : Bool) → (b ≡ true → P) → (b ≡ false → P) → P
+by-test true f g = f refl
+by-test false f g = g refl
+
 -- what is not true is false
 pub bool-false : (b : Bool) → (b ≡ true → ⊥) → b ≡ false
 bool-false true f = absurd (f refl)
 bool-false false f = refl
 
--- two tests that pass together are the same
+-- two tests are the same if each passes whenever the other does
 pub bool-ext : (b c : Bool) → (b ≡ true → c ≡ true) → (c ≡ true → b ≡ true) → b ≡ c
 bool-ext true c f g = sym (f refl)
 bool-ext false true f g = g refl

@@ -1,4 +1,4 @@
--- Laws that speak of no grammar, and that the kit's libraries do not have.
+-- Laws that are not about grammars and that the kit's libraries lack.
 pub mod Bools
 pub mod Lists
 pub mod Signed

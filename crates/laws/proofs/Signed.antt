@@ -4,7 +4,7 @@ use native.Mathlib.Omega.{arith}
 use lib.IntN.{pos, negℤ}
 use lib.Signed.{mag}
 
--- the size of a number and of its negative differ by one at most
+-- the size of minus n is at most n
 pub neg-size : (n : ℕ) → mag (negℤ (pos n)) ≤ n
 neg-size zero = omega arith
 neg-size (suc n) = omega arith

@@ -16,7 +16,7 @@ use Rattle.numbers.specs.Numbers.{signedIn, unsignedOf}
 
 -- ---- reading
 
--- one below minus m
+-- minus one minus m
 below-minus : (m : ℕ) → negsuc 0 -ℤ pos m ≡ negsuc m
 below-minus zero = refl
 below-minus (suc m) = rw zero-add
@@ -44,9 +44,13 @@ module _ (n : ℕ) where
 
 -- ---- writing
 
--- minus one minus a signed number, as the machine has it
+-- a signed number, as a local holds it
+abbrev held : ℤ → ℤ
+held z = toZ w16 (ofZ w16 z)
+
+-- minus one minus a signed number, as the machine computes it
 abbrev flip : ℤ → ℤ
-flip z = negsuc 0 -ℤ toZ w16 (ofZ w16 z)
+flip z = negsuc 0 -ℤ held z
 
 minus-below : (n : ℕ) → negsuc 0 -ℤ negsuc n ≡ pos n
 minus-below n =
@@ -56,53 +60,45 @@ minus-below n =
 flip-is : (n : ℕ) → n < 32768 → flip (negsuc n) ≡ pos n
 flip-is n h = ap (λ (z : ℤ). negsuc 0 -ℤ z) (toZ-ofZ {w = w16} {z = negsuc n} (record { sfits = h })) ∙ minus-below n
 
-kept-is : (n : ℕ) → n < 32768 → toZ w16 (ofZ w16 (flip (negsuc n))) ≡ pos n
-kept-is n h = ap (λ (z : ℤ). toZ w16 (ofZ w16 z)) (flip-is n h) ∙ toZ-pos w16 h
-
-same-is : (n : ℕ) → n < 32768 → toZ w16 (ofZ w16 (pos n)) ≡ pos n
-same-is n h = toZ-pos w16 h
+kept-is : (n : ℕ) → n < 32768 → held (flip (negsuc n)) ≡ pos n
+kept-is n h = ap held (flip-is n h) ∙ toZ-pos w16 h
 
 module _ (P : ℤ → Type 0) where
-  -- what holds of every negative number holds where the test says so
-  negative : ((n : ℕ) → n < 32768 → P (negsuc n)) → (z : ℤ) → SFits w16 z → ltZ (toZ w16 (ofZ w16 z)) (pos 0) ≡ true → P z
+  -- P holds of a number that the test finds negative, if it holds of each negative number
+  negative : ((n : ℕ) → n < 32768 → P (negsuc n)) → (z : ℤ) → SFits w16 z → ltZ (held z) (pos 0) ≡ true → P z
   negative step (negsuc n) f t = step n (f .sfits)
   negative step (pos n) f t =
-      let b : n < 0 = ltb-true n 0 (ap (λ (y : ℤ). ltZ y (pos 0)) (sym (same-is n (f .sfits))) ∙ t) in
+      let b : n < 0 = ltb-true n 0 (ap (λ (y : ℤ). ltZ y (pos 0)) (sym (toZ-pos w16 (f .sfits))) ∙ t) in
       absurd (omega arith)
 
-  natural : ((n : ℕ) → n < 32768 → P (pos n)) → (z : ℤ) → SFits w16 z → ltZ (toZ w16 (ofZ w16 z)) (pos 0) ≡ false → P z
+  natural : ((n : ℕ) → n < 32768 → P (pos n)) → (z : ℤ) → SFits w16 z → ltZ (held z) (pos 0) ≡ false → P z
   natural step (pos n) f t = step n (f .sfits)
   natural step (negsuc n) f t =
       let e : ltZ (negsuc n) (pos 0) ≡ false = ap (λ (y : ℤ). ltZ y (pos 0)) (sym (toZ-ofZ {w = w16} {z = negsuc n} f)) ∙ t in
       clash cc
 
-pub flip-fits : (z : ℤ) → SFits w16 z → ltZ (toZ w16 (ofZ w16 z)) (pos 0) ≡ true → SFits w16 (flip z)
+pub flip-fits : (z : ℤ) → SFits w16 z → ltZ (held z) (pos 0) ≡ true → SFits w16 (flip z)
 flip-fits = negative (λ z. SFits w16 (flip z)) (λ n h. rw (flip-is n h) (record { sfits = h }))
 
-pub flip-casts : (z : ℤ) → SFits w16 z → ltZ (toZ w16 (ofZ w16 z)) (pos 0) ≡ true
-    → T (nonNeg (toZ w16 (ofZ w16 (flip z)))) × Fits w16 (natAbs (toZ w16 (ofZ w16 (flip z))))
-flip-casts =
-    negative (λ z. T (nonNeg (toZ w16 (ofZ w16 (flip z)))) × Fits w16 (natAbs (toZ w16 (ofZ w16 (flip z)))))
+pub flip-casts : (z : ℤ) → SFits w16 z → ltZ (held z) (pos 0) ≡ true
+    → T (nonNeg (held (flip z))) × Fits w16 (natAbs (held (flip z)))
+flip-casts = negative (λ z. T (nonNeg (held (flip z))) × Fits w16 (natAbs (held (flip z))))
     (λ n h. rw (kept-is n h) (tt, record { fits = omega arith }))
 
-pub flip-below : (z : ℤ) → SFits w16 z → ltZ (toZ w16 (ofZ w16 z)) (pos 0) ≡ true → natAbs (toZ w16 (ofZ w16 (flip z))) < 32768
-flip-below = negative (λ z. natAbs (toZ w16 (ofZ w16 (flip z))) < 32768) (λ n h. rw (kept-is n h) h)
+pub flip-below : (z : ℤ) → SFits w16 z → ltZ (held z) (pos 0) ≡ true → natAbs (held (flip z)) < 32768
+flip-below = negative (λ z. natAbs (held (flip z)) < 32768) (λ n h. rw (kept-is n h) h)
 
-pub unsigned-negative : (z : ℤ) → SFits w16 z → ltZ (toZ w16 (ofZ w16 z)) (pos 0) ≡ true
-    → 65535 - natAbs (toZ w16 (ofZ w16 (flip z))) ≡ unsignedOf z
+pub unsigned-negative : (z : ℤ) → SFits w16 z → ltZ (held z) (pos 0) ≡ true → 65535 - natAbs (held (flip z)) ≡ unsignedOf z
 unfolding unsignedOf
-unsigned-negative =
-    negative (λ z. 65535 - natAbs (toZ w16 (ofZ w16 (flip z))) ≡ unsignedOf z) (λ n h. rw (kept-is n h) (omega arith))
+unsigned-negative = negative (λ z. 65535 - natAbs (held (flip z)) ≡ unsignedOf z) (λ n h. rw (kept-is n h) (omega arith))
 
-pub natural-casts : (z : ℤ) → SFits w16 z → ltZ (toZ w16 (ofZ w16 z)) (pos 0) ≡ false
-    → T (nonNeg (toZ w16 (ofZ w16 z))) × Fits w16 (natAbs (toZ w16 (ofZ w16 z)))
+pub natural-casts : (z : ℤ) → SFits w16 z → ltZ (held z) (pos 0) ≡ false → T (nonNeg (held z)) × Fits w16 (natAbs (held z))
 natural-casts =
-    natural (λ z. T (nonNeg (toZ w16 (ofZ w16 z))) × Fits w16 (natAbs (toZ w16 (ofZ w16 z))))
-    (λ n h. rw (same-is n h) (tt, record { fits = omega arith }))
+    natural (λ z. T (nonNeg (held z)) × Fits w16 (natAbs (held z))) (λ n h. rw (toZ-pos w16 h) (tt, record { fits = omega arith }))
 
-pub unsigned-natural : (z : ℤ) → SFits w16 z → ltZ (toZ w16 (ofZ w16 z)) (pos 0) ≡ false → natAbs (toZ w16 (ofZ w16 z)) ≡ unsignedOf z
+pub unsigned-natural : (z : ℤ) → SFits w16 z → ltZ (held z) (pos 0) ≡ false → natAbs (held z) ≡ unsignedOf z
 unfolding unsignedOf
-unsigned-natural = natural (λ z. natAbs (toZ w16 (ofZ w16 z)) ≡ unsignedOf z) (λ n h. rw (same-is n h) (omega arith))
+unsigned-natural = natural (λ z. natAbs (held z) ≡ unsignedOf z) (λ n h. rw (toZ-pos w16 h) (omega arith))
 
 -- ---- written and read
 

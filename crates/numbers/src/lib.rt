@@ -1,4 +1,4 @@
-// Small functions on numbers that several crates need: numbers of one width as numbers of another, none of them cut to its low bits.
+// Small functions that several crates need: a number of one width as a number of another. None cuts a number to its low bits.
 ghost use mathlib.Core.Path.{_≡_};
 ghost use Prim.Native.Nat.{_<_};
 ghost use Rattle.numbers.specs.Numbers.{byteIn, saturated, signedIn, unsignedOf};
@@ -17,7 +17,7 @@ pub fn wide(n: u16) -> usize
     n as usize
 }
 
-// A number in a byte's place, or 255 if that is less.
+// A number where a byte is due, or 255 if that is less.
 pub fn byte(n: u16) -> u8
     ensures { λ b. ⌜ b ≡ byteIn n ⌝ }
 {
@@ -31,7 +31,7 @@ pub fn saturate(n: usize) -> u16
     if n < 65535 { n as u16 } else { 65535 }
 }
 
-// The signed number of 16 bits, in two's complement.
+// The signed number that 16 bits mean in two's complement.
 pub fn signed(n: u16) -> i16
     ensures { λ z. ⌜ z ≡ signedIn n ⌝ }
 {
@@ -42,7 +42,7 @@ pub fn signed(n: u16) -> i16
     }
 }
 
-// The two's complement of a signed number of 16 bits.
+// A signed number as 16 bits in two's complement.
 pub fn unsigned(z: i16) -> u16
     ensures { λ n. ⌜ n ≡ unsignedOf z ⌝ }
 {

@@ -1,4 +1,4 @@
--- Answers told apart: what is refused is not answered, and what is handed out or counted is not "none" or "more". Assumes nothing.
+-- Answers that differ: a refusal is no answer, and what is handed out or counted is not "none" or "more". Assumes nothing.
 use Prim.Native.Nat.{ℕ}
 use mathlib.Core.Path.{_≡_}
 use Rattle.laws.proofs.Bools.{clash}

@@ -1,4 +1,4 @@
--- What a row of a table unfolds, so that it is proved by computing it: `unfolding computing`. Assumes nothing.
+-- All that has to be unfolded to prove a row of a table by computing it: `unfolding computing`. Assumes nothing.
 use Rattle.cfg.specs.Grammar.{fits, joined}
 use Rattle.cfg.specs.Listing.{over, when, from, among, keep, rulesFrom, items, upTo, listing, derivations}
 use Rattle.sets.specs.Set.{has, insert}

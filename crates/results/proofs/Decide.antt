@@ -1,10 +1,11 @@
--- The law of `decide`: the first check that fails decides; where all are passed, the call goes on. Assumes nothing.
-use mathlib.Core.Bool.{Bool, true, false}
+-- The law of `decide`: the first check that fails decides; if all are passed, the call goes on. Assumes nothing.
+use mathlib.Core.Bool.{true, false}
 use mathlib.Core.List.{List, [], _∷_, _++_}
 use mathlib.Core.Path.{_≡_, refl}
+use Rattle.laws.proofs.Bools.{by-test}
 use Rattle.results.specs.Answer.{Check, decide}
 
--- something holds of each check
+-- Q holds of each check of a list
 abbrev pub Each : {A : Type 0} → (Check A → Type 0) → List (Check A) → Type 0
 Each Q [] = Unit {0}
 Each Q (c ∷ checks) = Q c × Each Q checks
@@ -13,7 +14,7 @@ Each Q (c ∷ checks) = Q c × Each Q checks
 abbrev pub Pass : {A : Type 0} → List (Check A) → Type 0
 Pass {A} checks = Each (λ (c : Check A). c .fails ≡ false) checks
 
--- two lists of checks that agree in turn: they are the same, or both are passed
+-- two lists of checks that agree one by one: two checks are the same, or both are passed
 pub data Agree (A : Type 0) : List (Check A) → List (Check A) → Type 0 where
   agree-end : Agree A [] []
   agree-same : {l m : List (Check A)} (c : Check A) → Agree A l m → Agree A (c ∷ l) (c ∷ m)
@@ -42,13 +43,7 @@ module _ {A B : Type 0} (refuse : A → B) (go : Unit {0} → B) where
   unfolding decide
   decide-agree agree-end = refl
   decide-agree (agree-passed p q a) = rw (p, q) (decide-agree a)
-  decide-agree (agree-same {l} {m} c a) = by (c .fails) (decide-agree a)
-    where
-      by : (b : Bool) → decide l refuse go ≡ decide m refuse go
-          → _≡_ {A = B} (elim b [ true ↦ refuse (c .refusal) | false ↦ decide l refuse go ])
-          (elim b [ true ↦ refuse (c .refusal) | false ↦ decide m refuse go ])
-      by true e = refl
-      by false e = e
+  decide-agree (agree-same c a) = by-test (c .fails) (λ e. rw e) (λ e. rw e (decide-agree a))
 
   module _ (P : B → Type 0) where
     -- what holds of the refusal of each check that may fail, and of what comes after the checks, holds of the result
@@ -56,13 +51,9 @@ module _ {A B : Type 0} (refuse : A → B) (go : Unit {0} → B) where
         → (Pass checks → P (go tt)) → P (decide checks refuse go)
     unfolding decide
     decide-cases [] r g = g tt
-    decide-cases (c ∷ checks) r g = by (c .fails) refl (λ f. decide-cases checks (r .1) f)
-      where
-        by : (b : Bool) → c .fails ≡ b → ((Pass checks → P (go tt)) → P (decide checks refuse go))
-            → P (elim b [ true ↦ refuse (c .refusal) | false ↦ decide checks refuse go ])
-        by true e later = r .0 e
-        by false e later = later (λ p. g (e, p))
+    decide-cases (c ∷ checks) r g =
+        by-test (c .fails) (λ e. rw e (r .0 e)) (λ e. rw e (decide-cases checks (r .1) (λ p. g (e, p))))
 
-    -- the same for refusals of any number
+    -- the same, if P holds of every refusal
     pub decide-either : (checks : List (Check A)) → ((a : A) → P (refuse a)) → (Pass checks → P (go tt)) → P (decide checks refuse go)
     decide-either checks r g = decide-cases checks (each (λ c e. r (c .refusal)) checks) g

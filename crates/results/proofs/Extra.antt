@@ -32,7 +32,7 @@ gap-length = refl
 unfoldable pub build : List ℕ → List ℕ → List ℕ → List ℕ → Answer Bool
 build bytes w a b = sameBuildOf (grammarFrom bytes) w a b (replicate cells 7) .answer
 
--- T, `A`: both derivations are one build, whichever nonterminalPlace is empty
+-- T, `A`: both derivations are one build, whichever place is empty
 pub same-T : build T (As 1) (1 ∷ 0 ∷ 0 ∷ 1 ∷ 1 ∷ 2 ∷ []) (1 ∷ 0 ∷ 1 ∷ 2 ∷ 0 ∷ 1 ∷ []) ≡ answered true
 unfolding build computing
 same-T = refl
@@ -43,8 +43,8 @@ unfolding build computing
 twins-differ = refl
 
 -- 0 → 1 A, 1 → nothing, 1 → nothing: empty nodes do not count
-pub empty-same : build (start 0 (newRule 0 (nonterminalPlace 1 (A (newRule 1 (newRule 1 close)))))) (As 1) (1 ∷ 0 ∷ 0 ∷ 1 ∷ []) (1 ∷ 0 ∷ 0 ∷ 2 ∷ [])
-    ≡ answered true
+pub empty-same : build (start 0 (newRule 0 (nonterminalPlace 1 (A (newRule 1 (newRule 1 close)))))) (As 1)
+    (1 ∷ 0 ∷ 0 ∷ 1 ∷ []) (1 ∷ 0 ∷ 0 ∷ 2 ∷ []) ≡ answered true
 unfolding build computing
 empty-same = refl
 
@@ -53,19 +53,19 @@ pub last-nonterminal : outcome (start 31 (newRule 31 (nonterminalPlace 31 (newRu
 unfolding computing
 last-nonterminal = refl
 
--- the places of its first rule, and its rules
+-- the places of the first rule of `gap`, and its rules
 abbrev pub gapPlaces : List Place
 gapPlaces = record { symbol = Nonterminal 1 } ∷ record { symbol = Terminal 65 } ∷ replicate 6 zeroPlace
 
 abbrev pub gapRules : List Rule
 gapRules = setPlaceCount (setPlaces (openedRule 0 (pos 100)) gapPlaces) 2 ∷ openedRule 1 (negℤ (pos 30)) ∷ replicate 126 zeroRule
 
--- the whole of a loaded grammar: what is not set is zero
+-- the whole of a loaded grammar: what the book does not set is zero
 pub loaded-gap : loadOf gap 1 .grammar ≡ setDepth (setCount (setRules zeroGrammar gapRules) 2) 1
 unfolding computing
 loaded-gap = refl
 
--- a dirty state is clean after a take
+-- after a take the unused bytes of a state are zeros, whatever they were
 unfoldable pub taken : State
 taken = takeOf (grammarFrom T) (stateWith (65 ∷ replicate 63 9) 1) 66 (replicate cells 0) .state
 
@@ -73,7 +73,7 @@ pub taken-clean : taken ≡ stateWith (65 ∷ 66 ∷ replicate 62 0) 2
 unfolding taken computing
 taken-clean = refl
 
--- a refused take gives back the state as it was, dirty or not: here 15
+-- a refused take gives back the state as it was, also unused bytes: here refusal 15
 abbrev pub dirty : State
 dirty = stateWith (replicate 64 9) 64
 
@@ -84,7 +84,7 @@ pub refused-take-kept : refusedTake ≡ dirty
 unfolding refusedTake computing
 refused-take-kept = refl
 
--- a refused opening gives a state of zeros: here 10
+-- a refused opening gives a state of zeros: here refusal 10
 unfoldable pub refusedOpening : State
 refusedOpening = openOf (grammarFrom T) (replicate (cells - 1) 0) .state
 

@@ -18,7 +18,7 @@ pub record Faulty : Type 0 where
 abbrev pub faulty : List ℕ → ℕ → ℕ → Faulty
 faulty bytes n at = record { bytes = bytes; number = n; offset = at }
 
--- 128 rules, and a rule of eight places, each with what comes next
+-- 128 rules, and a rule of eight places, each before the rest of the bytes
 abbrev pub full : List ℕ → List ℕ
 full rest = start 0 (many 128 (newRule 0) rest)
 

@@ -1,4 +1,5 @@
--- What each call gives once its checks 8 to 11, 14 and 15 are passed: what is said for the grammar that the struct means. Assumes nothing.
+-- What each call gives once its checks 8 to 11, 14 and 15 are passed: what it gives for the grammar that the struct means.
+-- Assumes nothing.
 use Prim.Native.Nat.{ℕ, _≤_, _<_}
 use mathlib.Core.Bool.{true, not}
 use mathlib.Core.List.{List}

@@ -1,4 +1,4 @@
--- Loading: the number of commands allowed never decides, and what each command keeps of the grammar read so far.
+-- Loading: the number of commands allowed does not matter, and what each command keeps of the grammar read so far.
 pub mod Lists
 pub mod Run
 pub mod Commands

@@ -17,7 +17,7 @@ use Rattle.results.specs.Drawer.{T, bare, As}
 use Rattle.results.specs.Starred.{grammarFrom}
 use Rattle.results.proofs.Computing.{computing}
 
--- where the chart of an input is not complete, the input has no tree
+-- if the chart of an input is not complete, the input has no tree
 pub incomplete-no-tree : (g : Grammar) (w : List ℕ) → validGrammar g ≡ true → length w ≤ maxInput
     → complete (grammarOf g) (length w) (filled (grammarOf g) w (replicate cells 0)) ≡ false → HasTree (grammarOf g) w → ⊥
 incomplete-no-tree g w valid small e tree =

@@ -40,21 +40,19 @@ ready→pass g w chart r =
     (ap not (r .valid), (input-passes w (r .nonempty) (r .short), (le-ltb (length chart) cells (r .room), tt)))
 
 pub pass→ready : (g : Grammar) (w chart : List ℕ) → Pass (inputChecks g w chart) → Ready g w chart
-pass→ready g w chart p = record {
-  valid = not-false (validGrammar g) (p .0);
-  nonempty = input-passed w (p .1 .0) .0;
-  short = input-passed w (p .1 .0) .1;
-  room = ltb-false (length chart) cells (p .1 .1 .0);
+pass→ready g w chart (valid, (input, (room, u))) = record {
+  valid = not-false (validGrammar g) valid;
+  nonempty = input-passed w input .0;
+  short = input-passed w input .1;
+  room = ltb-false (length chart) cells room;
 }
 
 module _ (g : Grammar) (w chart out : List ℕ) where
   pub readyOut→pass : ReadyOut g w chart out → Pass (inputChecks g w chart ++ (outputCheck out ∷ []))
   readyOut→pass r =
-      let p = ready→pass g w chart (r .input) in
-      (p .0, (p .1 .0, (p .1 .1 .0, (le-ltb (length out) outputSize (r .space), tt))))
+      let (valid, (input, (room, u))) = ready→pass g w chart (r .input) in
+      (valid, (input, (room, (le-ltb (length out) outputSize (r .space), u))))
 
   pub pass→readyOut : Pass (inputChecks g w chart ++ (outputCheck out ∷ [])) → ReadyOut g w chart out
-  pass→readyOut p = record {
-    input = pass→ready g w chart (p .0, (p .1 .0, (p .1 .1 .0, tt)));
-    space = ltb-false (length out) outputSize (p .1 .1 .1 .0);
-  }
+  pass→readyOut (valid, (input, (room, (space, u)))) =
+      record { input = pass→ready g w chart (valid, (input, (room, u))); space = ltb-false (length out) outputSize space }

@@ -1,5 +1,5 @@
--- The laws of a state of the recognizer: two states are one if their fields are; and of the state that has taken w, its count, its bytes,
--- and that it keeps w. Assumes nothing.
+-- The laws of a state of the recognizer: two states are equal if their fields are; and what the count and the bytes are of the state that
+-- has taken w. Assumes nothing.
 use Prim.Native.Nat.{ℕ, _-_, _≤_}
 use native.Mathlib.Omega.{arith}
 use mathlib.Core.List.{List, _++_}

@@ -31,7 +31,7 @@ pub limit-met : (outcome (bush 0 close) (As 1) .first ≡ answered (handed 512))
 unfolding computing
 limit-met = (refl, refl)
 
--- below one node more it has trees, but no derivation
+-- with one more node above it, the bush has trees, but no derivation
 abbrev pub larger : List ℕ
 larger = bush 4 (newRule 4 (nonterminalPlace 0 close))
 
@@ -47,7 +47,7 @@ recognized bytes m =
     let o = openOf g (replicate cells 7) in
     (o .answer, takeOf g (o .state) m (o .chart) .answer)
 
--- and yet the larger one is complete
+-- the larger one is complete all the same
 pub limit-complete : recognized larger 0x41 ≡ (answered false, answered true)
 unfolding recognized computing
 limit-complete = refl

@@ -33,12 +33,12 @@ inputCheck w = check (eqb (length w) 0 || ltb maxInput (length w)) 9
 abbrev pub inputChecks : Grammar → List ℕ → List ℕ → List (Check ℕ)
 inputChecks g w chart = grammarCheck g ∷ inputCheck w ∷ chartCheck chart ∷ []
 
--- what a call gives that writes no output: the answer, and what the chart holds at the end
+-- what a call without an output gives: the answer, and what the chart holds at the end
 pub record Checking (A : Type 0) : Type 0 where
   pub answer : Answer A
   pub chart : List ℕ
 
--- such a call: refused, it leaves the chart as found; else it goes on with the grammar
+-- such a call: if it is refused, it leaves the chart as found; else it goes on with the grammar
 unfoldable pub onInput : {A : Type 0} → Grammar → List ℕ → List ℕ → (Cfg → Checking A) → Checking A
 onInput g w chart go =
     decide (inputChecks g w chart) (λ n. record { answer = refused n; chart = chart }) (λ _. go (grammarOf g))

@@ -1,4 +1,4 @@
--- Demand 3 of document 01: one claim about a whole list of calls. First, then next until none is left, is such a list. Assumes nothing.
+-- Demand 3 of document 01: one claim about a whole list of calls, for instance first, then next until none is left. Assumes nothing.
 use Prim.Native.Nat.{ℕ, _+_, _<_, min}
 use mathlib.Core.List.{List, [], _∷_, _++_, map}
 use mathlib.Core.Logic.{_⊎_}
@@ -25,7 +25,7 @@ pub record LastFirst (calls : List Made) : Type 0 where
 abbrev pub place : (g : Grammar) (w : List ℕ) → Dec (HasTree (grammarOf g) w) → List Made → ℕ
 place g w tree calls = placeAfter (grammarOf g) w tree (map which calls) 0
 
--- the claim for a list of calls, whether the input has a tree being decided by `tree`
+-- the claim for a list of calls; `tree` decides whether the input has a tree
 pub record Demand3 (g : Grammar) (w : List ℕ) (tree : Dec (HasTree (grammarOf g) w)) (calls : List Made) : Type 0 where
   -- all answers and all derivations handed out are the walk's
   pub walks : history g w [] calls ≡ walked (grammarOf g) w tree (map which calls) 0

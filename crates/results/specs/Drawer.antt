@@ -1,16 +1,16 @@
--- The books of document 01's drawer, as bytes, and inputs of `A`, which is the byte 41. Assumes nothing.
+-- The books of document 01's drawer, as bytes, and inputs of `A`, which is the byte 0x41. Assumes nothing.
 use Prim.Native.Nat.{ℕ, zero, suc}
 use mathlib.Core.List.{List, [], _∷_}
 use lib.ListN.{replicate}
 
--- the commands of a book; a rule is opened with length 0
+-- commands of a book, each before the rest of the bytes; a rule is opened with length 0
 abbrev pub start : ℕ → List ℕ → List ℕ
 start k rest = 0x10 ∷ k ∷ rest
 
 abbrev pub newRule : ℕ → List ℕ → List ℕ
 newRule k rest = 0x20 ∷ k ∷ 0 ∷ 0 ∷ rest
 
--- a nonterminalPlace with the nonterminal k, and one with the byte `A`
+-- a place with the nonterminal k, and one with the byte `A`
 abbrev pub nonterminalPlace : ℕ → List ℕ → List ℕ
 nonterminalPlace k rest = 0x30 ∷ k ∷ rest
 
@@ -20,7 +20,7 @@ A rest = 0x40 ∷ 0x41 ∷ rest
 abbrev pub close : List ℕ
 close = 0x50 ∷ []
 
--- a command so many times
+-- the same command n times
 abbrev pub many : ℕ → (List ℕ → List ℕ) → List ℕ → List ℕ
 many zero f rest = rest
 many (suc n) f rest = f (many n f rest)
@@ -50,10 +50,11 @@ nullablePairs = start 0 (newRule 0 (nonterminalPlace 0 (nonterminalPlace 0 (newR
 abbrev pub emptyUnit : List ℕ
 emptyUnit = start 1 (newRule 1 (nonterminalPlace 0 (A (newRule 0 (nonterminalPlace 0 (newRule 0 close))))))
 
--- 0 → A and seven of 1; 1 → eight of 2; 2 → eight of 3; 3 → nothing; with the rules of `more` after these
+-- start k; 0 → A and seven of 1; 1 → eight of 2; 2 → eight of 3; 3 → nothing; and what `more` adds to these
 abbrev pub bush : ℕ → List ℕ → List ℕ
 bush k more =
-    start k (newRule 0 (A (many 7 (nonterminalPlace 1) (newRule 1 (many 8 (nonterminalPlace 2) (newRule 2 (many 8 (nonterminalPlace 3) (newRule 3 more))))))))
+    start k (newRule 0 (A (many 7 (nonterminalPlace 1)
+    (newRule 1 (many 8 (nonterminalPlace 2) (newRule 2 (many 8 (nonterminalPlace 3) (newRule 3 more))))))))
 
 -- 0 → A, of length -25
 abbrev pub recess : List ℕ
@@ -63,6 +64,6 @@ recess = 0x10 ∷ 0x00 ∷ 0x20 ∷ 0x00 ∷ 0xE7 ∷ 0xFF ∷ 0x40 ∷ 0x41 ∷
 abbrev pub bare : List ℕ
 bare = 0x10 ∷ 0x00 ∷ 0x50 ∷ []
 
--- an input of so many `A`
+-- an input of n bytes `A`
 abbrev pub As : ℕ → List ℕ
 As n = replicate n 0x41

@@ -46,14 +46,14 @@ unfoldable pub afterIn : List ℕ → List (List ℕ) → Option (List ℕ)
 afterIn e [] = none
 afterIn e (d ∷ l) = elim (same e d) [ true ↦ headOf l | false ↦ afterIn e l ]
 
--- a call that writes an output: refused, it leaves chart and output as found; else it goes on with the grammar
+-- a call that writes an output: if it is refused, it leaves chart and output as found; else it goes on with the grammar
 unfoldable pub onOutput : Grammar → List ℕ → List ℕ → List ℕ → (Cfg → Enumeration) → Enumeration
 onOutput g w chart out go =
     decide (inputChecks g w chart ++ (outputCheck out ∷ []))
     (λ n. record { answer = refused n; chart = chart; output = out })
     (λ _. go (grammarOf g))
 
--- first, for the grammar G: the first of L; without one refusal 13 where the input has a tree, else "no reading"
+-- first, for the grammar G: the first of L; if L is empty: refusal 13 for an input with a tree, "no reading" for one without
 unfoldable pub firstIn : Cfg → List ℕ → List ℕ → List ℕ → Enumeration
 firstIn G w chart out =
     handingOut (headOf (L G w)) (cond (treeIn G w chart) (refused 13) (answered nothing)) (filled G w chart) out
@@ -62,7 +62,7 @@ firstIn G w chart out =
 unfoldable pub firstOf : Grammar → List ℕ → List ℕ → List ℕ → Enumeration
 firstOf g w chart out = onOutput g w chart out (λ G. firstIn G w chart out)
 
--- next, for the grammar G: the one after the offered derivation in L, or "none"; refusal 12 where the offered derivation is none
+-- next, for the grammar G: the one after the offered derivation in L, or "none"; refusal 12 if what is offered is no derivation
 unfoldable pub nextIn : Cfg → List ℕ → List ℕ → List ℕ → List ℕ → Enumeration
 nextIn G w offered chart out =
     decide (check (unlisted G w offered) 12 ∷ [])
@@ -77,7 +77,7 @@ nextOf g w offered chart out = onOutput g w chart out (λ G. nextIn G w offered 
 unfoldable pub figure : ℕ → Figure
 figure n = cond (leb n most) (counted n) more
 
--- count, for the grammar G: what it says of N; refusal 13 where N is 0 and the input has a tree
+-- count, for the grammar G: what it says of N; refusal 13 if N is 0 and the input has a tree
 unfoldable pub countIn : Cfg → List ℕ → List ℕ → Checking Figure
 countIn G w chart = let n = length (L G w) in record {
   answer = elim (eqb n 0) [ true ↦ cond (treeIn G w chart) (refused 13) (answered (counted 0)) | false ↦ answered (figure n) ];

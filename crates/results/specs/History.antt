@@ -1,5 +1,5 @@
--- The other side of demand 3: a list of calls as they are made, each with a chart and an output of its own, and what the decided
--- results of first, next and count say to the caller, who keeps a copy of the derivation handed out last. Assumes nothing.
+-- The other side of demand 3: a list of calls as they are made, each with a chart and an output of its own, and what first, next and count
+-- say to the caller by their definitions. The caller keeps a copy of the derivation handed out last. Assumes nothing.
 use Prim.Native.Nat.{ℕ, _*_, _≤_}
 use mathlib.Core.List.{List, [], _∷_}
 use lib.ListN.{length, take}
@@ -12,7 +12,7 @@ use Rattle.grammar.specs.declared.Grammar.{Grammar}
 use Rattle.results.specs.Answer.{Answer, refused, answered, Handing, handed, nothing, Figure, counted, more}
 use Rattle.results.specs.Enumerate.{firstIn, nextIn, countIn, firstOf, nextOf, countOf}
 
--- a call with what is lent to it: chart and output, and for a next that is not offered the copy what it is offered
+-- a call with what is lent to it: chart and output; a next that is not offered the copy also has the row that it is offered
 pub data Made : Type 0 where
   first : List ℕ → List ℕ → Made
   nextCopy : List ℕ → List ℕ → Made
@@ -26,7 +26,7 @@ which (nextCopy chart out) = Walk.nextCopy
 which (nextOther e chart out) = Walk.nextOther
 which (count chart) = Walk.count
 
--- chart and output are long enough, and may hold anything; what is offered and is not the copy is no derivation of the input
+-- chart and output are long enough, and may hold anything; a row that is offered in place of the copy is no derivation of the input
 abbrev pub Allowed : Cfg → List ℕ → Made → Type 0
 Allowed G w (first chart out) = (cells ≤ length chart) × (outputSize ≤ length out)
 Allowed G w (nextCopy chart out) = (cells ≤ length chart) × (outputSize ≤ length out)
@@ -38,20 +38,20 @@ abbrev pub AllAllowed : Cfg → List ℕ → List Made → Type 0
 AllAllowed G w [] = Unit {0}
 AllAllowed G w (m ∷ calls) = Allowed G w m × AllAllowed G w calls
 
--- first and next, as the caller of the walk sees them: a derivation handed out is the front of the output, twice as many numbers as nodes
--- are answered; `otherwise` is what the call says where nothing is handed out
+-- what first and next say to the caller: a derivation handed out is the front of the output, and has twice as many numbers as nodes are
+-- answered; `otherwise` is what the call says if it answers that there is none
 unfoldable pub saidOf : Said → Answer Handing → List ℕ → Said
 saidOf otherwise (refused n) out = refuses n
 saidOf otherwise (answered (handed n)) out = handsOut n (take (2 * n) out)
 saidOf otherwise (answered nothing) out = otherwise
 
--- count, as the caller of the walk sees it
+-- what count says to the caller
 unfoldable pub countSaid : Answer Figure → Said
 countSaid (refused n) = refuses n
 countSaid (answered (counted n)) = counts n
 countSaid (answered more) = Walk.more
 
--- what one call says for the grammar G, the copy being what was handed out last
+-- what one call says for the grammar G; the copy is what was handed out last
 unfoldable pub saysIn : Cfg → List ℕ → List ℕ → Made → Said
 saysIn G w copy (first chart out) = let r = firstIn G w chart out in saidOf noDerivation (r .answer) (r .output)
 saysIn G w copy (nextCopy chart out) = let r = nextIn G w copy chart out in saidOf noneLeft (r .answer) (r .output)

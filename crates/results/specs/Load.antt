@@ -1,4 +1,4 @@
--- Loading: from the bytes of a book to the loaded grammar, or the number and the offset of the first fault, with a grammar of no rules.
+-- Loading: from the bytes of a book to the loaded grammar, or to the number and the offset of the first fault and a grammar of no rules.
 -- Assumes nothing.
 use Prim.Native.Nat.{ℕ, zero, suc, _+_, _*_, _-_}
 use mathlib.Core.Bool.{Bool, cond, _&&_, _||_, not}
@@ -14,11 +14,11 @@ use Rattle.grammar.specs.Setters.{openedRule, placedRule, setStart, setCount, s
 use Rattle.grammar.specs.Zero.{zeroGrammar, noRule}
 use Rattle.results.specs.Answer.{LoadAnswer, refusedAt, loaded, Check, check, decide}
 
--- how many bytes after the command byte are its operands
+-- how many operand bytes follow a command byte
 unfoldable pub operands : ℕ → ℕ
 operands c = cond (eqb c 0x20) 3 (cond (eqb c 0x50) 0 1)
 
--- operand number i, from 0, of the command at an offset: 0 past the end of the book
+-- operand number i, from 0, of the command at an offset; past the end of the book it is 0
 unfoldable pub operand : List ℕ → ℕ → ℕ → ℕ
 operand bytes at i = getD bytes (at + 1 + i) 0
 
@@ -65,7 +65,7 @@ unfoldable pub outOfTurn : ℕ → ℕ → Grammar → Bool
 outOfTurn c at g =
     cond (eqb c 0x10) (ltb 0 at) (eqb at 0 || ((eqb c 0x30 || eqb c 0x40) && eqb (g .count) 0))
 
--- the checks after the turn of the command c at an offset, in their order
+-- the checks of the command c at an offset that come after its turn is checked, in their order
 unfoldable pub operandChecks : List ℕ → ℕ → ℕ → Grammar → List (Check Fault)
 operandChecks bytes at c g =
     fault (ltb (length bytes) (at + 1 + operands c)) 1 (length bytes)
@@ -75,11 +75,11 @@ operandChecks bytes at c g =
     ∷ fault (eqb c 0x50 && ltb (at + 1) (length bytes)) 7 (at + 1)
     ∷ []
 
--- all its checks, in their order
+-- all checks of the command c at an offset, in their order
 unfoldable pub commandChecks : List ℕ → ℕ → ℕ → Grammar → List (Check Fault)
 commandChecks bytes at c g = fault (unknown c) 2 at ∷ fault (outOfTurn c at g) 3 at ∷ operandChecks bytes at c g
 
--- what reading comes to: a fault, a command read, or the end of the book
+-- what reading a command comes to: a fault, the next offset with the grammar so far, or the end of the book
 pub data Step : Type 0 where
   stop : Fault → Step
   next : ℕ → Grammar → Step
@@ -89,7 +89,7 @@ pub data Step : Type 0 where
 unfoldable pub carriedOut : List ℕ → ℕ → ℕ → Grammar → Step
 carriedOut bytes at c g = cond (eqb c 0x50) (done g) (next (at + 1 + operands c) (after c (operand bytes at) g))
 
--- one command, from any grammar on: 1 where the book ends instead
+-- one command at an offset, with any grammar read so far; it is fault 1 if the book ends there
 unfoldable pub step : List ℕ → ℕ → Grammar → Step
 step bytes at g =
     let c = getD bytes at 0 in
@@ -100,7 +100,7 @@ pub record Loading : Type 0 where
   pub answer : LoadAnswer
   pub grammar : Grammar
 
--- a refused book leaves its number, its offset and the grammar of no rules
+-- a refused book: the number and the offset of its fault, and the grammar of no rules
 unfoldable pub refusedLoad : Fault → Loading
 refusedLoad f = record { answer = refusedAt (f .number) (f .offset); grammar = zeroGrammar }
 

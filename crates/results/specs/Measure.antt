@@ -13,7 +13,7 @@ use Rattle.grammar.specs.View.{lengthsOf}
 use Rattle.results.specs.Answer.{refused, answered, check, decide}
 use Rattle.results.specs.Check.{listed, Checking, onInput}
 
--- the rule lengths of all nodes of a derivation, empty ones too, added up: hundredths of a millimetre
+-- the sum of the rule lengths of all nodes of a derivation, empty ones too, in hundredths of a millimetre
 unfoldable pub sum : (ℕ → ℤ) → List ℕ → ℤ
 sum lengths [] = pos 0
 sum lengths (cover ∷ []) = pos 0
@@ -24,7 +24,7 @@ unfoldable pub rounded : ℤ → ℤ
 rounded (pos n) = pos ((n + 5) / 10)
 rounded (negsuc n) = negℤ (pos ((suc n + 5) / 10))
 
--- 12: an offered derivation is none of the input
+-- 12: what is offered is no derivation of the input
 unfoldable pub unlisted : Cfg → List ℕ → List ℕ → Bool
 unlisted G w e = not (listed e (L G w))
 
@@ -50,7 +50,7 @@ unfoldable pub occurrences : ℕ → List ℕ → ℕ
 occurrences r [] = 0
 occurrences r (s ∷ l) = cond (eqb r s) (suc (occurrences r l)) (occurrences r l)
 
--- two lists agree as bags: each number is in both as often
+-- two lists agree as bags: each number is in one as often as in the other
 unfoldable pub sameBag : List ℕ → List ℕ → Bool
 sameBag x y = all (λ r. eqb (occurrences r x) (occurrences r y)) (x ++ y)
 

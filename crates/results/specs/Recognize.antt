@@ -26,7 +26,7 @@ stateWith bytes n = record { bytes = bytes; count = n }
 abbrev pub setTaken : State → ℕ → State
 setTaken h n = record { bytes = h .bytes; count = n }
 
--- the state that has taken w: what is unused is zero
+-- the state that has taken w: its unused bytes are zero
 unfoldable pub stateOf : List ℕ → State
 stateOf w = stateWith (w ++ replicate (maxInput - length w) 0) (length w)
 
@@ -36,7 +36,7 @@ pub record Recognition : Type 0 where
   pub state : State
   pub chart : List ℕ
 
--- 8: the grammar handed in
+-- 8: the grammar handed in is not valid
 abbrev pub grammarCheck : Grammar → Check ℕ
 grammarCheck g = check (not (validGrammar g)) 8
 
@@ -54,7 +54,7 @@ openIn G chart =
     let left = opened G chart in
     record { answer = answered (complete G 0 left); state = stateOf []; chart = left }
 
--- opening. Refused, it gives a state of zeros and leaves the chart as found
+-- opening: if it is refused, it gives a state of zeros and leaves the chart as found
 unfoldable pub openOf : Grammar → List ℕ → Recognition
 openOf g chart =
     decide (grammarCheck g ∷ chartCheck chart ∷ [])
@@ -68,7 +68,7 @@ takeIn G h m chart =
     let left = extended G w chart in
     record { answer = answered (complete G (h .count + 1) left); state = stateOf w; chart = left }
 
--- taking a byte. Refused, it leaves the state and the chart as found
+-- taking a byte: if it is refused, it leaves the state and the chart as found
 unfoldable pub takeOf : Grammar → State → ℕ → List ℕ → Recognition
 takeOf g h m chart =
     decide (grammarCheck g ∷ stateCheck h ∷ chartCheck chart ∷ check (eqb (h .count) maxInput) 15 ∷ [])

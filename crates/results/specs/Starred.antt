@@ -18,7 +18,7 @@ use Rattle.results.specs.Measure.{lengthOf, rounded}
 use Rattle.results.specs.Enumerate.{firstOf, countOf}
 use Rattle.results.specs.Drawer.{T, unit, left, pairs, nullablePairs, emptyUnit, bare, recess, As}
 
--- what is asked of a book and an input: the answers of loading, first and count, L, and the length of each derivation in L
+-- what a line of the table says of a book and an input: the answers of loading, first and count, L, and the length of each derivation in L
 pub record Outcome : Type 0 where
   pub loads : LoadAnswer
   pub first : Answer Handing
@@ -30,7 +30,7 @@ pub record Outcome : Type 0 where
 abbrev pub grammarFrom : List ℕ → Grammar
 grammarFrom bytes = loadOf bytes 0 .grammar
 
--- what comes of a book and an input, over a chart and an output that hold other things
+-- the outcome of a book and an input, over a chart and an output that hold other numbers
 unfoldable pub outcome : List ℕ → List ℕ → Outcome
 outcome bytes w =
     let g = grammarFrom bytes in
@@ -43,13 +43,13 @@ outcome bytes w =
       lengths = map (λ e. lengthOf g w e chart .answer) (L (grammarOf g) w);
     }
 
--- a line of the table: a book, an input, and what is to come of them
+-- a line of the table: a book, an input, and their outcome
 pub record Line : Type 0 where
   pub bytes : List ℕ
   pub input : List ℕ
   pub gives : Outcome
 
--- a line whose input has derivations: the nodes of the first, the list, and the lengths in tenths
+-- a line whose input has derivations: the nodes of the first, how many there are, the list, and the lengths in tenths
 unfoldable pub found : List ℕ → List ℕ → ℕ → ℕ → List (List ℕ) → List ℤ → Line
 found bytes w nodes n list lengths = record {
   bytes = bytes;
@@ -71,7 +71,7 @@ absent bytes w = record {
   gives = record { loads = loaded; first = answered nothing; count = answered (counted 0); list = []; lengths = [] };
 }
 
--- lengths of zero
+-- n lengths of zero
 abbrev pub zeros : ℕ → List ℤ
 zeros n = replicate n (pos 0)
 

@@ -10,11 +10,11 @@ use Rattle.cfg.specs.Grammar.{Cfg}
 use Rattle.cfg.specs.Tree.{HasTree}
 use Rattle.cfg.specs.Listing.{L}
 
--- the calls: first; next, offered the caller's copy; next, offered a reading that is no derivation (reading); count
+-- the calls: first; next, offered the caller's copy; next, offered a row that is no derivation (reading) of the input; count
 pub data Call : Type 0 where
   first nextCopy nextOther count : Call
 
--- what is answered; where a reading is handed out, how many nodes it has and the reading
+-- what a call says; for a reading that is handed out, its number of nodes and the reading
 pub data Said : Type 0 where
   handsOut : ℕ → List ℕ → Said
   noDerivation noneLeft : Said
@@ -72,7 +72,7 @@ module _ (G : Cfg) (w : List ℕ) (tree : Dec (HasTree G w)) where
   placeAfter [] p = p
   placeAfter (c ∷ calls) p = placeAfter calls (walk c p .place)
 
--- the derivations that are handed out
+-- the derivations that are handed out, among what is said
 unfoldable pub handedOut : List Said → List (List ℕ)
 handedOut [] = []
 handedOut (handsOut n e ∷ said) = e ∷ handedOut said

@@ -1,7 +1,7 @@
--- The laws of membership and insertion: what an insertion changes and keeps, a set is its members, a subset is no larger a number.
--- Those that speak of the width are proved for every width n, and stated for 32. Assumes nothing.
+-- The laws of membership and insertion: what an insertion changes and keeps, that it never gives a smaller number, and that a set is its
+-- members. Laws about the width are proved for every width n, and stated for 32. Assumes nothing.
 use Prim.Native.Nat.{ℕ, zero, suc, _/_, _%_, _^_, _≤_, _<_}
-use mathlib.Core.Bool.{Bool, true, false, true≢false}
+use mathlib.Core.Bool.{true, false, true≢false}
 use mathlib.Core.Logic.{_≢_}
 use mathlib.Core.Path.{_≡_, refl, sym, ap, _∙_}
 use native.Mathlib.Nat.{pow-suc, div-eq-of-lt, lt-of-lt-of-le}
@@ -9,6 +9,7 @@ use native.Mathlib.Omega.{arith}
 use lib.Dec.{eqb}
 use lib.Pow.{pow-pos, pow-mono}
 use borrow.Author.Tests.{eq-eqb}
+use Rattle.laws.proofs.Bools.{by-test}
 use Rattle.sets.specs.Set.{has, insert}
 use Rattle.sets.proofs.Halving.{has-zero, has-suc, has-zero-true, has-zero-false, insert-zero, insert-suc, insert-fresh}
 pub use Rattle.sets.proofs.Halving.{insert-old}
@@ -45,30 +46,20 @@ pub insert-new : (k w : ℕ) → has k w ≡ false → w < insert k w
 insert-new k w e = omega (arith, insert-fresh k w e, pow-pos k)
 
 pub insert-le : (k w : ℕ) → w ≤ insert k w
-insert-le k w = go (has k w) refl
-  where
-    go : (b : Bool) → has k w ≡ b → w ≤ insert k w
-    go true e = omega (arith, insert-old k w e)
-    go false e = omega (arith, insert-new k w e)
+insert-le k w = by-test (has k w) (λ e. omega (arith, insert-old k w e)) (λ e. omega (arith, insert-new k w e))
 
 pub insert-same→has : (k w : ℕ) → insert k w ≡ w → has k w ≡ true
-insert-same→has k w same = go (has k w) refl
-  where
-    go : (b : Bool) → has k w ≡ b → has k w ≡ true
-    go true e = e
-    go false e = absurd (omega (arith, insert-new k w e))
+insert-same→has k w same = by-test (has k w) (λ e. e) (λ e. absurd (omega (arith, insert-new k w e)))
 
--- a member stays one
+-- a member stays a member
 pub has-insert : (j k w : ℕ) → has j w ≡ true → has j (insert k w) ≡ true
-has-insert j k w e = go (has k w) refl
-  where
-    go : (b : Bool) → has k w ≡ b → has j (insert k w) ≡ true
-    go true h = ap (has j) (insert-old k w h) ∙ e
-    go false h = has-insert-other j k w (λ p. true≢false (sym e ∙ ap (λ (x : ℕ). has x w) p ∙ h)) ∙ e
+has-insert j k w e = by-test (has k w)
+    (λ h. ap (has j) (insert-old k w h) ∙ e)
+    (λ h. has-insert-other j k w (λ p. true≢false (sym e ∙ ap (λ (x : ℕ). has x w) p ∙ h)) ∙ e)
 
 -- ---- sets of n bits
 
--- dropping the lowest bit
+-- without its lowest bit a set has one bit less
 half-below : (n w : ℕ) → w < 2 ^ suc n → w / 2 < 2 ^ n
 half-below n w l = omega (arith, pow-suc 2 n)
 
@@ -82,13 +73,11 @@ pub has-above : (n k w : ℕ) → w < 2 ^ n → n ≤ k → has k w ≡ false
 unfolding has
 has-above n k w l h = ap (λ (x : ℕ). eqb (x % 2) 1) (div-eq-of-lt (lt-of-lt-of-le l (pow-mono h)))
 
--- the lowest bits are equal where membership of 0 is
+-- the lowest bits are equal if 0 is in both sets or in neither
 low-eq : (v w : ℕ) → has 0 v ≡ has 0 w → v % 2 ≡ w % 2
-low-eq v w e = go (has 0 w) refl
-  where
-    go : (b : Bool) → has 0 w ≡ b → v % 2 ≡ w % 2
-    go true h = has-zero-true v (e ∙ h) ∙ sym (has-zero-true w h)
-    go false h = has-zero-false v (e ∙ h) ∙ sym (has-zero-false w h)
+low-eq v w e = by-test (has 0 w)
+    (λ h. has-zero-true v (e ∙ h) ∙ sym (has-zero-true w h))
+    (λ h. has-zero-false v (e ∙ h) ∙ sym (has-zero-false w h))
 
 pub ext-below : (n v w : ℕ) → v < 2 ^ n → w < 2 ^ n → ((k : ℕ) → k < n → has k v ≡ has k w) → v ≡ w
 ext-below zero v w p q f = omega arith

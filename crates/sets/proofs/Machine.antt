@@ -15,7 +15,7 @@ pub mask-is-has : (k w : ℕ) → eqb (bitAnd (w / 2 ^ k) 1) 1 ≡ has k w
 unfolding has
 mask-is-has k w = ap (λ (x : ℕ). eqb x 1) (and-mask (w / 2 ^ k) 1)
 
--- the power of two is one bit
+-- `or` with a power of two is an insertion
 pub or-is-insert : (k w : ℕ) → bitOr w (2 ^ k) ≡ insert k w
 or-is-insert zero w = or-step w 1 ∙ ap (λ (x : ℕ). x * 2 + max (w % 2) 1) (or-zero-r (w / 2)) ∙ omega (arith, insert-zero w)
 or-is-insert (suc k) w =
@@ -26,7 +26,7 @@ or-is-insert (suc k) w =
     ∙ ap₂ (λ (x y : ℕ). x * 2 + y) (or-is-insert k (w / 2)) (max-zero (w % 2))
     ∙ sym (insert-suc k w)
 
--- the shift loses no bit, in sets of every width
+-- the shift of 1 loses no bit, in sets of every width
 pub shift-one : (n k : ℕ) → k < n → 1 * 2 ^ k % 2 ^ n ≡ 2 ^ k
 shift-one n k h = shl-exact 1 k n (lit< tt) (omega arith) ∙ one-mul (2 ^ k)
 

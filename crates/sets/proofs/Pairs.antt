@@ -1,8 +1,8 @@
 -- The common members of two sets, the least member of a set, and a set without one of its members.
--- Those that speak of the width are proved for every width n. Assumes nothing.
+-- Laws about the width are proved for every width n. Assumes nothing.
 use Prim.Native.Nat.{ℕ, zero, suc, _-_, _/_, _%_, _^_, _≤_, _<_}
 use mathlib.Core.Bool.{Bool, true, false, _&&_, not}
-use mathlib.Core.Logic.{_≢_}
+use mathlib.Core.Logic.{_≢_, dite}
 use mathlib.Core.Path.{_≡_, refl, sym, ap, ap₂, _∙_}
 use native.Mathlib.Nat.{pow-suc}
 use native.Mathlib.Decide.{decLt}
@@ -11,7 +11,7 @@ use lib.Bits.{bitAnd, and-step, and-lt}
 use lib.Count.{under, trailingZeros}
 use lib.Dec.{eqb}
 use borrow.Author.Tests.{eq-eqb, ne-eqb}
-use Rattle.laws.proofs.Bools.{true-false, and-parts}
+use Rattle.laws.proofs.Bools.{true-false, by-test, and-parts}
 use Rattle.sets.specs.Set.{has}
 use Rattle.sets.specs.Pairs.{Meeting, LeastMember, FirstMember, Without}
 use Rattle.sets.proofs.Halving.{has-zero, has-suc, has-zero-true, has-zero-false, insert-fresh}
@@ -42,14 +42,10 @@ has-and (suc k) v w =
 -- a set that is not empty has a member
 pub member : (n w : ℕ) → w < 2 ^ n → w ≢ 0 → (k : ℕ) × (k < n) × (has k w ≡ true)
 member zero w l d = absurd (omega arith)
-member (suc n) w l d = go (member n (w / 2) (omega (arith, pow-suc 2 n))) (has 0 w) refl
-  where
-    go : (w / 2 ≢ 0 → (k : ℕ) × (k < n) × (has k (w / 2) ≡ true)) → (b : Bool) → has 0 w ≡ b → (k : ℕ) × (k < suc n) × (has k w ≡ true)
-    go half true e = (0, omega arith, e)
-    go half false e =
-        let f : w / 2 ≢ 0 = λ z. d (omega (arith, has-zero-false w e)) in
-        let (k, h, m) = half f in
-        (suc k, omega arith, has-suc k w ∙ m)
+member (suc n) w l d = by-test (has 0 w) (λ e. (0, omega arith, e)) (λ e.
+    let f : w / 2 ≢ 0 = λ z. d (omega (arith, has-zero-false w e)) in
+    let (k, h, m) = member n (w / 2) (omega (arith, pow-suc 2 n)) f in
+    (suc k, omega arith, has-suc k w ∙ m))
 
 both-in : (k v w : ℕ) → has k v ≡ true → has k w ≡ true → has k (bitAnd v w) ≡ true
 both-in k v w g h = has-and k v w ∙ rw (g, h)
@@ -70,13 +66,7 @@ meeting n v w f p q e = record { found = found; all = all }
 
 -- ---- the least member, and a set without a member
 
-under-odd : (d t : ℕ) → d ≡ 1 → under d t ≡ 0
-under-odd d t e = ap (λ (x : ℕ). under x t) e
-
-under-even : (d t : ℕ) → d ≡ 0 → under d t ≡ suc t
-under-even d t e = ap (λ (x : ℕ). under x t) e
-
--- the least member is told by the zeros below it
+-- the least member is the number of zero bits below it
 pub first-is : (n w k : ℕ) → w < 2 ^ n → k ≡ trailingZeros n w → FirstMember n w k
 unfolding trailingZeros
 first-is zero w k l e = record { within = omega arith; member = λ m. absurd (omega arith); before = λ j m. absurd (omega arith) }
@@ -84,10 +74,10 @@ first-is (suc n) w k l e = go (first-is n (w / 2) (trailingZeros n (w / 2)) (ome
   where
     go : FirstMember n (w / 2) (trailingZeros n (w / 2)) → (b : Bool) → has 0 w ≡ b → FirstMember (suc n) w k
     go half true h =
-        let z : k ≡ 0 = e ∙ under-odd (w % 2) (trailingZeros n (w / 2)) (has-zero-true w h) in
+        let z : k ≡ 0 = e ∙ ap (λ (x : ℕ). under x (trailingZeros n (w / 2))) (has-zero-true w h) in
         record { within = omega arith; member = λ m. ap (λ (x : ℕ). has x w) z ∙ h; before = λ j m. absurd (omega arith) }
     go half false h =
-        let s : k ≡ suc (trailingZeros n (w / 2)) = e ∙ under-even (w % 2) (trailingZeros n (w / 2)) (has-zero-false w h) in
+        let s : k ≡ suc (trailingZeros n (w / 2)) = e ∙ ap (λ (x : ℕ). under x (trailingZeros n (w / 2))) (has-zero-false w h) in
         record {
           within = omega (arith, half .within);
           member = λ m. ap (λ (x : ℕ). has x w) s ∙ has-suc (trailingZeros n (w / 2)) w ∙ half .member (omega arith);
@@ -98,15 +88,13 @@ first-is (suc n) w k l e = go (first-is n (w / 2) (trailingZeros n (w / 2)) (ome
         none-under t g zero m = h
         none-under t g (suc j) m = has-suc j w ∙ g j (omega arith)
 
--- a set that is not empty has one
+-- a set that is not empty has a least member
 pub lowest-is : (n w k : ℕ) → w < 2 ^ n → w ≢ 0 → k ≡ trailingZeros n w → LeastMember n w k
-lowest-is n w k l d e = go (first-is n w k l e) (decLt k n)
-  where
-    go : FirstMember n w k → Dec (k < n) → LeastMember n w k
-    go F (yes m) = record { below = m; member = F .member m; least = F .before }
-    go F (no m) = let (j, h, f) = member n w l d in absurd (true-false f (F .before j (omega arith)))
+lowest-is n w k l d e = let F = first-is n w k l e in dite (decLt k n)
+    (λ m. record { below = m; member = F .member m; least = F .before })
+    (λ m. let (j, h, f) = member n w l d in absurd (true-false f (F .before j (omega arith))))
 
--- a member's power of two can be taken away, and then it is none
+-- a member's power of two can be subtracted, and after that it is no member
 pub taken-away : (k w : ℕ) → has k w ≡ true → (2 ^ k ≤ w) × (has k (w - 2 ^ k) ≡ false)
 taken-away zero w e =
     let d : (w - 1) % 2 ≡ 0 = omega (arith, has-zero-true w e) in

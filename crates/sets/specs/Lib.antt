@@ -1,2 +1,3 @@
+-- Sets of small numbers as words of bits.
 pub mod Set
 pub mod Pairs

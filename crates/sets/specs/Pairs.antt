@@ -1,10 +1,10 @@
--- Two sets: the set of their common members, and whether there is one. And a set of which one member is told. Assumes nothing.
+-- Two sets: their common members, and whether there are any. One set: its least member, and the set without a member. Assumes nothing.
 use Prim.Native.Nat.{ℕ, _≤_, _<_}
 use mathlib.Core.Bool.{Bool, true, false, _&&_}
 use mathlib.Core.Path.{_≡_}
 use Rattle.sets.specs.Set.{has, insert}
 
--- x has what both v and w have
+-- the members of x are the common members of v and w
 abbrev pub Common : ℕ → ℕ → ℕ → Type 0
 Common v w x = (k : ℕ) → has k x ≡ (has k v && has k w)
 
@@ -13,7 +13,7 @@ pub record Meeting (n v w : ℕ) (f : Bool) : Type 0 where
   pub found : f ≡ true → (k : ℕ) × (k < n) × (has k v ≡ true) × (has k w ≡ true)
   pub all : (k : ℕ) → has k v ≡ true → has k w ≡ true → f ≡ true
 
--- k is the least member of w
+-- k, below n, is the least member of w
 pub record LeastMember (n w k : ℕ) : Type 0 where
   pub below : k < n
   pub member : has k w ≡ true

@@ -1,5 +1,5 @@
-// Sets of nonterminals 0..31, each a u32 whose bit k says whether k is in the set; and sets of 0..63. The only shifts and masks of the
-// project.
+// Sets of nonterminals 0..31, each a u32 whose bit k says whether k is in the set; and sets of 0..63. The project has no other shifts
+// and masks.
 pub mod wide;
 
 ghost use mathlib.Core.Bool.{true};

@@ -1,11 +1,11 @@
--- The sizes of document 01, each said once. Assumes nothing.
+-- The sizes of document 01, each defined once. Assumes nothing.
 use Prim.Native.Nat.{ℕ, _+_, _*_}
 
--- the rules of a grammar (book) at most
+-- the most rules that a grammar (book) may have
 abbrev pub maxRules : ℕ
 maxRules = 128
 
--- the places of a rule at most
+-- the most places that a rule may have
 abbrev pub maxPlaces : ℕ
 maxPlaces = 8
 
@@ -13,30 +13,30 @@ maxPlaces = 8
 abbrev pub nonterminals : ℕ
 nonterminals = 32
 
--- the bytes of an input (marks of a plate) at most
+-- the most bytes (marks) that an input (plate) may have
 abbrev pub maxInput : ℕ
 maxInput = 64
 
--- where a span (stretch) may start or end: before each byte, and behind the last
+-- the number of positions where a span (stretch) can start or end: before each byte, and after the last
 abbrev pub side : ℕ
 side = maxInput + 1
 
--- the cells of a chart (words of a sheet)
+-- the number of cells of a chart (words of a sheet)
 abbrev pub cells : ℕ
 cells = side * side
 
--- the nodes of a derivation (parts of a reading) at most
+-- the most nodes (parts) that a derivation (reading) may have
 abbrev pub maxNodes : ℕ
 maxNodes = 512
 
--- one more than the nodes of any derivation: it stands for none
+-- one more than any derivation has nodes: as a number of nodes it means that there is no derivation
 abbrev pub tooMany : ℕ
 tooMany = maxNodes + 1
 
--- the largest figure that count gives, and the derivations that are listed at most
+-- the largest figure that count gives, and the most derivations that are listed
 abbrev pub most : ℕ
 most = 4096
 
--- the numbers of an output: two for each node
+-- the fewest numbers that an output may have: two for each node
 abbrev pub outputSize : ℕ
 outputSize = 2 * maxNodes

@@ -1,33 +1,33 @@
-// The sizes of document 01, for every crate. Each constant is tied to its twin in specs/ by the function of its name, since an edit of a
+// The sizes of document 01, for every crate. A function for each constant ties it to its twin in specs/, since a must-fail edit of a
 // constant is checked in this crate only.
 ghost use mathlib.Core.Path.{_≡_};
 ghost use Rattle.sizes.specs.Sizes.{maxRules, maxPlaces, nonterminals, maxInput, side, cells, maxNodes, tooMany, most, outputSize};
 
-// Rules of a grammar (book), places of a rule, and nonterminals (kinds).
+// The most rules of a grammar (book), the most places of a rule, and the number of nonterminals (kinds).
 pub const MAX_RULES: usize = 128;
 
 pub const MAX_PLACES: usize = 8;
 
 pub const NONTERMINALS: usize = 32;
 
-// The number of no rule, one past the last: it stands for none.
+// One more than the number of the last rule: it means that there is no rule.
 pub const NO_RULE: usize = MAX_RULES;
 
-// Bytes of an input (marks of a plate); where a span may start or end; cells of a chart (words of a sheet).
+// The most bytes of an input (marks of a plate), the number of positions where a span can start or end, and the cells of a chart.
 pub const MAX_INPUT: usize = 64;
 
 pub const SIDE: usize = MAX_INPUT + 1;
 
 pub const CELLS: usize = SIDE * SIDE;
 
-// Nodes of a derivation (parts of a reading); one more than any has, which stands for none; numbers of an output.
+// The most nodes of a derivation (parts of a reading); one more, which means that there is none; the numbers of an output.
 pub const MAX_NODES: usize = 512;
 
 pub const TOO_MANY: usize = MAX_NODES + 1;
 
 pub const OUTPUT: usize = 2 * MAX_NODES;
 
-// The largest figure that count gives, and the derivations (readings) that are listed at most.
+// The largest figure that count gives, and the most derivations (readings) that are listed.
 pub const MOST: usize = 4096;
 
 pub fn tied_rules() -> usize

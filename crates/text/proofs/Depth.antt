@@ -9,7 +9,7 @@ use Rattle.results.specs.Load.{Step, stop, next, done, step, refusedLoad, accep
 use Rattle.text.specs.Text.{inputText, loadedText, textOf}
 
 module _ (book w : List ℕ) (d : ℕ) where
-  -- the same for any number of commands, from any offset and any grammar on
+  -- the same for a run of any number of commands, from any offset and any grammar on
   run-text : (n at : ℕ) (g : Grammar) → loadedText (run d book n at g) w ≡ loadedText (run 0 book n at g) w
   unfolding run refusedLoad acceptedLoad loadedText inputText
   run-text zero at g = refl

@@ -35,7 +35,7 @@ operands-few c = go (eqb c 0x20) (eqb c 0x50)
 
 -- ---- two long books with the same front
 
--- no offset that a command leaves is greater
+-- no command starts at a greater offset
 abbrev farthest : ℕ
 farthest = 2580
 
@@ -79,7 +79,7 @@ module _ (s t : List ℕ) (long-s : bookFront ≤ length s) (long-t : bookFront 
       (decide-agree stop (λ _. carriedOut s at c g) (checks-agree at g h c)
       ∙ ap (λ (x : Step). decide (checks at g h c t) stop (λ _. x)) (carried-same at g h c))
 
-  -- where enough commands are allowed for each
+  -- both runs are the same if enough commands are allowed in each
   run-same : (d m n at : ℕ) (g : Grammar) → Near at g → farthest < at + m → farthest < at + n → run d s m at g ≡ run d t n at g
   run-same d zero n at g N h k = absurd (omega (arith, near-bound at g N))
   run-same d (suc m) zero at g N h k = absurd (omega (arith, near-bound at g N))
@@ -104,15 +104,10 @@ module _ (s t : List ℕ) (long-s : bookFront ≤ length s) (long-t : bookFront 
 -- ---- the book
 
 load-front : (book : List ℕ) (d : ℕ) → loadOf (take bookFront book) d ≡ loadOf book d
-load-front book d = dite (decLt bookFront (length book)) long short
-  where
-    long : bookFront < length book → loadOf (take bookFront book) d ≡ loadOf book d
-    long h =
-        let e = length-take-le bookFront book (omega arith) in
-        load-same (take bookFront book) book (omega arith) (omega arith) (λ i l. getD-take bookFront book i 0 l) d
-
-    short : (bookFront < length book → ⊥) → loadOf (take bookFront book) d ≡ loadOf book d
-    short h = ap (λ (b : List ℕ). loadOf b d) (take-all bookFront book (omega arith))
+load-front book d = dite (decLt bookFront (length book))
+    (λ h. let e = length-take-le bookFront book (omega arith) in
+    load-same (take bookFront book) book (omega arith) (omega arith) (λ i l. getD-take bookFront book i 0 l) d)
+    (λ h. ap (λ (b : List ℕ). loadOf b d) (take-all bookFront book (omega arith)))
 
 -- ---- the plate
 
@@ -122,15 +117,10 @@ unfolding inputText decide
 input-long g w h = rw (ne-eqb (length w) 0 (omega arith), lt-ltb maxInput (length w) (omega arith))
 
 input-front : (g : Grammar) (w : List ℕ) → inputText g (take plateFront w) ≡ inputText g w
-input-front g w = dite (decLt plateFront (length w)) long short
-  where
-    long : plateFront < length w → inputText g (take plateFront w) ≡ inputText g w
-    long h =
-        let e = length-take-le plateFront w (omega arith) in
-        input-long g (take plateFront w) (omega arith) ∙ sym (input-long g w (omega arith))
-
-    short : (plateFront < length w → ⊥) → inputText g (take plateFront w) ≡ inputText g w
-    short h = ap (inputText g) (take-all plateFront w (omega arith))
+input-front g w = dite (decLt plateFront (length w))
+    (λ h. let e = length-take-le plateFront w (omega arith) in
+    input-long g (take plateFront w) (omega arith) ∙ sym (input-long g w (omega arith)))
+    (λ h. ap (inputText g) (take-all plateFront w (omega arith)))
 
 loaded-front : (b : Loading) (w : List ℕ) → loadedText b (take plateFront w) ≡ loadedText b w
 unfolding loadedText

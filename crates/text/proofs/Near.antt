@@ -1,4 +1,4 @@
--- Each command of a book leaves the offset near its start: one start, at most 128 rules and at most 8 places for each come before it.
+-- Each offset that is reached is near the start of the book: one start, at most 128 rules and at most 8 places of each come before it.
 -- Assumes nothing.
 use Prim.Native.Nat.{ℕ, _+_, _*_, _-_, _≤_, _<_}
 use native.Mathlib.Omega.{arith}
@@ -16,7 +16,7 @@ use Rattle.grammar.proofs.Setters.{set-rule-size, set-rule-at}
 use Rattle.results.specs.Load.{operand, openRule, withStart, withRule, withPlace}
 use Rattle.results.proofs.Loading.Commands.{Invariant}
 
--- an offset, and the grammar that was read before it. At most 4 bytes are the start, 20 a rule with its places, and 2 each place
+-- an offset, and the grammar read before it. The start takes at most 4 bytes, a rule with its places at most 20, and a place 2
 pub record Near (at : ℕ) (g : Grammar) : Type 0 where
   pub few : g .count ≤ maxRules
   pub size : length (g .rules) ≡ maxRules

@@ -16,7 +16,7 @@ use Rattle.results.proofs.Decide.{decide-either}
 use Rattle.text.specs.Line.{readingsLine, refusedLine}
 use Rattle.text.specs.Text.{linesFrom, listText, emptyText, textBy, inputText, loadedText, textOf}
 
--- the lines of a text are so many
+-- how many lines a text has
 pub record Lines (text : List (List ℕ)) : Type 0 where
   pub some : 0 < length text
   pub few : length text ≤ suc most
@@ -30,7 +30,7 @@ unfolding linesFrom
 lines-length lengths place [] = refl
 lines-length lengths place (e ∷ l) = ap suc (lines-length lengths (suc place) l)
 
--- and one for how many there are
+-- one more line for how many there are
 list-length : (lengths : ℕ → ℤ) (l : List (List ℕ)) → length (listText lengths l) ≡ min most (length l) + 1
 unfolding listText
 list-length lengths l =

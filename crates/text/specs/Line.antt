@@ -21,13 +21,13 @@ colon = 58
 abbrev pub equals : ℕ
 equals = 61
 
--- the nodes (parts) of a derivation, a space before each: marks covered, point, rule
+-- the nodes (parts) of a derivation, with a space before each: bytes (marks) covered, point, rule
 unfoldable pub parts : List ℕ → List ℕ
 parts [] = []
 parts (cover ∷ []) = []
 parts (cover ∷ r ∷ e) = (space ∷ decimal cover) ++ (point ∷ decimal r) ++ parts e
 
--- what stands behind the nodes: an equals sign, and the length in tenths
+-- what follows the nodes: an equals sign, and the length in tenths
 unfoldable pub lengthEnd : ℤ → List ℕ
 lengthEnd z = (space ∷ equals ∷ space ∷ signedDecimal z) ++ (newline ∷ [])
 

@@ -9,7 +9,7 @@ use lib.IntN.{ℤ, pos, negsuc}
 abbrev pub digit : ℕ → ℕ
 digit d = 48 + d
 
--- a number in decimal, if it has at most so many digits
+-- the number n in decimal, if it has at most k digits
 unfoldable pub decimalBy : ℕ → ℕ → List ℕ
 decimalBy zero n = []
 decimalBy (suc k) n = elim (ltb n 10) [ true ↦ digit n ∷ [] | false ↦ decimalBy k (n / 10) ++ (digit (n % 10) ∷ []) ]
@@ -18,7 +18,7 @@ decimalBy (suc k) n = elim (ltb n 10) [ true ↦ digit n ∷ [] | false ↦ deci
 unfoldable pub decimal : ℕ → List ℕ
 decimal n = decimalBy (suc n) n
 
--- a signed number in decimal: a minus sign (45) stands before a negative one
+-- a signed number in decimal: a negative one begins with a minus sign (45)
 unfoldable pub signedDecimal : ℤ → List ℕ
 signedDecimal (pos n) = decimal n
 signedDecimal (negsuc n) = 45 ∷ decimal (suc n)

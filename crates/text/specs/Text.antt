@@ -16,7 +16,7 @@ use Rattle.results.specs.Measure.{sum, rounded}
 use Rattle.results.specs.Enumerate.{treeIn, figure}
 use Rattle.text.specs.Line.{line, refusedLine, noReadingLine, readingsLine}
 
--- the lines of derivations (readings), the first of which has this place in the list
+-- the lines of derivations (readings), where the first has this place in the list
 unfoldable pub linesFrom : (ℕ → ℤ) → ℕ → List (List ℕ) → List (List ℕ)
 linesFrom lengths place [] = []
 linesFrom lengths place (e ∷ l) = line place e (rounded (sum lengths e)) ∷ linesFrom lengths (suc place) l
@@ -25,16 +25,16 @@ linesFrom lengths place (e ∷ l) = line place e (rounded (sum lengths e)) ∷ l
 unfoldable pub listText : (ℕ → ℤ) → List (List ℕ) → List (List ℕ)
 listText lengths l = linesFrom lengths 1 (take most l) ++ (readingsLine (figure (length l)) ∷ [])
 
--- the one line where there is no derivation: refusal 13 where there is a tree
+-- the one line if there is no derivation: refusal 13 for an input with a tree, else `NO READING`
 unfoldable pub emptyText : Cfg → List ℕ → List (List ℕ)
 emptyText G w = cond (treeIn G w (replicate cells 0)) (refusedLine 13) noReadingLine ∷ []
 
--- the lines of an input, by its list of derivations
+-- the lines of an input by its list of derivations; `empty` if that is empty
 unfoldable pub textBy : (ℕ → ℤ) → List (List ℕ) → List (List ℕ) → List (List ℕ)
 textBy lengths empty [] = empty
 textBy lengths empty (e ∷ l) = listText lengths (e ∷ l)
 
--- the lines of an input that a grammar is given for: 9 is refused here
+-- the lines of an input for a loaded grammar; refusal 9 is given here
 unfoldable pub inputText : Grammar → List ℕ → List (List ℕ)
 inputText g w =
     decide (inputCheck w ∷ []) (λ n. refusedLine n ∷ [])

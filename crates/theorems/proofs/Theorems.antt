@@ -1,7 +1,7 @@
--- The final theorems over the definitions, each proved by citation. The demands are the customer's three (README says them in short); the
--- other sources are sections of document 01, his scope (docs/REFERENCE.md says what it fixes). The definitions stand in `cfg/specs`,
--- `chart/specs`, `grammar/specs`, `results/specs`, `text/specs`, `demands/specs`, `lister/specs` and `pages/specs`, and none in a `proofs/`
--- folder.
+-- The final theorems over the definitions, each proved by citation. The demands are the customer's three (README gives them in short); the
+-- other sources are sections of document 01, his scope (docs/REFERENCE.md says what it fixes). The definitions are in `cfg/specs`,
+-- `chart/specs`, `grammar/specs`, `results/specs`, `text/specs`, `demands/specs`, `print_begin/specs` and `print_page/specs`, and none is
+-- in a `proofs/` folder.
 --
 --   statement                         says                                                            source
 --   starred-table                     the starred plates, from book bytes to answers                   Plates from the drawer
@@ -33,13 +33,13 @@
 --   next/src/lib.rt        next         nextOf
 --   count/src/lib.rt       count        countOf
 --
--- The listing program reads, calls `begin` of print_begin/src/begin.rt and `fill_page` of print_page/src/lib.rt, whose contracts are the
--- premises of pages-text, and hands each page to `write` of print_write/src/lib.rt, which requires that these bytes come next in the text.
--- `list` of list/src/main.rt promises that none is left out, unless a write fails. So every byte handed to the write is proved, in its
--- order; that the write writes it is run.
+-- The listing program reads its files and calls `begin` of print_begin/src/begin.rt and `fill_page` of print_page/src/lib.rt; their
+-- contracts are the premises of pages-text. It hands each page to `write` of print_write/src/lib.rt, which requires that these bytes come
+-- next in the text. `list` of list/src/main.rt promises that none is left out, unless a write fails. So each byte that is handed to the
+-- write, and their order, is proved; that the write writes it is only tested.
 --
--- `tools/trace-check` reads the table above and fails if a call lacks its equality or has a `requires`; the table of the calls in
--- docs/TOUR.md is held to this file by it too. With the last three, demand-3 is a claim about the code's first, next and count.
+-- `tools/trace-check` reads the table above and fails if a call lacks its equality or has a `requires`; it also checks the table of the
+-- calls in docs/TOUR.md against this file. With the last three equalities, demand-3 is a claim about the code's first, next and count.
 -- Assumes nothing.
 use Prim.Native.Nat.{ℕ, suc, _+_, _-_, _≤_, _<_}
 use mathlib.Core.Bool.{true, false}
@@ -112,8 +112,8 @@ pub list-rising : (G : Cfg) (w : List ℕ) → Rising (L G w)
 list-rising G w = Exact.derivations-rising G limit w
 
 -- DEMAND 1 for loading, for every row of bytes and every nullable depth d: it is refused at the first fault from the left, with a number
--- from 1 to 7, its offset and the grammar of zeros; or it is read to its end, the grammar passes check 8, so that demands 2 and 3 are about
--- it, and what it does not use is zeros
+-- from 1 to 7, its offset and the grammar of zeros; or it is read to its end. Then the grammar passes check 8, so that demands 2 and 3 are
+-- about it, and what it does not use is zeros
 pub load-demand : (bytes : List ℕ) (d : ℕ) → LoadDemand bytes d (loadOf bytes d)
 load-demand = Load.load-demand
 
@@ -121,8 +121,8 @@ load-demand = Load.load-demand
 pub load-order : (bytes : List ℕ) (at : ℕ) (g : Grammar) → CommandOrder bytes at (getD bytes at 0) g (step bytes at g)
 load-order = LoadOrder.step-order
 
--- DEMAND 1, for every input of every other call: of a chart only the first 4,225 cells change, of an output only the derivation handed out;
--- the refusal given is the first that applies; and what each refusal leaves
+-- DEMAND 1, for every input of every other call: of a chart only the first 4,225 cells change, and of an output only the front, where a
+-- derivation is written; the refusal given is the first that applies; and what each refusal leaves
 pub open-demand : (g : Grammar) (chart : List ℕ) → OpenDemand g chart (openOf g chart)
 open-demand = Demand1.open-demand
 
@@ -147,7 +147,7 @@ first-demand = Demand1.first-demand
 pub next-demand : (g : Grammar) (w e chart out : List ℕ) → OutputDemand g w chart out (nextOf g w e chart out)
 next-demand = Demand1.next-demand
 
--- refusal 12 exactly where an offered derivation is none, 13 exactly where there are trees and no derivation
+-- refusal 12 is given exactly if what is offered is no derivation, 13 exactly if there are trees and no derivation
 pub length-twelve : (g : Grammar) (w chart e : List ℕ)
     → OfferedOrder (Ready g w chart) (Derivation (grammarOf g) limit w e) (lengthOf g w e chart .answer)
 length-twelve = Offered.length-twelve
@@ -168,8 +168,8 @@ first-thirteen = Trees.first-thirteen
 pub count-thirteen : (g : Grammar) (w chart : List ℕ) → TreesOrder (Ready g w chart) (grammarOf g) w (countOf g w chart .answer)
 count-thirteen = Trees.count-thirteen
 
--- TAKING over any chart and any state of 64 bytes: the state after it; of the chart only column n is written, the least one that is closed
--- under the rules, earlier columns as found; "complete" is the start symbol's bit
+-- TAKING over any chart and any state of 64 bytes: the state after it; of the chart only column n is written, as the least one that is
+-- closed under the rules with earlier columns as found; "complete" is the start symbol's bit
 pub take-any : (g : Grammar) (h : State) (m : ℕ) (found : List ℕ) → validGrammar g ≡ true → length (h .bytes) ≡ maxInput
     → h .count < maxInput
     → cells ≤ length found → Taken (grammarOf g) h m found (h .count + 1) (takeOf g h m found)
@@ -181,7 +181,7 @@ pub demand-2 : (g : Grammar) (found : List ℕ) → validGrammar g ≡ true → 
     → Recognized (grammarOf g) found ms (fed g (openOf g found) ms)
 demand-2 = Fed.recognized
 
--- the check says yes exactly of the derivations, whoever wrote the row
+-- the check says yes exactly if the offered row is a derivation, whoever wrote it
 pub check-yes : (g : Grammar) (w chart : List ℕ) → Ready g w chart → (e : List ℕ)
     → (checkOf g w e chart .answer ≡ answered true) ↔ Derivation (grammarOf g) limit w e
 check-yes = Check.check-yes
@@ -212,7 +212,7 @@ module _ (g : Grammar) (valid : validGrammar g ≡ true) (w : List ℕ) (low : 1
   first-then-next-said = Consequences.first-then-next-said g valid w low high
 
   module _ (chart : List ℕ) (room : cells ≤ length chart) where
-    -- count is N up to 4,096, where N is not 0 or the input has no tree, and "more" exactly above
+    -- count is N up to 4,096, if N is not 0 or the input has no tree; it is "more" exactly above
     pub count-exact : length (L (grammarOf g) w) ≤ 4096 → (1 ≤ length (L (grammarOf g) w)) ⊎ (HasTree (grammarOf g) w → ⊥)
         → countOf g w chart .answer ≡ answered (counted (length (L (grammarOf g) w)))
     count-exact = Consequences.count-exact g valid w low high chart room
@@ -244,8 +244,8 @@ text-depth = Depth.text-depth
 pub text-front : (book w : List ℕ) → textOf (take bookFront book) (take plateFront w) ≡ textOf book w
 text-front = Front.text-front
 
--- THE LISTING PROGRAM'S PAGES: what is due first was found from the fronts of book and plate, and page after page is written until nothing
--- is due. Then the pages, one after the other, are the text of the whole book and the whole plate, and there are at most 4,097 of them
+-- THE LISTING PROGRAM'S PAGES: if the first line that is due was found from the fronts of book and plate, and page after page is written
+-- until nothing is due, then the pages, one after the other, are the text of the whole book and plate, and there are at most 4,097 of them
 module _ (book w p : List ℕ) (lengths : List ℤ) (chart₀ chart fits tables buf₀ buf last : List ℕ) (d : Due)
     (begun : BookBegun (take bookFront book) (take plateFront w) p lengths chart₀ chart fits tables buf₀ buf d) (pages : List (List ℕ))
     (run : Pages (lengthsIn lengths) p fits chart tables d buf pages Nothing last) where

@@ -1,4 +1,4 @@
--- `grammar::valid` meets its contract. The loop's invariant: the start symbol and the count are small, and the rules passed are valid.
+-- `grammar::valid` meets its contract. The loop's invariant: the start symbol and the count are small, and the rules before i are valid.
 -- The measure is what is left of the count. Assumes nothing.
 use Prim.Native.Nat.{_≤_, _-_}
 use mathlib.Core.Bool.{true}

@@ -1,4 +1,4 @@
--- What document 01 names of first, next and count, from the decided results: a first and enough nexts hand out L and end with "none"; count
+-- What document 01 says of first, next and count, for the decided results: a first and enough nexts hand out L and end with "none"; count
 -- is exact; "no reading" and refusal 13 mean what they say. Assumes nothing.
 use Prim.Native.Nat.{ℕ, suc, _+_, _-_, _≤_, _<_, min}
 use native.Mathlib.Decide.{decLt, decLe}
@@ -20,7 +20,7 @@ use Rattle.grammar.proofs.Bounds.{valid-bounded}
 use Rattle.results.specs.Answer.{Answer, refused, answered, Handing, handed, nothing, Figure, counted, more}
 use Rattle.results.specs.Check.{Checking}
 use Rattle.results.specs.Enumerate.{Enumeration, figure, firstIn, countIn, firstOf, countOf}
-use Rattle.results.specs.Walk.{Call, hands, handedOut, nexts, NoFirst}
+use Rattle.results.specs.Walk.{Call, hands, N, handedOut, nexts, NoFirst}
 use Rattle.results.specs.Walk as Walk
 use Rattle.results.specs.History.{first, which, AllAllowed, history}
 use Rattle.results.specs.Demand3.{LastFirst, nextCalls, Larger}
@@ -50,8 +50,8 @@ abbrev last-of-first : (chart out : List ℕ) (lent : List (List ℕ × List ℕ
 last-of-first chart out lent =
     record { before = []; chart = chart; out = out; after = nextCalls lent; split = refl; none = nextCalls-no-first lent }
 
-larger-none : (g : Grammar) (w : List ℕ) → Larger g w → length (L (grammarOf g) w) ≡ 0
-larger-none g w l = dite (decLt 0 (length (L (grammarOf g) w)))
+larger-none : (g : Grammar) (w : List ℕ) → Larger g w → N (grammarOf g) w ≡ 0
+larger-none g w l = dite (decLt 0 (N (grammarOf g) w))
     (λ h. let s = L-some (grammarOf g) w h in let k = l .1 (s .0) (s .1) in absurd (omega arith))
     (λ h. omega arith)
 
@@ -60,9 +60,9 @@ module _ (g : Grammar) (valid : validGrammar g ≡ true) (w : List ℕ) (low : 1
 
   module _ (chart out : List ℕ) (lent : List (List ℕ × List ℕ)) (a : AllAllowed (grammarOf g) w (first chart out ∷ nextCalls lent)) where
     -- with n at least N - 1 the answers are the rows of L, one after the other, and then "none"
-    pub first-then-next-said : 1 ≤ length (L (grammarOf g) w) → length (L (grammarOf g) w) ≤ suc (length lent)
+    pub first-then-next-said : 1 ≤ N (grammarOf g) w → N (grammarOf g) w ≤ suc (length lent)
         → history g w [] (first chart out ∷ nextCalls lent)
-        ≡ map hands (L (grammarOf g) w) ++ replicate (suc (length lent) - length (L (grammarOf g) w)) Walk.noneLeft
+        ≡ map hands (L (grammarOf g) w) ++ replicate (suc (length lent) - N (grammarOf g) w) Walk.noneLeft
     first-then-next-said l h =
         let tree = tree-decided g valid w low high in
         walk-holds g valid w low high tree (first chart out ∷ nextCalls lent) a
@@ -70,13 +70,13 @@ module _ (g : Grammar) (valid : validGrammar g ≡ true) (w : List ℕ) (low : 1
         ∙ first-nexts (grammarOf g) w tree (length lent) 0 l h
 
     -- with n at least N they hand out L
-    pub first-then-next : length (L (grammarOf g) w) ≤ length lent
+    pub first-then-next : N (grammarOf g) w ≤ length lent
         → handedOut (history g w [] (first chart out ∷ nextCalls lent)) ≡ L (grammarOf g) w
     first-then-next h =
         let tree = tree-decided g valid w low high in
         let n = nextCalls-nexts lent in
         let f = last-of-first chart out lent in
-        let e : min (length (L (grammarOf g) w)) (1 + nexts (map which (nextCalls lent))) ≡ length (L (grammarOf g) w) = omega arith in
+        let e : min (N (grammarOf g) w) (1 + nexts (map which (nextCalls lent))) ≡ N (grammarOf g) w = omega arith in
         let d = demand-3 g valid w low high tree (first chart out ∷ nextCalls lent) a in
         d .handed-since f ∙ ap (λ (k : ℕ). take k (L (grammarOf g) w)) (d .place-since f ∙ e) ∙ take-length (L (grammarOf g) w)
 
@@ -89,43 +89,42 @@ module _ (g : Grammar) (valid : validGrammar g ≡ true) (w : List ℕ) (low : 1
     count-in : countOf g w chart .answer ≡ countIn (grammarOf g) w chart .answer
     count-in = ap (λ (k : Checking Figure). k .answer) (count-passed g w chart (ready g valid w low high chart c))
 
-    count-some : 0 < length (L (grammarOf g) w) → countOf g w chart .answer ≡ answered (figure (length (L (grammarOf g) w)))
+    count-some : 0 < N (grammarOf g) w → countOf g w chart .answer ≡ answered (figure (N (grammarOf g) w))
     count-some l = count-in ∙ countIn-some (grammarOf g) w chart l
 
-    count-none : length (L (grammarOf g) w) ≡ 0 → (tree : Dec (HasTree (grammarOf g) w))
+    count-none : N (grammarOf g) w ≡ 0 → (tree : Dec (HasTree (grammarOf g) w))
         → countOf g w chart .answer ≡ ite tree (refused 13) (answered (counted 0))
     count-none h tree = count-in ∙ countIn-none (grammarOf g) bounded w high chart c h tree
 
-    -- by how many readings L has, and whether the input has a tree
-    count-by : (P : Answer Figure → Type 0)
-        → (0 < length (L (grammarOf g) w) → length (L (grammarOf g) w) ≤ most → P (answered (counted (length (L (grammarOf g) w)))))
-        → (most < length (L (grammarOf g) w) → P (answered more))
+    -- what holds in each case: by how many readings L has, and whether the input has a tree
+    pub count-by : (P : Answer Figure → Type 0)
+        → (0 < N (grammarOf g) w → N (grammarOf g) w ≤ most → P (answered (counted (N (grammarOf g) w))))
+        → (most < N (grammarOf g) w → P (answered more))
         → (Larger g w → P (refused 13)) → ((HasTree (grammarOf g) w → ⊥) → P (answered (counted 0))) → P (countOf g w chart .answer)
-    count-by P some above larger none = dite (decLt 0 (length (L (grammarOf g) w)))
-        (λ l. subst P (sym (count-some l)) (dite (decLe (length (L (grammarOf g) w)) most)
-        (λ h. rw (figure-counted (length (L (grammarOf g) w)) h) (some l h))
-        (λ h. let m : most < length (L (grammarOf g) w) = omega arith in rw (figure-more (length (L (grammarOf g) w)) m) (above m))))
-        (λ l. let z : length (L (grammarOf g) w) ≡ 0 = omega arith in by z (tree-decided g valid w low high))
+    count-by P some above larger none = dite (decLt 0 (N (grammarOf g) w))
+        (λ l. subst P (sym (count-some l)) (dite (decLe (N (grammarOf g) w) most)
+        (λ h. rw (figure-counted (N (grammarOf g) w) h) (some l h))
+        (λ h. let m : most < N (grammarOf g) w = omega arith in rw (figure-more (N (grammarOf g) w) m) (above m))))
+        (λ l. let z : N (grammarOf g) w ≡ 0 = omega arith in by z (tree-decided g valid w low high))
       where
-        by : length (L (grammarOf g) w) ≡ 0 → Dec (HasTree (grammarOf g) w) → P (countOf g w chart .answer)
+        by : N (grammarOf g) w ≡ 0 → Dec (HasTree (grammarOf g) w) → P (countOf g w chart .answer)
         by z (yes t) = subst P (sym (count-none z (yes t))) (larger (t, L-none (grammarOf g) w z))
         by z (no n) = subst P (sym (count-none z (no n))) (none n)
 
-    -- N where it is at most 4,096 and there is a reading, or no tree
-    pub count-exact : length (L (grammarOf g) w) ≤ most → (1 ≤ length (L (grammarOf g) w)) ⊎ (HasTree (grammarOf g) w → ⊥)
-        → countOf g w chart .answer ≡ answered (counted (length (L (grammarOf g) w)))
-    count-exact h (inl l) = count-some l ∙ ap answered (figure-counted (length (L (grammarOf g) w)) h)
+    -- count gives N if N is at most 4,096, and there is a reading or no tree
+    pub count-exact : N (grammarOf g) w ≤ most → (1 ≤ N (grammarOf g) w) ⊎ (HasTree (grammarOf g) w → ⊥)
+        → countOf g w chart .answer ≡ answered (counted (N (grammarOf g) w))
+    count-exact h (inl l) = count-some l ∙ ap answered (figure-counted (N (grammarOf g) w) h)
     count-exact h (inr n) =
         let e = L-no-tree (grammarOf g) w n in
         count-none e (no n) ∙ ap (λ (k : ℕ). answered (counted k)) (sym e)
 
-    pub count-more : (countOf g w chart .answer ≡ answered more) ↔ (most < length (L (grammarOf g) w))
+    pub count-more : (countOf g w chart .answer ≡ answered more) ↔ (most < N (grammarOf g) w)
     count-more = (
-      count-by (λ a. a ≡ answered more → most < length (L (grammarOf g) w))
-          (λ l h e. absurd (figures-apart (length (L (grammarOf g) w)) e)) (λ h e. h) (λ l e. absurd (refused-apart e))
+      count-by (λ a. a ≡ answered more → most < N (grammarOf g) w)
+          (λ l h e. absurd (figures-apart (N (grammarOf g) w) e)) (λ h e. h) (λ l e. absurd (refused-apart e))
           (λ n e. absurd (figures-apart 0 e)),
-      λ h. let l : 0 < length (L (grammarOf g) w) = omega arith in
-          count-some l ∙ ap answered (figure-more (length (L (grammarOf g) w)) h),
+      λ h. count-some (omega arith) ∙ ap answered (figure-more (N (grammarOf g) w) h),
     )
 
     pub count-larger : (countOf g w chart .answer ≡ refused 13) ↔ Larger g w
@@ -141,17 +140,17 @@ module _ (g : Grammar) (valid : validGrammar g ≡ true) (w : List ℕ) (low : 1
       first-in : firstOf g w chart out .answer ≡ firstIn (grammarOf g) w chart out .answer
       first-in = ap (λ (r : Enumeration). r .answer) (first-passed g w chart out (ready-out g valid w low high chart out c o))
 
-      first-none : length (L (grammarOf g) w) ≡ 0 → (tree : Dec (HasTree (grammarOf g) w))
+      first-none : N (grammarOf g) w ≡ 0 → (tree : Dec (HasTree (grammarOf g) w))
           → firstOf g w chart out .answer ≡ ite tree (refused 13) (answered nothing)
       first-none h tree = first-in ∙ firstIn-none (grammarOf g) bounded w high chart c out h tree
 
-      first-by : (P : Answer Handing → Type 0) → ((n : ℕ) → 0 < length (L (grammarOf g) w) → P (answered (handed n)))
+      pub first-by : (P : Answer Handing → Type 0) → ((n : ℕ) → 0 < N (grammarOf g) w → P (answered (handed n)))
           → (Larger g w → P (refused 13)) → ((HasTree (grammarOf g) w → ⊥) → P (answered nothing)) → P (firstOf g w chart out .answer)
-      first-by P some larger none = dite (decLt 0 (length (L (grammarOf g) w)))
+      first-by P some larger none = dite (decLt 0 (N (grammarOf g) w))
           (λ l. subst P (sym (first-in ∙ firstIn-some (grammarOf g) w chart out l)) (some _ l))
-          (λ l. let z : length (L (grammarOf g) w) ≡ 0 = omega arith in by z (tree-decided g valid w low high))
+          (λ l. let z : N (grammarOf g) w ≡ 0 = omega arith in by z (tree-decided g valid w low high))
         where
-          by : length (L (grammarOf g) w) ≡ 0 → Dec (HasTree (grammarOf g) w) → P (firstOf g w chart out .answer)
+          by : N (grammarOf g) w ≡ 0 → Dec (HasTree (grammarOf g) w) → P (firstOf g w chart out .answer)
           by z (yes t) = subst P (sym (first-none z (yes t))) (larger (t, L-none (grammarOf g) w z))
           by z (no n) = subst P (sym (first-none z (no n))) (none n)
 

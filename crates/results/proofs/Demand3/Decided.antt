@@ -9,6 +9,7 @@ use mathlib.Core.Path.{_≡_, refl, sym, ap, _∙_}
 use lib.ListN.{length, getD, replicate, length-replicate}
 use borrow.Author.Tests.{eq-eqb, ne-eqb}
 use Rattle.sizes.specs.Sizes.{maxInput, cells}
+use Rattle.laws.proofs.Bools.{by-test}
 use Rattle.cfg.specs.Grammar.{Cfg}
 use Rattle.cfg.specs.Tree.{HasTree}
 use Rattle.cfg.specs.Listing.{L}
@@ -47,19 +48,12 @@ module _ (G : Cfg) (bounded : Bounded G) (w : List ℕ) (high : length w ≤ max
     unfolding firstIn handingOut
     firstIn-none out h tree = rw (head-none (L G w) h) (treeIn-choice tree (refused 13) (answered nothing))
 
-  -- whether the input has a tree is decided by the chart of a fresh filling
+  -- the chart that is filled for the input decides whether it has a tree
   pub tree-decided : Dec (HasTree G w)
-  tree-decided = go (treeIn G w fresh) refl
-    where
-      fresh : List ℕ
-      fresh = replicate cells 0
-
-      long : cells ≤ length fresh
-      long = omega (arith, length-replicate {A = ℕ} cells 0)
-
-      go : (t : Bool) → treeIn G w fresh ≡ t → Dec (HasTree G w)
-      go true e = yes (treeIn-exact fresh long .0 e)
-      go false e = no λ t. false≢true (sym e ∙ treeIn-exact fresh long .1 t)
+  tree-decided =
+      let long : cells ≤ length (replicate {A = ℕ} cells 0) = omega (arith, length-replicate {A = ℕ} cells 0) in
+      let exact = treeIn-exact (replicate cells 0) long in
+      by-test (treeIn G w (replicate cells 0)) (λ e. yes (exact .0 e)) (λ e. no λ t. false≢true (sym e ∙ exact .1 t))
 
 module _ (G : Cfg) (w chart : List ℕ) where
   pub countIn-some : 0 < length (L G w) → countIn G w chart .answer ≡ answered (figure (length (L G w)))

@@ -1,11 +1,11 @@
 -- What count says of N, by the decided results and by the machine: the figure up to `most`, "more" above; the rows on both sides of 4,096;
 -- and the two agree. Assumes nothing.
 use Prim.Native.Nat.{ℕ, _≤_, _<_}
-use mathlib.Core.Bool.{Bool, true, false, cond}
 use mathlib.Core.List.{List, _∷_}
 use mathlib.Core.Path.{_≡_, refl}
 use lib.Dec.{leb}
 use borrow.Author.Tests.{le-leb, lt-leb}
+use Rattle.laws.proofs.Bools.{by-test}
 use Rattle.sizes.specs.Sizes.{most}
 use Rattle.results.specs.Answer.{answered, counted, more}
 use Rattle.results.specs.Enumerate.{figure}
@@ -34,28 +34,16 @@ module _ (n : ℕ) where
   unfolding figure
   figure-more h = rw (lt-leb n most h)
 
-  -- the caller hears of the decided figure what the machine says
+  -- what count says to the caller is what the machine says
   pub figure-said : countSaid (answered (figure n)) ≡ saysCount n
   unfolding countSaid figure saysCount
-  figure-said = by (leb n most)
-    where
-      by : (b : Bool) → countSaid (answered (cond b (counted n) more)) ≡ cond b (counts n) Walk.more
-      by true = refl
-      by false = refl
+  figure-said = by-test (leb n most) (λ e. rw e) (λ e. rw e)
 
   -- the machine's figure hands nothing out
   pub saysCount-copied : (copy : List ℕ) → copied (saysCount n) copy ≡ copy
   unfolding copied saysCount
-  saysCount-copied copy = by (leb n most)
-    where
-      by : (b : Bool) → copied (cond b (counts n) Walk.more) copy ≡ copy
-      by true = refl
-      by false = refl
+  saysCount-copied copy = by-test (leb n most) (λ e. rw e) (λ e. rw e)
 
   pub saysCount-handed : (said : List Said) → handedOut (saysCount n ∷ said) ≡ handedOut said
   unfolding handedOut saysCount
-  saysCount-handed said = by (leb n most)
-    where
-      by : (b : Bool) → handedOut (cond b (counts n) Walk.more ∷ said) ≡ handedOut said
-      by true = refl
-      by false = refl
+  saysCount-handed said = by-test (leb n most) (λ e. rw e) (λ e. rw e)

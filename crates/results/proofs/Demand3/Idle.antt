@@ -1,10 +1,10 @@
--- The machine over lists of calls: what a list says after a front of it; the place never passes N; and which calls stay at their place and
+-- The machine over lists of calls: what a list says after its front; that the place never passes N; and which calls stay at their place and
 -- hand nothing out. Assumes nothing.
 use Prim.Native.Nat.{ℕ, suc, _≤_}
 use native.Mathlib.Decide.{decLt}
 use native.Mathlib.Omega.{arith}
 use mathlib.Core.List.{List, [], _∷_, _++_}
-use mathlib.Core.Logic.{dite, ite}
+use mathlib.Core.Logic.{dite}
 use mathlib.Core.Path.{_≡_, refl, sym, ap, subst, _∙_}
 use lib.ListN.{length, drop}
 use lib.Seq.{drop-append-seam}
@@ -12,18 +12,13 @@ use Rattle.cfg.specs.Grammar.{Cfg}
 use Rattle.cfg.specs.Tree.{HasTree}
 use Rattle.results.specs.Walk.{Call, first, nextCopy, nextOther, count, Said, hands, noDerivation, refuses, counts}
 use Rattle.results.specs.Walk.{Move, move, N, walk, walked, placeAfter, handedOut}
-use Rattle.results.proofs.Demand3.Machine.{first-none, next-zero, next-last, next-other, count-none, count-some, walk-keeps}
+use Rattle.results.proofs.Demand3.Machine.{either-side, first-none, next-zero, next-last, next-other, count-none, count-some}
+use Rattle.results.proofs.Demand3.Machine.{walk-keeps}
 use Rattle.results.proofs.Demand3.Figures.{saysCount-handed}
 
 -- a move that stays at the place p and hands nothing out
 abbrev pub Idle : ℕ → Move → Type 0
 Idle p m = (m .place ≡ p) × ((said : List Said) → handedOut (m .said ∷ said) ≡ handedOut said)
-
--- what is said of a choice between a refusal and something that is not handed out
-pub idle-choice : {P : Type 0} (d : Dec P) (n : ℕ) (s : Said) (p : ℕ) → Idle p (move s p) → Idle p (move (ite d (refuses n) s) p)
-unfolding handedOut
-idle-choice (yes t) n s p i = (refl, λ said. refl)
-idle-choice (no t) n s p i = i
 
 module _ (G : Cfg) (w : List ℕ) (tree : Dec (HasTree G w)) where
   -- ---- lists of calls one after the other
@@ -65,7 +60,8 @@ module _ (G : Cfg) (w : List ℕ) (tree : Dec (HasTree G w)) where
   unfolding handedOut
   idle-count p = dite (decLt 0 (N G w))
       (λ h. subst (Idle p) (sym (count-some G w tree p h)) (refl, saysCount-handed (N G w)))
-      (λ h. subst (Idle p) (sym (count-none G w tree p (omega arith))) (idle-choice tree 13 (counts 0) p (refl, λ said. refl)))
+      (λ h. subst (Idle p) (sym (count-none G w tree p (omega arith)))
+      (either-side (λ (s : Said). Idle p (move s p)) tree (refuses 13) (counts 0) (refl, λ said. refl) (refl, λ said. refl)))
 
   pub idle-next-zero : Idle 0 (walk G w tree nextCopy 0)
   unfolding handedOut
@@ -77,7 +73,8 @@ module _ (G : Cfg) (w : List ℕ) (tree : Dec (HasTree G w)) where
 
   pub idle-first : (p : ℕ) → N G w ≡ 0 → Idle p (walk G w tree first p)
   unfolding handedOut
-  idle-first p h = subst (Idle p) (sym (first-none G w tree p h)) (idle-choice tree 13 noDerivation p (refl, λ said. refl))
+  idle-first p h = subst (Idle p) (sym (first-none G w tree p h))
+      (either-side (λ (s : Said). Idle p (move s p)) tree (refuses 13) noDerivation (refl, λ said. refl) (refl, λ said. refl))
 
   -- an idle call at the front of a list changes neither the place at the end nor what is handed out
   pub idle-place : (c : Call) (calls : List Call) (p : ℕ) → Idle p (walk G w tree c p)

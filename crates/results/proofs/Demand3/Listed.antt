@@ -33,7 +33,7 @@ module _ (G : Cfg) (w : List ℕ) where
     pub reading-short : length e ≤ outputSize
     reading-short = let r = reading-nodes in omega arith
 
-    -- handed out: the front of the output, twice as many numbers as it has nodes, is the reading
+    -- the front of the output, twice as many numbers as the reading has nodes, is the reading that was handed out
     pub reading-back : (out : List ℕ) → take (2 * (length e / 2)) (e ++ drop (length e) out) ≡ e
     reading-back out =
         rw reading-even (take-append-seam e (drop (length e) out))
@@ -45,7 +45,7 @@ module _ (G : Cfg) (w : List ℕ) where
       none [] q i = List·Memᴰ·not-nil i
       none (d ∷ l) q i = omega arith
 
-  -- where there are rows there is a tree of at most 512 nodes
+  -- if L has a row, there is a tree of at most 512 nodes
   pub L-some : 0 < length (L G w) → (t : Forest) × Parse G (G .start) w t × (nodes t ≤ maxNodes)
   L-some h = some (L G w) h (λ e i. listed→derivation G limit w e i)
     where

@@ -10,9 +10,14 @@ use borrow.Author.Tests.{lt-ltb, le-ltb, eq-eqb, ne-eqb}
 use Rattle.cfg.specs.Grammar.{Cfg}
 use Rattle.cfg.specs.Tree.{HasTree}
 use Rattle.results.specs.Walk.{Call, first, nextCopy, nextOther, count, hands, noDerivation, noneLeft, refuses, counts, saysCount}
-use Rattle.results.specs.Walk.{Move, move, N, reading, walk}
+use Rattle.results.specs.Walk.{Said, Move, move, N, reading, walk}
 use Rattle.results.specs.History.{copied}
 use Rattle.results.proofs.Demand3.Figures.{saysCount-copied}
+
+-- what holds of both sides of a choice holds of the choice
+pub either-side : {A P : Type 0} (Q : A → Type 0) (d : Dec P) (a b : A) → Q a → Q b → Q (ite d a b)
+either-side Q (yes t) a b x y = x
+either-side Q (no n) a b x y = y
 
 module _ (G : Cfg) (w : List ℕ) (tree : Dec (HasTree G w)) where
   pub first-some : (p : ℕ) → 0 < N G w → walk G w tree first p ≡ move (hands (reading G w 1)) 1
@@ -56,11 +61,8 @@ module _ (G : Cfg) (w : List ℕ) (tree : Dec (HasTree G w)) where
   unfolding copied
   walk-keeps first p h = dite (decLt 0 (N G w))
       (λ k. subst (Keeps p) (sym (first-some p k)) (k, refl))
-      (λ k. subst (Keeps p) (sym (first-none p (omega arith))) (none tree))
-    where
-      none : (d : Dec (HasTree G w)) → Keeps p (move (ite d (refuses 13) noDerivation) p)
-      none (yes t) = (h, refl)
-      none (no n) = (h, refl)
+      (λ k. subst (Keeps p) (sym (first-none p (omega arith)))
+      (either-side (λ (s : Said). Keeps p (move s p)) tree (refuses 13) noDerivation (h, refl) (h, refl)))
   walk-keeps nextCopy zero h = subst (Keeps 0) (sym next-zero) (h, refl)
   walk-keeps nextCopy (suc p) h = dite (decLt (suc p) (N G w))
       (λ k. subst (Keeps (suc p)) (sym (next-some p k)) (k, refl))
@@ -68,8 +70,5 @@ module _ (G : Cfg) (w : List ℕ) (tree : Dec (HasTree G w)) where
   walk-keeps nextOther p h = subst (Keeps p) (sym (next-other p)) (h, refl)
   walk-keeps count p h = dite (decLt 0 (N G w))
       (λ k. subst (Keeps p) (sym (count-some p k)) (h, saysCount-copied (N G w) (reading G w p)))
-      (λ k. subst (Keeps p) (sym (count-none p (omega arith))) (none tree))
-    where
-      none : (d : Dec (HasTree G w)) → Keeps p (move (ite d (refuses 13) (counts 0)) p)
-      none (yes t) = (h, refl)
-      none (no n) = (h, refl)
+      (λ k. subst (Keeps p) (sym (count-none p (omega arith)))
+      (either-side (λ (s : Said). Keeps p (move s p)) tree (refuses 13) (counts 0) (h, refl) (h, refl)))

@@ -14,7 +14,7 @@ use Rattle.results.specs.Walk.{Call, first, nextCopy, Said, hands, noneL
 use Rattle.results.proofs.Demand3.Machine.{first-some, next-some, next-last}
 
 module _ (G : Cfg) (w : List ℕ) (tree : Dec (HasTree G w)) where
-  -- the first answer and the rest, where the first move is known
+  -- the first answer and the rest, if the first move is known
   walked-move : (c : Call) (calls : List Call) (p q : ℕ) (s : Said) → walk G w tree c p ≡ move s q
       → walked G w tree (c ∷ calls) p ≡ s ∷ walked G w tree calls q
   unfolding walked
@@ -28,7 +28,7 @@ module _ (G : Cfg) (w : List ℕ) (tree : Dec (HasTree G w)) where
       walked-move nextCopy (replicate n nextCopy) (suc i) (suc i) noneLeft (next-last G w tree i h)
       ∙ ap (λ (l : List Said). noneLeft ∷ l) (nexts-at-end n i h)
 
-  -- k rows before the end: k rows, and then "none"
+  -- k readings before the end, the nexts hand out k readings and then say "none"
   pub nexts-to-end : (k n i : ℕ) → suc i + k ≡ N G w
       → walked G w tree (replicate (k + n) nextCopy) (suc i) ≡ map hands (drop (suc i) (L G w)) ++ replicate n noneLeft
   nexts-to-end zero n i h =
@@ -39,7 +39,7 @@ module _ (G : Cfg) (w : List ℕ) (tree : Dec (HasTree G w)) where
       (next-some G w tree i (omega arith))
       ∙ ap (λ (l : List Said). hands (getD (L G w) (suc i) []) ∷ l) (nexts-to-end k n (suc i) (omega arith)))
 
-  -- a first and n nexts, where L has a reading and at most one reading more than there are nexts
+  -- a first and n nexts, if L has at least one reading and at most n + 1
   pub first-nexts : (n p : ℕ) → 1 ≤ N G w → N G w ≤ suc n
       → walked G w tree (first ∷ replicate n nextCopy) p ≡ map hands (L G w) ++ replicate (suc n - N G w) noneLeft
   first-nexts n p l h =

@@ -1,5 +1,5 @@
 -- Demand 3, second half, over the machine. Before any first the place is 0 and nothing is handed out. After one, the derivations handed
--- out since the last first, its own included, are the first p of L in their order, p being the place: the smaller of N and 1 plus how
+-- out since the last first, its own included, are the first p of L in their order. Here p is the place: the smaller of N and 1 plus how
 -- often next was since offered the copy. Assumes nothing.
 use Prim.Native.Nat.{ℕ, zero, suc, _+_, _≤_, _<_, min}
 use native.Mathlib.Decide.{decLt}
@@ -29,8 +29,7 @@ module _ (G : Cfg) (w : List ℕ) (tree : Dec (HasTree G w)) where
   still-idle : (c : Call) (calls : List Call) → Idle 0 (walk G w tree c 0) → Still calls → Still (c ∷ calls)
   still-idle c calls i s = (idle-place G w tree c calls 0 i ∙ s .0, idle-handed G w tree c calls 0 i ∙ s .1)
 
-  pub before-first : (calls : List Call) → NoFirst calls
-      → (placeAfter G w tree calls 0 ≡ 0) × (handedOut (walked G w tree calls 0) ≡ [])
+  pub before-first : (calls : List Call) → NoFirst calls → Still calls
   unfolding placeAfter walked handedOut
   before-first [] n = (refl, refl)
   before-first (first ∷ calls) n = absurd n
@@ -40,7 +39,7 @@ module _ (G : Cfg) (w : List ℕ) (tree : Dec (HasTree G w)) where
 
   -- ---- after a first
 
-  -- from the place p these calls go to the smaller of N and n, and the rows up to p together with those handed out are as many of L
+  -- from the place p these calls go to the smaller of N and n; the rows up to p and those handed out are together the first so many of L
   abbrev pub Firsts : List Call → ℕ → ℕ → Type 0
   Firsts calls p n =
       (placeAfter G w tree calls p ≡ min (N G w) n)

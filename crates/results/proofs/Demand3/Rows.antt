@@ -1,9 +1,8 @@
--- The tests of rows of numbers: two rows are the same, a reading is in a list, and the reading after a reading of a rising list.
--- Assumes nothing.
+-- The tests of rows of numbers: two rows are the same, a row is in a list; and the row after a row of a rising list. Assumes nothing.
 use Prim.Native.Nat.{ℕ, zero, suc, _<_}
 use native.Mathlib.Nat.{not-suc-le-zero}
 use native.Mathlib.Omega.{arith}
-use mathlib.Core.Bool.{Bool, true, false, _&&_, _||_, false≢true}
+use mathlib.Core.Bool.{true, false, false≢true}
 use mathlib.Core.List.{List, [], _∷_, List·Memᴰ, List·Memᴰ·head, List·Memᴰ·tail}
 use mathlib.Core.Logic.{_↔_}
 use mathlib.Core.Option.{none, some}
@@ -11,6 +10,7 @@ use mathlib.Core.Path.{_≡_, refl, sym, ap₂, subst, _∙_}
 use lib.Dec.{eqb}
 use lib.ListN.{length, getD}
 use borrow.Author.Tests.{eqb-true, eq-eqb}
+use Rattle.laws.proofs.Bools.{by-test, bool-false, and-parts}
 use Rattle.cfg.specs.Derivation.{_≺_, Rising}
 use Rattle.theory_listing.proofs.Members.{Pairs, pairs-none, pairs-more}
 use Rattle.theory_listing.proofs.Order.{≺-different}
@@ -25,11 +25,7 @@ unfolding same
 same-true [] [] e = refl
 same-true [] (b ∷ y) e = absurd (false≢true e)
 same-true (a ∷ x) [] e = absurd (false≢true e)
-same-true (a ∷ x) (b ∷ y) e = go (eqb a b) refl e (same-true x y)
-  where
-    go : (t : Bool) → eqb a b ≡ t → (t && same x y) ≡ true → (same x y ≡ true → x ≡ y) → a ∷ x ≡ b ∷ y
-    go true p q later = ap₂ _∷_ (eqb-true a b p) (later q)
-    go false p q later = absurd (false≢true q)
+same-true (a ∷ x) (b ∷ y) e = let p = and-parts (eqb a b) (same x y) e in ap₂ _∷_ (eqb-true a b (p .0)) (same-true x y (p .1))
 
 pub same-itself : (x : List ℕ) → same x x ≡ true
 unfolding same
@@ -40,38 +36,23 @@ pub same-exact : (x y : List ℕ) → (same x y ≡ true) ↔ (x ≡ y)
 same-exact x y = (same-true x y, λ e. subst (λ (z : List ℕ). same x z ≡ true) e (same-itself x))
 
 pub same-false : (x y : List ℕ) → (x ≡ y → ⊥) → same x y ≡ false
-same-false x y n = go (same x y) refl
-  where
-    go : (t : Bool) → same x y ≡ t → t ≡ false
-    go true e = absurd (n (same-true x y e))
-    go false e = refl
+same-false x y n = bool-false (same x y) (λ e. n (same-true x y e))
 
--- ---- a reading is in a list
+-- ---- a row is in a list
 
 pub listed-member : (e : List ℕ) (l : List (List ℕ)) → listed e l ≡ true → List·Memᴰ e l
 unfolding listed
 listed-member e [] h = absurd (false≢true h)
-listed-member e (d ∷ l) h = go (same e d) refl h (listed-member e l)
-  where
-    go : (t : Bool) → same e d ≡ t → (t || listed e l) ≡ true → (listed e l ≡ true → List·Memᴰ e l) → List·Memᴰ e (d ∷ l)
-    go true p q later = List·Memᴰ·head (same-true e d p)
-    go false p q later = List·Memᴰ·tail (later q)
+listed-member e (d ∷ l) h = by-test (same e d)
+    (λ p. List·Memᴰ·head (same-true e d p)) (λ p. List·Memᴰ·tail (listed-member e l (rw p at h)))
 
 pub member-listed : (e : List ℕ) {l : List (List ℕ)} → List·Memᴰ e l → listed e l ≡ true
 unfolding listed
 member-listed e (List·Memᴰ·head {x = d} p) = rw (same-exact e d .1 p)
-member-listed e (List·Memᴰ·tail {x = d} i) = go (same e d) (member-listed e i)
-  where
-    go : (t : Bool) {u : Bool} → u ≡ true → (t || u) ≡ true
-    go true p = refl
-    go false p = p
+member-listed e (List·Memᴰ·tail {x = d} i) = by-test (same e d) (λ p. rw p) (λ p. rw p (member-listed e i))
 
 pub not-member-listed : (e : List ℕ) (l : List (List ℕ)) → (List·Memᴰ e l → ⊥) → listed e l ≡ false
-not-member-listed e l n = go (listed e l) refl
-  where
-    go : (t : Bool) → listed e l ≡ t → t ≡ false
-    go true h = absurd (n (listed-member e l h))
-    go false h = refl
+not-member-listed e l n = bool-false (listed e l) (λ h. n (listed-member e l h))
 
 -- ---- the rows of a list by number, from 0
 
@@ -98,7 +79,7 @@ pub after-later : (e d : List ℕ) (l : List (List ℕ)) → same e d ≡ false 
 unfolding afterIn
 after-later e d l h = rw (h, afterIn)
 
--- what comes after reading i of a list without repetition
+-- what comes after row i of a list without repetition
 after-at : {l : List (List ℕ)} → Pairs _≺_ l → (i : ℕ) → i < length l
     → (suc i < length l → afterIn (getD l i []) l ≡ some (getD l (suc i) [])) × (suc i ≡ length l → afterIn (getD l i []) l ≡ none)
 after-at pairs-none i h = absurd (not-suc-le-zero h)

@@ -1,5 +1,5 @@
--- What one call says for a grammar whose nonterminals are below 32 and an input of at most 64 bytes is what the machine says, the copy
--- being the reading of the place. Assumes nothing.
+-- One call says what the machine says, for a grammar whose nonterminals are below 32, an input of at most 64 bytes, and a copy that is the
+-- reading of the machine's place. Assumes nothing.
 use Prim.Native.Nat.{_/_, ℕ, zero, suc, _≤_}
 use native.Mathlib.Decide.{decLt}
 use native.Mathlib.Omega.{arith}
@@ -31,7 +31,7 @@ use Rattle.results.proofs.Demand3.Decided.{treeIn-choice, countIn-none,
 abbrev pub seen : Said → Enumeration → Said
 seen s r = saidOf s (r .answer) (r .output)
 
--- a choice by the tree, as it is said
+-- a choice by whether there is a tree, as the caller sees it
 first-choice : {P : Type 0} (d : Dec P) (out : List ℕ)
     → saidOf noDerivation (ite d (refused 13) (answered nothing)) out ≡ ite d (refuses 13) noDerivation
 unfolding saidOf

@@ -1,5 +1,5 @@
--- The commands of a book: what their checks let through, what a step keeps of the offset and of the grammar read so far, and what the last
--- command is. Assumes nothing.
+-- The commands of a book: what their checks let through, what a step keeps of the offset and of the grammar read so far, and what is known
+-- of the last command. Assumes nothing.
 use Prim.Native.Nat.{ℕ, zero, suc, _+_, _-_, _≤_, _<_}
 use native.Mathlib.Decide.{ℕ-discrete}
 use native.Mathlib.Omega.{arith}
@@ -47,7 +47,7 @@ pub unknown-other : (c : ℕ) → (c ≡ 0x10 → ⊥) → (c ≡ 0x20 → ⊥) 
 unfolding unknown
 unknown-other c n₁ n₂ n₃ n₄ n₅ = rw (ne-eqb c 0x10 n₁, ne-eqb c 0x20 n₂, ne-eqb c 0x30 n₃, ne-eqb c 0x40 n₄, ne-eqb c 0x50 n₅)
 
--- what holds of each command holds of each byte that is known
+-- what holds of each command holds of each byte that is not unknown
 pub each-command : (K : ℕ → Type 0) → K 0x10 → K 0x20 → K 0x30 → K 0x40 → K 0x50 → (c : ℕ) → unknown c ≡ false → K c
 each-command K start rule nonterminal terminal end c k =
     dite (ℕ-discrete c 0x10) (λ e. subst K (sym e) start) (λ n₁.
@@ -70,7 +70,7 @@ pub record LetThrough (bytes : List ℕ) (at c : ℕ) (g : Grammar) : Type 0 whe
   pub places : (eqb c 0x30 || eqb c 0x40) ≡ true → openRule g .count ≤ 7
   pub last : eqb c 0x50 ≡ true → length bytes ≤ at + 1
 
--- a limit that is kept, where it applies
+-- a limit that applies is kept
 kept-to : (b : Bool) (m n : ℕ) → (b && ltb m n) ≡ false → b ≡ true → n ≤ m
 kept-to b m n e t = ltb-false m n (rw t at e)
 
@@ -84,25 +84,26 @@ module _ (bytes : List ℕ) (at : ℕ) (g : Grammar) where
       → P (step bytes at g)
   unfolding step commandChecks operandChecks
   step-cases P faulty start rule nonterminal terminal end = decide-either stop _ P _ faulty
-      (λ p. each-command (Case P) start rule nonterminal terminal end (getD bytes at 0) (p .1 .0) refl (record {
-        begins = ltb-true at (length bytes) (not-false (ltb at (length bytes)) (p .0));
-        known = p .1 .0;
-        turn = p .1 .1 .0;
-        whole = ltb-false (length bytes) (at + 1 + operands (getD bytes at 0)) (p .1 .1 .1 .0);
-        nonterminal = kept-to _ 31 (operand bytes at 0) (p .1 .1 .1 .1 .0);
-        rules = kept-to _ 127 (g .count) (p .1 .1 .1 .1 .1 .0);
-        places = kept-to _ 7 (openRule g .count) (p .1 .1 .1 .1 .1 .1 .0);
-        last = kept-to _ (at + 1) (length bytes) (p .1 .1 .1 .1 .1 .1 .1 .0);
+      (λ p. let (begins, (known, (turn, (whole, (small, (rules, (places, (last, u)))))))) = p in
+      each-command (Case P) start rule nonterminal terminal end (getD bytes at 0) known refl (record {
+        begins = ltb-true at (length bytes) (not-false (ltb at (length bytes)) begins);
+        known = known;
+        turn = turn;
+        whole = ltb-false (length bytes) (at + 1 + operands (getD bytes at 0)) whole;
+        nonterminal = kept-to _ 31 (operand bytes at 0) small;
+        rules = kept-to _ 127 (g .count) rules;
+        places = kept-to _ 7 (openRule g .count) places;
+        last = kept-to _ (at + 1) (length bytes) last;
       }))
 
--- a command depends on its operands only
+-- what a command does depends only on its operands
 pub after-same : (c : ℕ) (x y : ℕ → ℕ) (g : Grammar) → ((i : ℕ) → i < 3 → x i ≡ y i) → after c x g ≡ after c y g
 unfolding after
 after-same c x y g same = rw (same 0 (omega arith), same 1 (omega arith), same 2 (omega arith))
 
 -- ---- the last command
 
--- what the end of a book says
+-- what is known at the end of a book
 pub record Ended (bytes : List ℕ) (at : ℕ) (g g′ : Grammar) : Type 0 where
   -- the command is 50
   pub command : getD bytes at 0 ≡ 0x50
@@ -169,7 +170,7 @@ module _ {bytes : List ℕ} {P : ℕ → Grammar → Type 0} (I : Invariant byte
     pub step-kept : (at′ : ℕ) (g′ : Grammar) → step bytes at g ≡ next at′ g′ → P at′ g′
     step-kept at′ g′ e = subst Kept e step-holds
 
-  -- of a grammar that a book leaves, the one of no rules or one of which P holds, Q holds
+  -- Q holds of the grammar that a book gives, if it holds of the grammar of no rules and of each that P holds of
   pub run-kept : (d : ℕ) (Q : Grammar → Type 0) → Q zeroGrammar → ((at : ℕ) (g : Grammar) → P at g → Q (setDepth g d))
       → (n at : ℕ) (g : Grammar) → P at g → Q (run d bytes n at g .grammar)
   unfolding run refusedLoad acceptedLoad

@@ -1,4 +1,4 @@
--- Lists of which one element is set: what holds of each element, and what stands behind it. Assumes nothing.
+-- Lists in which one element is set: what holds of each element, and what comes after it. Assumes nothing.
 use Prim.Native.Nat.{ℕ, zero, suc, _+_, _-_, _<_}
 use native.Mathlib.Omega.{arith}
 use mathlib.Core.List.{List, [], _∷_}
@@ -24,7 +24,7 @@ module _ {A : Type 0} where
   drop-replicate a zero = refl
   drop-replicate a (suc n) = let e : suc n - 1 ≡ n = omega arith in rw e
 
-  -- all from n on are a, up to m of them in all; one more is set
+  -- if the elements from n to the end at m are all a, so are those from n + 1 on after element n is set
   pub drop-next : (l : List A) (n m : ℕ) (v a : A) → drop n l ≡ replicate (m - n) a
       → drop (n + 1) (set l n v) ≡ replicate (m - (n + 1)) a
   drop-next l n m v a h =

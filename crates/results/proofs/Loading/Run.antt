@@ -2,19 +2,20 @@
 use Prim.Native.Nat.{ℕ, zero, suc, _+_, _-_, _≤_, _<_}
 use native.Mathlib.Omega.{arith}
 use mathlib.Core.Bool.{Bool, true, false, cond}
-use mathlib.Core.List.{List, [], _∷_}
+use mathlib.Core.List.{List}
 use mathlib.Core.Path.{_≡_, refl, sym, ap, _∙_}
 use lib.Dec.{eqb}
 use lib.ListN.{length, getD}
 use borrow.Author.Tests.{le-ltb}
 use Rattle.laws.proofs.Bools.{clash}
 use Rattle.grammar.specs.declared.Grammar.{Grammar}
-use Rattle.results.specs.Answer.{Check, decide}
+use Rattle.results.specs.Answer.{decide}
 use Rattle.results.specs.Load.{Loading, Fault, Step, operands, stop, next, done, carriedOut, step, run, refusedLoad, acceptedLoad}
+use Rattle.results.proofs.Decide.{decide-either}
 
 -- ---- one command
 
--- what is left to read after a step, where n more commands are allowed
+-- how a run goes on after a step, if n more commands are allowed
 abbrev resume : (d n : ℕ) → List ℕ → Step → Loading
 resume d n bytes s =
     elim s [ stop f ↦ refusedLoad f | next at′ g′ ↦ run d bytes n at′ g′ | done g′ ↦ acceptedLoad d g′ ]
@@ -34,27 +35,17 @@ module _ (d n : ℕ) (bytes : List ℕ) (at : ℕ) (g : Grammar) where
 
 -- ---- the number of commands allowed
 
--- past the end of the book
+-- a step past the end of the book is fault 1
 pub step-past : (bytes : List ℕ) (at : ℕ) (g : Grammar) → length bytes ≤ at
     → step bytes at g ≡ stop (record { number = 1; offset = length bytes })
 unfolding step decide
 step-past bytes at g h = rw (le-ltb at (length bytes) h)
 
-decide-next : (checks : List (Check Fault)) (go : Unit {0} → Step) (at : ℕ) (g : Grammar) → decide checks stop go ≡ next at g
-    → go tt ≡ next at g
-unfolding decide
-decide-next [] go at g e = e
-decide-next (c ∷ checks) go at g e = by-check (c .fails) e (decide-next checks go at g)
-  where
-    by-check : (b : Bool) → elim b [ true ↦ stop (c .refusal) | false ↦ decide checks stop go ] ≡ next at g
-        → (decide checks stop go ≡ next at g → go tt ≡ next at g) → go tt ≡ next at g
-    by-check true e f = clash cc
-    by-check false e f = f e
-
--- a step goes forward
+-- the next command is at a greater offset
 pub step-forward : (bytes : List ℕ) (at : ℕ) (g : Grammar) (at′ : ℕ) (g′ : Grammar) → step bytes at g ≡ next at′ g′ → at < at′
 unfolding step carriedOut
-step-forward bytes at g at′ g′ e = go (eqb (getD bytes at 0) 0x50) (operands (getD bytes at 0)) _ (decide-next _ _ at′ g′ e)
+step-forward bytes at g at′ g′ = decide-either stop _ (λ (s : Step). s ≡ next at′ g′ → at < at′) _ (λ f p. clash cc)
+    (λ _. go (eqb (getD bytes at 0) 0x50) (operands (getD bytes at 0)) _)
   where
     go : (b : Bool) (n : ℕ) (h : Grammar) → cond b (done g) (next (at + 1 + n) h) ≡ next at′ g′ → at < at′
     go true n h p = clash cc

@@ -1,4 +1,4 @@
--- `sets::without` meets its contract: the member's power of two is taken away. Assumes nothing.
+-- `sets::without` meets its contract: the member's power of two is subtracted. Assumes nothing.
 use mathlib.Core.Path.{ap}
 use native.Mathlib.Omega.{arith}
 use Prim.Native.Nat.{_-_}

@@ -1,4 +1,4 @@
--- `grammar::records::valid_rule` meets its contract. The loop's invariant: the left side and the count are small, and the places passed
+-- `grammar::records::valid_rule` meets its contract. The loop's invariant: the left side and the count are small, and the places before q
 -- are valid. The measure is what is left of the count. Assumes nothing.
 use Prim.Native.Nat.{_≤_, _-_}
 use mathlib.Core.Bool.{true}

@@ -1,4 +1,4 @@
--- `sets::wide::first` meets its contract: the zeros below the least member tell it. Assumes nothing.
+-- `sets::wide::first` meets its contract: the least member is the number of zero bits below it. Assumes nothing.
 use mathlib.Core.Path.{refl}
 use native.Mathlib.Omega.{arith}
 use lib.Count.{trailing-le}
