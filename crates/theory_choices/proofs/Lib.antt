@@ -1,5 +1,5 @@
--- From least numbers of nodes to first and next codes. What the code of `first` cites: Node, Row, Root; that of `next`: Stands, NextNode,
--- NextRow, NextRoot.
+-- From least numbers of nodes to first and next codes. The code of `first` cites Node, Row and Root; that of `next` cites Stands, NextNode,
+-- NextRow and NextRoot.
 pub mod Ties
 pub mod Node
 pub mod Row

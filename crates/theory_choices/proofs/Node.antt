@@ -1,16 +1,17 @@
 -- At a node of the nonterminal k over the span from i to j: the first rule whose cost is within the budget is the rule of the first tree.
 -- The costs are those under the mask with k in it. Assumes nothing.
 use Prim.Native.Nat.{ℕ, suc, _-_, _≤_, _<_}
-use mathlib.Core.Bool.{Bool, false}
+use mathlib.Core.Bool.{false}
 use mathlib.Core.List.{List, _∷_}
 use mathlib.Core.Path.{_≡_, refl, ap, subst}
 use native.Mathlib.Omega.{arith}
 use Rattle.sizes.specs.Sizes.{tooMany}
 use Rattle.sets.specs.Set.{has, insert}
-use Rattle.cfg.specs.Grammar.{Cfg, Symbol, Terminal, Of}
+use Rattle.cfg.specs.Grammar.{Cfg, Symbol, Of}
 use Rattle.cfg.specs.Tree.{end, node, nodes}
+use Rattle.chart.specs.Cell.{Fit}
 use Rattle.theory_costs.specs.Lowest.{Lowest}
-use Rattle.theory_costs.specs.Cut.{LeastCut, within}
+use Rattle.theory_costs.specs.Cut.{Cost, LeastCut, within}
 use Rattle.theory_costs.specs.Span.{bytesOf, FreeTree, Least}
 use Rattle.theory_costs.specs.Rule.{NodeCost}
 use Rattle.theory_costs.specs.Solve.{PlainTree}
@@ -26,19 +27,15 @@ use Rattle.theory_choices.proofs.Ties.{row→plain}
 
 -- ---- from the cost of a rule to that of its places
 
-module _ {fit : ℕ → Terminal → Bool} {full : ℕ → ℕ} {least : ℕ → ℕ → ℕ → ℕ} {places : List Symbol} {i j v budget : ℕ}
+module _ {fit : Fit} {full : ℕ → ℕ} {least : Cost} {places : List Symbol} {i j v budget : ℕ}
     (L : Lowest (NodeCost fit full least places i j) v) (l : v ≤ budget) (m : budget < tooMany) where
-  pub rule-room : 0 < budget
-  rule-room = let s = L .reached (omega arith) .sum in omega arith
-
   pub rule-row : {u : ℕ} → LeastCut fit (within i j full least) places i j u → u ≤ budget - 1
   rule-row C =
       let p = L .reached (omega arith) in
-      let s = p .sum in
       let b = C .below (p .under) (p .cut) in
       omega arith
 
--- ---- where a tree has few enough nodes
+-- ---- if a tree has few enough nodes
 
 module _ {G : Cfg} {bytes : ℕ → ℕ → Type 0} {M k i j x budget : ℕ} (X : Least (FreeTree G bytes M (j - i) k i j) x) (l : x ≤ budget)
     (m : budget < tooMany) where
@@ -56,7 +53,7 @@ module _ {G : Cfg} {bytes : ℕ → ℕ → Type 0} {M k i j x budget : ℕ} (X 
       let d : nodes t ≡ nodes (node r f end) = ap nodes q in
       omega arith
 
-module _ {G : Cfg} {w : List ℕ} {fit : ℕ → Terminal → Bool} (M : ℕ) {k i j : ℕ} {full : ℕ → ℕ} {least : ℕ → ℕ → ℕ → ℕ}
+module _ {G : Cfg} {w : List ℕ} {fit : Fit} (M : ℕ) {k i j : ℕ} {full : ℕ → ℕ} {least : Cost}
     (S : SpanCosts G w fit (insert k M) i j full least) where
   -- some rule costs no more than the budget
   pub rule-exists : {x budget : ℕ} → Least (FreeTree G (bytesOf w) M (j - i) k i j) x → x ≤ budget → budget < tooMany
@@ -65,7 +62,7 @@ module _ {G : Cfg} {w : List ℕ} {fit : ℕ → Terminal → Bool} (M : ℕ) {k
       let (r, o, f) = rule-reaches (S .tells) (S .rising) (S .inside) (S .exact) X (omega arith) in
       (r, o, λ v L. let b = f v L in omega arith)
 
-  -- no row below a rule that costs more than the budget
+  -- no row is below a rule that costs more than the budget
   pub rule-below-none : {r v : ℕ} (budget : ℕ) (o : Of G r k) → 0 < budget → Lowest (NodeCost fit full least (o .the .places) i j) v
       → budget < v → NoForest (Below G w (j - i) M k i j budget o)
   rule-below-none budget o p L d t row =
@@ -79,6 +76,5 @@ module _ {G : Cfg} {w : List ℕ} {fit : ℕ → Terminal → Bool} (M : ℕ) {k
   pub node-step : {r budget : ℕ} (o : Of G r k) {e : List ℕ} → has k M ≡ false → 0 < budget → Dearer G fit i j full least k budget r
       → Min (Row G w (j - i) (insert k M) (o .the .places) i j (budget - 1)) e → Min (Tree G w (j - i) M k i j budget) ((j - i) ∷ r ∷ e)
   node-step {r} {budget} o fresh room dear m =
-      let h = S .rising in
       node-first G w (j - i) M k i j budget (omega arith) (S .known) r o fresh room
       (λ s l p. let (v, L, b) = dear s l p in rule-below-none budget p room L b) m

@@ -1,8 +1,8 @@
--- At the root: from the first tree over the whole input to the head of the list L, and where L has no member. The costs are those of a
--- grammar G that gives each number the same rule as G', of which L is asked; the start symbol of G does not matter. Assumes nothing.
+-- At the root: from the first tree over the whole input to the head of the list L of a grammar G', and when L is empty. The trees are
+-- those of a grammar G that gives each number the same rule as G'; the start symbol of G does not matter. Assumes nothing.
 use Prim.Native.Nat.{ℕ, _≤_}
 use mathlib.Core.List.{List, [], _∷_}
-use mathlib.Core.Path.{_≡_, refl, sym, subst}
+use mathlib.Core.Path.{_≡_, refl}
 use native.Mathlib.Omega.{arith}
 use lib.ListN.{length}
 use Rattle.sizes.specs.Sizes.{tooMany}
@@ -13,7 +13,7 @@ use Rattle.cfg.specs.Derivation.{limit}
 use Rattle.cfg.specs.Listing.{L}
 use Rattle.chart.proofs.SameRules.{SameRules, same-sym}
 use Rattle.chart.proofs.SameTrees.{fits-same-rules, has-same-rules, superfluous-same-rules}
-use Rattle.theory_costs.specs.Span.{bytesOf, FreeRow, Least, TreeOver}
+use Rattle.theory_costs.specs.Span.{bytesOf, Least, TreeOver}
 use Rattle.theory_costs.proofs.Span.{least-below}
 use Rattle.theory_enumeration.specs.Rows.{Row, Tree, Root}
 use Rattle.theory_enumeration.specs.Order.{Min}
@@ -33,50 +33,32 @@ row-same G G' same r = record {
   small = r .small;
 }
 
-free-same : (G G' : Cfg) → SameRules G G' → {bytes : ℕ → ℕ → Type 0} {M n : ℕ} {places : List Symbol} {a b : ℕ} {t : Forest}
-    → FreeRow G bytes M n places a b t → FreeRow G' bytes M n places a b t
-free-same G G' same (R, F) = (
-  record { fitted = fits-same-rules G G' same (R .fitted); reads = R .reads },
-  record { none = λ k h n. F .none k h (has-same-rules G' G (same-sym G G' same) n) },
-)
+-- ---- the list L
 
-module _ (G G' : Cfg) (same : SameRules G G') where
-  pub first-same-rules : {w : List ℕ} {cover mask : ℕ} {places : List Symbol} {a b budget : ℕ} {e : List ℕ}
-      → Min (Row G w cover mask places a b budget) e → Min (Row G' w cover mask places a b budget) e
-  first-same-rules {w} {cover} {mask} {places} {a} {b} {budget} = prefixed-first into
-    where
-      into : Prefixed [] (Row G w cover mask places a b budget) (Row G' w cover mask places a b budget)
-      into = record {
-        up = λ t r. record { forest = t; member = row-same G G' same r; coded = refl };
-        down = λ t r. (t, row-same G' G (same-sym G G' same) r, refl);
-      }
+module _ (G G' : Cfg) (same : SameRules G G') (w : List ℕ) {k : ℕ} (start : k ≡ G' .start) where
+  -- the trees of G over the whole input are those of the derivations
+  module _ {c n : ℕ} (p : c ≡ length w) (q : n ≡ length w) where
+    root-up : (t : Forest) → Tree G w c empty k 0 n limit t → Root G' limit w t
+    root-up t r = row-same G G' same (rw (p, q, start) at r)
 
-  -- ---- the list L
+    pub root-down : (t : Forest) → Root G' limit w t → Tree G w c empty k 0 n limit t
+    root-down t r = rw (p, q, start) (row-same G' G (same-sym G G' same) r)
 
-  module _ (w : List ℕ) {k : ℕ} (start : k ≡ G' .start) where
-    pub root-begins : {c n : ℕ} {e : List ℕ} → c ≡ length w → n ≡ length w → Min (Tree G w c empty k 0 n limit) e
-        → (m : List (List ℕ)) × (L G' w ≡ e ∷ m)
-    root-begins {c} {n} {e} p q m =
-        root-first G' w (first-same-rules
-        (subst (λ (x : ℕ). Min (Tree G w (length w) empty x 0 (length w) limit) e) start
-        (subst (λ (x : ℕ). Min (Tree G w (length w) empty k 0 x limit) e) q
-        (subst (λ (x : ℕ). Min (Tree G w x empty k 0 n limit) e) p m))))
+    pub root-into : Prefixed [] (Tree G w c empty k 0 n limit) (Root G' limit w)
+    root-into = record {
+      up = λ t r. record { forest = t; member = root-up t r; coded = refl };
+      down = λ t r. (t, root-down t r, refl);
+    }
 
-    -- a derivation is a tree of G
-    root-tree : {n : ℕ} (t : Forest) → n ≡ length w → Root G' limit w t → TreeOver G (bytesOf w) k 0 n t × (nodes t ≤ limit)
-    root-tree {n} t q r =
-        let s : Tree G w (length w) empty (G' .start) 0 (length w) limit t = row-same G' G (same-sym G G' same) r in
-        let (((T, _), _), l) = row→plain (omega arith) (omega arith) s in (
-          subst (λ (x : ℕ). TreeOver G (bytesOf w) k 0 x t) (sym q)
-              (subst (λ (x : ℕ). TreeOver G (bytesOf w) x 0 (length w) t) (sym start) T),
-          l,
-        )
+    pub root-begins : {e : List ℕ} → Min (Tree G w c empty k 0 n limit) e → (m : List (List ℕ)) × (L G' w ≡ e ∷ m)
+    root-begins m = root-first G' w (prefixed-first root-into m)
 
-    pub root-barren : {n : ℕ} → n ≡ length w → ((t : Forest) → TreeOver G (bytesOf w) k 0 n t → ⊥) → L G' w ≡ []
-    root-barren q f = root-none G' w (λ t r. f t (root-tree t q r .0))
+  -- a derivation is a tree of G
+  root-tree : {n : ℕ} (t : Forest) → n ≡ length w → Root G' limit w t → TreeOver G (bytesOf w) k 0 n t × (nodes t ≤ limit)
+  root-tree t q r = let (((T, _), _), l) = row→plain (omega arith) (omega arith) (root-down refl q t r) in (T, l)
 
-    pub root-exceeds : {n v : ℕ} → n ≡ length w → Least (TreeOver G (bytesOf w) k 0 n) v → tooMany ≤ v → L G' w ≡ []
-    root-exceeds q X l = root-none G' w (λ t r.
-        let (T, s) = root-tree t q r in
-        let h = least-below X t T in
-        omega arith)
+  pub root-barren : {n : ℕ} → n ≡ length w → ((t : Forest) → TreeOver G (bytesOf w) k 0 n t → ⊥) → L G' w ≡ []
+  root-barren q f = root-none G' w (λ t r. f t (root-tree t q r .0))
+
+  pub root-exceeds : {n v : ℕ} → n ≡ length w → Least (TreeOver G (bytesOf w) k 0 n) v → tooMany ≤ v → L G' w ≡ []
+  root-exceeds q X l = root-none G' w (λ t r. let (T, s) = root-tree t q r in omega (arith, least-below X t T))

@@ -1,7 +1,7 @@
--- At a place of a rule over the span from i to j: the first end whose cost is within the budget is the end of the first child, and what
--- the rest leaves of the budget is the child's. Assumes nothing.
+-- At a place of a rule over the span from i to j: the first end whose cost is within the budget is the end of the first child, and the
+-- child may have what the rest leaves of the budget. Assumes nothing.
 use Prim.Native.Nat.{ℕ, suc, _+_, _-_, _*_, _≤_, _<_}
-use mathlib.Core.Bool.{Bool, true}
+use mathlib.Core.Bool.{true}
 use mathlib.Core.List.{List, [], _∷_, _++_}
 use mathlib.Core.Path.{_≡_, sym, subst}
 use native.Mathlib.Omega.{arith}
@@ -9,7 +9,8 @@ use lib.ListN.{length}
 use Rattle.sizes.specs.Sizes.{tooMany}
 use Rattle.sets.specs.Set.{empty}
 use Rattle.cfg.specs.Grammar.{Cfg, Symbol, nonterminal, terminal, Terminal, fits}
-use Rattle.theory_costs.specs.Cut.{Cut, cut-end, cut-leaf, cut-node, LeastCut, within}
+use Rattle.chart.specs.Cell.{Fit}
+use Rattle.theory_costs.specs.Cut.{Cost, Cut, cut-end, cut-leaf, cut-node, LeastCut, within}
 use Rattle.theory_costs.specs.Span.{bytesOf, FreeTree, Least}
 use Rattle.theory_costs.proofs.Within.{within-cases}
 use Rattle.theory_costs.proofs.Plain.{unmasked-least}
@@ -22,7 +23,7 @@ use Rattle.theory_choices.proofs.Ties.{suffix-atleast, piece-atleast}
 
 -- ---- what a least cost within the budget says of the first place
 
-module _ {fit : ℕ → Terminal → Bool} {cost : ℕ → ℕ → ℕ → ℕ} {a j v budget : ℕ} where
+module _ {fit : Fit} {cost : Cost} {a j v budget : ℕ} where
   pub end-reached : LeastCut fit cost [] a j v → v ≤ budget → budget < tooMany → a ≡ j
   end-reached L l m = go (L .reached (omega arith))
     where
@@ -53,8 +54,7 @@ module _ {fit : ℕ → Terminal → Bool} {cost : ℕ → ℕ → ℕ → ℕ} 
           → (c : ℕ) × (a ≤ c) × (c ≤ j) × (cost k a c + rest c ≤ budget)
       go h (cut-node {v = later} c x y d e) = (c, x, y, let b = R c x y .below later d in omega arith)
 
-module _ {G : Cfg} {w : List ℕ} {fit : ℕ → Terminal → Bool} {M i j : ℕ} {full : ℕ → ℕ} {least : ℕ → ℕ → ℕ → ℕ}
-    (S : SpanCosts G w fit M i j full least) where
+module _ {G : Cfg} {w : List ℕ} {fit : Fit} {M i j : ℕ} {full : ℕ → ℕ} {least : Cost} (S : SpanCosts G w fit M i j full least) where
   -- ---- no places, and a terminal
 
   pub end-step : {a : ℕ} (budget : ℕ) → a ≡ j → Min (Row G w (j - i) M [] a j budget) []
@@ -70,7 +70,7 @@ module _ {G : Cfg} {w : List ℕ} {fit : ℕ → Terminal → Bool} {M i j : ℕ
 
   -- ---- a nonterminal
 
-  -- the least number of nodes of the child over the span from a to b; over the whole span the mask is its own, else it has none
+  -- the least number of nodes of the child over the span from a to b: over the whole span under the mask, else under none
   pub child-least : {k a b own : ℕ} → i ≤ a → a ≤ b → b ≤ j → SameSpan (j - i) M (b - a) own
       → Least (FreeTree G (bytesOf w) own (b - a) k a b) (within i j full least k a b)
   child-least {k} {a} {b} {own} h l m s =
@@ -79,18 +79,15 @@ module _ {G : Cfg} {w : List ℕ} {fit : ℕ → Terminal → Bool} {M i j : ℕ
       whole : a ≡ i → b ≡ j → Least (FreeTree G (bytesOf w) own (b - a) k a b) (full k)
       whole e d =
           let z : own ≡ M = s .same (omega arith) in
-          subst (λ (y : ℕ). Least (FreeTree G (bytesOf w) y (b - a) k a b) (full k)) (sym z)
-          (subst (λ (y : ℕ). Least (FreeTree G (bytesOf w) M (y - a) k a y) (full k)) (sym d)
-          (subst (λ (y : ℕ). Least (FreeTree G (bytesOf w) M (j - y) k y j) (full k)) (sym e) (S .exact .at k)))
+          rw (z, d, e) (S .exact .at k)
 
       part : b - a < j - i → Least (FreeTree G (bytesOf w) own (b - a) k a b) (least k a b)
       part q =
           let z : own ≡ empty = s .other (λ e. absurd (omega arith)) in
-          subst (λ (y : ℕ). Least (FreeTree G (bytesOf w) y (b - a) k a b) (least k a b)) (sym z)
-          (unmasked-least (S .inside .at k a b h l m q))
+          rw z (unmasked-least (S .inside .at k a b h l m q))
 
   module _ {k a budget : ℕ} {places : List Symbol} {rest : ℕ → ℕ} (h : i ≤ a) (R : Rests fit (within i j full least) places a j rest) where
-    -- no row begins with a child over d bytes where child and rest cost more than the budget
+    -- no row begins with a child over d bytes if child and rest cost more than the budget
     pub end-skipped : (d : ℕ) → a + d ≤ j → budget < within i j full least k a (a + d) + rest (a + d)
         → Skipped G w (j - i) M k places a j budget d
     end-skipped d l =

@@ -1,5 +1,5 @@
--- What stands over a span, opened: a row behind its first leaf or its first node, and a node with the row below it. The numbers of what
--- stands say where the first node ends, and which rule it has. Assumes nothing.
+-- A given row is taken apart after its first leaf or its first node, and a given node into itself and the row below it. The numbers of the
+-- code say where the first node ends, and which rule it has. Assumes nothing.
 use Prim.Native.Nat.{ℕ, suc, _+_, _-_, _≤_}
 use mathlib.Core.List.{List, [], _∷_, _++_}
 use mathlib.Core.Path.{_≡_, sym, ap, subst, _∙_}
@@ -43,7 +43,7 @@ module _ {G : Cfg} {w : List ℕ} {cover mask a j budget : ℕ} {f : Forest} (kn
         },
       )
 
--- ---- a nonterminal: what stands, opened
+-- ---- a nonterminal
 
 -- a tree's code begins with its cover and its rule
 tree-begins : {G : Cfg} {k : ℕ} {x : Forest} → Fits G (nonterminal k ∷ []) x
@@ -54,7 +54,7 @@ tree-begins (fits-node {r = r} {below = below} o f fits-end) =
     (r, code below ++ [], o, ap (λ (n : ℕ). n ∷ r ∷ (code below ++ [])) e)
 
 module _ {G : Cfg} {w : List ℕ} {cover mask k : ℕ} {places : List Symbol} {a j budget : ℕ} {f : Forest} (known : j ≤ length w) where
-  -- a row that is cut behind its first child
+  -- a row that is cut after its first child
   cut-opened : {c : ℕ} (x : Cut G w cover mask k places a j budget c f)
       → OpenedRow G w cover mask k places a j budget f (a + c) (x .first) (x .rest)
   cut-opened {c} x =
@@ -78,11 +78,11 @@ module _ {G : Cfg} {w : List ℕ} {cover mask k : ℕ} {places : List Symbol} {a
       counted u v q =
           omega (arith, ap length q, length-append (code u) (code v), length-code f, length-code u, length-code v)
 
-  -- the first number of what stands is that of the first child's bytes
+  -- the first number of the code says how many bytes the first child covers
   opened-first : {b : ℕ} {x y : Forest} → OpenedRow G w cover mask k places a j budget f b x y → getD (code f) 0 0 ≡ b - a
   opened-first {b} {x} {y} o = ap (λ (l : List ℕ). getD l 0 0) (o .coded ∙ ap (λ (l : List ℕ). l ++ code y) (o .begins))
 
-  -- a row of a nonterminal and further places; b is where the first number says that the child ends
+  -- a row of a nonterminal and further places; b is the end of the child by the first number
   pub row-opened : a ≤ j → (b : ℕ) → Row G w cover mask (nonterminal k ∷ places) a j budget f → b ≡ a + getD (code f) 0 0
       → (x y : Forest) × OpenedRow G w cover mask k places a j budget f b x y
   row-opened rising b r e =

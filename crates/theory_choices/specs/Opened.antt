@@ -1,4 +1,4 @@
--- What stands, opened: a row behind its first leaf or its first node, and a node with the row below it. Assumes nothing.
+-- A given row taken apart after its first leaf or its first node, and a given node with the row below it. Assumes nothing.
 use Prim.Native.Nat.{ℕ, suc, _+_, _-_, _≤_, _<_}
 use mathlib.Core.Bool.{true, false}
 use mathlib.Core.List.{List, _∷_, _++_}

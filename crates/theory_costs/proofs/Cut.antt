@@ -1,17 +1,18 @@
--- The least cost of cutting a span: without places, of a terminal and the rest, of a nonterminal and the rest as a minimum over its ends;
--- and it depends only on the costs of the spans inside. Assumes nothing.
+-- The least cost of cutting a span: for no places, for a terminal and the rest, and for a nonterminal and the rest as a minimum over its
+-- ends. It depends only on the costs of the spans inside, and of the nonterminals of the places. Assumes nothing.
 use Prim.Native.Nat.{ℕ, suc, _+_, _≤_, _<_, min}
-use mathlib.Core.Bool.{Bool, true, false, true≢false}
+use mathlib.Core.Bool.{true, false, true≢false}
 use mathlib.Core.List.{List, [], _∷_, List·Memᴰ, List·Memᴰ·head, List·Memᴰ·tail}
 use mathlib.Core.Path.{_≡_, refl, sym, ap, _∙_}
 use native.Mathlib.Omega.{arith}
 use Rattle.sizes.specs.Sizes.{tooMany}
 use Rattle.cfg.specs.Grammar.{Symbol, nonterminal, terminal, Terminal}
+use Rattle.chart.specs.Cell.{Fit}
 use Rattle.theory_costs.specs.Lowest.{Lowest, NoNumber, Seen, seen-first, seen-at}
-use Rattle.theory_costs.specs.Cut.{Cut, cut-end, cut-leaf, cut-node, First, LeastCut}
+use Rattle.theory_costs.specs.Cut.{Cost, Cut, cut-end, cut-leaf, cut-node, First, LeastCut}
 use Rattle.theory_costs.proofs.Lowest.{lowest-none, lowest-at, lowest-same, seen-step}
 
-module _ {fit : ℕ → Terminal → Bool} {cost : ℕ → ℕ → ℕ → ℕ} {b : ℕ} where
+module _ {fit : Fit} {cost : Cost} {b : ℕ} where
   -- ---- no places
 
   pub leastcut-end : LeastCut fit cost [] b b 0
@@ -65,42 +66,32 @@ module _ {fit : ℕ → Terminal → Bool} {cost : ℕ → ℕ → ℕ → ℕ} 
       reached l = record { later = y; cut = R .reached (omega arith); sum = e }
 
       below : (u : ℕ) → First fit cost k places a b c u → x ≤ u
-      below u p = let m = R .below (p .later) (p .cut) in let q = p .sum in omega arith
+      below u p = let m = R .below (p .later) (p .cut) in omega arith
 
       pub first-step : {z : ℕ} → z ≡ min v x → Lowest (Seen NoNumber (First fit cost k places a b) a (suc c)) z
       first-step = seen-step h L reached below
 
--- ---- only the costs of the spans from i on count, and only those that are at most the total
+-- ---- only the costs of the nonterminals of the places count, over spans from i on, and only those that are at most the total
 
-pub cut-map : {fit fit' : ℕ → Terminal → Bool} {cost cost' : ℕ → ℕ → ℕ → ℕ} (i b n : ℕ)
-    → ((a : ℕ) (t : Terminal) → i ≤ a → a < b → fit a t ≡ true → fit' a t ≡ true)
-    → ((k a c : ℕ) → i ≤ a → a ≤ c → c ≤ b → cost k a c ≤ n → cost k a c ≡ cost' k a c)
-    → {places : List Symbol} {a u : ℕ} → i ≤ a → u ≤ n → Cut fit cost b places a u → Cut fit' cost' b places a u
-cut-map i b n f p h l (cut-end e) = cut-end e
-cut-map i b n f p h l (cut-leaf {t} {a = a} m q c) = cut-leaf m (f a t h m q) (cut-map i b n f p (omega arith) l c)
-cut-map {cost = cost} {cost'} i b n f p {places} {a} {u} h l (cut-node {k} {v = v} c m m' d e) =
-    let q : cost k a c ≡ cost' k a c = p k a c h m m' (omega arith) in
-    cut-node c m m' (cut-map i b n f p (omega arith) (omega arith) d) (e ∙ ap (λ (x : ℕ). x + v) q)
+pub cut-map : {fit : Fit} {cost cost' : Cost} (i b n : ℕ) {places : List Symbol}
+    → ((k a c : ℕ) → List·Memᴰ (nonterminal k) places → i ≤ a → a ≤ c → c ≤ b → cost k a c ≤ n → cost k a c ≡ cost' k a c)
+    → {a u : ℕ} → i ≤ a → u ≤ n → Cut fit cost b places a u → Cut fit cost' b places a u
+cut-map i b n p h l (cut-end e) = cut-end e
+cut-map i b n p h l (cut-leaf m q c) = cut-leaf m q (cut-map i b n (λ k a c i. p k a c (List·Memᴰ·tail i)) (omega arith) l c)
+cut-map {cost = cost} {cost'} i b n p {a} h l (cut-node {k} {v = v} c m m' d e) =
+    let q : cost k a c ≡ cost' k a c = p k a c (List·Memᴰ·head refl) h m m' (omega arith) in
+    cut-node c m m' (cut-map i b n (λ k a c i. p k a c (List·Memᴰ·tail i)) (omega arith) (omega arith) d) (e ∙ ap (λ (x : ℕ). x + v) q)
 
-pub leastcut-same : {fit : ℕ → Terminal → Bool} {cost cost' : ℕ → ℕ → ℕ → ℕ} (a b : ℕ)
+pub leastcut-same : {fit : Fit} {cost cost' : Cost} (a b : ℕ)
     → ((k c d : ℕ) → a ≤ c → c ≤ d → d ≤ b → cost k c d ≡ cost' k c d)
     → {places : List Symbol} {v : ℕ} → LeastCut fit cost places a b v → LeastCut fit cost' places a b v
 leastcut-same a b p = lowest-same
-    (λ u _ c. cut-map a b u (λ _ _ _ _ q. q) (λ k c d l m h _. p k c d l m h) (omega arith) (omega arith) c)
-    (λ u _ c. (u, omega arith, cut-map a b u (λ _ _ _ _ q. q) (λ k c d l m h _. sym (p k c d l m h)) (omega arith) (omega arith) c))
+    (λ u _ c. cut-map a b u (λ k c d _ l m h _. p k c d l m h) (omega arith) (omega arith) c)
+    (λ u _ c. (u, omega arith, cut-map a b u (λ k c d _ l m h _. sym (p k c d l m h)) (omega arith) (omega arith) c))
 
--- ---- only the costs of the nonterminals of the places count
-
-pub cut-places : {fit : ℕ → Terminal → Bool} {cost cost' : ℕ → ℕ → ℕ → ℕ} {b : ℕ} {places : List Symbol}
-    → ((k a c : ℕ) → List·Memᴰ (nonterminal k) places → cost k a c ≡ cost' k a c)
-    → {a u : ℕ} → Cut fit cost b places a u → Cut fit cost' b places a u
-cut-places p (cut-end e) = cut-end e
-cut-places p (cut-leaf m q c) = cut-leaf m q (cut-places (λ k a c i. p k a c (List·Memᴰ·tail i)) c)
-cut-places p {a} (cut-node {k} {v = v} c m m' d e) =
-    cut-node c m m' (cut-places (λ l x y i. p l x y (List·Memᴰ·tail i)) d)
-    (e ∙ ap (λ (x : ℕ). x + v) (p k a c (List·Memᴰ·head refl)))
-
-pub leastcut-places : {fit : ℕ → Terminal → Bool} {cost cost' : ℕ → ℕ → ℕ → ℕ} {places : List Symbol} {a b v : ℕ}
+pub leastcut-places : {fit : Fit} {cost cost' : Cost} {places : List Symbol} {a b v : ℕ}
     → ((k a c : ℕ) → List·Memᴰ (nonterminal k) places → cost k a c ≡ cost' k a c)
     → LeastCut fit cost places a b v → LeastCut fit cost' places a b v
-leastcut-places p = lowest-same (λ u _ c. cut-places p c) (λ u _ c. (u, omega arith, cut-places (λ k a c i. sym (p k a c i)) c))
+leastcut-places {b = b} p = lowest-same
+    (λ u _ c. cut-map 0 b u (λ k a c i _ _ _ _. p k a c i) (omega arith) (omega arith) c)
+    (λ u _ c. (u, omega arith, cut-map 0 b u (λ k a c i _ _ _ _. sym (p k a c i)) (omega arith) (omega arith) c))

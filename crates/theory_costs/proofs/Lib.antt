@@ -1,5 +1,5 @@
--- Least numbers of nodes. What loops cite: Lowest and Cut (steps of running minima), Within, Rule (the cost of a rule), Solve (sound and
--- stable are exact); what the enumeration cites: Rows, Nodes, Root.
+-- Least numbers of nodes. Loops cite Lowest and Cut (steps of running minima), Within, Rule (the cost of a rule) and Solve (sound and
+-- stable numbers are exact). The choices of the enumerator cite Span, Rows, Plain and Nodes.
 pub mod Lowest
 pub mod Cut
 pub mod Span

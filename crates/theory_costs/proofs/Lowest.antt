@@ -1,7 +1,7 @@
--- The lowest number of a set: there is only one, the same numbers below the cap have the same lowest, and how a loop comes by it.
+-- The lowest number of a set is unique and depends only on the numbers below the cap, and a loop finds it as a running minimum.
 -- Assumes nothing.
 use Prim.Native.Nat.{ℕ, suc, _≤_, _<_, min}
-use mathlib.Core.Logic.{_⊎_, inl, inr, ⊎-elim}
+use mathlib.Core.Logic.{_⊎_, inl, inr, ⊎-elim, dite}
 use mathlib.Core.Path.{_≡_, subst}
 use native.Mathlib.Decide.{decLt, ℕ-discrete}
 use native.Mathlib.Omega.{arith}
@@ -9,12 +9,9 @@ use Rattle.sizes.specs.Sizes.{tooMany}
 use Rattle.theory_costs.specs.Lowest.{Lowest, NoNumber, Seen, seen-first, seen-at}
 
 pub lowest-unique : {P : ℕ → Type 0} {u v : ℕ} → Lowest P u → Lowest P v → u ≡ v
-lowest-unique {P} {u} {v} L M = go (decLt u v) (decLt v u)
-  where
-    go : Dec (u < v) → Dec (v < u) → u ≡ v
-    go (yes l) e = let h = M .below u (L .reached (let m = M .capped in omega arith)) in omega arith
-    go (no n) (yes l) = let h = L .below v (M .reached (let m = L .capped in omega arith)) in omega arith
-    go (no n) (no m) = omega arith
+lowest-unique {u = u} {v} L M = dite (decLt u v)
+    (λ l. let h = M .below u (L .reached (omega arith)) in omega arith)
+    (λ n. dite (decLt v u) (λ l. let h = L .below v (M .reached (omega arith)) in omega arith) (λ m. omega arith))
 
 -- no number below the cap
 pub lowest-none : {P : ℕ → Type 0} → ((u : ℕ) → P u → tooMany ≤ u) → Lowest P tooMany
@@ -31,9 +28,9 @@ lowest-same {P} {Q} {v} f g L = record { capped = L .capped; reached = λ l. f v
   where
     go : (u : ℕ) → Q u → Dec (u < tooMany) → v ≤ u
     go u q (yes l) = let (n, m, p) = g u l q in let h = L .below n p in omega arith
-    go u q (no l) = let h = L .capped in omega arith
+    go u q (no l) = omega arith
 
--- what bounds P from below and is reached below the cap, capped
+-- a lower bound of P that is itself in P if it is below the cap, capped
 pub lowest-capped : {P : ℕ → Type 0} {x : ℕ} → (x < tooMany → P x) → ((u : ℕ) → P u → x ≤ u) → Lowest P (min x tooMany)
 lowest-capped {P} {x} f g = record {
   capped = omega arith;
@@ -56,39 +53,31 @@ seen-none = seen-start (lowest-none λ u p. absurd p)
 -- the numbers at one index more
 seen-cases : {B : ℕ → Type 0} {P : ℕ → ℕ → Type 0} {a m u : ℕ} → Seen B P a (suc m) u → Seen B P a m u ⊎ P m u
 seen-cases (seen-first p) = inl (seen-first p)
-seen-cases {B} {P} {a} {m} {u} (seen-at c l h p) = go (ℕ-discrete c m)
-  where
-    go : Dec (c ≡ m) → Seen B P a m u ⊎ P m u
-    go (yes e) = inr (subst (λ (x : ℕ). P x u) e p)
-    go (no n) = let d : ¬ (c ≡ m) = n in inl (seen-at c l (omega arith) p)
+seen-cases {P = P} {m = m} {u} (seen-at c l h p) = dite (ℕ-discrete c m)
+    (λ e. inr (subst (λ (x : ℕ). P x u) e p))
+    (λ n. inl (seen-at c l (omega arith) p))
 
-pub seen-later : {B : ℕ → Type 0} {P : ℕ → ℕ → Type 0} {a m u : ℕ} → Seen B P a m u → Seen B P a (suc m) u
-seen-later (seen-first p) = seen-first p
-seen-later (seen-at c l h p) = seen-at c l (omega arith) p
+seen-wider : {B : ℕ → Type 0} {P : ℕ → ℕ → Type 0} {a m n u : ℕ} → m ≤ n → Seen B P a m u → Seen B P a n u
+seen-wider k (seen-first p) = seen-first p
+seen-wider k (seen-at c l h p) = seen-at c l (omega arith) p
 
 -- indices at which every number is too many may be passed over
 pub seen-pass : {B : ℕ → Type 0} {P : ℕ → ℕ → Type 0} {a m n v : ℕ} → m ≤ n → ((c u : ℕ) → m ≤ c → c < n → P c u → tooMany ≤ u)
     → Lowest (Seen B P a m) v → Lowest (Seen B P a n) v
-seen-pass {B} {P} {a} {m} {n} h f = lowest-same (λ u _ s. wider s) (λ u l s. (u, omega arith, narrower l s))
+seen-pass {B} {P} {a} {m} {n} h f = lowest-same (λ u _ s. seen-wider h s) (λ u l s. (u, omega arith, narrower l s))
   where
-    wider : {u : ℕ} → Seen B P a m u → Seen B P a n u
-    wider (seen-first p) = seen-first p
-    wider (seen-at c x y p) = seen-at c x (omega arith) p
-
     narrower : {u : ℕ} → u < tooMany → Seen B P a n u → Seen B P a m u
     narrower l (seen-first p) = seen-first p
-    narrower {u} l (seen-at c x y p) = go (decLt c m)
-      where
-        go : Dec (c < m) → Seen B P a m u
-        go (yes z) = seen-at c x z p
-        go (no z) = let w = f c u (omega arith) y p in absurd (omega arith)
+    narrower {u} l (seen-at c x y p) = dite (decLt c m)
+        (λ z. seen-at c x z p)
+        (λ z. absurd (omega (arith, f c u (omega arith) y p)))
 
 module _ {B : ℕ → Type 0} {P : ℕ → ℕ → Type 0} {a m v x : ℕ} (h : a ≤ m) (L : Lowest (Seen B P a m) v)
     (reached : x < tooMany → P m x) (below : (u : ℕ) → P m u → x ≤ u) where
   -- the next number is lower
   pub seen-take : x < v → Lowest (Seen B P a (suc m)) x
   seen-take l = record {
-    capped = let c = L .capped in omega arith;
+    capped = omega arith;
     reached = λ n. seen-at m h (omega arith) (reached n);
     below = λ u s. ⊎-elim (λ p. let q = L .below u p in omega arith) (below u) (seen-cases s);
   }
@@ -97,14 +86,12 @@ module _ {B : ℕ → Type 0} {P : ℕ → ℕ → Type 0} {a m v x : ℕ} (h : 
   pub seen-skip : v ≤ x → Lowest (Seen B P a (suc m)) v
   seen-skip l = record {
     capped = L .capped;
-    reached = λ n. seen-later (L .reached n);
+    reached = λ n. seen-wider (omega arith) (L .reached n);
     below = λ u s. ⊎-elim (L .below u) (λ p. let q = below u p in omega arith) (seen-cases s);
   }
 
   -- the smaller of the two
   pub seen-step : {y : ℕ} → y ≡ min v x → Lowest (Seen B P a (suc m)) y
-  seen-step {y} e = go (decLt x v)
-    where
-      go : Dec (x < v) → Lowest (Seen B P a (suc m)) y
-      go (yes l) = let q : x ≡ y = omega arith in subst (Lowest (Seen B P a (suc m))) q (seen-take l)
-      go (no l) = let q : v ≡ y = omega arith in subst (Lowest (Seen B P a (suc m))) q (seen-skip (omega arith))
+  seen-step {y} e = dite (decLt x v)
+      (λ l. let q : x ≡ y = omega arith in subst (Lowest (Seen B P a (suc m))) q (seen-take l))
+      (λ l. let q : v ≡ y = omega arith in subst (Lowest (Seen B P a (suc m))) q (seen-skip (omega arith)))

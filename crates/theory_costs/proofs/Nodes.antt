@@ -1,10 +1,9 @@
--- Trees without superfluous recursion, a node at a time: below a node over the whole span its own nonterminal joins the mask, so the cost
--- of a rule under that larger mask is the least number of nodes of such a tree with that rule. Assumes nothing.
+-- Trees without superfluous recursion, a node at a time: below a node over the whole span its own nonterminal joins the mask. So under
+-- that larger mask some rule costs no more than the least number of nodes of a tree. Assumes nothing.
 use Prim.Native.Nat.{ℕ, suc, _+_, _-_, _≤_, _<_}
-use mathlib.Core.Bool.{Bool, false}
-use mathlib.Core.List.{List, [], _∷_, append-nil}
+use mathlib.Core.Bool.{false}
+use mathlib.Core.List.{[], _∷_, append-nil}
 use mathlib.Core.Logic.{dite}
-use mathlib.Core.Option.{Option·some-injective}
 use mathlib.Core.Path.{_≡_, refl, sym, ap, _∙_, subst}
 use native.Mathlib.Decide.{ℕ-discrete}
 use native.Mathlib.Omega.{arith}
@@ -12,23 +11,21 @@ use lib.ListN.{length}
 use Rattle.sizes.specs.Sizes.{tooMany}
 use Rattle.laws.proofs.Bools.{bool-false}
 use Rattle.sets.specs.Set.{has, insert}
-use Rattle.sets.proofs.Laws.{has-insert, has-insert-same, has-insert-other}
-use Rattle.cfg.specs.Grammar.{Cfg, Symbol, nonterminal, Terminal, Of, Rule}
+use Rattle.sets.proofs.Laws.{has-insert-other}
+use Rattle.cfg.specs.Grammar.{Cfg, nonterminal, Of, Rule}
 use Rattle.cfg.specs.Tree.{Forest, end, node, yield, nodes, Fits, fits-end, fits-node}
-use Rattle.cfg.specs.Derivation.{Has, has-below, Superfluous, super-here, super-below, super-beside}
-use Rattle.cfg.proofs.Of.{of-same-left}
+use Rattle.cfg.specs.Derivation.{Has, has-below, super-here, super-below}
+use Rattle.cfg.proofs.Of.{of-same-rule}
+use Rattle.chart.specs.Cell.{Fit}
 use Rattle.theory_costs.specs.Lowest.{Lowest}
+use Rattle.theory_costs.specs.Cut.{Cost}
 use Rattle.theory_costs.specs.Span.{Tells, Reads, FreeOver, FreeTree, Least, Inside, Full}
 use Rattle.theory_costs.specs.Rule.{NodeCost}
 use Rattle.theory_costs.specs.Solve.{PlainRow, PlainTree}
 use Rattle.theory_costs.proofs.Span.{reads-length, least-reached, least-below}
-use Rattle.theory_costs.proofs.Rows.{cut→row, row→cut}
-use Rattle.theory_costs.proofs.Solve.{free-node, row→tree, tree-whole}
-use Rattle.theory_costs.proofs.Plain.{row-shrinks, least-plain}
-
--- a number has one rule
-pub of-places : (G : Cfg) {r k l : ℕ} (o : Of G r k) (p : Of G r l) → o .the .places ≡ p .the .places
-of-places G o p = ap (λ (ρ : Rule). ρ .places) (Option·some-injective (o .the) (p .the) (sym (o .here) ∙ p .here))
+use Rattle.theory_costs.proofs.Rows.{row→cut}
+use Rattle.theory_costs.proofs.Solve.{tree-whole}
+use Rattle.theory_costs.proofs.Plain.{least-plain}
 
 -- a tree is a node and a forest for its rule's places
 pub tree-node : {G : Cfg} {k : ℕ} {t : Forest} → Fits G (nonterminal k ∷ []) t
@@ -37,24 +34,9 @@ tree-node (fits-node {r = r} {below = below} o g fits-end) = (r, o, below, g, re
 
 under-fits : {G : Cfg} {r k : ℕ} {below : Forest} (o : Of G r k) → Fits G (nonterminal k ∷ []) (node r below end)
     → Fits G (o .the .places) below
-under-fits {G} {below = below} o (fits-node p g fits-end) = subst (λ (places : List Symbol). Fits G places below) (of-places G p o) g
+under-fits {G} {below = below} o (fits-node p g fits-end) = subst (λ (ρ : Rule). Fits G (ρ .places) below) (of-same-rule refl p o) g
 
 module _ {G : Cfg} {bytes : ℕ → ℕ → Type 0} {M n r k a b : ℕ} {below : Forest} (o : Of G r k) (e : b ≡ a + n) where
-  -- from the forest below to the node
-  pub plain-node : has k M ≡ false → PlainRow G bytes (insert k M) n (o .the .places) a b below
-      → PlainTree G bytes M n k a b (node r below end)
-  plain-node m ((R, F), P) = ((row→tree G o R, free-node G M n below o m (record { none = λ l d. F .none l (has-insert l k M d) })), plain)
-    where
-      size : length (yield below) ≡ n
-      size = omega (arith, reads-length (R .reads))
-
-      plain : ¬ Superfluous G (node r below end)
-      plain (super-here {k = l} p h) =
-          F .none k (has-insert-same k M)
-          (subst (λ (x : ℕ). Has G x n below) (of-same-left p o) (subst (λ (x : ℕ). Has G l x below) size h))
-      plain (super-below s) = P s
-      plain (super-beside s) = elim s [ ]
-
   -- from the node to the forest below
   pub plain-under : PlainTree G bytes M n k a b (node r below end)
       → (has k M ≡ false) × PlainRow G bytes (insert k M) n (o .the .places) a b below
@@ -79,23 +61,8 @@ module _ {G : Cfg} {bytes : ℕ → ℕ → Type 0} {M n r k a b : ℕ} {below :
 
 -- ---- the cost of a rule
 
--- the trees without superfluous recursion of a nonterminal that have rule r at the top
-abbrev pub PlainNode : Cfg → (ℕ → ℕ → Type 0) → ℕ → ℕ → ℕ → ℕ → ℕ → ℕ → Forest → Type 0
-PlainNode G bytes M n r k a b t = PlainTree G bytes M n k a b t × ((below : Forest) × (t ≡ node r below end))
-
-module _ {G : Cfg} {fit : ℕ → Terminal → Bool} {bytes : ℕ → ℕ → Type 0} (tells : Tells fit bytes) {M k i j : ℕ} {full : ℕ → ℕ}
-    {least : ℕ → ℕ → ℕ → ℕ} (h : i ≤ j) (inside : Inside G bytes i j least) (exact : Full G bytes (insert k M) i j full) where
-  -- a tree for each cost
-  cost→node : {r u : ℕ} (o : Of G r k) → has k M ≡ false → u < tooMany → NodeCost fit full least (o .the .places) i j u
-      → (t : Forest) × PlainNode G bytes M (j - i) r k i j t × (nodes t ≤ u)
-  unfolding nodes
-  cost→node {r} {u} o e l p =
-      let s = p .sum in
-      let (f, F, m) = cut→row G tells (insert k M) i j full least inside (λ x. record { reached = least-reached (exact .at x) }) (p .cut)
-      (omega arith) (omega arith) in
-      let (g, P, m') = row-shrinks f F in
-      (node r g end, (plain-node o (omega arith) e P, (g, refl)), omega arith)
-
+module _ {G : Cfg} {fit : Fit} {bytes : ℕ → ℕ → Type 0} (tells : Tells fit bytes) {M k i j : ℕ} {full : ℕ → ℕ}
+    {least : Cost} (h : i ≤ j) (inside : Inside G bytes i j least) (exact : Full G bytes (insert k M) i j full) where
   -- a cost for each tree
   node→cost : {r : ℕ} {below : Forest} (o : Of G r k) → PlainTree G bytes M (j - i) k i j (node r below end)
       → (u : ℕ) × NodeCost fit full least (o .the .places) i j u × (u ≤ nodes (node r below end))
@@ -106,7 +73,7 @@ module _ {G : Cfg} {fit : ℕ → Terminal → Bool} {bytes : ℕ → ℕ → Ty
       (R .fitted) i (R .reads) F (omega arith) (omega arith) in
       (suc u, record { under = u; cut = c; sum = refl }, omega arith)
 
-  -- and one costs no more, where the nonterminal has a tree of few enough nodes
+  -- some rule costs no more than the least tree, if that has few enough nodes
   pub rule-reaches : {x : ℕ} → Least (FreeTree G bytes M (j - i) k i j) x → x < tooMany
       → (r : ℕ) × (o : Of G r k) × ((v : ℕ) → Lowest (NodeCost fit full least (o .the .places) i j) v → v ≤ x)
   rule-reaches {x} X l =

@@ -1,5 +1,4 @@
--- Least numbers of nodes are those of trees without superfluous recursion; below a node of such a tree its own nonterminal joins the mask.
--- Assumes nothing.
+-- Least numbers of nodes are those of trees without superfluous recursion, and an empty mask changes nothing. Assumes nothing.
 use Prim.Native.Nat.{ℕ, _≤_}
 use mathlib.Core.Bool.{true≢false}
 use mathlib.Core.List.{List}
@@ -17,7 +16,7 @@ use Rattle.theory_costs.proofs.Span.{least-same}
 -- ---- without superfluous recursion
 
 module _ {G : Cfg} {bytes : ℕ → ℕ → Type 0} {M n : ℕ} {places : List Symbol} {a b : ℕ} where
-  -- a forest shrinks to one without superfluous recursion, which avoids what it avoided
+  -- a forest shrinks to one without superfluous recursion, which is still free of the mask
   pub row-shrinks : (f : Forest) → FreeRow G bytes M n places a b f → (g : Forest) × PlainRow G bytes M n places a b g × (nodes g ≤ nodes f)
   row-shrinks f (R, F) =
       let S = shrink G (R .fitted) in (

@@ -1,8 +1,8 @@
--- From numbers to trees: where the costs are the least numbers of nodes, over the whole span under a mask and over any other, the least
--- cost of cutting is the least number of nodes of a forest for the places. The two halves, a forest for each cut and a cut for each forest,
--- ask less: the first that each cost is reached by a tree, the second that no tree of at most N nodes is below its cost. Assumes nothing.
+-- From numbers to trees: if the costs are least numbers of nodes, the least cost of cutting is the least number of nodes of a forest for
+-- the places. Each half needs less. A forest for each cut needs that each cost is reached by a tree. A cut for each forest needs that no
+-- tree of at most N nodes is below its cost. Assumes nothing.
 use Prim.Native.Nat.{ℕ, suc, _+_, _-_, _≤_, _<_}
-use mathlib.Core.Bool.{Bool, true}
+use mathlib.Core.Bool.{true}
 use mathlib.Core.List.{List, [], _∷_, _++_, append-nil}
 use mathlib.Core.Logic.{_⊎_, inl, inr, ⊎-elim}
 use mathlib.Core.Path.{_≡_, refl, sym, ap, subst}
@@ -10,12 +10,13 @@ use native.Mathlib.Omega.{arith}
 use lib.ListN.{length}
 use Rattle.sizes.specs.Sizes.{tooMany}
 use Rattle.sets.specs.Set.{has}
-use Rattle.cfg.specs.Grammar.{Cfg, Symbol, nonterminal, Terminal}
+use Rattle.cfg.specs.Grammar.{Cfg, Symbol, nonterminal}
 use Rattle.cfg.specs.Tree.{Forest, end, leaf, node, yield, nodes, Fits, fits-end, fits-leaf, fits-node}
 use Rattle.cfg.specs.Derivation.{Has, has-here, has-below, has-beside, has-after}
 use Rattle.cfg.proofs.Has.{has-within}
-use Rattle.theory_costs.specs.Cut.{Cut, cut-end, cut-leaf, cut-node, LeastCut, within}
-use Rattle.theory_costs.specs.Span.{Tells, Reads, reads-end, reads-byte, FreeOver, RowOver, TreeOver, FreeRow, FreeTree, Least, Inside, Full}
+use Rattle.chart.specs.Cell.{Fit}
+use Rattle.theory_costs.specs.Cut.{Cost, Cut, cut-end, cut-leaf, cut-node, LeastCut, within}
+use Rattle.theory_costs.specs.Span.{Tells, Reads, reads-end, reads-byte, FreeOver, TreeOver, FreeRow, FreeTree, Least, Inside, Full}
 use Rattle.theory_costs.specs.Solve.{Sound}
 use Rattle.theory_costs.proofs.Span.{reads-length, reads-append, reads-split, least-by, least-reached, least-below}
 use Rattle.theory_costs.proofs.Within.{within-cases}
@@ -46,9 +47,6 @@ join G {g = g} (fits-node {r = r} {below = below} o f fits-end) s = record {
     from l n (has-below h) = inl (has-below h)
     from l n (has-beside h) = inr h
 
-pub free-end : (G : Cfg) (M n : ℕ) → FreeOver G M n end
-free-end G M n = record { none = λ k e h. elim h [ ] }
-
 pub free-leaf : (G : Cfg) (M n m : ℕ) (f : Forest) → FreeOver G M n f → FreeOver G M n (leaf m f)
 free-leaf G M n m f F = record { none = none }
   where
@@ -64,13 +62,8 @@ free-first G M n r below rest F = record { none = none }
     none k e (has-below h) = F .none k e (has-below h)
     none k e (has-beside h) = elim h [ ]
 
--- a forest over less than n bytes has no node over n bytes
-pub free-short : {G : Cfg} {bytes : ℕ → ℕ → Type 0} {places : List Symbol} {a b : ℕ} (M n : ℕ) (f : Forest)
-    → RowOver G bytes places a b f → b < a + n → FreeOver G M n f
-free-short M n f R l = record { none = λ k e h. omega (arith, has-within h, reads-length (R .reads)) }
-
-module _ (G : Cfg) {fit : ℕ → Terminal → Bool} {bytes : ℕ → ℕ → Type 0} (tells : Tells fit bytes) (M i j : ℕ) (full : ℕ → ℕ)
-    (least : ℕ → ℕ → ℕ → ℕ) (inside : Inside G bytes i j least) where
+module _ (G : Cfg) {fit : Fit} {bytes : ℕ → ℕ → Type 0} (tells : Tells fit bytes) (M i j : ℕ) (full : ℕ → ℕ)
+    (least : Cost) (inside : Inside G bytes i j least) where
   -- ---- a forest for each cut
 
   module _ (sound : Sound G bytes M i j full) where
@@ -78,16 +71,15 @@ module _ (G : Cfg) {fit : ℕ → Terminal → Bool} {bytes : ℕ → ℕ → Ty
         → (t : Forest) × FreeTree G bytes M (j - i) k a c t × (nodes t ≤ within i j full least k a c)
     piece→tree k a c h l m = within-cases i j full least k
         (λ (x : ℕ). x < tooMany → (t : Forest) × FreeTree G bytes M (j - i) k a c t × (nodes t ≤ x)) a c h l m
-        (λ e d q. subst (λ (y : ℕ). (t : Forest) × FreeTree G bytes M (j - i) k y c t × (nodes t ≤ full k)) (sym e)
-        (subst (λ (y : ℕ). (t : Forest) × FreeTree G bytes M (j - i) k i y t × (nodes t ≤ full k)) (sym d) (sound k .reached q)))
+        (λ e d q. rw (e, d) (sound k .reached q))
         (λ n q.
         let (t, T, s) = least-reached (inside .at k a c h l m n) q in
-        (t, (T, free-short M (j - i) t T (omega arith)), s))
+        (t, (T, record { none = λ _ _ z. omega (arith, has-within z, reads-length (T .reads)) }), s))
 
     pub cut→row : {places : List Symbol} {a u : ℕ} → Cut fit (within i j full least) j places a u → i ≤ a → u < tooMany
         → (f : Forest) × FreeRow G bytes M (j - i) places a j f × (nodes f ≤ u)
     unfolding yield nodes
-    cut→row (cut-end e) h l = (end, (record { fitted = fits-end; reads = reads-end e }, free-end G M (j - i)), omega arith)
+    cut→row (cut-end e) h l = (end, (record { fitted = fits-end; reads = reads-end e }, record { none = λ k d i. elim i [ ] }), omega arith)
     cut→row (cut-leaf {t} {a = a} m q c) h l =
         let (f, (R, F), s) = cut→row c (omega arith) l in
         let (x, p, e) = tells a t .0 q in
@@ -111,8 +103,7 @@ module _ (G : Cfg) {fit : ℕ → Terminal → Bool} {bytes : ℕ → ℕ → Ty
     tree→piece : (k a c : ℕ) (t : Forest) → i ≤ a → a ≤ c → c ≤ j → FreeTree G bytes M (j - i) k a c t → nodes t ≤ N
         → within i j full least k a c ≤ nodes t
     tree→piece k a c t h l m T s = within-cases i j full least k (λ (x : ℕ). x ≤ nodes t) a c h l m
-        (λ e d. lower k t
-        (subst (λ (y : ℕ). FreeTree G bytes M (j - i) k y j t) e (subst (λ (y : ℕ). FreeTree G bytes M (j - i) k a y t) d T)) s)
+        (λ e d. lower k t (rw (e, d) at T) s)
         (λ q. least-below (inside .at k a c h l m q) t (T .0))
 
     pub row→cut : {places : List Symbol} {f : Forest} → Fits G places f → (a : ℕ) → Reads bytes j a (yield f) → FreeOver G M (j - i) f

@@ -1,20 +1,22 @@
--- Numbers for one span that are sound and stable are the least numbers of nodes, by induction on the number of nodes; and the cost of a
--- rule keeps them sound. Of a nonterminal of the mask, a sound number is none, so stability asks nothing of it. Assumes nothing.
-use Prim.Native.Nat.{ℕ, zero, suc, _+_, _-_, _≤_, _<_}
+-- Numbers for one span that are sound and stable are the least numbers of nodes, by induction on the number of nodes. The cost of a rule
+-- keeps them sound. A nonterminal of the mask has no tree, so stability asks nothing of its number. Assumes nothing.
+use Prim.Native.Nat.{ℕ, zero, suc, _+_, _-_, _≤_}
 use mathlib.Core.Bool.{Bool, true, false, true≢false}
 use mathlib.Core.List.{List, [], _∷_, append-nil}
+use mathlib.Core.Logic.{dite}
 use mathlib.Core.Path.{_≡_, refl, sym, ap, _∙_, subst}
 use native.Mathlib.Decide.{decLt}
 use native.Mathlib.Omega.{arith}
 use lib.ListN.{length}
 use Rattle.sizes.specs.Sizes.{tooMany}
 use Rattle.sets.specs.Set.{has}
-use Rattle.cfg.specs.Grammar.{Cfg, Symbol, nonterminal, Terminal, Of}
+use Rattle.cfg.specs.Grammar.{Cfg, Symbol, nonterminal, Of}
 use Rattle.cfg.specs.Tree.{Forest, end, node, yield, nodes, Fits, fits-end, fits-node}
 use Rattle.cfg.specs.Derivation.{Has, has-here, has-below, has-beside}
 use Rattle.cfg.proofs.Of.{of-same-left}
+use Rattle.chart.specs.Cell.{Fit}
 use Rattle.theory_costs.specs.Lowest.{Lowest}
-use Rattle.theory_costs.specs.Cut.{Cut, within}
+use Rattle.theory_costs.specs.Cut.{Cost, Cut, within}
 use Rattle.theory_costs.specs.Span.{Tells, Reads, FreeOver, RowOver, TreeOver, Inside, Full}
 use Rattle.theory_costs.specs.Rule.{NodeCost}
 use Rattle.theory_costs.specs.Solve.{SoundAt, Sound, Stable}
@@ -26,8 +28,8 @@ pub tree-whole : {G : Cfg} {k n : ℕ} {t : Forest} → Fits G (nonterminal k �
 unfolding yield
 tree-whole (fits-node {below = below} o g fits-end) e = has-here o (sym (ap length (append-nil (yield below))) ∙ e)
 
--- no lower number than the lowest
-pub settled-by : {fit : ℕ → Terminal → Bool} {full : ℕ → ℕ} {least : ℕ → ℕ → ℕ → ℕ} {places : List Symbol} {i j v x : ℕ}
+-- no cost is lower than the lowest
+pub settled-by : {fit : Fit} {full : ℕ → ℕ} {least : Cost} {places : List Symbol} {i j v x : ℕ}
     → Lowest (NodeCost fit full least places i j) v → x ≤ v → (u : ℕ) → NodeCost fit full least places i j u → x ≤ u
 settled-by L l u p = let h = L .below u p in omega arith
 
@@ -49,8 +51,8 @@ row→tree G {bytes} {a = a} {b} {below} o R = record {
   reads = subst (Reads bytes b a) (sym (append-nil (yield below))) (R .reads);
 }
 
-module _ (G : Cfg) {fit : ℕ → Terminal → Bool} {bytes : ℕ → ℕ → Type 0} (tells : Tells fit bytes) (M i j : ℕ) (full : ℕ → ℕ)
-    (least : ℕ → ℕ → ℕ → ℕ) (inside : Inside G bytes i j least) (sound : Sound G bytes M i j full) where
+module _ (G : Cfg) {fit : Fit} {bytes : ℕ → ℕ → Type 0} (tells : Tells fit bytes) (M i j : ℕ) (full : ℕ → ℕ)
+    (least : Cost) (inside : Inside G bytes i j least) (sound : Sound G bytes M i j full) where
   -- the cost of a rule is reached
   pub rule-sound : {r k v : ℕ} (o : Of G r k) → has k M ≡ false → Lowest (NodeCost fit full least (o .the .places) i j) v
       → SoundAt G bytes M i j k v
@@ -58,22 +60,18 @@ module _ (G : Cfg) {fit : ℕ → Terminal → Bool} {bytes : ℕ → ℕ → Ty
   rule-sound {r} {k} {v} o e L = record {
     reached = λ l.
         let p = L .reached l in
-        let s = p .sum in
         let (f, (R, F), m) = cut→row G tells M i j full least inside sound (p .cut) (omega arith) (omega arith) in
         (node r f end, (row→tree G o R, free-node G M (j - i) f o e F), omega arith);
   }
 
-  -- the rules of a nonterminal without a tree cost too many
-  pub rule-barren : {r k u : ℕ} (o : Of G r k) → ((t : Forest) → TreeOver G bytes k i j t → ⊥) → NodeCost fit full least (o .the .places) i j u
-      → tooMany ≤ u
-  rule-barren {r} {u = u} o n p = go (decLt u tooMany)
-    where
-      go : Dec (u < tooMany) → tooMany ≤ u
-      go (yes l) =
-          let s = p .sum in
-          let (f, F, m) = cut→row G tells M i j full least inside sound (p .cut) (omega arith) (omega arith) in
-          absurd (n (node r f end) (row→tree G o (F .0)))
-      go (no l) = omega arith
+  -- the rules of a nonterminal without a tree cost too many nodes
+  pub rule-barren : {r k u : ℕ} (o : Of G r k) → ((t : Forest) → TreeOver G bytes k i j t → ⊥)
+      → NodeCost fit full least (o .the .places) i j u → tooMany ≤ u
+  rule-barren {r} {u = u} o n p = dite (decLt u tooMany)
+      (λ l.
+      let (f, F, m) = cut→row G tells M i j full least inside sound (p .cut) (omega arith) (omega arith) in
+      absurd (n (node r f end) (row→tree G o (F .0))))
+      (λ l. omega arith)
 
   module _ (stable : Stable G fit M i j full least) where
     -- a tree of at most N nodes has no fewer than the number says

@@ -1,5 +1,5 @@
--- Lists that may stand in a span, put together and taken apart; those of one input are its slices, so that trees over its bytes are its
--- parse trees; and the least number of nodes of a set of forests. Assumes nothing.
+-- Lists of bytes that are possible in a span, put together and taken apart. Those of one input are its slices, so trees over its bytes are
+-- its parse trees. At the end: the least number of nodes of a set of forests. Assumes nothing.
 use Prim.Native.Nat.{ℕ, suc, _+_, _≤_, _<_}
 use mathlib.Core.Bool.{true}
 use mathlib.Core.List.{List, [], _∷_, _++_}
@@ -35,13 +35,7 @@ module _ {bytes : ℕ → ℕ → Type 0} where
       let e : suc a + length u ≡ a + length (m ∷ u) = omega arith in
       (reads-byte p (subst (λ (x : ℕ). Reads bytes x (suc a) u) e s), subst (λ (x : ℕ). Reads bytes b x v) e t)
 
-  -- what may stand where these bytes may, may stand where others may that include them
-  pub reads-map : {others : ℕ → ℕ → Type 0} → ((a m : ℕ) → bytes a m → others a m) → {a b : ℕ} {u : List ℕ} → Reads bytes b a u
-      → Reads others b a u
-  reads-map f (reads-end e) = reads-end e
-  reads-map f {a} (reads-byte {m = m} p r) = reads-byte (f a m p) (reads-map f r)
-
-  -- nothing stands in an empty span
+  -- an empty span has no bytes
   pub reads-nil : {a : ℕ} {u : List ℕ} → Reads bytes a a u → u ≡ []
   reads-nil (reads-end e) = refl
   reads-nil (reads-byte p r) = absurd (omega (arith, reads-length r))
@@ -76,17 +70,14 @@ module _ (w : List ℕ) where
 
 -- ---- the least number of nodes
 
--- by a forest of no more nodes
+-- to reach v, a forest of at most v nodes is enough
 pub least-by : {P : Forest → Type 0} {v : ℕ} → v ≤ tooMany → (v < tooMany → (f : Forest) × P f × (nodes f ≤ v))
     → ((f : Forest) → P f → v ≤ nodes f) → Least P v
-least-by {P} {v} c r b = record {
+least-by c r b = record {
   capped = c;
-  reached = λ l. go (r l);
-  below = λ u p. let e = p .2 in let h = b (p .0) (p .1) in omega arith;
+  reached = λ l. let (f, p, m) = r l in (f, p, omega (arith, b f p));
+  below = λ u q. let (f, p, e) = q in omega (arith, b f p);
 }
-  where
-    go : (f : Forest) × P f × (nodes f ≤ v) → (f : Forest) × P f × (nodes f ≡ v)
-    go (f, p, l) = (f, p, let h = b f p in omega arith)
 
 pub least-reached : {P : Forest → Type 0} {v : ℕ} → Least P v → v < tooMany → (f : Forest) × P f × (nodes f ≤ v)
 least-reached L l = let (f, p, e) = L .reached l in (f, p, omega arith)
@@ -94,25 +85,22 @@ least-reached L l = let (f, p, e) = L .reached l in (f, p, omega arith)
 pub least-below : {P : Forest → Type 0} {v : ℕ} → Least P v → (f : Forest) → P f → v ≤ nodes f
 least-below L f p = L .below (nodes f) (f, p, refl)
 
--- of two sets, each forest of one has one of the other with no more nodes
+-- for each forest of one of two sets, the other has one with no more nodes
 pub least-same : {P Q : Forest → Type 0} {v : ℕ} → ((f : Forest) → P f → (g : Forest) × Q g × (nodes g ≤ nodes f))
     → ((f : Forest) → Q f → (g : Forest) × P g × (nodes g ≤ nodes f)) → Least P v → Least Q v
-least-same {P} {Q} {v} to from L = least-by (L .capped) reached below
-  where
-    reached : v < tooMany → (f : Forest) × Q f × (nodes f ≤ v)
-    reached l = let (f, p, e) = L .reached l in let (g, q, m) = to f p in (g, q, omega arith)
+least-same to from L = least-by (L .capped)
+    (λ l. let (f, p, e) = L .reached l in let (g, q, m) = to f p in (g, q, omega arith))
+    (λ f q. let (g, p, m) = from f q in omega (arith, least-below L g p))
 
-    below : (f : Forest) → Q f → v ≤ nodes f
-    below f q = let (g, p, m) = from f q in let h = least-below L g p in omega arith
-
--- the empty trees are the same wherever they stand
+-- the empty trees are the same at each position
 pub tree-empty : {G : Cfg} {bytes : ℕ → ℕ → Type 0} {k a : ℕ} {t : Forest} (b : ℕ) → TreeOver G bytes k a a t → TreeOver G bytes k b b t
 tree-empty {bytes = bytes} b T = record {
   fitted = T .fitted;
   reads = subst (Reads bytes b b) (sym (reads-nil (T .reads))) (reads-end refl);
 }
 
-pub least-moved : {G : Cfg} {bytes : ℕ → ℕ → Type 0} {k a v : ℕ} (b : ℕ) → Least (TreeOver G bytes k a a) v → Least (TreeOver G bytes k b b) v
+pub least-moved : {G : Cfg} {bytes : ℕ → ℕ → Type 0} {k a v : ℕ} (b : ℕ) → Least (TreeOver G bytes k a a) v
+    → Least (TreeOver G bytes k b b) v
 least-moved {a = a} b = least-same (λ t T. (t, tree-empty b T, omega arith)) (λ t T. (t, tree-empty a T, omega arith))
 
 pub least-empty : {G : Cfg} {bytes : ℕ → ℕ → Type 0} {k a b u v : ℕ} → Least (TreeOver G bytes k a a) u → Least (TreeOver G bytes k b b) v

@@ -1,6 +1,5 @@
 -- A cut of a span that is not empty has no piece over the whole span, or exactly one and all others empty. Assumes nothing.
 use Prim.Native.Nat.{ℕ, zero, suc, _+_, _-_, _≤_, _<_}
-use mathlib.Core.Bool.{Bool}
 use mathlib.Core.List.{List, [], _∷_}
 use mathlib.Core.Logic.{_⊎_, inl, inr}
 use mathlib.Core.Option.{some}
@@ -9,15 +8,16 @@ use native.Mathlib.Decide.{ℕ-discrete}
 use native.Mathlib.Omega.{arith}
 use lib.ListN.{getElem?}
 use Rattle.sizes.specs.Sizes.{tooMany}
-use Rattle.cfg.specs.Grammar.{Symbol, nonterminal, terminal, Terminal}
-use Rattle.theory_costs.specs.Cut.{Cut, cut-end, cut-leaf, cut-node, within}
+use Rattle.cfg.specs.Grammar.{Symbol, nonterminal, terminal}
+use Rattle.chart.specs.Cell.{Fit}
+use Rattle.theory_costs.specs.Cut.{Cost, Cut, cut-end, cut-leaf, cut-node, within}
 use Rattle.theory_costs.specs.Rule.{single, together, others}
 use Rattle.theory_costs.proofs.Cut.{cut-map}
 use Rattle.theory_costs.proofs.Within.{within-whole, within-part, within-cases}
 
 -- ---- an empty span
 
-module _ {fit : ℕ → Terminal → Bool} {cost : ℕ → ℕ → ℕ → ℕ} {b : ℕ} {empty : ℕ → ℕ} (at : (k : ℕ) → cost k b b ≡ empty k) where
+module _ {fit : Fit} {cost : Cost} {b : ℕ} {empty : ℕ → ℕ} (at : (k : ℕ) → cost k b b ≡ empty k) where
   pub cut-nothing : {places : List Symbol} {a u : ℕ} → a ≡ b → Cut fit cost b places a u → u ≡ together empty places
   unfolding together single
   cut-nothing e (cut-end d) = refl
@@ -44,18 +44,18 @@ abbrev pub ByWhole : (ℕ → ℕ) → (ℕ → ℕ) → List Symbol → ℕ →
 ByWhole empty full places u =
     (q : ℕ) × (k : ℕ) × (getElem? places q ≡ some (nonterminal k)) × (u ≡ others empty places q + full k)
 
-module _ (fit : ℕ → Terminal → Bool) (full : ℕ → ℕ) (least : ℕ → ℕ → ℕ → ℕ) (i j : ℕ) (h : i < j) where
+module _ (fit : Fit) (full : ℕ → ℕ) (least : Cost) (i j : ℕ) (h : i < j) where
   -- from a later start on no piece covers the whole span
   cut-later : (full' : ℕ → ℕ) {places : List Symbol} {a u : ℕ} → i < a → Cut fit (within i j full least) j places a u
       → Cut fit (within i j full' least) j places a u
-  cut-later full' {u = u} l = cut-map (suc i) j u (λ _ _ _ _ q. q)
-      (λ k a c m n o _. within-part i j full least k a c (omega arith) ∙ sym (within-part i j full' least k a c (omega arith)))
+  cut-later full' {u = u} l = cut-map (suc i) j u
+      (λ k a c _ m n o _. within-part i j full least k a c (omega arith) ∙ sym (within-part i j full' least k a c (omega arith)))
       l (omega arith)
 
-  -- a cut that has no piece over the whole span, of few enough nodes
+  -- a cut of few enough nodes, without a piece over the whole span
   pub bare→cut : {places : List Symbol} {u : ℕ} → u < tooMany → Cut fit (within i j (λ _. tooMany) least) j places i u
       → Cut fit (within i j full least) j places i u
-  bare→cut {u = u} l = cut-map i j u (λ _ _ _ _ q. q) (λ k a c m n o. within-cases i j (λ _. tooMany) least k
+  bare→cut {u = u} l = cut-map i j u (λ k a c _ m n o. within-cases i j (λ _. tooMany) least k
       (λ (x : ℕ). x ≤ u → x ≡ within i j full least k a c) a c m n o
       (λ _ _ p. absurd (omega arith)) (λ s p. sym (within-part i j full least k a c s)))
       (omega arith) (omega arith)
@@ -91,10 +91,7 @@ module _ (fit : ℕ → Terminal → Bool) (full : ℕ → ℕ) (least : ℕ →
             let y : v ≡ together empty places =
             cut-nothing {cost = within i j full least} (λ n. within-part i j full least n j j (omega arith) ∙ stop n) q d in
             inr (0, k, refl, omega arith)
-        go (no p) (no q) r =
-            let x : ¬ (c ≡ i) = p in
-            let y : ¬ (c ≡ j) = q in
-            inl (cut-node c l m (cut-later (λ _. tooMany) (omega arith) d) (part (omega arith)))
+        go (no p) (no q) r = inl (cut-node c l m (cut-later (λ _. tooMany) (omega arith) d) (part (omega arith)))
 
     pub whole→cut : (places : List Symbol) (q k : ℕ) → getElem? places q ≡ some (nonterminal k) → others empty places q + full k < tooMany
         → Cut fit (within i j full least) j places i (others empty places q + full k)

@@ -1,18 +1,16 @@
--- Codes of forests for the same places that begin at the same position of an input: they are equal only where the forests are, and else
--- one is before the other, so none is the beginning of another. Codes put together of a first part and a rest are in order by the first
--- parts, and where these are the same by the rests. Assumes nothing.
-use Prim.Native.Nat.{ℕ, _<_}
+-- Codes of forests for the same places over the same bytes: if the forests differ, one code is before the other, so none is the beginning
+-- of another. Codes of a first part and a rest are ordered by the first parts, and by the rests if these are the same. Assumes nothing.
+use Prim.Native.Nat.{ℕ}
 use mathlib.Core.List.{List, [], _∷_, _++_, append-nil}
-use mathlib.Core.Logic.{_⊎_, inl, inr, _≢_}
+use mathlib.Core.Logic.{_⊎_, inl, inr}
 use mathlib.Core.Path.{_≡_, refl, sym, ap, _∙_}
-use native.Mathlib.Decide.{ℕ-discrete, decLt}
 use native.Mathlib.Nat.{lt-irrefl}
-use native.Mathlib.Omega.{arith}
 use Rattle.cfg.specs.Grammar.{Cfg, Symbol}
 use Rattle.cfg.specs.Tree.{Forest, yield, code, Fits}
 use Rattle.cfg.specs.Derivation.{_≺_, first-less, first-same}
 use Rattle.theory_listing.proofs.Order.{≺-asymmetric, ≺-append}
 use Rattle.theory_listing.proofs.Unique.{row-unique}
+use Rattle.theory_enumeration.proofs.Layered.{Numbers, below, equal, above, numbers}
 
 -- ---- lists
 
@@ -32,19 +30,14 @@ compared-cons a (longer z e) = longer z (ap (λ (l : List ℕ). a ∷ l) e)
 pub compared : (x y : List ℕ) → Compared x y
 compared [] y = shorter y refl
 compared (a ∷ x) [] = longer (a ∷ x) refl
-compared (a ∷ x) (b ∷ y) = go (ℕ-discrete a b) (compared x y)
+compared (a ∷ x) (b ∷ y) = go (numbers a b) (compared x y)
   where
-    other : a ≢ b → Dec (a < b) → Compared (a ∷ x) (b ∷ y)
-    other d (yes h) = before (first-less h)
-    other d (no h) =
-        let l : b < a = omega arith in
-        behind (first-less l)
+    go : Numbers a b → Compared x y → Compared (a ∷ x) (b ∷ y)
+    go (below h) c = before (first-less h)
+    go (equal e) c = rw e (compared-cons b c)
+    go (above h) c = behind (first-less h)
 
-    go : Dec (a ≡ b) → Compared x y → Compared (a ∷ x) (b ∷ y)
-    go (yes e) c = rw e (compared-cons b c)
-    go (no d) c = other d (decLt a b)
-
--- the order does not depend on what stands before both
+-- the order does not depend on what both begin with
 pub ≺-cancel : (p : List ℕ) {x y : List ℕ} → p ++ x ≺ p ++ y → x ≺ y
 ≺-cancel [] h = h
 ≺-cancel (a ∷ p) (first-less h) = absurd (lt-irrefl a h)
@@ -58,21 +51,17 @@ pub data Ordered (t u : Forest) : Type 0 where
   less : code t ≺ code u → Ordered t u
   greater : code u ≺ code t → Ordered t u
 
-module _ (G : Cfg) {places : List Symbol} {t u : Forest} (f : Fits G places t) (g : Fits G places u) where
-  -- what follows the forests in the input is p and q
-  pub forests-ordered : (p q : List ℕ) → yield t ++ p ≡ yield u ++ q → Ordered t u
-  forests-ordered p q e = go (compared (code t) (code u))
-    where
-      go : Compared (code t) (code u) → Ordered t u
-      go (before h) = less h
-      go (behind h) = greater h
-      go (shorter z h) = same (row-unique G z [] p q f g e (h ∙ sym (append-nil (code u))) .0)
-      go (longer z h) = same (row-unique G [] z p q f g e (append-nil (code t) ∙ sym h) .0)
+pub forests-compared : (G : Cfg) {places : List Symbol} {t u : Forest} → Fits G places t → Fits G places u → yield t ≡ yield u → Ordered t u
+forests-compared G {t = t} {u} f g e = go (compared (code t) (code u))
+  where
+    bytes : yield t ++ [] ≡ yield u ++ []
+    bytes = ap (λ (l : List ℕ). l ++ []) e
 
-  module _ (e : yield t ≡ yield u) where
-    -- over the same bytes
-    pub forests-compared : Ordered t u
-    forests-compared = forests-ordered [] [] (ap (λ (l : List ℕ). l ++ []) e)
+    go : Compared (code t) (code u) → Ordered t u
+    go (before h) = less h
+    go (behind h) = greater h
+    go (shorter z h) = same (row-unique G z [] [] [] f g bytes (h ∙ sym (append-nil (code u))) .0)
+    go (longer z h) = same (row-unique G [] z [] [] f g bytes (append-nil (code t) ∙ sym h) .0)
 
 -- ---- a first part and a rest
 

@@ -1,5 +1,5 @@
--- Rows of a nonterminal and further places: cut behind the first node, put together again, in layers by the first node's cover.
--- Assumes nothing.
+-- Rows of a nonterminal and further places are cut after the first node and put together again. The first node's cover is the number of
+-- their layer. Assumes nothing.
 use Prim.Native.Nat.{ℕ, _+_, _-_, _≤_, _<_}
 use mathlib.Core.List.{List, [], _∷_, _++_, append-nil}
 use mathlib.Core.Path.{_≡_, refl, sym, ap, ap₂, subst, _∙_}
@@ -12,14 +12,14 @@ use Rattle.cfg.specs.Derivation.{Superfluous, _≺_, first-less}
 use Rattle.chart.proofs.Slices.{slice-append, slice-split}
 use Rattle.theory_enumeration.specs.Rows.{Free, Row, Tree, firstCover, Skipped, Share}
 use Rattle.theory_enumeration.specs.Order.{Coded, NoForest}
-use Rattle.theory_enumeration.proofs.Compare.{Ordered, forests-compared}
+use Rattle.theory_enumeration.proofs.Compare.{forests-compared}
 use Rattle.theory_enumeration.proofs.Layered.{Layered}
 use Rattle.theory_enumeration.proofs.Joined.{Split, Joined}
 use Rattle.theory_enumeration.proofs.Rows.{row-budget}
 use Rattle.theory_enumeration.proofs.Free.{join-plain, join-free, first-plain, first-free, beside-plain, beside-free}
 
 module _ (G : Cfg) (w : List ℕ) (cover mask k : ℕ) (places : List Symbol) (from to budget : ℕ) where
-  -- a forest of the row cut behind its first node, which covers c bytes
+  -- a forest of the row, cut after its first node, which covers c bytes
   pub record Cut (c : ℕ) (t : Forest) : Type 0 where
     pub first : Forest
     pub rest : Forest
@@ -112,15 +112,12 @@ module _ (G : Cfg) (w : List ℕ) (cover mask k : ℕ) (places : List Symbol) (f
     -- `share` is what the first node may cost
     pub row-joined : (rising : from ≤ to) (c share : ℕ) → from + c ≤ to → Share G w cover mask k places from to budget c share
         → Joined (Tree G w cover mask k from (from + c) share) (λ n. Row G w cover mask places (from + c) to (budget - n)) (Covering c)
-    row-joined rising c share l b = record { join = join; split = split; ordered = ordered }
+    row-joined rising c share l b = record {
+      join = λ x y p q. row-join c l x y (row-budget G w p (omega arith)) q;
+      split = split;
+      ordered = λ x u p q. forests-compared G (p .fit) (q .fit) (p .covers ∙ sym (q .covers));
+    }
       where
-        join : (x y : Forest) → Tree G w cover mask k from (from + c) share x → Row G w cover mask places (from + c) to (budget - nodes x) y
-            → Coded (Covering c) (code x ++ code y)
-        join x y p q =
-            let i = b .within in
-            let j = p .small in
-            row-join c l x y (row-budget G w p (omega arith)) q
-
         split : (t : Forest) → Covering c t
             → Split (Tree G w cover mask k from (from + c) share) (λ n. Row G w cover mask places (from + c) to (budget - n)) (code t)
         split t a =
@@ -132,7 +129,3 @@ module _ (G : Cfg) (w : List ℕ) (cover mask k : ℕ) (places : List Symbol) (f
               rest-in = x .others;
               coded = x .coded;
             }
-
-        ordered : (x u : Forest) → Tree G w cover mask k from (from + c) share x
-            → Tree G w cover mask k from (from + c) share u → Ordered x u
-        ordered x u p q = forests-compared G (p .fit) (q .fit) (p .covers ∙ sym (q .covers))

@@ -1,8 +1,7 @@
--- The first code of a row and of a node, from the first codes of their parts; and where there is none. Assumes nothing.
+-- The first code of a row and of a node, from the first codes of their parts. Assumes nothing.
 use Prim.Native.Nat.{ℕ, _+_, _-_, _*_, _≤_, _<_}
 use mathlib.Core.Bool.{true, false}
 use mathlib.Core.List.{List, [], _∷_, _++_}
-use mathlib.Core.Logic.{_≢_}
 use mathlib.Core.Path.{_≡_, refl}
 use lib.ListN.{length, getD}
 use Rattle.sets.specs.Set.{has}
@@ -12,9 +11,9 @@ use Rattle.cfg.specs.Derivation.{_≺_}
 use Rattle.theory_enumeration.specs.Rows.{Row, Tree, Below, Skipped, Share, SameSpan}
 use Rattle.theory_enumeration.specs.Order.{NoForest, Min}
 use Rattle.theory_enumeration.proofs.Prefixed.{prefixed-first}
-use Rattle.theory_enumeration.proofs.Layered.{layered-first, layered-none}
+use Rattle.theory_enumeration.proofs.Layered.{layered-first}
 use Rattle.theory_enumeration.proofs.Joined.{joined-first}
-use Rattle.theory_enumeration.proofs.Rows.{row-own, row-end, end-row, leaf-prefixed}
+use Rattle.theory_enumeration.proofs.Rows.{row-own, row-end, leaf-prefixed}
 use Rattle.theory_enumeration.proofs.Cuts.{row-layered, row-joined, skipped-none}
 use Rattle.theory_enumeration.proofs.Nodes.{node-layered, rule-prefixed, rule-none}
 
@@ -23,7 +22,7 @@ before-none : (x : List ℕ) → x ≺ [] → ⊥
 before-none x = elim [ ]
 
 module _ (G : Cfg) (w : List ℕ) (cover mask from to budget : ℕ) (known : to ≤ length w) where
-  -- ---- what matters of the mask, for a row over c bytes
+  -- ---- the part of the mask that matters for a row over c bytes
 
   pub own-first : {c own : ℕ} (places : List Symbol) {e : List ℕ} → SameSpan cover mask c own → c ≤ cover → from + c ≡ to
       → Min (Row G w c own places from to budget) e → Min (Row G w cover mask places from to budget) e
@@ -37,9 +36,6 @@ module _ (G : Cfg) (w : List ℕ) (cover mask from to budget : ℕ) (known : to 
     found = record { forest = end; member = row-end G w cover mask from to budget q; coded = refl };
     least = λ t r h. before-none (code t) h;
   }
-
-  pub end-none : from ≤ to → from ≢ to → NoForest (Row G w cover mask [] from to budget)
-  end-none h d t r = d (end-row G w cover mask from to budget t h known r .0)
 
   module _ (places : List Symbol) (rising : from ≤ to) where
     -- ---- a terminal and the rest
@@ -61,12 +57,6 @@ module _ (G : Cfg) (w : List ℕ) (cover mask from to budget : ℕ) (known : to 
         (λ d h. skipped-none G w cover mask k places from to budget known rising d (λ _. s d h))
         (joined-first (row-joined G w cover mask k places from to budget known rising c share l b) m size r)
 
-    pub row-none : (k : ℕ) → ((d : ℕ) → from + d ≤ to → Skipped G w cover mask k places from to budget d)
-        → NoForest (Row G w cover mask (nonterminal k ∷ places) from to budget)
-    row-none k s =
-        layered-none (row-layered G w cover mask k places from to budget known rising)
-        (λ d. skipped-none G w cover mask k places from to budget known rising d (s d))
-
 -- ---- a node over c bytes
 
 module _ (G : Cfg) (w : List ℕ) (c mask k from to budget : ℕ) (size : from + c ≡ to) (known : to ≤ length w) where
@@ -77,8 +67,3 @@ module _ (G : Cfg) (w : List ℕ) (c mask k from to budget : ℕ) (size : from +
       layered-first (node-layered G w c mask k from to budget size known) r
       (λ s h. rule-none G w c mask k from to budget size known s (n s h))
       (prefixed-first (rule-prefixed G w c mask k from to budget size known o fresh room) m)
-
-  pub node-none : ((s : ℕ) (p : Of G s k) → NoForest (Below G w c mask k from to budget p)) → NoForest (Tree G w c mask k from to budget)
-  node-none n =
-      layered-none (node-layered G w c mask k from to budget size known)
-      (λ s. rule-none G w c mask k from to budget size known s (n s))

@@ -1,11 +1,13 @@
--- Superfluous recursion, and being free of a mask, for a row from those of its parts and back: a leaf before a row, a node before a row, a
--- node and the row below it. No node covers more than the row that it stands in, so a narrow row is free of every mask. Assumes nothing.
+-- Rows without superfluous recursion, and rows free of a mask: from the parts to the row, and back. The parts are a leaf and a row, a node
+-- and a row, or a node and the row below it. No node covers more than its row, so a narrow row is free of every mask. Assumes nothing.
 use Prim.Native.Nat.{ℕ, _<_}
-use mathlib.Core.Bool.{Bool, true, false, true≢false}
-use mathlib.Core.Path.{_≡_, refl, sym, ap, subst, _∙_}
+use mathlib.Core.Bool.{false, true≢false}
+use mathlib.Core.Logic.{dite}
+use mathlib.Core.Path.{_≡_, sym, ap, subst, _∙_}
 use native.Mathlib.Decide.{ℕ-discrete}
 use native.Mathlib.Omega.{arith}
 use lib.ListN.{length}
+use Rattle.laws.proofs.Bools.{bool-false}
 use Rattle.sets.specs.Set.{has, insert}
 use Rattle.sets.proofs.Laws.{has-empty, has-insert-same, has-insert-other, has-insert}
 use Rattle.cfg.specs.Grammar.{Cfg, Of}
@@ -74,7 +76,7 @@ module _ (G : Cfg) where
     pub beside-free : (cover mask : ℕ) → Free G cover mask (node r below rest) → Free G cover mask rest
     beside-free cover mask f k h i = f k h (has-beside i)
 
--- ---- a node over c bytes and the row below it: below it the node's own nonterminal k is one more of the mask
+-- ---- a node over c bytes and the row below it, where the node's own nonterminal k joins the mask
 
 module _ (G : Cfg) (c mask k r : ℕ) (o : Of G r k) (below : Forest) (size : length (yield below) ≡ c) where
   pub node-plain : ¬ Superfluous G below → Free G c (insert k mask) below → ¬ Superfluous G (node r below end)
@@ -88,21 +90,10 @@ module _ (G : Cfg) (c mask k r : ℕ) (o : Of G r k) (below : Forest) (size : le
   node-free fresh f j h (has-below i) = f j (has-insert j k mask h) i
   node-free fresh f j h (has-beside i) = end-free G c mask j h i
 
-  pub below-plain : ¬ Superfluous G (node r below end) → ¬ Superfluous G below
-  below-plain s i = s (super-below i)
-
   pub node-fresh : Free G c mask (node r below end) → has k mask ≡ false
-  node-fresh f = go (has k mask) refl
-    where
-      go : (b : Bool) → has k mask ≡ b → has k mask ≡ false
-      go true h = absurd (f k h (has-here o size))
-      go false h = h
+  node-fresh f = bool-false (has k mask) (λ h. f k h (has-here o size))
 
   pub below-free : ¬ Superfluous G (node r below end) → Free G c mask (node r below end) → Free G c (insert k mask) below
-  below-free s f j h i = go (ℕ-discrete j k)
-    where
-      go : Dec (j ≡ k) → ⊥
-      go (yes e) =
-          let h : Has G j (length (yield below)) below = subst (λ (x : ℕ). Has G j x below) (sym size) i in
-          s (super-here o (subst (λ (x : ℕ). Has G x (length (yield below)) below) e h))
-      go (no d) = f j (sym (has-insert-other j k mask d) ∙ h) (has-below i)
+  below-free s f j h i = dite (ℕ-discrete j k)
+      (λ e. s (super-here o (subst (λ (x : ℕ). Has G k x below) (sym size) (subst (λ (x : ℕ). Has G x c below) e i))))
+      (λ d. f j (sym (has-insert-other j k mask d) ∙ h) (has-below i))

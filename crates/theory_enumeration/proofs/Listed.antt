@@ -1,9 +1,7 @@
--- A rising list that has exactly the codes of a set of forests: the first code of the set is its head, the code after d follows d, and
--- where there is none d stands at the end. Assumes nothing.
+-- A rising list has exactly the codes of a set of forests. The first code of the set is its head, and the code after d follows d. If there
+-- is none, d is the last element. Assumes nothing.
 use Prim.Native.Nat.{ℕ}
-use mathlib.Core.List.{List, [], _∷_, _++_, List·Memᴰ, List·Memᴰ·head, List·Memᴰ·tail, List·Memᴰ·not-nil, List·Memᴰ·cases-cons, Memᴰ·cast}
-use mathlib.Core.List.{Memᴰ·append-right}
-use mathlib.Core.Logic.{_⊎_, inl, inr}
+use mathlib.Core.List.{List, [], _∷_, _++_, List·Memᴰ, List·Memᴰ·head, List·Memᴰ·tail, List·Memᴰ·not-nil, Memᴰ·cast}
 use mathlib.Core.Path.{_≡_, refl, sym, ap, subst, _∙_}
 use Rattle.laws.proofs.Lists.{no-member}
 use Rattle.cfg.specs.Tree.{Forest, code}
@@ -20,59 +18,38 @@ pub record Lists (P : Forest → Type 0) (l : List (List ℕ)) : Type 0 where
 
 -- ---- lists in order
 
--- a member before which no other member stands is the first
+-- a member with no member before it is the first
 pub sorted-first : {l : List (List ℕ)} {e : List ℕ} → Pairs _≺_ l → List·Memᴰ e l → ((f : List ℕ) → List·Memᴰ f l → f ≺ e → ⊥)
     → (m : List (List ℕ)) × (l ≡ e ∷ m)
 sorted-first pairs-none i n = absurd (List·Memᴰ·not-nil i)
-sorted-first {e = e} (pairs-more {a} {l} h p) i n = go (List·Memᴰ·cases-cons i)
-  where
-    go : (e ≡ a) ⊎ List·Memᴰ e l → (m : List (List ℕ)) × (a ∷ l ≡ e ∷ m)
-    go (inl q) = (l, ap (λ (x : List ℕ). x ∷ l) (sym q))
-    go (inr j) = absurd (n a (List·Memᴰ·head refl) (h e j))
+sorted-first (pairs-more {l = l} h p) (List·Memᴰ·head q) n = (l, ap (λ (x : List ℕ). x ∷ l) (sym q))
+sorted-first {e = e} (pairs-more {a} h p) (List·Memᴰ·tail j) n = absurd (n a (List·Memᴰ·head refl) (h e j))
 
--- a member beyond d, with none between, follows d
+-- a member after d, with none between, follows d
 pub sorted-next : {l : List (List ℕ)} {d e : List ℕ} → Pairs _≺_ l → List·Memᴰ d l → List·Memᴰ e l → d ≺ e
     → ((f : List ℕ) → List·Memᴰ f l → d ≺ f → f ≺ e → ⊥) → (x y : List (List ℕ)) × (l ≡ x ++ d ∷ e ∷ y)
 sorted-next pairs-none i j q n = absurd (List·Memᴰ·not-nil i)
-sorted-next {d = d} {e} (pairs-more {a} {l} h p) i j q n =
-    go (List·Memᴰ·cases-cons i) (List·Memᴰ·cases-cons j)
-    (λ u v. sorted-next p u v q (λ f k. n f (List·Memᴰ·tail k)))
-  where
-    go : (d ≡ a) ⊎ List·Memᴰ d l → (e ≡ a) ⊎ List·Memᴰ e l
-        → (List·Memᴰ d l → List·Memᴰ e l → (x y : List (List ℕ)) × (l ≡ x ++ d ∷ e ∷ y))
-        → (x y : List (List ℕ)) × (a ∷ l ≡ x ++ d ∷ e ∷ y)
-    go (inl s) (inl t) later = absurd (≺-irreflexive e (subst (λ (x : List ℕ). x ≺ e) (s ∙ sym t) q))
-    go (inl s) (inr v) later =
-        let r = sorted-first p v (λ f k. n f (List·Memᴰ·tail k) (subst (λ (x : List ℕ). x ≺ f) (sym s) (h f k))) in
-        ([], r .0, λ g. sym s g ∷ r .1 g)
-    go (inr u) (inl t) later = absurd (≺-asymmetric (h d u) (subst (λ (x : List ℕ). d ≺ x) t q))
-    go (inr u) (inr v) later =
-        let r = later u v in
-        (a ∷ r .0, r .1, ap (λ (x : List (List ℕ)). a ∷ x) (r .2))
+sorted-next {e = e} (pairs-more h p) (List·Memᴰ·head s) (List·Memᴰ·head t) q n =
+    absurd (≺-irreflexive e (subst (λ (x : List ℕ). x ≺ e) (s ∙ sym t) q))
+sorted-next (pairs-more h p) (List·Memᴰ·head s) (List·Memᴰ·tail v) q n =
+    let r = sorted-first p v (λ f k. n f (List·Memᴰ·tail k) (subst (λ (x : List ℕ). x ≺ f) (sym s) (h f k))) in
+    ([], r .0, λ g. sym s g ∷ r .1 g)
+sorted-next {d = d} (pairs-more h p) (List·Memᴰ·tail u) (List·Memᴰ·head t) q n =
+    absurd (≺-asymmetric (h d u) (subst (λ (x : List ℕ). d ≺ x) t q))
+sorted-next (pairs-more {a} h p) (List·Memᴰ·tail u) (List·Memᴰ·tail v) q n =
+    let r = sorted-next p u v q (λ f k. n f (List·Memᴰ·tail k)) in
+    (a ∷ r .0, r .1, ap (λ (x : List (List ℕ)). a ∷ x) (r .2))
 
--- a member beyond which there is none is the last
+-- a member with none after it is the last
 pub sorted-last : {l : List (List ℕ)} {d : List ℕ} → Pairs _≺_ l → List·Memᴰ d l → ((f : List ℕ) → List·Memᴰ f l → d ≺ f → ⊥)
     → (x : List (List ℕ)) × (l ≡ x ++ d ∷ [])
 sorted-last pairs-none i n = absurd (List·Memᴰ·not-nil i)
-sorted-last {d = d} (pairs-more {a} {l} h p) i n = go l h n (List·Memᴰ·cases-cons i) (λ u. sorted-last p u (λ f k. n f (List·Memᴰ·tail k)))
-  where
-    go : (m : List (List ℕ)) → ((b : List ℕ) → List·Memᴰ b m → a ≺ b) → ((f : List ℕ) → List·Memᴰ f (a ∷ m) → d ≺ f → ⊥)
-        → (d ≡ a) ⊎ List·Memᴰ d m → (List·Memᴰ d m → (x : List (List ℕ)) × (m ≡ x ++ d ∷ [])) → (x : List (List ℕ)) × (a ∷ m ≡ x ++ d ∷ [])
-    go [] k o (inl s) later = ([], λ g. sym s g ∷ [])
-    go (b ∷ m) k o (inl s) later =
-        absurd (o b (List·Memᴰ·tail (List·Memᴰ·head refl)) (subst (λ (x : List ℕ). x ≺ b) (sym s) (k b (List·Memᴰ·head refl))))
-    go m k o (inr u) later =
-        let r = later u in
-        (a ∷ r .0, ap (λ (x : List (List ℕ)). a ∷ x) (r .1))
-
--- what stands in front of a member is before it
-pub sorted-before : (x y : List (List ℕ)) {d : List ℕ} → Pairs _≺_ (x ++ d ∷ y) → (f : List ℕ) → List·Memᴰ f x → f ≺ d
-sorted-before [] y p f i = absurd (List·Memᴰ·not-nil i)
-sorted-before (a ∷ x) y {d} (pairs-more h p) f i = go (List·Memᴰ·cases-cons i) (λ j. sorted-before x y p f j)
-  where
-    go : (f ≡ a) ⊎ List·Memᴰ f x → (List·Memᴰ f x → f ≺ d) → f ≺ d
-    go (inl q) later = subst (λ (z : List ℕ). z ≺ d) (sym q) (h d (Memᴰ·append-right x (List·Memᴰ·head refl)))
-    go (inr j) later = later j
+sorted-last (pairs-more {l = []} h p) (List·Memᴰ·head s) n = ([], λ g. sym s g ∷ [])
+sorted-last (pairs-more {l = b ∷ m} h p) (List·Memᴰ·head s) n =
+    absurd (n b (List·Memᴰ·tail (List·Memᴰ·head refl)) (subst (λ (x : List ℕ). x ≺ b) (sym s) (h b (List·Memᴰ·head refl))))
+sorted-last (pairs-more {a} h p) (List·Memᴰ·tail u) n =
+    let r = sorted-last p u (λ f k. n f (List·Memᴰ·tail k)) in
+    (a ∷ r .0, ap (λ (x : List (List ℕ)). a ∷ x) (r .1))
 
 -- ---- lists of the codes of a set
 

@@ -1,5 +1,5 @@
--- The code after the one of a row or of a node that stands, from its parts: what stands further right moves first; and where there is
--- none. Assumes nothing.
+-- The code after that of a given row or node, from the codes of its parts: the last part that has a next code changes. If none has one,
+-- the given code is the last. Assumes nothing.
 use Prim.Native.Nat.{ℕ, _+_, _-_, _*_, _≤_, _<_}
 use mathlib.Core.Bool.{true, false}
 use mathlib.Core.List.{List, [], _∷_, _++_}
@@ -18,7 +18,7 @@ use Rattle.theory_enumeration.proofs.Rows.{row-own, leaf-prefixed}
 use Rattle.theory_enumeration.proofs.Cuts.{Covering, row-layered, row-joined, skipped-none}
 use Rattle.theory_enumeration.proofs.Nodes.{ByRule, node-layered, rule-prefixed, rule-none}
 
--- ---- no places: nothing is beyond the empty code
+-- ---- no places: nothing is after the empty code
 
 pub end-last : (P : Forest → Type 0) → Last P []
 end-last P t p h = go (code t) h
@@ -27,7 +27,7 @@ end-last P t p h = go (code t) h
     go x = elim [ ]
 
 module _ (G : Cfg) (w : List ℕ) (cover mask from to budget : ℕ) (known : to ≤ length w) where
-  -- ---- what matters of the mask, for a row over c bytes
+  -- ---- the part of the mask that matters for a row over c bytes
 
   module _ {c own : ℕ} (places : List Symbol) (s : SameSpan cover mask c own) (narrow : c ≤ cover) (size : from + c ≡ to) where
     pub own-next : {d e : List ℕ} → After (Row G w c own places from to budget) d e → After (Row G w cover mask places from to budget) d e
@@ -48,16 +48,16 @@ module _ (G : Cfg) (w : List ℕ) (cover mask from to budget : ℕ) (known : to 
           → Last (Row G w cover mask (terminal t ∷ places) from to budget) d
       leaf-last = prefixed-last (leaf-prefixed G w cover mask from to budget places rising known t more fit)
 
-    -- ---- a nonterminal and the rest: a first node over c bytes, of n nodes, with the code d, and a rest with the code a stand
+    -- ---- a nonterminal and the rest: given are a first node over c bytes, with n nodes and the code d, and a rest with the code a
 
     module _ (k c share n : ℕ) {d a : List ℕ} (inside : from + c ≤ to) (b : Share G w cover mask k places from to budget c share)
         (x : Coded (Tree G w cover mask k from (from + c) share) d) (count : length d ≡ 2 * n)
         (y : Coded (Row G w cover mask places (from + c) to (budget - n)) a) where
-      -- what stands is one of the forests whose first node covers c bytes
+      -- the given row is one of those whose first node covers c bytes
       pub row-coded : Coded (Covering G w cover mask k places from to budget c) (d ++ a)
       row-coded = joined-coded (row-joined G w cover mask k places from to budget known rising c share inside b) x count y
 
-      -- the rest moves
+      -- the rest has a next code
       pub row-next-rest : {e : List ℕ} → After (Row G w cover mask places (from + c) to (budget - n)) a e
           → After (Row G w cover mask (nonterminal k ∷ places) from to budget) (d ++ a) (d ++ e)
       row-next-rest r =
@@ -65,7 +65,7 @@ module _ (G : Cfg) (w : List ℕ) (cover mask from to budget : ℕ) (known : to 
           (joined-rest (row-joined G w cover mask k places from to budget known rising c share inside b) x count r)
 
       module _ (rest-last : Last (Row G w cover mask places (from + c) to (budget - n)) a) where
-        -- the rest is last, and the first node moves
+        -- the rest is last, and the first node has a next code
         pub row-next-child : (m : ℕ) {e f : List ℕ} → After (Tree G w cover mask k from (from + c) share) d e → length e ≡ 2 * m
             → Min (Row G w cover mask places (from + c) to (budget - m)) f
             → After (Row G w cover mask (nonterminal k ∷ places) from to budget) (d ++ a) (e ++ f)
@@ -74,7 +74,7 @@ module _ (G : Cfg) (w : List ℕ) (cover mask from to budget : ℕ) (known : to 
             (joined-child (row-joined G w cover mask k places from to budget known rising c share inside b) x count rest-last z count' r)
 
         module _ (child-last : Last (Tree G w cover mask k from (from + c) share) d) where
-          -- the forests whose first node covers c bytes have none beyond
+          -- no row whose first node covers c bytes is after it
           covering-last : Last (Covering G w cover mask k places from to budget c) (d ++ a)
           covering-last =
               joined-last (row-joined G w cover mask k places from to budget known rising c share inside b) x count rest-last child-last
@@ -98,15 +98,15 @@ module _ (G : Cfg) (w : List ℕ) (cover mask from to budget : ℕ) (known : to 
               layered-last (row-layered G w cover mask k places from to budget known rising) c row-coded covering-last
               (λ i h. skipped-none G w cover mask k places from to budget known rising i (s i h))
 
--- ---- a node over c bytes: one of rule r stands, and the row below it has the code d
+-- ---- a node over c bytes: given is one of rule r, and the row below it has the code d
 
 module _ (G : Cfg) (w : List ℕ) (c mask k from to budget : ℕ) (size : from + c ≡ to) (known : to ≤ length w) (fresh : has k mask ≡ false)
     (room : 0 < budget) (r : ℕ) (o : Of G r k) {d : List ℕ} (x : Coded (Below G w c mask k from to budget o) d) where
-  -- what stands is a node of rule r
+  -- the given node is one of rule r
   pub node-coded : Coded (ByRule G w c mask k from to budget r) (c ∷ r ∷ d)
   node-coded = prefixed-coded (rule-prefixed G w c mask k from to budget size known o fresh room) x
 
-  -- the row below it moves
+  -- the row below it has a next code
   pub node-next-below : {e : List ℕ} → After (Below G w c mask k from to budget o) d e
       → After (Tree G w c mask k from to budget) (c ∷ r ∷ d) (c ∷ r ∷ e)
   node-next-below a =
@@ -114,7 +114,7 @@ module _ (G : Cfg) (w : List ℕ) (c mask k from to budget : ℕ) (size : from +
       (prefixed-next (rule-prefixed G w c mask k from to budget size known o fresh room) a)
 
   module _ (below-last : Last (Below G w c mask k from to budget o) d) where
-    -- the nodes of rule r have none beyond
+    -- no node of rule r is after it
     rule-last : Last (ByRule G w c mask k from to budget r) (c ∷ r ∷ d)
     rule-last = prefixed-last (rule-prefixed G w c mask k from to budget size known o fresh room) below-last
 

@@ -1,5 +1,5 @@
--- A node of the nonterminal k over c bytes and the row below it, which has one node less to spend and may not have k over the same bytes;
--- the nodes in layers by their rules. Assumes nothing.
+-- A node of the nonterminal k over c bytes, and the row below it: that may have one node less, and not k over the same bytes. The rule of
+-- a node is the number of its layer. Assumes nothing.
 use Prim.Native.Nat.{ℕ, _+_, _-_, _≤_, _<_}
 use mathlib.Core.Bool.{false}
 use mathlib.Core.List.{List, [], _∷_, append-nil}
@@ -10,21 +10,21 @@ use lib.Seq.{slice, length-slice}
 use Rattle.sets.specs.Set.{has, insert}
 use Rattle.cfg.specs.Grammar.{Cfg, nonterminal, Of}
 use Rattle.cfg.specs.Tree.{Forest, end, node, yield, nodes, code, Fits, fits-end, fits-node}
-use Rattle.cfg.specs.Derivation.{Superfluous}
+use Rattle.cfg.specs.Derivation.{Superfluous, super-below}
 use Rattle.cfg.proofs.Of.{of-same-rule}
 use Rattle.theory_listing.proofs.Sorted.{numbers-sorted}
 use Rattle.theory_enumeration.specs.Rows.{Free, Row, Tree, Below, firstRule}
 use Rattle.theory_enumeration.specs.Order.{Coded, NoForest}
 use Rattle.theory_enumeration.proofs.Layered.{Layered}
 use Rattle.theory_enumeration.proofs.Prefixed.{Prefixed}
-use Rattle.theory_enumeration.proofs.Free.{node-plain, node-free, node-fresh, below-plain, below-free}
+use Rattle.theory_enumeration.proofs.Free.{node-plain, node-free, node-fresh, below-free}
 
 module _ (G : Cfg) (w : List ℕ) (c mask k from to budget : ℕ) where
   -- the nodes of rule r
   abbrev pub ByRule : ℕ → Forest → Type 0
   ByRule r t = Tree G w c mask k from to budget t × (firstRule t ≡ r)
 
-  -- a node of rule r taken off the row below it
+  -- a node of rule r, and the row below it
   pub record Opened (r : ℕ) (t : Forest) : Type 0 where
     pub of : Of G r k
     pub fresh : has k mask ≡ false
@@ -34,7 +34,7 @@ module _ (G : Cfg) (w : List ℕ) (c mask k from to budget : ℕ) where
     pub coded : code t ≡ c ∷ r ∷ code below
 
   module _ (size : from + c ≡ to) (known : to ≤ length w) where
-    -- over the span there are c bytes
+    -- the span has c bytes
     span-size : (x : List ℕ) → x ≡ slice from to w → length x ≡ c
     span-size x e = omega (arith, ap length e, length-slice from to w known)
 
@@ -55,7 +55,7 @@ module _ (G : Cfg) (w : List ℕ) (c mask k from to budget : ℕ) where
               row = record {
                 fit = f;
                 covers = v;
-                plain = below-plain G c mask k r o below l s;
+                plain = λ i. s (super-below i);
                 free = below-free G c mask k r o below l s z;
                 small = omega arith;
               };
@@ -67,7 +67,6 @@ module _ (G : Cfg) (w : List ℕ) (c mask k from to budget : ℕ) where
     unfolding yield nodes code firstRule
     node-closed {r} o fresh room u a =
         let l : length (yield u) ≡ c = span-size (yield u) (a .covers) in
-        let m = a .small in
         record {
           forest = node r u end;
           member = (
@@ -106,8 +105,7 @@ module _ (G : Cfg) (w : List ℕ) (c mask k from to budget : ℕ) where
               x .coded,
             )
 
-    -- ---- where there is no node
-
+    -- if no row is below rule r, it has no node
     pub rule-none : (r : ℕ) → ((o : Of G r k) → NoForest (Below G w c mask k from to budget o)) → NoForest (ByRule r)
     rule-none r n t a =
         let x = rule-opened r t a in

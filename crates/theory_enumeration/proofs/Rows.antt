@@ -1,5 +1,4 @@
--- Rows of no places, and of a terminal and a row; what matters of the mask for a row over fewer bytes; and that a row can be shrunk.
--- Assumes nothing.
+-- Rows of no places, rows of a terminal and a row, and the part of the mask that matters for a row over fewer bytes. Assumes nothing.
 use Prim.Native.Nat.{ℕ, suc, _+_, _-_, _≤_, _<_}
 use mathlib.Core.Bool.{true}
 use mathlib.Core.List.{List, [], _∷_}
@@ -14,20 +13,21 @@ use Rattle.cfg.specs.Derivation.{Superfluous}
 use Rattle.chart.proofs.Slices.{slice-nil, slice-head}
 use Rattle.theory_enumeration.specs.Rows.{Free, Row, SameSpan}
 use Rattle.theory_enumeration.proofs.Prefixed.{Prefixed}
-use Rattle.theory_enumeration.proofs.Free.{free-narrow, free-empty, end-plain, end-free, leaf-plain, leaf-free, after-plain, after-free}
+use Rattle.theory_enumeration.proofs.Free.{free-narrow, free-empty, end-plain, end-free}
+use Rattle.theory_enumeration.proofs.Free.{leaf-plain, leaf-free, after-plain, after-free}
 
 module _ (G : Cfg) (w : List ℕ) where
-  -- a row over a span has as many bytes
+  -- a row over a span has as many bytes as the span
   pub row-length : {cover mask from to budget : ℕ} {places : List Symbol} {t : Forest} → to ≤ length w
       → Row G w cover mask places from to budget t → length (yield t) ≡ to - from
   row-length {from = from} {to} l r = ap length (r .covers) ∙ length-slice from to w l
 
-  -- another budget that the forest keeps
+  -- another budget that is large enough for the forest
   pub row-budget : {cover mask from to budget other : ℕ} {places : List Symbol} {t : Forest} → Row G w cover mask places from to budget t
       → nodes t ≤ other → Row G w cover mask places from to other t
   row-budget r l = record { fit = r .fit; covers = r .covers; plain = r .plain; free = r .free; small = l }
 
-  -- ---- what matters of the mask for a row over c bytes
+  -- ---- the part of the mask that matters for a row over c bytes
 
   module _ {cover mask c own from to budget : ℕ} {places : List Symbol} (s : SameSpan cover mask c own) (narrow : c ≤ cover)
       (size : from + c ≡ to) (known : to ≤ length w) where
@@ -91,7 +91,7 @@ module _ (G : Cfg) (w : List ℕ) where
             small = r .small;
           }
 
-      -- a row that begins with a leaf, without it
+      -- the rest of a row that begins with a leaf
       pub record Eaten (t : Terminal) (e : List ℕ) : Type 0 where
         pub more : from < to
         pub fit : fits t (getD w from 0) ≡ true

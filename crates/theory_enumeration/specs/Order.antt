@@ -1,4 +1,4 @@
--- The first code of a set of forests, the one after a given code, and that there is none after it. Assumes nothing.
+-- The first code of a set of forests, the code after a given one, and when there is none after it. Assumes nothing.
 use Prim.Native.Nat.{ℕ, _≤_}
 use mathlib.Core.List.{List}
 use mathlib.Core.Path.{_≡_}
@@ -24,12 +24,12 @@ pub record Min (P : Forest → Type 0) (e : List ℕ) : Type 0 where
   pub found : Coded P e
   pub least : (t : Forest) → P t → code t ≺ e → ⊥
 
--- e is the code of a forest of P beyond d, and no forest of P has a code beyond d and before e
+-- e is the code of a forest of P after d, and no forest of P has a code between the two
 pub record After (P : Forest → Type 0) (d e : List ℕ) : Type 0 where
   pub found : Coded P e
   pub beyond : d ≺ e
   pub nearest : (t : Forest) → P t → d ≺ code t → code t ≺ e → ⊥
 
--- no forest of P has a code beyond d
+-- no forest of P has a code after d
 abbrev pub Last : (Forest → Type 0) → List ℕ → Type 0
 Last P d = (t : Forest) → P t → d ≺ code t → ⊥

@@ -12,7 +12,7 @@ use Rattle.cfg.specs.Grammar.{Cfg, Symbol, nonterminal, Of}
 use Rattle.cfg.specs.Tree.{Forest, end, leaf, node, yield, nodes, Fits}
 use Rattle.cfg.specs.Derivation.{Has, Superfluous}
 
--- no node of the forest has a nonterminal of the mask over that many bytes
+-- no node of the forest over `cover` bytes has a nonterminal of the mask
 abbrev pub Free : Cfg → ℕ → ℕ → Forest → Type 0
 Free G cover mask t = (k : ℕ) → has k mask ≡ true → Has G k cover t → ⊥
 
@@ -28,7 +28,7 @@ pub record Row (G : Cfg) (w : List ℕ) (cover mask : ℕ) (places : List Symbol
 abbrev pub Tree : Cfg → List ℕ → ℕ → ℕ → ℕ → ℕ → ℕ → ℕ → Forest → Type 0
 Tree G w cover mask k from to budget = Row G w cover mask (nonterminal k ∷ []) from to budget
 
--- the rows below a node of rule r, a rule of k, over c bytes: one node less may be spent, and k too may not stand over c bytes
+-- the rows below a node over c bytes of rule r, a rule of k: the budget is one node smaller, and k joins the mask
 abbrev pub Below : (G : Cfg) → List ℕ → ℕ → ℕ → (k : ℕ) → ℕ → ℕ → ℕ → {r : ℕ} → Of G r k → Forest → Type 0
 Below G w c mask k from to budget o = Row G w c (insert k mask) (o .the .places) from to (budget - 1)
 
@@ -53,13 +53,13 @@ abbrev pub Skipped : Cfg → List ℕ → ℕ → ℕ → ℕ → List Symbol �
 Skipped G w cover mask k places from to budget c = (x y : Forest) → Tree G w cover mask k from (from + c) budget x
     → Row G w cover mask places (from + c) to (budget - nodes x) y → ⊥
 
--- what the first node over c bytes may cost: the share is within the budget, and each node that some rest completes keeps it
+-- `share` is what a first node over c bytes may cost: it is within the budget, and no first node that some rest completes has more
 pub record Share (G : Cfg) (w : List ℕ) (cover mask k : ℕ) (places : List Symbol) (from to budget c share : ℕ) : Type 0 where
   pub within : share ≤ budget
   pub enough : (x y : Forest) → Tree G w cover mask k from (from + c) budget x
       → Row G w cover mask places (from + c) to (budget - nodes x) y → nodes x ≤ share
 
--- own is what matters of the mask over `cover` bytes for a node over c bytes: all of it where the bytes are the same, else nothing
+-- `own` is the part of a mask over `cover` bytes that matters for a node over c bytes: all of it if c is `cover`, else nothing
 pub record SameSpan (cover mask c own : ℕ) : Type 0 where
   pub same : c ≡ cover → own ≡ mask
   pub other : c ≢ cover → own ≡ empty

@@ -6,6 +6,7 @@ use mathlib.Core.List.{List, [], _∷_, _++_, List·Memᴰ, Memᴰ·cast, cons�
 use mathlib.Core.Path.{_≡_, sym, ap, subst, _∙_}
 use lib.ListN.{length}
 use native.Mathlib.Omega.{arith}
+use borrow.Author.Tests.{leb-true, le-leb}
 use Rattle.cfg.specs.Grammar.{Cfg, nonterminal}
 use Rattle.cfg.specs.Tree.{Forest, nodes, code, Fits, fits-node}
 use Rattle.cfg.specs.Derivation.{Derivation, Rising}
@@ -17,7 +18,7 @@ use Rattle.theory_listing.proofs.Unique.{length-code, code-no-prefix}
 use Rattle.theory_listing.proofs.Fit.{fit→fits, fit-plain, plain→fit-top}
 use Rattle.theory_listing.proofs.Rows.{listed→tree, tree→listed}
 use Rattle.theory_listing.proofs.Sorted.{listing-sorted}
-use Rattle.theory_listing.proofs.Filter.{filter-cases, filter-member, pairs-filter, withinBudget→le, le→withinBudget}
+use Rattle.theory_listing.proofs.Filter.{filter-cases, filter-member, pairs-filter}
 
 pub listed→derivation : (G : Cfg) (b : ℕ) (w e : List ℕ) → List·Memᴰ e (derivations G b w) → Derivation G b w e
 unfolding derivations
@@ -54,10 +55,9 @@ pub listed-no-prefix : (G : Cfg) (b : ℕ) (w d x : List ℕ) → List·Memᴰ d
     → x ≡ []
 listed-no-prefix G b w d x i j = derivation-no-prefix G b w d x (listed→derivation G b w d i) (listed→derivation G b w (d ++ x) j)
 
--- a derivation is as long as twice its nodes, so its length says whether it keeps a budget
+-- a derivation has two numbers for each node, so its length says whether it is within a budget
 pub derivation-length : (G : Cfg) (b : ℕ) (w e : List ℕ) → Derivation G b w e → length e ≤ 2 * b
 derivation-length G b w e d =
-    let n = d .small in
     let c : length e ≡ 2 * nodes (d .tree) = ap length (sym (d .coded)) ∙ length-code (d .tree) in
     omega arith
 
@@ -67,7 +67,7 @@ derivation-budget G b c w e d h =
     record { tree = d .tree; parse = d .parse; plain = d .plain; small = omega arith; coded = d .coded }
 
 pub derivations-budget : (G : Cfg) (b c : ℕ) (w : List ℕ) → b ≤ c → derivations G b w ≡ filter (withinBudget b) (derivations G c w)
-unfolding derivations
+unfolding derivations withinBudget
 derivations-budget G b c w h =
     rising-unique (derivations G b w) (filter (withinBudget b) (derivations G c w)) (derivations-rising G b w)
     (pairs→rising (pairs-filter (withinBudget b) (listing-sorted G c _ w)))
@@ -76,7 +76,10 @@ derivations-budget G b c w h =
     kept : (e : List ℕ) → Derivation G b w e → List·Memᴰ e (filter (withinBudget b) (derivations G c w))
     kept e d =
         let n = derivation-length G b w e d in
-        filter-member (withinBudget b) (derivation→listed G c w e (derivation-budget G c b w e d (omega arith))) (le→withinBudget b e n)
+        filter-member (withinBudget b) (derivation→listed G c w e (derivation-budget G c b w e d (omega arith)))
+        (le-leb (length e) (2 * b) n)
 
     found : (e : List ℕ) → List·Memᴰ e (derivations G c w) × (withinBudget b e ≡ true) → List·Memᴰ e (derivations G b w)
-    found e r = derivation→listed G b w e (derivation-budget G b c w e (listed→derivation G c w e (r .0)) (withinBudget→le b e (r .1)))
+    found e r =
+        derivation→listed G b w e
+        (derivation-budget G b c w e (listed→derivation G c w e (r .0)) (leb-true (length e) (2 * b) (r .1)))

@@ -1,11 +1,8 @@
--- The members of a filtered list, and that filtering keeps the order. Assumes nothing.
-use Prim.Native.Nat.{ℕ, _≤_, _*_}
-use mathlib.Core.Bool.{Bool, true, false, false≢true}
+-- The members of a filtered list; filtering keeps the order. Assumes nothing.
+use mathlib.Core.Bool.{Bool, true, false}
 use mathlib.Core.List.{List, [], _∷_, List·Memᴰ, List·Memᴰ·head, List·Memᴰ·tail, List·Memᴰ·not-nil}
-use mathlib.Core.Path.{_≡_, refl, sym, ap, subst, _∙_}
-use lib.Dec.{T, leb, leb→le, le→leb}
-use lib.ListN.{length}
-use Rattle.theory_listing.specs.Budget.{filter, withinBudget}
+use mathlib.Core.Path.{_≡_, refl, sym, ap, _∙_}
+use Rattle.theory_listing.specs.Budget.{filter}
 use Rattle.theory_listing.proofs.Members.{Pairs, pairs-none, pairs-more}
 
 pub filter-cases : {A : Type 0} (p : A → Bool) (l : List A) {a : A} → List·Memᴰ a (filter p l) → List·Memᴰ a l × (p a ≡ true)
@@ -21,11 +18,7 @@ filter-cases {A} p (b ∷ l) {a} h = go (p b) refl h (λ i. filter-cases p l i)
 
 pub filter-member : {A : Type 0} (p : A → Bool) {l : List A} {a : A} → List·Memᴰ a l → p a ≡ true → List·Memᴰ a (filter p l)
 unfolding filter
-filter-member {A} p {a = a} (List·Memᴰ·head {x} {xs} q) e = go (p x) (sym (ap p q) ∙ e)
-  where
-    go : (t : Bool) → t ≡ true → List·Memᴰ a (elim t [ true ↦ x ∷ filter p xs | false ↦ filter p xs ])
-    go true z = List·Memᴰ·head q
-    go false z = absurd (false≢true z)
+filter-member p (List·Memᴰ·head q) e = rw (sym (ap p q) ∙ e, filter) (List·Memᴰ·head q)
 filter-member {A} p {a = a} (List·Memᴰ·tail {x} {xs} i) e = go (p x) (filter-member p i e)
   where
     go : (t : Bool) → List·Memᴰ a (filter p xs) → List·Memᴰ a (elim t [ true ↦ x ∷ filter p xs | false ↦ filter p xs ])
@@ -40,15 +33,3 @@ pairs-filter {A} {R} p (pairs-more {a} {l} h q) = go (p a) (pairs-filter p q)
     go : (t : Bool) → Pairs R (filter p l) → Pairs R (elim t [ true ↦ a ∷ filter p l | false ↦ filter p l ])
     go true z = pairs-more (λ b i. h b (filter-cases p l i .0)) z
     go false z = z
-
-pub withinBudget→le : (b : ℕ) (e : List ℕ) → withinBudget b e ≡ true → length e ≤ 2 * b
-unfolding withinBudget
-withinBudget→le b e q = leb→le (length e) (2 * b) (subst T (sym q) tt)
-
-pub le→withinBudget : (b : ℕ) (e : List ℕ) → length e ≤ 2 * b → withinBudget b e ≡ true
-unfolding withinBudget
-le→withinBudget b e h = go (leb (length e) (2 * b)) (le→leb (length e) (2 * b) h)
-  where
-    go : (t : Bool) → T t → t ≡ true
-    go true z = refl
-    go false z = absurd z

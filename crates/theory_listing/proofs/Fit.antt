@@ -1,5 +1,5 @@
--- Rows that fit places and in which no node has the span of a node above it, the nodes above the whole row included: `Fit`. With nothing
--- above these are the rows that fit and are without superfluous recursion. Assumes nothing.
+-- `Fit`: a row fits its places, and no node has the span of a node above it, in the row or above the whole row. With nothing above,
+-- these are the rows that fit and have no superfluous recursion. Assumes nothing.
 use Prim.Native.Nat.{ℕ}
 use mathlib.Core.Bool.{Bool, true, false, _&&_, _||_, or-true, true≢false, false≢true}
 use mathlib.Core.List.{List, [], _∷_}
@@ -49,7 +49,7 @@ fit→fits fit-end = fits-end
 fit→fits (fit-leaf h f) = fits-leaf h (fit→fits f)
 fit→fits (fit-node o h f g) = fits-node o (fit→fits f) (fit→fits g)
 
--- no node of the row has a span of those above
+-- no node of the row has one of the spans above
 pub fit-has-none : {G : Cfg} {above : List Span} {places : List Symbol} {t : Forest} {k n : ℕ} → Fit G above places t
     → among k n above ≡ true
     → Has G k n t → ⊥

@@ -1,4 +1,4 @@
--- Members of the lists that `over`, `when` and `map` give, and lists all of whose elements are related to all later ones. Assumes nothing.
+-- Members of the lists that `over`, `when` and `map` give, and lists in which each element is related to all later ones. Assumes nothing.
 use Prim.Native.Nat.{ℕ}
 use mathlib.Core.Bool.{Bool, true, false, false≢true}
 use mathlib.Core.List.{List, [], _∷_, _++_, map, List·Memᴰ, List·Memᴰ·head, List·Memᴰ·tail, List·Memᴰ·not-nil, List·Memᴰ·append-cases}
@@ -67,7 +67,7 @@ pairs-map {S = S} f h (pairs-more {a} {l} k p) =
     pairs-more (λ b i. let r = map-cases f l i in subst (λ c. S (f a) c) (sym (r .2)) (h a (r .0) (k (r .0) (r .1))))
     (pairs-map f h p)
 
--- lists in order, put one after the other, are in order if what each gives comes before what later ones give
+-- lists in order, one after the other, are in order if each member comes before all members of later lists
 pub pairs-over : {A : Type 0} {R : A → A → Type 0} {S : List ℕ → List ℕ → Type 0} (f : A → List (List ℕ)) → ((a : A) → Pairs S (f a))
     → ((a b : A) → R a b → (d e : List ℕ) → List·Memᴰ d (f a) → List·Memᴰ e (f b) → S d e)
     → {l : List A} → Pairs R l → Pairs S (over l f)

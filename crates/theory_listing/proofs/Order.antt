@@ -1,5 +1,5 @@
--- The order of rows of numbers: irreflexive, transitive, kept by what is put behind or before the rows, and never between a row and its
--- own beginning. Assumes nothing.
+-- The order of rows of numbers is irreflexive and transitive. It stays if the same numbers come before both rows, or any numbers after
+-- them, and no row is before or after its own beginning. Assumes nothing.
 use Prim.Native.Nat.{ℕ}
 use mathlib.Core.List.{List, [], _∷_, _++_, append-nil, head-eq-of-cons-eq, tail-eq-of-cons-eq}
 use mathlib.Core.Path.{_≡_, refl, sym, _∙_}
@@ -12,7 +12,7 @@ pub ≺-transitive : {x y z : List ℕ} → x ≺ y → y ≺ z → x ≺ z
 ≺-transitive (first-same h) (first-less k) = first-less k
 ≺-transitive (first-same h) (first-same k) = first-same (≺-transitive h k)
 
--- neither row is the beginning of the other: whatever stands behind them, they differ
+-- neither row is the beginning of the other: whatever follows them, they differ
 pub ≺-apart : {x y : List ℕ} → x ≺ y → (u v : List ℕ) → x ++ u ≡ y ++ v → ⊥
 ≺-apart (first-less h) u v e = ne-of-lt h (head-eq-of-cons-eq e)
 ≺-apart (first-same h) u v e = ≺-apart h u v (tail-eq-of-cons-eq e)
@@ -30,7 +30,7 @@ pub ≺-append : {x y : List ℕ} → x ≺ y → (u v : List ℕ) → x ++ u �
 ≺-append (first-less h) u v = first-less h
 ≺-append (first-same h) u v = first-same (≺-append h u v)
 
--- the same put before both
+-- the same numbers before both rows
 pub ≺-after : (p : List ℕ) {x y : List ℕ} → x ≺ y → p ++ x ≺ p ++ y
 ≺-after [] h = h
 ≺-after (a ∷ p) h = first-same (≺-after p h)

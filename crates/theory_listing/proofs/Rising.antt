@@ -12,7 +12,7 @@ pairs→rising pairs-none = rising-none
 pairs→rising (pairs-more h pairs-none) = rising-one
 pairs→rising (pairs-more h (pairs-more {a} k p)) = rising-more (h a (List·Memᴰ·head refl)) (pairs→rising (pairs-more k p))
 
--- one more in front, before the first
+-- one more element, before the first
 pub pairs-before : {d e : List ℕ} {l : List (List ℕ)} → d ≺ e → Pairs _≺_ (e ∷ l) → Pairs _≺_ (d ∷ e ∷ l)
 pairs-before {d} {e} {l} h (pairs-more k p) = pairs-more (λ b i. step b (List·Memᴰ·cases-cons i)) (pairs-more k p)
   where
@@ -30,7 +30,7 @@ pub member-later : {A : Type 0} {a b : A} {l : List A} → (a ≡ b → ⊥) →
 member-later h (List·Memᴰ·head e) = absurd (h e)
 member-later h (List·Memᴰ·tail i) = i
 
--- two firsts, each at or after the other, are the same
+-- two first elements are the same if each is the other one or comes after it
 pub first-unique : {a b : List ℕ} {l m : List (List ℕ)} → ((e : List ℕ) → List·Memᴰ e l → a ≺ e) → ((e : List ℕ) → List·Memᴰ e m → b ≺ e)
     → (a ≡ b) ⊎ List·Memᴰ a m → (b ≡ a) ⊎ List·Memᴰ b l → a ≡ b
 first-unique h k (inl e) _ = e

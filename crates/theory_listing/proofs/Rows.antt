@@ -1,5 +1,5 @@
--- The members of a listing are codes of rows: for the items of places and what comes after them, a member is the code of a row that fits
--- the places, followed by a member for what comes after; and back. For one node the members are exactly the codes of the trees.
+-- The members of a listing are codes of rows. For the items of places and what comes after them, a member is the code of a row that fits
+-- the places, followed by a member for what comes after; and conversely. For one node the members are exactly the codes of the trees.
 -- Assumes nothing.
 use Prim.Native.Nat.{ℕ, zero, suc, _+_, _-_, _≤_, _<_}
 use mathlib.Core.Bool.{true, false}
@@ -53,8 +53,7 @@ pub node-first : (G : Cfg) (b k c n : ℕ) (above : List Span) (places : List Sy
 unfolding yield nodes code
 node-first G b k c n above places v todo next u d e o new short q r s =
     let width : length (yield (r .row)) ≡ c = ap length (r .covers) ∙ length-take-le c u short in
-    let below : Fit G (span k (length (yield (r .row))) ∷ above) (o .the .places) (r .row) =
-    subst (λ x. Fit G (span k x ∷ above) (o .the .places) (r .row)) (sym width) (r .fit) in
+    let below = subst (λ x. Fit G (span k x ∷ above) (o .the .places) (r .row)) (sym width) (r .fit) in
     let numbers : d ≡ (code (r .row) ++ code (s .row)) ++ s .rest =
     r .coded ∙ ap (λ x. code (r .row) ++ x) (s .coded) ∙ sym (append-assoc (code (r .row)) (code (s .row)) (s .rest)) in
     record {
@@ -62,44 +61,39 @@ node-first G b k c n above places v todo next u d e o new short q r s =
       fit = fit-node o (subst (λ x. among k x above ≡ false) (sym width) new) below (s .fit);
       covers = ap₂ _++_ (r .covers) (s .covers) ∙ take-append-drop c u;
       left = s .left;
-      spent = let x = r .spent in let y = s .spent in omega arith;
+      spent = omega arith;
       rest = s .rest;
       coded = q ∙ ap₂ (λ x y. x ∷ n ∷ y) (sym width) numbers;
       listed = s .listed;
     }
 
 -- with b nodes, every member for the items of places and what comes after them starts with the code of a row for the places
-abbrev pub StartWithForests : Cfg → ℕ → Type 0
-StartWithForests G b = (above : List Span) (places : List Symbol) (v : List ℕ) (todo : List Item) (u e : List ℕ)
+abbrev pub StartWithRows : Cfg → ℕ → Type 0
+StartWithRows G b = (above : List Span) (places : List Symbol) (v : List ℕ) (todo : List Item) (u e : List ℕ)
     → List·Memᴰ e (listing G b (items above places ++ resume v ∷ todo) u) → RowFirst G b above places v todo u e
 
-pub start-with-rows-step : (G : Cfg) (b : ℕ) → ((c : ℕ) → c < b → StartWithForests G c) → StartWithForests G b
+pub start-with-rows : (G : Cfg) (b : ℕ) → ((c : ℕ) → c < b → StartWithRows G c) → StartWithRows G b
 unfolding items yield code nodes
-start-with-rows-step G b fewer above [] v todo u e i =
+start-with-rows G b fewer above [] v todo u e i =
     let r = listing-resume-cases G b v todo u i in
     record { row = end; fit = fit-end; covers = sym (r .0); left = b; spent = omega arith; rest = e; coded = refl; listed = r .1 }
-start-with-rows-step G b fewer above (terminal t ∷ places) v todo u e i =
+start-with-rows G b fewer above (terminal t ∷ places) v todo u e i =
     let x = listing-eat-cases G b t (items above places ++ resume v ∷ todo) u i in
     leaf-first G b above t places v todo (x .first) (x .others) u e (x .bytes) (x .fits)
-    (start-with-rows-step G b fewer above places v todo (x .others) e (x .listed))
-start-with-rows-step G b fewer above (nonterminal k ∷ places) v todo u e i =
+    (start-with-rows G b fewer above places v todo (x .others) e (x .listed))
+start-with-rows G b fewer above (nonterminal k ∷ places) v todo u e i =
     let next : List Item = items above places ++ resume v ∷ todo in
     let x = listing-find-cases G b k above next u i in
     let q = x .spent in
     let c = x .cover in
     let r = fewer (x .left) (omega arith) (span k c ∷ above) (x .o .the .places) (drop c u) next (take c u) (x .rest) (x .listed) in
-    let z = r .spent in
     let s = fewer (r .left) (omega arith) above places v todo (drop c u) (r .rest) (r .listed) in
     subst (λ n. RowFirst G n above (nonterminal k ∷ places) v todo u e) (sym q)
     (node-first G (x .left) k c (x .number) above places v todo next u (x .rest) e (x .o) (x .fresh) (x .covers) (x .coded) r s)
 
-pub start-with-rows-within : (G : Cfg) (f b : ℕ) → b ≤ f → StartWithForests G b
-start-with-rows-within G zero b h = start-with-rows-step G b (λ c q. let z : ⊥ = omega arith in absurd z)
-start-with-rows-within G (suc f) b h = start-with-rows-step G b (λ c q. start-with-rows-within G f c (omega arith))
-
-pub listed→row : (G : Cfg) (b : ℕ) (above : List Span) (places : List Symbol) (v : List ℕ) (todo : List Item) (u e : List ℕ)
-    → List·Memᴰ e (listing G b (items above places ++ resume v ∷ todo) u) → RowFirst G b above places v todo u e
-listed→row G b = start-with-rows-within G b b (omega arith)
+pub listed→row : (G : Cfg) (f b : ℕ) → b ≤ f → StartWithRows G b
+listed→row G zero b h = start-with-rows G b (λ c q. absurd (omega arith))
+listed→row G (suc f) b h = start-with-rows G b (λ c q. listed→row G f c (omega arith))
 
 pub row→listed : (G : Cfg) {above : List Span} {places : List Symbol} {t : Forest} (b left : ℕ) (v : List ℕ) (todo : List Item) (e : List ℕ)
     → Fit G above places t → nodes t + left ≡ b → List·Memᴰ e (listing G left todo v)
@@ -111,7 +105,7 @@ row→listed G b left v todo e fit-end n i =
 row→listed G b left v todo e (fit-leaf {above} {t} {m} {places} {rest} h f) n i =
     subst (List·Memᴰ (code rest ++ e)) (sym (listing-eat G b t (items above places ++ resume v ∷ todo) m (yield rest)))
     (when-member (fits t m) (λ _. listing G b (items above places ++ resume v ∷ todo) (yield rest)) h (row→listed G b left v todo e f n i))
-row→listed G zero left v todo e (fit-node o h f g) n i = let z : ⊥ = omega arith in absurd z
+row→listed G zero left v todo e (fit-node o h f g) n i = absurd (omega arith)
 row→listed G (suc b) left v todo e (fit-node {above} {k} {r} {places} {below} {rest} o h f g) n i =
     Memᴰ·cast (ap (λ x. length (yield below) ∷ r ∷ x) (append-assoc (code below) (code rest) e))
     (listing-find-member G b k r above (items above places ++ resume v ∷ todo) (yield below) (yield rest) o h
@@ -133,7 +127,6 @@ listed→tree G b k above w {e} i = finish (listing-find-cases G b k above [] w 
   where
     assemble : RowFirst G b above (nonterminal k ∷ []) [] [] w e → TreeOf G b k above w e
     assemble r =
-        let n = r .spent in
         let x = listing-none-cases G (r .left) [] (r .listed) in
         record {
           tree = r .row;
@@ -161,7 +154,8 @@ listed→tree G b k above w {e} i = finish (listing-find-cases G b k above [] w 
     finish : Found G b k above [] w e → TreeOf G b k above w e
     finish x =
         let c = x .cover in
-        let r = listed→row G (x .left) (span k c ∷ above) (x .o .the .places) (drop c w) [] (take c w) (x .rest) (x .listed) in
+        let below = listed→row G (x .left) (x .left) (omega arith) (span k c ∷ above) (x .o .the .places) in
+        let r = below (drop c w) [] (take c w) (x .rest) (x .listed) in
         assemble (subst (λ n. RowFirst G n above (nonterminal k ∷ []) [] [] w e) (sym (x .spent))
         (node-first G (x .left) k c (x .number) above [] [] [] [] w (x .rest) e (x .o) (x .fresh) (x .covers) (x .coded) r
         (ended (r .left) (drop c w) (r .rest) (r .listed))))
@@ -169,7 +163,7 @@ listed→tree G b k above w {e} i = finish (listing-find-cases G b k above [] w 
 pub tree→listed : (G : Cfg) (b k : ℕ) (above : List Span) (t : Forest) → Fit G above (nonterminal k ∷ []) t → nodes t ≤ b
     → List·Memᴰ (code t) (listing G b (find k above ∷ []) (yield t))
 unfolding yield nodes code
-tree→listed G zero k above t (fit-node o h f fit-end) n = let z : ⊥ = omega arith in absurd z
+tree→listed G zero k above t (fit-node o h f fit-end) n = absurd (omega arith)
 tree→listed G (suc b) k above t (fit-node {r = r} {below = below} o h f fit-end) n =
     listing-find-member G b k r above [] (yield below) [] o h
     (row→listed G b (b - nodes below) [] [] [] f (omega arith) (listing-none-member G (b - nodes below)))

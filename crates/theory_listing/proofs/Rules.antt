@@ -1,7 +1,8 @@
--- The numbers that `from` gives and the rules that `rulesFrom` gives: exactly those that are meant, in rising order. Assumes nothing.
+-- The numbers that `from` gives and the rules that `rulesFrom` gives are exactly those that are meant, in rising order. Assumes nothing.
 use Prim.Native.Nat.{ℕ, zero, suc, _+_, _≤_, _<_}
-use mathlib.Core.Bool.{Bool, true, false, false≢true}
+use mathlib.Core.Bool.{Bool, true, false}
 use mathlib.Core.List.{List, [], _∷_, List·Memᴰ, List·Memᴰ·head, List·Memᴰ·tail, List·Memᴰ·not-nil}
+use mathlib.Core.Logic.{dite}
 use mathlib.Core.Option.{Option, none, some, Option·none-ne-some}
 use mathlib.Core.Path.{_≡_, refl, sym, ap, subst, _∙_}
 use lib.Dec.{eqb}
@@ -22,12 +23,10 @@ from-cases a (suc n) {c} (List·Memᴰ·tail h) = let r = from-cases (suc a) n h
 
 pub from-member : (a n c : ℕ) → a ≤ c → c < a + n → List·Memᴰ c (from a n)
 unfolding from
-from-member a zero c h k = let x : ⊥ = omega arith in absurd x
-from-member a (suc n) c h k = step (ℕ-discrete c a) (λ q. from-member (suc a) n c q (omega arith))
-  where
-    step : Dec (c ≡ a) → (suc a ≤ c → List·Memᴰ c (from (suc a) n)) → List·Memᴰ c (a ∷ from (suc a) n)
-    step (yes e) later = List·Memᴰ·head e
-    step (no e) later = List·Memᴰ·tail (later (omega arith))
+from-member a zero c h k = absurd (omega arith)
+from-member a (suc n) c h k = dite (ℕ-discrete c a)
+    (λ e. List·Memᴰ·head e)
+    (λ d. List·Memᴰ·tail (from-member (suc a) n c (omega arith) (omega arith)))
 
 pub from-rising : (a n : ℕ) → Pairs _<_ (from a n)
 unfolding from
@@ -38,7 +37,7 @@ from-rising a (suc n) = pairs-more (λ b i. from-cases (suc a) n i .0) (from-ris
 abbrev pub numbered : ℕ → Rule → Numbered
 numbered r o = record { number = r; places = o .places }
 
--- the number that names a rule, and what it names
+-- ρ is a rule of k at some place of l, and the places are numbered from s on
 pub record Named (k s : ℕ) (l : List (Option Rule)) (ρ : Numbered) : Type 0 where
   pub place : ℕ
   pub number : ρ .number ≡ s + place
@@ -50,7 +49,7 @@ pub record Named (k s : ℕ) (l : List (Option Rule)) (ρ : Numbered) : Type 0 w
 pub named-later : {k s : ℕ} {o : Option Rule} {l : List (Option Rule)} {ρ : Numbered} → Named k (suc s) l ρ → Named k s (o ∷ l) ρ
 named-later n = record {
   place = suc (n .place);
-  number = let e = n .number in omega arith;
+  number = omega arith;
   the = n .the;
   here = n .here;
   left = n .left;
@@ -63,8 +62,10 @@ rulesFrom-cases k s [] h = absurd (List·Memᴰ·not-nil h)
 rulesFrom-cases k s (none ∷ l) {ρ} h = named-later (rulesFrom-cases k (suc s) l h)
 rulesFrom-cases k s (some o ∷ l) {ρ} h = go (eqb (o .left) k) refl h (λ i. named-later (rulesFrom-cases k (suc s) l i))
   where
-    now : eqb (o .left) k ≡ true → ρ ≡ numbered s o → Named k s (some o ∷ l) ρ
-    now t e = record {
+    go : (t : Bool) → eqb (o .left) k ≡ t
+        → List·Memᴰ ρ (elim t [ true ↦ numbered s o ∷ rulesFrom k (suc s) l | false ↦ rulesFrom k (suc s) l ])
+        → (List·Memᴰ ρ (rulesFrom k (suc s) l) → Named k s (some o ∷ l) ρ) → Named k s (some o ∷ l) ρ
+    go true t (List·Memᴰ·head e) f = record {
       place = 0;
       number = let q : ρ .number ≡ s = ap (λ x. x .number) e in omega arith;
       the = o;
@@ -72,32 +73,21 @@ rulesFrom-cases k s (some o ∷ l) {ρ} h = go (eqb (o .left) k) refl h (λ i. n
       left = eqb-true (o .left) k t;
       places = ap (λ x. x .places) e;
     }
-
-    go : (t : Bool) → eqb (o .left) k ≡ t
-        → List·Memᴰ ρ (elim t [ true ↦ numbered s o ∷ rulesFrom k (suc s) l | false ↦ rulesFrom k (suc s) l ])
-        → (List·Memᴰ ρ (rulesFrom k (suc s) l) → Named k s (some o ∷ l) ρ) → Named k s (some o ∷ l) ρ
-    go true t (List·Memᴰ·head e) f = now t e
     go true t (List·Memᴰ·tail i) f = f i
     go false t i f = f i
 
 pub keep-later : (k r : ℕ) (o : Option Rule) {l : List Numbered} {ρ : Numbered} → List·Memᴰ ρ l → List·Memᴰ ρ (keep k r o l)
 unfolding keep
 keep-later k r none h = h
-keep-later k r (some o) {l} {ρ} h = go (eqb (o .left) k)
-  where
-    go : (t : Bool) → List·Memᴰ ρ (elim t [ true ↦ numbered r o ∷ l | false ↦ l ])
-    go true = List·Memᴰ·tail h
-    go false = h
+keep-later k r (some o) {l} {ρ} h = elim (eqb (o .left) k) as (λ t. List·Memᴰ ρ (elim t [ true ↦ numbered r o ∷ l | false ↦ l ])) [
+  | true ↦ List·Memᴰ·tail h
+  | false ↦ h
+]
 
 pub keep-now : (k r : ℕ) (o : Rule) (l : List Numbered) → o .left ≡ k
     → List·Memᴰ (numbered r o) (keep k r (some o) l)
 unfolding keep
-keep-now k r o l e = go (eqb (o .left) k) (eq-eqb (o .left) k e)
-  where
-    go : (t : Bool) → t ≡ true
-        → List·Memᴰ {A = Numbered} (numbered r o) (elim t [ true ↦ numbered r o ∷ l | false ↦ l ])
-    go true q = List·Memᴰ·head refl
-    go false q = absurd (false≢true q)
+keep-now k r o l e = rw (eq-eqb (o .left) k e, keep) (List·Memᴰ·head refl)
 
 pub rulesFrom-member : (k s i r : ℕ) (l : List (Option Rule)) (o : Rule) → r ≡ s + i → joined (getElem? l i) ≡ some o → o .left ≡ k
     → List·Memᴰ (numbered r o) (rulesFrom k s l)
@@ -117,29 +107,24 @@ pub keep-rising : (k r : ℕ) (o : Option Rule) {l : List Numbered} → Pairs Lo
     → ((σ : Numbered) → List·Memᴰ σ l → r < σ .number) → Pairs LowerNumber (keep k r o l)
 unfolding keep
 keep-rising k r none p h = p
-keep-rising k r (some o) {l} p h = go (eqb (o .left) k)
-  where
-    go : (t : Bool) → Pairs LowerNumber (elim t [ true ↦ numbered r o ∷ l | false ↦ l ])
-    go true = pairs-more h p
-    go false = p
+keep-rising k r (some o) {l} p h = elim (eqb (o .left) k) as (λ t. Pairs LowerNumber (elim t [ true ↦ numbered r o ∷ l | false ↦ l ])) [
+  | true ↦ pairs-more h p
+  | false ↦ p
+]
 
 pub rulesFrom-rising : (k s : ℕ) (l : List (Option Rule)) → Pairs LowerNumber (rulesFrom k s l)
 unfolding rulesFrom
 rulesFrom-rising k s [] = pairs-none
-rulesFrom-rising k s (p ∷ l) = keep-rising k s p (rulesFrom-rising k (suc s) l) (λ σ i. later σ (rulesFrom-cases k (suc s) l i))
-  where
-    later : (σ : Numbered) → Named k (suc s) l σ → s < σ .number
-    later σ n = let e = n .number in omega arith
+rulesFrom-rising k s (p ∷ l) =
+    keep-rising k s p (rulesFrom-rising k (suc s) l) (λ σ i. let e = rulesFrom-cases k (suc s) l i .number in omega arith)
 
 -- the rules of a nonterminal of a grammar
 pub rules-cases : (G : Cfg) (k : ℕ) {ρ : Numbered} → List·Memᴰ ρ (rulesFrom k 0 (G .rules))
     → (o : Of G (ρ .number) k) × (ρ .places ≡ o .the .places)
-rules-cases G k {ρ} h = step (rulesFrom-cases k 0 (G .rules) h)
-  where
-    step : Named k 0 (G .rules) ρ → (o : Of G (ρ .number) k) × (ρ .places ≡ o .the .places)
-    step n =
-        let q : n .place ≡ ρ .number = sym (n .number ∙ zero-add (n .place)) in
-        (record { the = n .the; here = subst (λ i. rule G i ≡ some (n .the)) q (n .here); left = n .left }, n .places)
+rules-cases G k {ρ} h =
+    let n = rulesFrom-cases k 0 (G .rules) h in
+    let q : n .place ≡ ρ .number = sym (n .number ∙ zero-add (n .place)) in
+    (record { the = n .the; here = subst (λ i. rule G i ≡ some (n .the)) q (n .here); left = n .left }, n .places)
 
 pub rules-member : (G : Cfg) (k r : ℕ) (o : Of G r k) → List·Memᴰ (numbered r (o .the)) (rulesFrom k 0 (G .rules))
 rules-member G k r o = rulesFrom-member k 0 r r (G .rules) (o .the) (omega arith) (o .here) (o .left)

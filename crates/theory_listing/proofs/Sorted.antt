@@ -12,7 +12,7 @@ use Rattle.theory_listing.proofs.Members.{Pairs, pairs-none, pairs-more
 use Rattle.theory_listing.proofs.Rules.{from-rising, rulesFrom-rising, LowerNumber}
 use Rattle.theory_listing.proofs.Steps.{inside, withRule, withCover}
 
--- if what is listed for a node is in order, so is what is listed up to the next node
+-- if the list for each node is in order, so is the list for the items up to the next node
 pub upTo-sorted : (found : ℕ → List Span → List Item → List ℕ → List (List ℕ))
     → ((k : ℕ) (above : List Span) (todo : List Item) (w : List ℕ) → Pairs _≺_ (found k above todo w))
     → (todo : List Item) (w : List ℕ) → Pairs _≺_ (upTo found todo w)
@@ -25,18 +25,14 @@ upTo-sorted found h (find k above ∷ todo) w = h k above todo w
 upTo-sorted found h (resume v ∷ todo) [] = upTo-sorted found h todo v
 upTo-sorted found h (resume v ∷ todo) (m ∷ w) = pairs-none
 
--- the members of one cover start with it
+-- the rows that are listed for a cover start with it
 pub withCover-first : (G : Cfg) (b k : ℕ) (above : List Span) (todo : List Item) (w : List ℕ) (c : ℕ) {e : List ℕ}
     → List·Memᴰ e (withCover G b k above todo w c) → (d : List ℕ) × (e ≡ c ∷ d)
-withCover-first G b k above todo w c {e} i =
-    rules (over-cases (rulesFrom k 0 (G .rules)) (withRule G b k above todo w c)
-    (when-cases (not (among k c above)) (λ _. over (rulesFrom k 0 (G .rules)) (withRule G b k above todo w c)) i .1))
-  where
-    rules : (ρ : Numbered) × List·Memᴰ ρ (rulesFrom k 0 (G .rules)) × List·Memᴰ e (withRule G b k above todo w c ρ)
-        → (d : List ℕ) × (e ≡ c ∷ d)
-    rules r =
-        let m = map-cases (λ d. c ∷ r .0 .number ∷ d) (listing G b (inside above k c (r .0 .places) (drop c w) todo) (take c w)) (r .2) in
-        (r .0 .number ∷ m .0, m .2)
+withCover-first G b k above todo w c i =
+    let (_, x) = when-cases (not (among k c above)) (λ _. over (rulesFrom k 0 (G .rules)) (withRule G b k above todo w c)) i in
+    let (ρ, _, y) = over-cases (rulesFrom k 0 (G .rules)) (withRule G b k above todo w c) x in
+    let m = map-cases (λ d. c ∷ ρ .number ∷ d) (listing G b (inside above k c (ρ .places) (drop c w) todo) (take c w)) y in
+    (ρ .number ∷ m .0, m .2)
 
 -- a smaller first number comes before
 pub covers-sorted : {c d : ℕ} {x y : List ℕ} → c < d → (u : List ℕ) × (x ≡ c ∷ u) → (v : List ℕ) × (y ≡ d ∷ v) → x ≺ y

@@ -2,7 +2,7 @@
 use Prim.Native.Nat.{ℕ, zero, suc, _≤_}
 use mathlib.Core.Bool.{true, false, not}
 use mathlib.Core.List.{List, [], _∷_, _++_, map, List·Memᴰ, List·Memᴰ·not-nil, List·Memᴰ·eq-of-singleton, List·Memᴰ·head}
-use mathlib.Core.Path.{_≡_, refl, sym, ap, subst}
+use mathlib.Core.Path.{_≡_, refl, ap, subst}
 use lib.ListN.{length, take, drop, length-append}
 use lib.Seq.{take-append-seam, drop-append-seam}
 use native.Mathlib.Omega.{arith}
@@ -13,46 +13,20 @@ use Rattle.theory_listing.proofs.Members.{map-cases, map-member, over-c
 use Rattle.theory_listing.proofs.Rules.{from-cases, from-member, rules-cases, rules-member}
 use Rattle.theory_listing.proofs.Fit.{span}
 
--- nothing left to do, and no bytes: one row, of no numbers
-pub listing-none : (G : Cfg) (b : ℕ) → listing G b [] [] ≡ [] ∷ []
-unfolding listing upTo
-listing-none G zero = refl
-listing-none G (suc b) = refl
-
-pub listing-none-bytes : (G : Cfg) (b m : ℕ) (w : List ℕ) → listing G b [] (m ∷ w) ≡ []
-unfolding listing upTo
-listing-none-bytes G zero m w = refl
-listing-none-bytes G (suc b) m w = refl
-
 pub listing-eat : (G : Cfg) (b : ℕ) (t : Terminal) (todo : List Item) (m : ℕ) (w : List ℕ)
     → listing G b (eat t ∷ todo) (m ∷ w) ≡ when (fits t m) (λ _. listing G b todo w)
 unfolding listing upTo
 listing-eat G zero t todo m w = refl
 listing-eat G (suc b) t todo m w = refl
 
-pub listing-eat-none : (G : Cfg) (b : ℕ) (t : Terminal) (todo : List Item) → listing G b (eat t ∷ todo) [] ≡ []
-unfolding listing upTo
-listing-eat-none G zero t todo = refl
-listing-eat-none G (suc b) t todo = refl
-
 pub listing-resume : (G : Cfg) (b : ℕ) (v : List ℕ) (todo : List Item) → listing G b (resume v ∷ todo) [] ≡ listing G b todo v
 unfolding listing upTo
 listing-resume G zero v todo = refl
 listing-resume G (suc b) v todo = refl
 
-pub listing-resume-bytes : (G : Cfg) (b : ℕ) (v : List ℕ) (todo : List Item) (m : ℕ) (w : List ℕ)
-    → listing G b (resume v ∷ todo) (m ∷ w) ≡ []
-unfolding listing upTo
-listing-resume-bytes G zero v todo m w = refl
-listing-resume-bytes G (suc b) v todo m w = refl
-
 -- the items of a node's own row, and what comes after it
 abbrev pub inside : List Span → ℕ → ℕ → List Symbol → List ℕ → List Item → List Item
 inside above k c places v todo = items (span k c ∷ above) places ++ resume v ∷ todo
-
-pub listing-find-zero : (G : Cfg) (k : ℕ) (above : List Span) (todo : List Item) (w : List ℕ) → listing G zero (find k above ∷ todo) w ≡ []
-unfolding listing upTo
-listing-find-zero G k above todo w = refl
 
 -- the rows that start with a node of this cover and this rule
 abbrev pub withRule : Cfg → ℕ → ℕ → List Span → List Item → List ℕ → ℕ → Numbered → List (List ℕ)
@@ -62,22 +36,24 @@ withRule G b k above todo w c ρ = map (λ e. c ∷ ρ .number ∷ e) (listing G
 abbrev pub withCover : Cfg → ℕ → ℕ → List Span → List Item → List ℕ → ℕ → List (List ℕ)
 withCover G b k above todo w c = when (not (among k c above)) (λ _. over (rulesFrom k 0 (G .rules)) (withRule G b k above todo w c))
 
-pub listing-find : (G : Cfg) (b k : ℕ) (above : List Span) (todo : List Item) (w : List ℕ)
-    → listing G (suc b) (find k above ∷ todo) w ≡ over (from 0 (suc (length w))) (withCover G b k above todo w)
-unfolding listing upTo
-listing-find G b k above todo w = refl
-
 pub listing-none-cases : (G : Cfg) (b : ℕ) (w : List ℕ) {e : List ℕ} → List·Memᴰ e (listing G b [] w) → (w ≡ []) × (e ≡ [])
-listing-none-cases G b [] {e} h = (refl, List·Memᴰ·eq-of-singleton (subst (List·Memᴰ e) (listing-none G b) h))
-listing-none-cases G b (m ∷ w) {e} h = absurd (List·Memᴰ·not-nil (subst (List·Memᴰ e) (listing-none-bytes G b m w) h))
+unfolding listing upTo
+listing-none-cases G zero [] h = (refl, List·Memᴰ·eq-of-singleton h)
+listing-none-cases G zero (m ∷ w) h = absurd (List·Memᴰ·not-nil h)
+listing-none-cases G (suc b) [] h = (refl, List·Memᴰ·eq-of-singleton h)
+listing-none-cases G (suc b) (m ∷ w) h = absurd (List·Memᴰ·not-nil h)
 
 pub listing-none-member : (G : Cfg) (b : ℕ) → List·Memᴰ [] (listing G b [] [])
-listing-none-member G b = subst (List·Memᴰ []) (sym (listing-none G b)) (List·Memᴰ·head refl)
+unfolding listing upTo
+listing-none-member G zero = List·Memᴰ·head refl
+listing-none-member G (suc b) = List·Memᴰ·head refl
 
 pub listing-resume-cases : (G : Cfg) (b : ℕ) (v : List ℕ) (todo : List Item) (w : List ℕ) {e : List ℕ}
     → List·Memᴰ e (listing G b (resume v ∷ todo) w) → (w ≡ []) × List·Memᴰ e (listing G b todo v)
+unfolding listing upTo
 listing-resume-cases G b v todo [] {e} h = (refl, subst (List·Memᴰ e) (listing-resume G b v todo) h)
-listing-resume-cases G b v todo (m ∷ w) {e} h = absurd (List·Memᴰ·not-nil (subst (List·Memᴰ e) (listing-resume-bytes G b v todo m w) h))
+listing-resume-cases G zero v todo (m ∷ w) h = absurd (List·Memᴰ·not-nil h)
+listing-resume-cases G (suc b) v todo (m ∷ w) h = absurd (List·Memᴰ·not-nil h)
 
 -- a row that starts with a leaf
 pub record Eaten (G : Cfg) (b : ℕ) (t : Terminal) (todo : List Item) (w e : List ℕ) : Type 0 where
@@ -89,7 +65,9 @@ pub record Eaten (G : Cfg) (b : ℕ) (t : Terminal) (todo : List Item) (w e : Li
 
 pub listing-eat-cases : (G : Cfg) (b : ℕ) (t : Terminal) (todo : List Item) (w : List ℕ) {e : List ℕ}
     → List·Memᴰ e (listing G b (eat t ∷ todo) w) → Eaten G b t todo w e
-listing-eat-cases G b t todo [] {e} h = absurd (List·Memᴰ·not-nil (subst (List·Memᴰ e) (listing-eat-none G b t todo) h))
+unfolding listing upTo
+listing-eat-cases G zero t todo [] h = absurd (List·Memᴰ·not-nil h)
+listing-eat-cases G (suc b) t todo [] h = absurd (List·Memᴰ·not-nil h)
 listing-eat-cases G b t todo (m ∷ w) {e} h =
     let r = when-cases (fits t m) (λ _. listing G b todo w) (subst (List·Memᴰ e) (listing-eat G b t todo m w) h) in
     record { first = m; others = w; bytes = refl; fits = r .0; listed = r .1 }
@@ -109,9 +87,15 @@ pub record Found (G : Cfg) (b k : ℕ) (above : List Span) (todo : List Item) (w
 
 pub listing-find-cases : (G : Cfg) (b k : ℕ) (above : List Span) (todo : List Item) (w : List ℕ) {e : List ℕ}
     → List·Memᴰ e (listing G b (find k above ∷ todo) w) → Found G b k above todo w e
-listing-find-cases G zero k above todo w {e} h = absurd (List·Memᴰ·not-nil (subst (List·Memᴰ e) (listing-find-zero G k above todo w) h))
+unfolding listing upTo
+listing-find-cases G zero k above todo w h = absurd (List·Memᴰ·not-nil h)
 listing-find-cases G (suc b) k above todo w {e} h =
-    cover (over-cases (from 0 (suc (length w))) (withCover G b k above todo w) (subst (List·Memᴰ e) (listing-find G b k above todo w) h))
+    let (c, i, x) = over-cases (from 0 (suc (length w))) (withCover G b k above todo w) h in
+    let (n, y) = when-cases (not (among k c above)) (λ _. over (rulesFrom k 0 (G .rules)) (withRule G b k above todo w c)) x in
+    let (ρ, j, z) = over-cases (rulesFrom k 0 (G .rules)) (withRule G b k above todo w c) y in
+    let (o, q) = rules-cases G k j in
+    assemble c i n ρ o q
+    (map-cases (λ d. c ∷ ρ .number ∷ d) (listing G b (inside above k c (ρ .places) (drop c w) todo) (take c w)) z)
   where
     assemble : (c : ℕ) → List·Memᴰ c (from 0 (suc (length w))) → not (among k c above) ≡ true → (ρ : Numbered) (o : Of G (ρ .number) k)
         → ρ .places ≡ o .the .places
@@ -130,31 +114,16 @@ listing-find-cases G (suc b) k above todo w {e} h =
       listed = subst (λ l. List·Memᴰ (m .0) (listing G b (inside above k c l (drop c w) todo) (take c w))) q (m .1);
     }
 
-    rules : (c : ℕ) → List·Memᴰ c (from 0 (suc (length w))) → not (among k c above) ≡ true
-        → (ρ : Numbered) × List·Memᴰ ρ (rulesFrom k 0 (G .rules)) × List·Memᴰ e (withRule G b k above todo w c ρ)
-        → Found G (suc b) k above todo w e
-    rules c i n r =
-        let o = rules-cases G k (r .1) in
-        assemble c i n (r .0) (o .0) (o .1)
-        (map-cases (λ d. c ∷ r .0 .number ∷ d) (listing G b (inside above k c (r .0 .places) (drop c w) todo) (take c w)) (r .2))
-
-    cover : (c : ℕ) × List·Memᴰ c (from 0 (suc (length w))) × List·Memᴰ e (withCover G b k above todo w c)
-        → Found G (suc b) k above todo w e
-    cover r =
-        let c = r .0 in
-        let s = when-cases (not (among k c above)) (λ _. over (rulesFrom k 0 (G .rules)) (withRule G b k above todo w c)) (r .2) in
-        rules c (r .1) (s .0) (over-cases (rulesFrom k 0 (G .rules)) (withRule G b k above todo w c) (s .1))
-
 pub listing-find-member : (G : Cfg) (b k r : ℕ) (above : List Span) (todo : List Item) (u v : List ℕ) (o : Of G r k) {e : List ℕ}
     → among k (length u) above ≡ false → List·Memᴰ e (listing G b (inside above k (length u) (o .the .places) v todo) u)
     → List·Memᴰ (length u ∷ r ∷ e) (listing G (suc b) (find k above ∷ todo) (u ++ v))
+unfolding listing upTo
 listing-find-member G b k r above todo u v o {e} new h =
-    subst (List·Memᴰ (length u ∷ r ∷ e)) (sym (listing-find G b k above todo (u ++ v)))
-    (over-member (withCover G b k above todo (u ++ v)) {a = length u} first
+    over-member (withCover G b k above todo (u ++ v)) {a = length u} first
     (when-member (not (among k (length u) above)) (λ _. over (rulesFrom k 0 (G .rules)) (withRule G b k above todo (u ++ v) (length u)))
     (ap not new)
     (over-member (withRule G b k above todo (u ++ v) (length u)) (rules-member G k r o)
-    (map-member (λ d. length u ∷ r ∷ d) listed))))
+    (map-member (λ d. length u ∷ r ∷ d) listed)))
   where
     first : List·Memᴰ (length u) (from 0 (suc (length (u ++ v))))
     first = let z = length-append u v in from-member 0 (suc (length (u ++ v))) (length u) (omega arith) (omega arith)

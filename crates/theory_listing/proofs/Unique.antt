@@ -19,8 +19,8 @@ length-code (node r below rest) =
     let a = length-append (code below) (code rest) in
     omega arith
 
--- two rows for the same places, each followed by something: if bytes and codes agree with what follows, the rows are the same, and so is
--- what follows
+-- two rows for the same places, each followed by something: if the bytes are the same as a whole, and the codes are, then the rows are
+-- the same, and so is what follows
 pub row-unique : (G : Cfg) {places : List Symbol} {t u : Forest} (x y v w : List ℕ) → Fits G places t → Fits G places u
     → yield t ++ v ≡ yield u ++ w → code t ++ x ≡ code u ++ y → (t ≡ u) × (x ≡ y) × (v ≡ w)
 unfolding yield code
@@ -43,7 +43,7 @@ pub tree-unique : (G : Cfg) {places : List Symbol} (t u : Forest) → Fits G pla
     → code t ≡ code u → t ≡ u
 tree-unique G t u f g p q = row-unique G [] [] [] [] f g (ap (λ l. l ++ []) p) (ap (λ l. l ++ []) q) .0
 
--- over the same input a code is no beginning of another one
+-- over the same input no code is the beginning of another one
 pub code-no-prefix : (G : Cfg) {places : List Symbol} {t u : Forest} (x : List ℕ) → Fits G places t → Fits G places u → yield t ≡ yield u
     → code u ≡ code t ++ x → x ≡ []
 code-no-prefix G {u = u} x f g p q = row-unique G x [] [] [] f g (ap (λ l. l ++ []) p) (sym q ∙ sym (append-nil (code u))) .1

@@ -1,1 +1,1 @@
-// The function that lists the derivations, proved exact: theory only, no code.
+// The function that lists the derivations is exact: theorems only, no code.

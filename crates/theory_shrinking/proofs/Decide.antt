@@ -1,8 +1,8 @@
--- A known rule is of its left side; and whether a row has a node of a nonterminal over so many bytes, and whether it has superfluous
--- recursion, can be decided. Assumes nothing.
+-- Two things about a row can be decided: whether it has a node of a given nonterminal over a given number of bytes, and whether it has
+-- superfluous recursion. Assumes nothing.
 use Prim.Native.Nat.{ℕ}
 use native.Mathlib.Decide.{ℕ-discrete, map-dec}
-use mathlib.Core.Logic.{_⊎_, inl, inr, ⊎-elim, Dec·and}
+use mathlib.Core.Logic.{Dec·and}
 use mathlib.Core.Path.{_≡_, refl, sym, _∙_, subst}
 use mathlib.Core.Option.{Option, none, some, Option·some-ne-none}
 use lib.ListN.{length}
@@ -12,7 +12,7 @@ use Rattle.cfg.specs.Tree.{Forest, end, leaf, node, yield}
 use Rattle.cfg.specs.Derivation.{Has, has-here, has-below, has-beside, has-after}
 use Rattle.cfg.specs.Derivation.{Superfluous, super-here, super-below, super-beside, super-after}
 
--- where the rule is known, a nonterminal of which it is a rule is its left side
+-- a known rule is a rule of its left side alone
 pub of-left : (G : Cfg) {r k : ℕ} (ρ : Rule) → rule G r ≡ some ρ → Of G r k → ρ .left ≡ k
 of-left G ρ e o = of-same-left (record { the = ρ; here = e; left = refl }) o
 
@@ -30,24 +30,12 @@ of-dec G r k = go (rule G r) refl
       | no n ↦ no (λ p. n (of-left G ρ e p))
     ]
 
--- one of two things
-pub dec-or : {A B : Type 0} → Dec A → Dec B → Dec (A ⊎ B)
-dec-or (yes a) b = yes (inl a)
-dec-or (no a) (yes b) = yes (inr b)
-dec-or (no a) (no b) = no λ c. ⊎-elim a b c
-
--- the places where a row that begins with a node can have a node of k over n bytes: the node itself, the row below it, the rest
-pub has-node : (G : Cfg) {k n r : ℕ} {below rest : Forest} → (Of G r k × (length (yield below) ≡ n)) ⊎ (Has G k n below ⊎ Has G k n rest)
-    → Has G k n (node r below rest)
-has-node G (inl p) = has-here (p .0) (p .1)
-has-node G (inr (inl h)) = has-below h
-has-node G (inr (inr h)) = has-beside h
-
-pub has-node-cases : (G : Cfg) {k n r : ℕ} {below rest : Forest} → Has G k n (node r below rest)
-    → (Of G r k × (length (yield below) ≡ n)) ⊎ (Has G k n below ⊎ Has G k n rest)
-has-node-cases G (has-here o e) = inl (o, e)
-has-node-cases G (has-below h) = inr (inl h)
-has-node-cases G (has-beside h) = inr (inr h)
+-- D is one of three things that can be decided: for a row, of its first node itself, of the row below that, and of the rest
+pub dec-three : {A B C D : Type 0} → (A → D) → (B → D) → (C → D) → (¬ A → ¬ B → ¬ C → ¬ D) → Dec A → Dec B → Dec C → Dec D
+dec-three f g h n (yes a) b c = yes (f a)
+dec-three f g h n (no a) (yes b) c = yes (g b)
+dec-three f g h n (no a) (no b) (yes c) = yes (h c)
+dec-three f g h n (no a) (no b) (no c) = no (n a b c)
 
 pub has-leaf-cases : (G : Cfg) {k n m : ℕ} {rest : Forest} → Has G k n (leaf m rest) → Has G k n rest
 has-leaf-cases G (has-after h) = h
@@ -56,8 +44,13 @@ pub has-dec : (G : Cfg) (k n : ℕ) (t : Forest) → Dec (Has G k n t)
 has-dec G k n end = no λ h. elim h [ ]
 has-dec G k n (leaf m rest) = map-dec has-after (has-leaf-cases G) (has-dec G k n rest)
 has-dec G k n (node r below rest) =
-    map-dec (has-node G) (has-node-cases G)
-    (dec-or (Dec·and (of-dec G r k) (ℕ-discrete (length (yield below)) n)) (dec-or (has-dec G k n below) (has-dec G k n rest)))
+    dec-three (λ p. has-here (p .0) (p .1)) has-below has-beside none
+    (Dec·and (of-dec G r k) (ℕ-discrete (length (yield below)) n)) (has-dec G k n below) (has-dec G k n rest)
+  where
+    none : ¬ (Of G r k × (length (yield below) ≡ n)) → ¬ Has G k n below → ¬ Has G k n rest → ¬ Has G k n (node r below rest)
+    none a b c (has-here o e) = a (o, e)
+    none a b c (has-below h) = b h
+    none a b c (has-beside h) = c h
 
 -- a node of rule r above this row would have superfluous recursion
 abbrev pub Over : (G : Cfg) (r : ℕ) (below : Forest) → Type 0
@@ -73,18 +66,6 @@ over-dec G r below = go (rule G r) refl
         (λ p. subst (λ (j : ℕ). Has G j (length (yield below)) below) (sym (of-left G ρ e (p .1))) (p .2))
         (has-dec G (ρ .left) (length (yield below)) below)
 
-pub super-node : (G : Cfg) {r : ℕ} {below rest : Forest} → Over G r below ⊎ (Superfluous G below ⊎ Superfluous G rest)
-    → Superfluous G (node r below rest)
-super-node G (inl p) = super-here (p .1) (p .2)
-super-node G (inr (inl h)) = super-below h
-super-node G (inr (inr h)) = super-beside h
-
-pub super-node-cases : (G : Cfg) {r : ℕ} {below rest : Forest} → Superfluous G (node r below rest)
-    → Over G r below ⊎ (Superfluous G below ⊎ Superfluous G rest)
-super-node-cases G (super-here {k} o h) = inl (k, o, h)
-super-node-cases G (super-below h) = inr (inl h)
-super-node-cases G (super-beside h) = inr (inr h)
-
 pub super-leaf-cases : (G : Cfg) {m : ℕ} {rest : Forest} → Superfluous G (leaf m rest) → Superfluous G rest
 super-leaf-cases G (super-after h) = h
 
@@ -92,5 +73,10 @@ pub superfluous-dec : (G : Cfg) (t : Forest) → Dec (Superfluous G t)
 superfluous-dec G end = no λ h. elim h [ ]
 superfluous-dec G (leaf m rest) = map-dec super-after (super-leaf-cases G) (superfluous-dec G rest)
 superfluous-dec G (node r below rest) =
-    map-dec (super-node G) (super-node-cases G)
-    (dec-or (over-dec G r below) (dec-or (superfluous-dec G below) (superfluous-dec G rest)))
+    dec-three (λ p. super-here (p .1) (p .2)) super-below super-beside none
+    (over-dec G r below) (superfluous-dec G below) (superfluous-dec G rest)
+  where
+    none : ¬ Over G r below → ¬ Superfluous G below → ¬ Superfluous G rest → ¬ Superfluous G (node r below rest)
+    none a b c (super-here {k} o h) = a (k, o, h)
+    none a b c (super-below h) = b h
+    none a b c (super-beside h) = c h

@@ -1,5 +1,4 @@
--- A node that is somewhere in a row, taken out of it: what it covers is a part of what the row covers, and it has nothing that the row
--- has not. Assumes nothing.
+-- A node is taken out of a row: it covers a part of what the row covers, and all that it has, the row has too. Assumes nothing.
 use Prim.Native.Nat.{ℕ, suc, _+_, _≤_}
 use native.Mathlib.Omega.{arith}
 use mathlib.Core.Path.{_≡_, refl, sym, ap, _∙_}
@@ -12,7 +11,7 @@ use Rattle.cfg.specs.Derivation.{Superfluous, super-here, super-below, super-be
 use Rattle.cfg.proofs.Of.{of-same-left}
 use Rattle.theory_shrinking.proofs.Decide.{of-same}
 
--- a node of k over n bytes of the row t, with an empty row beside it
+-- a node of k over n bytes in the row t; `from` and `super` compare the row with this node alone
 pub record Found (G : Cfg) (k n : ℕ) (t : Forest) : Type 0 where
   pub number : ℕ
   pub of : Of G number k
@@ -54,71 +53,38 @@ found-here G {r} {below} {rest} o f p e = record {
     super (super-below h) = super-below h
     super (super-beside h) = elim h [ ]
 
--- what is found in the row below a node
-pub found-below : (G : Cfg) {k n r : ℕ} {below rest : Forest} → Found G k n below → Found G k n (node r below rest)
-unfolding yield nodes
-found-below G {r} {below} {rest} F = record {
+-- what is found in a part u of the row t, with x before the part and y after it
+pub found-in : (G : Cfg) {k n : ℕ} {u t : Forest} (x y : List ℕ) → yield t ≡ x ++ (yield u ++ y) → nodes u ≤ nodes t
+    → ((j m : ℕ) → Has G j m u → Has G j m t) → (Superfluous G u → Superfluous G t) → Found G k n u → Found G k n t
+found-in G x y e l h s F = record {
   number = F .number;
   of = F .of;
   below = F .below;
   fitted = F .fitted;
   cover = F .cover;
-  before = F .before;
-  after = F .after ++ yield rest;
-  split = ap (λ (x : List ℕ). x ++ yield rest) (F .split) ∙ append-assoc (F .before) (yield (F .below) ++ F .after) (yield rest)
-      ∙ ap (λ (x : List ℕ). F .before ++ x) (append-assoc (yield (F .below)) (F .after) (yield rest));
-  fewer = let e : suc (nodes (F .below)) ≤ nodes below = F .fewer in omega arith;
-  from = λ j m h. has-below (F .from j m h);
-  super = λ h. super-below (F .super h);
-}
-
--- what is found in the row beside a node
-pub found-beside : (G : Cfg) {k n r : ℕ} {below rest : Forest} → Found G k n rest → Found G k n (node r below rest)
-unfolding yield nodes
-found-beside G {r} {below} {rest} F = record {
-  number = F .number;
-  of = F .of;
-  below = F .below;
-  fitted = F .fitted;
-  cover = F .cover;
-  before = yield below ++ F .before;
-  after = F .after;
-  split = ap (λ (x : List ℕ). yield below ++ x) (F .split) ∙ sym (append-assoc (yield below) (F .before) (yield (F .below) ++ F .after));
-  fewer = let e : suc (nodes (F .below)) ≤ nodes rest = F .fewer in omega arith;
-  from = λ j m h. has-beside (F .from j m h);
-  super = λ h. super-beside (F .super h);
-}
-
--- what is found in the row after a leaf
-pub found-after : (G : Cfg) {k n m : ℕ} {rest : Forest} → Found G k n rest → Found G k n (leaf m rest)
-unfolding yield nodes
-found-after G {m} F = record {
-  number = F .number;
-  of = F .of;
-  below = F .below;
-  fitted = F .fitted;
-  cover = F .cover;
-  before = m ∷ F .before;
-  after = F .after;
-  split = ap {B = List ℕ} (λ (x : List ℕ). m ∷ x) (F .split);
-  fewer = F .fewer;
-  from = λ j i h. has-after (F .from j i h);
-  super = λ h. super-after (F .super h);
+  before = x ++ F .before;
+  after = F .after ++ y;
+  split = e ∙ ap (λ (z : List ℕ). x ++ (z ++ y)) (F .split) ∙ simp append-assoc;
+  fewer = omega arith;
+  from = λ j m i. h j m (F .from j m i);
+  super = λ i. s (F .super i);
 }
 
 pub extract : (G : Cfg) {k n : ℕ} {places : List Symbol} {t : Forest} → Fits G places t → Has G k n t → Found G k n t
+unfolding yield nodes
 extract G fits-end h = elim h [ ]
-extract G (fits-leaf f s) (has-after h) = found-after G (extract G s h)
+extract G (fits-leaf {m} {rest} f s) (has-after h) =
+    found-in G (m ∷ []) [] (ap (λ (x : List ℕ). m ∷ x) (sym (append-nil (yield rest)))) (omega arith)
+    (λ j i. has-after) super-after (extract G s h)
 extract G (fits-node o b s) (has-here p e) = found-here G o b p e
-extract G (fits-node o b s) (has-below h) = found-below G (extract G b h)
-extract G (fits-node o b s) (has-beside h) = found-beside G (extract G s h)
-
--- the length of a list in three parts
-pub length-three : (w x y z : List ℕ) → w ≡ x ++ (y ++ z) → length w ≡ length x + (length y + length z)
-length-three w x y z e = ap length e ∙ length-append x (y ++ z) ∙ ap (λ (n : ℕ). length x + n) (length-append y z)
+extract G (fits-node {rest} o b s) (has-below h) =
+    found-in G [] (yield rest) refl (omega arith) (λ j i. has-below) super-below (extract G b h)
+extract G (fits-node {below} {rest} o b s) (has-beside h) =
+    found-in G (yield below) [] (ap (λ (x : List ℕ). yield below ++ x) (sym (append-nil (yield rest)))) (omega arith)
+    (λ j i. has-beside) super-beside (extract G s h)
 
 -- a part of a list is the whole if it is as long
 pub middle-whole : (w x y z : List ℕ) → w ≡ x ++ (y ++ z) → length y ≡ length w → y ≡ w
 middle-whole w [] y [] e l = sym (e ∙ append-nil y)
-middle-whole w [] y (a ∷ z) e l = let h = length-three w [] y (a ∷ z) e in absurd (omega arith)
-middle-whole w (a ∷ x) y z e l = let h = length-three w (a ∷ x) y z e in absurd (omega arith)
+middle-whole w [] y (a ∷ z) e l = absurd (omega (arith, simp length-append at (ap length e)))
+middle-whole w (a ∷ x) y z e l = absurd (omega (arith, simp length-append at (ap length e)))

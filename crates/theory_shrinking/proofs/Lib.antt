@@ -1,4 +1,4 @@
--- Each tree can be had without superfluous recursion, over the same bytes and with no more nodes.
+-- For each tree there is one without superfluous recursion, over the same bytes and with no more nodes.
 pub mod Decide
 pub mod Extract
 pub mod Shrink

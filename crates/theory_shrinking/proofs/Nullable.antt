@@ -1,5 +1,5 @@
--- Where every rule's left side is below 32, a nonterminal that has a parse tree over nothing has one of height at most 32: without
--- superfluous recursion no nonterminal stands twice on a way down. Assumes nothing.
+-- If every rule's left side is below 32, a nonterminal that has a parse tree over nothing has one of height at most 32: without
+-- superfluous recursion no nonterminal is twice on a path from the root. Assumes nothing.
 use Prim.Native.Nat.{ℕ, zero, suc, _≤_, _<_}
 use native.Mathlib.Nat.{not-suc-le-zero}
 use native.Mathlib.Decide.{ℕ-discrete}
@@ -31,7 +31,7 @@ numbers-below-mem (suc n) j l = dite (ℕ-discrete j n)
     (λ e. List·Memᴰ·head e)
     (λ d. List·Memᴰ·tail (numbers-below-mem n j (omega arith)))
 
--- the list l without one of its elements, which is k: it still holds every other number of l
+-- `left` is the list l without one occurrence of k; it still has every other number of l
 pub record Less (k : ℕ) (l : List ℕ) : Type 0 where
   pub left : List ℕ
   pub size : length l ≡ suc (length left)
@@ -52,7 +52,7 @@ less k (x ∷ l) (List·Memᴰ·tail m) = more (less k l m)
     more : Less k l → Less k (x ∷ l)
     more L = record { left = x ∷ L .left; size = ap suc (L .size); other = other L }
 
--- two lists that together are empty
+-- if two lists together are empty, each of them is
 pub append-empty-left : (x y : List ℕ) → x ++ y ≡ [] → x ≡ []
 append-empty-left [] y e = refl
 append-empty-left (a ∷ x) y e = cc
@@ -61,7 +61,7 @@ pub append-empty-right : (x y : List ℕ) → x ++ y ≡ [] → y ≡ []
 append-empty-right [] y e = e
 append-empty-right (a ∷ x) y e = cc
 
--- a row over nothing, without superfluous recursion, is no higher than a list is long that holds each of its nonterminals
+-- a row over nothing, without superfluous recursion, is no higher than a list with all its nonterminals is long
 pub empty-low : (G : Cfg) {places : List Symbol} {t : Forest} (free : List ℕ) → Fits G places t → yield t ≡ [] → ¬ Superfluous G t
     → ((j : ℕ) → Has G j 0 t → List·Memᴰ j free) → height t ≤ length free
 unfolding yield height
@@ -73,7 +73,6 @@ empty-low G free (fits-node {k} {below = b} {rest} o f s) e p h =
     let L = less k free (h k (has-here o lb)) in
     let hb = empty-low G (L .left) f eb (λ q. p (super-below q)) (λ j q. L .other j (h j (has-below q)) (distinct lb j q)) in
     let hs = empty-low G free s (append-empty-right (yield b) (yield rest) e) (λ q. p (super-beside q)) (λ j q. h j (has-beside q)) in
-    let size = L .size in
     omega arith
   where
     distinct : length (yield b) ≡ 0 → (j : ℕ) → Has G j 0 b → j ≢ k
@@ -86,17 +85,15 @@ has-of G (has-below h) = has-of G h
 has-of G (has-beside h) = has-of G h
 has-of G (has-after h) = has-of G h
 
--- where every rule's left side is below b, a parse tree over nothing can be had of height at most b
+-- if every rule's left side is below b, there is a parse tree over nothing of height at most b
 pub empty-parse-low : (G : Cfg) (b : ℕ) {k : ℕ} {t : Forest} → ((r j : ℕ) → Of G r j → j < b) → Parse G k [] t
     → (u : Forest) × Parse G k [] u × (height u ≤ b)
 empty-parse-low G b l p =
     let S = shrink G (p .0) in
     let e = S .same ∙ p .1 in
-    let low = empty-low G (numbers-below b) (S .fitted) e (S .plain) (λ j h. known j (has-of G h)) in
+    let low = empty-low G (numbers-below b) (S .fitted) e (S .plain)
+    (λ j h. let (r, o) = has-of G h in numbers-below-mem b j (l r j o)) in
     (S .row, (S .fitted, e), subst (λ (n : ℕ). height (S .row) ≤ n) (numbers-below-length b) low)
-  where
-    known : (j : ℕ) → (r : ℕ) × Of G r j → List·Memᴰ j (numbers-below b)
-    known j o = numbers-below-mem b j (l (o .0) j (o .1))
 
 pub nullable-low : (G : Cfg) {k : ℕ} {t : Forest} → ((r j : ℕ) → Of G r j → j < 32) → Parse G k [] t
     → (u : Forest) × Parse G k [] u × (height u ≤ 32)

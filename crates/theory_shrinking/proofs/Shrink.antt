@@ -1,5 +1,5 @@
--- Each row that fits can be had without superfluous recursion: over the same bytes, with no more nodes, and with no nonterminal over so
--- many bytes that it had not before. So where no derivation of at most b nodes exists, each parse tree has more than b nodes.
+-- For each row that fits there is one without superfluous recursion, over the same bytes and with no more nodes. It has a nonterminal
+-- over a number of bytes only if the first row has. So if no derivation has at most b nodes, each parse tree has more than b nodes.
 -- Assumes nothing.
 use Prim.Native.Nat.{ℕ, _≤_, _<_}
 use native.Mathlib.Nat.{le-trans}
@@ -54,7 +54,7 @@ shrunk-leaf G {m} {rest} S f = record {
     from : (k n : ℕ) → Has G k n (leaf m (S .row)) → Has G k n (leaf m rest)
     from k n (has-after h) = has-after (S .from k n h)
 
--- a node stays where the shrunk row below it has no node of its nonterminal over as many bytes
+-- a node stays if the shrunk row below it has no node of its nonterminal over as many bytes
 pub shrunk-keep : (G : Cfg) {k r : ℕ} {places : List Symbol} {below rest : Forest} (o : Of G r k) (B : Shrunk G (o .the .places) below)
     → Shrunk G places rest → ¬ Has G k (length (yield (B .row))) (B .row) → Shrunk G (nonterminal k ∷ places) (node r below rest)
 unfolding yield nodes
@@ -63,7 +63,7 @@ shrunk-keep G {k} {r} {below} {rest} o B S n = record {
   fitted = fits-node o (B .fitted) (S .fitted);
   same = ap₂ (λ (x y : List ℕ). x ++ y) (B .same) (S .same);
   plain = plain;
-  fewer = let b = B .fewer in let s = S .fewer in omega arith;
+  fewer = omega arith;
   from = from;
 }
   where
@@ -77,7 +77,7 @@ shrunk-keep G {k} {r} {below} {rest} o B S n = record {
     from j m (has-below h) = has-below (B .from j m h)
     from j m (has-beside h) = has-beside (S .from j m h)
 
--- where there is such a node, it takes the place of the node above it
+-- if it has such a node, that node takes the place of the one above it
 pub shrunk-replace : (G : Cfg) {k r : ℕ} {places inner : List Symbol} {below rest : Forest} (B : Shrunk G inner below)
     → Shrunk G places rest → Found G k (length (yield (B .row))) (B .row) → Shrunk G (nonterminal k ∷ places) (node r below rest)
 unfolding yield nodes
@@ -87,7 +87,7 @@ shrunk-replace G {k} {r} {below} {rest} B S F = record {
   same = ap₂ (λ (x y : List ℕ). x ++ y)
       (middle-whole (yield (B .row)) (F .before) (yield (F .below)) (F .after) (F .split) (F .cover) ∙ B .same) (S .same);
   plain = plain;
-  fewer = let f = F .fewer in let b = B .fewer in let s = S .fewer in omega arith;
+  fewer = omega arith;
   from = from;
 }
   where
@@ -121,7 +121,7 @@ pub small-tree→derivation : (G : Cfg) (b : ℕ) (w : List ℕ) (t : Forest) �
 small-tree→derivation G b w t p l = let s = shrunk-parse G p in
     (code (s .0), record { tree = s .0; parse = s .1; plain = s .2; small = le-trans (s .3) l; coded = refl })
 
--- where no derivation of at most b nodes exists, each parse tree has more than b nodes
+-- if no derivation has at most b nodes, each parse tree has more than b nodes
 pub no-derivation→large : (G : Cfg) (b : ℕ) (w : List ℕ) → ((e : List ℕ) → Derivation G b w e → ⊥) → (t : Forest)
     → Parse G (G .start) w t → b < nodes t
 no-derivation→large G b w n t p = dite (decLe (nodes t) b)

@@ -1,1 +1,1 @@
-// Pure theory: trees without superfluous recursion. Everything is in proofs/.
+// Trees without superfluous recursion: theorems only, no code.
