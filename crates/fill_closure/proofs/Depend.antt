@@ -1,8 +1,9 @@
--- On what of the cell's set a rule's flags depend: only on the nonterminals in places behind which all can be empty. And a rule without
--- inner cuts has no flags where the set has none of these. Assumes nothing.
+-- On which part of the cell's set a rule's flags depend: only on the nonterminals in places after which all can be empty. And a rule
+-- without inner cuts has no flags if the set has none of these. Assumes nothing.
 use Prim.Native.Nat.{ℕ, zero, suc, _+_, _-_, _^_, _≤_, _<_}
 use mathlib.Core.Bool.{true, false}
 use mathlib.Core.List.{List}
+use mathlib.Core.Logic.{dite}
 use mathlib.Core.Path.{_≡_, sym, ap, _∙_}
 use native.Mathlib.Decide.{decLt}
 use native.Mathlib.Numerals.{add-one}
@@ -24,7 +25,7 @@ module _ (fit : Fit) (sets : Sets) (p : List ℕ) (r i n start inside last kinds
   -- a nonterminal that covers the whole span before places that cut the empty one is one of the kinds
   whole-kind : (x q k : ℕ) → x < 2 ^ 32 → q < placeCount p r → symbolIn p r q ≡ nonterminal k → has k (owned sets i n x i n) ≡ true
       → cuts fit (owned sets i n x) (tail p r (suc q)) n n ≡ true → (has k kinds ≡ true) × (has k x ≡ true)
-  whole-kind x q k small used e h c = (given .depends .all q k used e (go (decLt k 32)) behind, here)
+  whole-kind x q k small used e h c = (given .depends .all q k used e low behind, here)
     where
       here : has k x ≡ true
       here = ap (has k) (sym (owned-here sets i n x)) ∙ h
@@ -33,9 +34,8 @@ module _ (fit : Fit) (sets : Sets) (p : List ℕ) (r i n start inside last kinds
       behind = ap (λ (y : ℕ). has y last) (add-one q) ∙ given .after (suc q) used
           ∙ sym (cuts-owned fit sets i n x n order (omega arith) (tail p r (suc q))) ∙ c
 
-      go : Dec (k < 32) → k < 32
-      go (yes l) = l
-      go (no l) = absurd (true-false here (has-high k x small (omega arith)))
+      low : k < 32
+      low = dite (decLt k 32) (λ l. l) (λ l. absurd (true-false here (has-high k x small (omega arith))))
 
   split : (x q : ℕ) → q < placeCount p r → cuts fit (owned sets i n x) (tail p r q) i n ≡ true
       → FirstCut fit (owned sets i n x) n (symbolIn p r q) (tail p r (suc q)) i
@@ -77,7 +77,8 @@ module _ (fit : Fit) (sets : Sets) (p : List ℕ) (r i n start inside last kinds
   left q l = (placeCount p r - q, omega arith)
 
   -- flags that are right for one set are right for each that agrees
-  pub exact-on : (own made v : ℕ) → Agrees kinds made own → Cutting fit (owned sets i n own) p r i n v → ExactFlags fit sets p r i n kinds made v
+  pub exact-on : (own made v : ℕ) → Agrees kinds made own → Cutting fit (owned sets i n own) p r i n v
+      → ExactFlags fit sets p r i n kinds made v
   exact-on own made v a cut x b q l =
       let (d, e) = left q l in
       cut q l ∙ bool-ext (cuts fit (owned sets i n own) (tail p r q) i n) (cuts fit (owned sets i n x) (tail p r q) i n)

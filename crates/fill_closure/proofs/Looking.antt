@@ -1,47 +1,37 @@
 -- One rule, looked at or passed over: what the steps of the code give. Assumes nothing.
 use Prim.Native.Nat.{ℕ, _^_, _<_}
-use mathlib.Core.Bool.{Bool, true, false, cond, _&&_}
+use mathlib.Core.Bool.{true, false, and-true}
 use mathlib.Core.List.{List}
 use mathlib.Core.Path.{_≡_, refl, sym, ap, _∙_, subst}
 use native.Mathlib.Omega.{arith}
-use lib.Dec.{ltb}
 use lib.ListN.{length, getD, set, length-set}
 use lib.Seq.{getD-set-same, getD-set-other}
-use borrow.Author.Tests.{ltb-true, ne-eqb}
+use borrow.Author.Tests.{ne-eqb}
 use Rattle.sizes.specs.Sizes.{maxRules}
-use Rattle.laws.proofs.Bools.{and-parts, true-false}
-use Rattle.sets.specs.Set.{has, insert}
+use Rattle.laws.proofs.Bools.{true-false}
+use Rattle.sets.specs.Set.{has}
 use Rattle.sets.specs.Pairs.{Common}
 use Rattle.sets.proofs.Laws.{has-empty, insert-old}
 use Rattle.packed.specs.Packed.{leftIn}
 use Rattle.fill_rule.specs.Flags.{owned}
 use Rattle.fill_rule.specs.Passes.{RuleMask, addedIn}
 use Rattle.fill_rule.proofs.Owned.{owned-here, owned-end, cutting-owned, inner-owned}
+use Rattle.fill_rule.proofs.Passing.{added-cases}
 use Rattle.fill_closure.specs.Looks.{Agrees, Right, RuleLooked, Again}
 use Rattle.fill_closure.proofs.Depend.{exact-on, no-flags}
 
 -- what is common to the set and the kinds agrees with the set
 common-agrees : (kinds made own : ℕ) → own < 2 ^ 32 → Common own kinds made → Agrees kinds made own
 common-agrees kinds made own small c = (small, λ k h. sym (c k ∙ rw h (and-true (has k own))))
-  where
-    and-true : (b : Bool) → (b && true) ≡ b
-    and-true true = refl
-    and-true false = refl
 
--- adding a left side that is there, or without the flag 0, changes nothing
+-- adding a left side that is in the set, or without the flag 0, changes nothing
 added-nothing : (p : List ℕ) (r v own : ℕ) → (leftIn p r < 32 → has 0 v ≡ true → has (leftIn p r) own ≡ true) → own ≡ addedIn p r v own
-unfolding addedIn
-added-nothing p r v own f = go (has 0 v && ltb (leftIn p r) 32) refl
-  where
-    go : (b : Bool) → (has 0 v && ltb (leftIn p r) 32) ≡ b → own ≡ cond b (insert (leftIn p r) own) own
-    go true e =
-        let u = and-parts (has 0 v) (ltb (leftIn p r) 32) e in
-        sym (insert-old (leftIn p r) own (f (ltb-true (leftIn p r) 32 (u .1)) (u .0)))
-    go false e = refl
+added-nothing p r v own f =
+    added-cases p r v own (λ (x : ℕ). own ≡ x) refl (λ l h. sym (insert-old (leftIn p r) own (f l h)))
 
 module _ (p : List ℕ) (r start inside last kinds own : ℕ) (flags made : List ℕ) (own-small : own < 2 ^ 32) (below : r < maxRules)
     (long : length flags ≡ maxRules) (made-long : length made ≡ maxRules) where
-  -- the words of rule r written
+  -- the words of rule r are stored
   module _ (m c v : ℕ) where
     flag-here : getD (set flags r m) r 0 ≡ m
     flag-here = getD-set-same flags r m 0 (omega arith)
@@ -51,17 +41,16 @@ module _ (p : List ℕ) (r start inside last kinds own : ℕ) (flags made : List
 
     put : v ≡ addedIn p r m own → Agrees kinds c own → Right p r start inside last kinds c m
         → RuleLooked p r start inside last kinds own flags made (set flags r m) (set made r c) v
-    put e a exact =
-        record {
-          long = length-set flags r m ∙ long;
-          made-long = length-set made r c ∙ made-long;
-          other = λ s d. getD-set-other flags r s m 0 d;
-          made-other = λ s d. getD-set-other made r s c 0 d;
-          result = e ∙ ap (λ (x : ℕ). addedIn p r x own) (sym flag-here);
-          agrees = subst (λ (x : ℕ). Agrees kinds x own) (sym made-here) a;
-          exact = subst (λ (x : ℕ). Right p r start inside last kinds x (getD (set flags r m) r 0)) (sym made-here)
-              (subst (λ (x : ℕ). Right p r start inside last kinds c x) (sym flag-here) exact);
-        }
+    put e a exact = record {
+      long = length-set flags r m ∙ long;
+      made-long = length-set made r c ∙ made-long;
+      other = λ s d. getD-set-other flags r s m 0 d;
+      made-other = λ s d. getD-set-other made r s c 0 d;
+      result = e ∙ ap (λ (x : ℕ). addedIn p r x own) (sym flag-here);
+      agrees = subst (λ (x : ℕ). Agrees kinds x own) (sym made-here) a;
+      exact = subst (λ (x : ℕ). Right p r start inside last kinds x (getD (set flags r m) r 0)) (sym made-here)
+          (subst (λ (x : ℕ). Right p r start inside last kinds c x) (sym flag-here) exact);
+    }
 
   pub looked : (m c v : ℕ) → RuleMask p r false start own inside last m → Common own kinds c → v ≡ addedIn p r m own
       → RuleLooked p r start inside last kinds own flags made (set flags r m) (set made r c) v

@@ -1,16 +1,18 @@
 -- All rules at one cell, again and again until nothing is added: what the steps of the code give. Assumes nothing.
 use Prim.Native.Nat.{ℕ, _+_, _≤_, _<_}
-use mathlib.Core.Bool.{Bool, true, false, cond, _&&_}
+use mathlib.Core.Bool.{Bool, true, cond}
 use mathlib.Core.List.{List}
-use mathlib.Core.Logic.{_≢_}
+use mathlib.Core.Logic.{_≢_, dite}
 use mathlib.Core.Path.{_≡_, sym, ap, _∙_, subst}
 use native.Mathlib.Decide.{ℕ-discrete}
+use native.Mathlib.Nat.{le-antisymm}
 use native.Mathlib.Omega.{arith}
 use lib.Dec.{ltb}
 use lib.ListN.{length, getD}
 use borrow.Author.Tests.{lt-ltb}
 use Rattle.sizes.specs.Sizes.{maxRules}
 use Rattle.laws.proofs.Bools.{and-both}
+use Rattle.laws.proofs.Lists.{below-step}
 use Rattle.sets.specs.Set.{has, insert}
 use Rattle.sets.proofs.Laws.{has-insert, has-insert-same}
 use Rattle.cfg.specs.Grammar.{Symbol}
@@ -21,17 +23,13 @@ use Rattle.packed.proofs.Laws.{places-start}
 use Rattle.fill_rule.specs.Flags.{owned}
 use Rattle.fill_rule.specs.Passes.{Within, addedIn}
 use Rattle.fill_rule.proofs.Owned.{owned-mono}
-use Rattle.fill_rule.proofs.Passing.{added-le, added-within}
-use Rattle.fill_closure.specs.Looks.{Agrees, Right, RuleLooked, Again, SoundSet, PassState, PassMade, LeastClosed}
+use Rattle.fill_rule.proofs.Passing.{added-cases, added-le, added-within}
+use Rattle.fill_closure.specs.Looks.{Agrees, RuleLooked, Again, SoundSet, PassState, PassMade, LeastClosed}
 
--- adding keeps the members, and adds the left side where the flags have 0
+-- adding keeps the members, and adds the left side if the flags have 0
 added-keeps : (p : List ℕ) (r v own : ℕ) → Within own (addedIn p r v own)
-unfolding addedIn
-added-keeps p r v own k h = go (has 0 v && ltb (leftIn p r) 32)
-  where
-    go : (b : Bool) → has k (cond b (insert (leftIn p r) own) own) ≡ true
-    go true = has-insert k (leftIn p r) own h
-    go false = h
+added-keeps p r v own k h =
+    added-cases p r v own (λ (x : ℕ). has k x ≡ true) h (λ _ _. has-insert k (leftIn p r) own h)
 
 added-has : (p : List ℕ) (r v own : ℕ) → leftIn p r < 32 → has 0 v ≡ true → has (leftIn p r) (addedIn p r v own) ≡ true
 unfolding addedIn
@@ -43,16 +41,15 @@ added-has p r v own l h =
 module _ (p : List ℕ) (rules start : ℕ) (insides lasts kinds : List ℕ) where
   pub state-start : (flags made : List ℕ) → length flags ≡ maxRules → length made ≡ maxRules
       → PassState p rules start insides lasts kinds 0 0 flags made
-  state-start flags made long made-long =
-      record {
-        long = long;
-        made-long = made-long;
-        exact = λ r l. absurd (omega arith);
-        closed = λ r l. absurd (omega arith);
-        sound = λ fit sets i n order givens T c. sub-empty T;
-      }
+  state-start flags made long made-long = record {
+    long = long;
+    made-long = made-long;
+    exact = λ r l. absurd (omega arith);
+    closed = λ r l. absurd (omega arith);
+    sound = λ fit sets i n order givens T c. sub-empty T;
+  }
 
-  -- ---- one rule more, or once more
+  -- ---- one more rule, or a rule once more
 
   module _ (few : rules ≤ maxRules) (m own r v : ℕ) (flags made flags' made' : List ℕ) (below : r < rules)
       (state : PassState p rules start insides lasts kinds m own flags made)
@@ -74,29 +71,16 @@ module _ (p : List ℕ) (rules start : ℕ) (insides lasts kinds : List ℕ) whe
         inT = state .sound fit sets i n order givens T closed
 
     pub state-put : (m' : ℕ) → ((s : ℕ) → s < m' → s ≢ r → s < m) → PassState p rules start insides lasts kinds m' v flags' made'
-    state-put m' old =
-        record {
-          long = put .long;
-          made-long = put .made-long;
-          exact = λ s l. exact s l (ℕ-discrete s r);
-          closed = λ s l. closed s l (ℕ-discrete s r);
-          sound = put-sound;
-        }
-      where
-        exact : (s : ℕ) → s < m' → Dec (s ≡ r)
-            → Right p s start (getD insides s 0) (getD lasts s 0) (getD kinds s 0) (getD made' s 0) (getD flags' s 0)
-        exact s l (yes d) = subst (λ (y : ℕ). Right p y start (getD insides y 0) (getD lasts y 0) (getD kinds y 0) (getD made' y 0)
-            (getD flags' y 0)) (sym d) (put .exact)
-        exact s l (no d) =
-            subst (λ (y : ℕ). Right p s start (getD insides s 0) (getD lasts s 0) (getD kinds s 0) y (getD flags' s 0))
-            (sym (put .made-other s d))
-            (subst (λ (y : ℕ). Right p s start (getD insides s 0) (getD lasts s 0) (getD kinds s 0) (getD made s 0) y)
-            (sym (put .other s d)) (state .exact s (old s l d)))
-
-        closed : (s : ℕ) → s < m' → Dec (s ≡ r) → leftIn p s < 32 → has 0 (getD flags' s 0) ≡ true → has (leftIn p s) v ≡ true
-        closed s l (yes d) = subst (λ (y : ℕ). leftIn p y < 32 → has 0 (getD flags' y 0) ≡ true → has (leftIn p y) v ≡ true) (sym d)
-            (λ b h. subst (λ (x : ℕ). has (leftIn p r) x ≡ true) (sym (put .result)) (added-has p r (getD flags' r 0) own b h))
-        closed s l (no d) = λ b h. grown (leftIn p s) (state .closed s (old s l d) b (ap (has 0) (sym (put .other s d)) ∙ h))
+    state-put m' old = record {
+      long = put .long;
+      made-long = put .made-long;
+      exact = λ s l. dite (ℕ-discrete s r) (λ d. rw d (put .exact))
+          (λ d. rw (put .made-other s d, put .other s d) (state .exact s (old s l d)));
+      closed = λ s l. dite (ℕ-discrete s r)
+          (λ d. rw d (λ b h. rw (put .result) (added-has p r (getD flags' r 0) own b h)))
+          (λ d b h. grown (leftIn p s) (state .closed s (old s l d) b (ap (has 0) (sym (put .other s d)) ∙ h)));
+      sound = put-sound;
+    }
 
     pub fresh-put : v ≡ own → Agrees (getD kinds r 0) (getD made' r 0) v
     fresh-put e = subst (λ (x : ℕ). Agrees (getD kinds r 0) (getD made' r 0) x) (sym e) (put .agrees)
@@ -111,8 +95,7 @@ module _ (p : List ℕ) (rules start : ℕ) (insides lasts kinds : List ℕ) whe
   pub first-done : (r own : ℕ) (flags made : List ℕ) → r ≤ rules → rules ≤ r
       → PassState p rules start insides lasts kinds r own flags made → PassState p rules start insides lasts kinds rules own flags made
   first-done r own flags made h l state =
-      let e : r ≡ rules = omega arith in
-      subst (λ (x : ℕ). PassState p rules start insides lasts kinds x own flags made) e state
+      subst (λ (x : ℕ). PassState p rules start insides lasts kinds x own flags made) (le-antisymm h l) state
 
   -- ---- again
 
@@ -124,12 +107,11 @@ module _ (p : List ℕ) (rules start : ℕ) (insides lasts kinds : List ℕ) whe
       → PassMade p rules start insides lasts kinds r own v flags made
       → Again p r start (getD insides r 0) (getD lasts r 0) (getD kinds r 0) v flags made flags' made' v'
       → PassMade p rules start insides lasts kinds (r + 1) own v' flags' made'
-  again-step r own v v' flags made flags' made' few below passed again =
-      record {
-        state = state-put few rules v r v' flags made flags' made' below (passed .state) put rules (λ s l d. l);
-        grows = omega (arith, le, passed .grows);
-        fresh = λ e s l. fresh e s l (ℕ-discrete s r);
-      }
+  again-step r own v v' flags made flags' made' few below passed again = record {
+    state = state-put few rules v r v' flags made flags' made' below (passed .state) put rules (λ s l d. l);
+    grows = omega (arith, le, passed .grows);
+    fresh = fresh;
+  }
     where
       put : RuleLooked p r start (getD insides r 0) (getD lasts r 0) (getD kinds r 0) v flags made flags' made' v'
       put = again .put (passed .state .exact r below) (passed .state .closed r below)
@@ -137,36 +119,30 @@ module _ (p : List ℕ) (rules start : ℕ) (insides lasts kinds : List ℕ) whe
       le : v ≤ v'
       le = put-le few rules v r v' flags made flags' made' below (passed .state) put
 
-      fresh : v' ≡ own → (s : ℕ) → s < r + 1 → Dec (s ≡ r) → Agrees (getD kinds s 0) (getD made' s 0) v'
-      fresh e s l (yes d) =
-          let f : v' ≡ v = omega (arith, le, passed .grows) in
-          subst (λ (y : ℕ). Agrees (getD kinds y 0) (getD made' y 0) v') (sym d)
-          (fresh-put few rules v r v' flags made flags' made' below (passed .state) put f)
-      fresh e s l (no d) =
-          let g : s ≢ r = d in
+      fresh : v' ≡ own → (s : ℕ) → s < r + 1 → Agrees (getD kinds s 0) (getD made' s 0) v'
+      fresh e =
           let f : v' ≡ v = omega (arith, le, passed .grows) in
           let h : v ≡ own = omega (arith, le, passed .grows) in
-          subst (λ (y : ℕ). Agrees (getD kinds s 0) y v') (sym (put .made-other s d))
-          (subst (λ (y : ℕ). Agrees (getD kinds s 0) (getD made s 0) y) (sym f) (passed .fresh h s (omega arith)))
+          below-step (λ (s : ℕ). Agrees (getD kinds s 0) (getD made' s 0) v') r
+          (λ s l. rw (put .made-other s (omega arith), f) (passed .fresh h s l))
+          (fresh-put few rules v r v' flags made flags' made' below (passed .state) put f)
 
   pub again-done : (r own v : ℕ) (flags made : List ℕ) → r ≤ rules → rules ≤ r
       → PassMade p rules start insides lasts kinds r own v flags made
       → PassMade p rules start insides lasts kinds rules own v flags made
   again-done r own v flags made h l passed =
-      let e : r ≡ rules = omega arith in
-      subst (λ (x : ℕ). PassMade p rules start insides lasts kinds x own v flags made) e passed
+      subst (λ (x : ℕ). PassMade p rules start insides lasts kinds x own v flags made) (le-antisymm h l) passed
 
   -- ---- until nothing is added
 
   pub closed-now : (own v : ℕ) (flags made : List ℕ) → v ≡ own → PassMade p rules start insides lasts kinds rules own v flags made
       → LeastClosed p rules start insides lasts kinds v flags made
-  closed-now own v flags made e passed =
-      record {
-        long = passed .state .long;
-        made-long = passed .state .made-long;
-        sound = passed .state .sound;
-        settled = λ fit sets i n order givens r l. record {
-          exact = passed .state .exact r l fit sets i n order (givens r l) v (passed .fresh e r l);
-          closed = passed .state .closed r l;
-        };
-      }
+  closed-now own v flags made e passed = record {
+    long = passed .state .long;
+    made-long = passed .state .made-long;
+    sound = passed .state .sound;
+    settled = λ fit sets i n order givens r l. record {
+      exact = passed .state .exact r l fit sets i n order (givens r l) v (passed .fresh e r l);
+      closed = passed .state .closed r l;
+    };
+  }

@@ -1,5 +1,5 @@
--- Looking at the rules at one cell (i, n), i < n, again only where a rule's flags can have changed: what the words given mean, and what is
--- promised of the set and of the flags. The promises hold for all cells and sets that the words are true of. Assumes nothing.
+-- The rules at one cell (i, n) with i < n. Each is looked at again only if its flags can have changed. What the given words mean, and what
+-- is promised of the set and of the flags, for all cells and sets of which the words are true. Assumes nothing.
 use Prim.Native.Nat.{ℕ, _^_, _≤_, _<_}
 use mathlib.Core.Bool.{true}
 use mathlib.Core.List.{List}
@@ -21,20 +21,21 @@ pub record RuleGiven (fit : Fit) (sets : Sets) (p : List ℕ) (r i n start insid
   pub after : Cutting fit sets p r n n last
   pub depends : Kinds p r last kinds
 
--- the set x has of the kinds what made has
+-- the set x has the same of the kinds as made
 abbrev pub Agrees : ℕ → ℕ → ℕ → Type 0
 Agrees kinds made x = (x < 2 ^ 32) × ((k : ℕ) → has k kinds ≡ true → has k x ≡ has k made)
 
--- v is the flags of rule r at the start i for each set of the cell that agrees with made
+-- v has the flags of rule r at the start i for each set of the cell that agrees with made
 abbrev pub ExactFlags : Fit → Sets → List ℕ → ℕ → ℕ → ℕ → ℕ → ℕ → ℕ → Type 0
 ExactFlags fit sets p r i n kinds made v = (x : ℕ) → Agrees kinds made x → Cutting fit (owned sets i n x) p r i n v
 
--- the same at each cell that the words are true of
+-- the same at each cell of which the words are true
 abbrev pub Right : List ℕ → ℕ → ℕ → ℕ → ℕ → ℕ → ℕ → ℕ → Type 0
 Right p r start inside last kinds made v =
-    (fit : Fit) (sets : Sets) (i n : ℕ) → i < n → RuleGiven fit sets p r i n start inside last kinds → ExactFlags fit sets p r i n kinds made v
+    (fit : Fit) (sets : Sets) (i n : ℕ) → i < n → RuleGiven fit sets p r i n start inside last kinds
+    → ExactFlags fit sets p r i n kinds made v
 
--- rule r was looked at, or need not be, where the cell's set was own; own' is the set with its left side
+-- rule r was looked at, or need not be, when the cell's set was own; own' is the set after its left side was added
 pub record RuleLooked (p : List ℕ) (r start inside last kinds own : ℕ) (flags made flags' made' : List ℕ) (own' : ℕ) : Type 0 where
   pub long : length flags' ≡ maxRules
   pub made-long : length made' ≡ maxRules
@@ -44,7 +45,7 @@ pub record RuleLooked (p : List ℕ) (r start inside last kinds own : ℕ) (flag
   pub agrees : Agrees kinds (getD made' r 0) own
   pub exact : Right p r start inside last kinds (getD made' r 0) (getD flags' r 0)
 
--- the same, where the flags that stand are right and add nothing
+-- the same, if the flags stored before are right and add nothing
 pub record Again (p : List ℕ) (r start inside last kinds own : ℕ) (flags made flags' made' : List ℕ) (own' : ℕ) : Type 0 where
   pub put : Right p r start inside last kinds (getD made r 0) (getD flags r 0)
       → (leftIn p r < 32 → has 0 (getD flags r 0) ≡ true → has (leftIn p r) own ≡ true)
@@ -52,7 +53,7 @@ pub record Again (p : List ℕ) (r start inside last kinds own : ℕ) (flags mad
 
 -- ---- all rules
 
--- what is known of the rules below a number
+-- what is known of the rules below this number
 abbrev pub Givens : Fit → Sets → List ℕ → ℕ → ℕ → ℕ → ℕ → List ℕ → List ℕ → List ℕ → Type 0
 Givens fit sets p rules i n start insides lasts kinds =
     (r : ℕ) → r < rules → RuleGiven fit sets p r i n start (getD insides r 0) (getD lasts r 0) (getD kinds r 0)
@@ -72,7 +73,7 @@ pub record PassState (p : List ℕ) (rules start : ℕ) (insides lasts kinds : L
   pub closed : (r : ℕ) → r < m → leftIn p r < 32 → has 0 (getD flags r 0) ≡ true → has (leftIn p r) own ≡ true
   pub sound : SoundSet p rules start insides lasts kinds own
 
--- the rules were looked at again, and own became v; if nothing was added, all flags go by it
+-- the rules were looked at again, and own became v; if nothing was added, all flags agree with v
 pub record PassMade (p : List ℕ) (rules start : ℕ) (insides lasts kinds : List ℕ) (m own v : ℕ) (flags made : List ℕ) : Type 0 where
   pub state : PassState p rules start insides lasts kinds rules v flags made
   pub grows : own ≤ v

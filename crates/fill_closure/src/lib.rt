@@ -1,4 +1,4 @@
-// Looking at the rules at one cell of a column, until nothing is added; a rule is looked at again only if its flags can have changed.
+// The rules at one cell of a column are looked at until nothing is added. A rule is looked at again only if its flags can have changed.
 pub mod passes;
 
 use fill_rule::passes::added;
@@ -10,7 +10,7 @@ ghost use lib.ListN.{length};
 ghost use Rattle.sizes.specs.Sizes.{maxRules};
 ghost use Rattle.fill_closure.specs.Looks.{RuleLooked, Again};
 
-// What is known at a cell: the set of the empty span at its start, and its own so far.
+// What is known at a cell: the set of the empty span at its start, and its own set so far.
 pub struct Known {
     pub start: u32,
     pub own: u32,
@@ -38,7 +38,7 @@ fn look(
     added(p, r, m, known.own)
 }
 
-// The first look at rule r: without inner cuts, and where the set has none of its kinds, it has no flags.
+// The first look at rule r. It has no flags if it has no inner cuts and the set has none of its kinds.
 pub fn look_first(
     p: &Packed,
     r: usize,

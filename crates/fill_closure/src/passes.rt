@@ -9,7 +9,7 @@ ghost use lib.ListN.{length};
 ghost use Rattle.sizes.specs.Sizes.{maxRules};
 ghost use Rattle.fill_closure.specs.Looks.{PassState, PassMade, LeastClosed};
 
-// The first look at the rules below a number, from the empty set on.
+// The first look at the rules below this number. It starts with the empty set.
 fn first(
     p: &Packed,
     rules: usize,
@@ -43,7 +43,7 @@ fn first(
     own
 }
 
-// A further look at those of them whose flags can have changed.
+// A further look at those rules whose flags can have changed.
 fn again(
     p: &Packed,
     rules: usize,
@@ -79,7 +79,7 @@ fn again(
     v
 }
 
-// Until nothing is added: the set of the cell, and the flags of the rules.
+// Looks until nothing is added: returns the set of the cell, and leaves the flags of the rules in flags.
 pub fn closure(
     p: &Packed,
     rules: usize,

@@ -1,5 +1,5 @@
--- The set that passes over one cell come to is that cell of the column: it has nothing that the column lacks, since the column is closed
--- under the rules, and all that the column has, since the column is the least that is. Assumes nothing.
+-- The set with which the passes over one cell end is that cell of the column: it has nothing that the column lacks, since the column is
+-- closed under the rules, and all that the column has, since the column is the least that is closed. Assumes nothing.
 use Prim.Native.Nat.{ℕ, suc, _^_, _≤_, _<_}
 use mathlib.Core.Bool.{true}
 use mathlib.Core.List.{List}

@@ -2,6 +2,7 @@
 use Prim.Native.Nat.{ℕ, suc, _+_, _^_, _≤_, _<_}
 use mathlib.Core.List.{List, [], _∷_, _++_}
 use mathlib.Core.Path.{_≡_, refl, sym, ap, _∙_, subst}
+use native.Mathlib.Nat.{le-antisymm}
 use native.Mathlib.Numerals.{add-one}
 use native.Mathlib.Omega.{arith}
 use lib.ListN.{length, getD, take, drop, set, replicate, length-append, length-drop, length-replicate, replicate-append-replicate}
@@ -41,15 +42,10 @@ clear-step l chart i h e =
 
 pub clear-done : (l chart : List ℕ) (i : ℕ) → i ≤ cells → cells ≤ i → chart ≡ replicate i 0 ++ drop i l
     → chart ≡ replicate cells 0 ++ drop cells l
-clear-done l chart i h m e =
-    let d : i ≡ cells = omega arith in
-    subst (λ (x : ℕ). chart ≡ replicate x 0 ++ drop x l) d e
+clear-done l chart i h m e = subst (λ (x : ℕ). chart ≡ replicate x 0 ++ drop x l) (le-antisymm h m) e
 
-cleared : (n : ℕ) (l : List ℕ) → n ≤ length l → length (replicate n 0 ++ drop n l) ≡ length l
-cleared n l h = simp (length-append, length-replicate, length-drop) (omega arith)
-
-pub cleared-length : (l : List ℕ) → cells ≤ length l → length (replicate cells 0 ++ drop cells l) ≡ length l
-cleared-length l h = cleared cells l h
+cleared-length : (n : ℕ) (l : List ℕ) → n ≤ length l → length (replicate n 0 ++ drop n l) ≡ length l
+cleared-length n l h = simp (length-append, length-replicate, length-drop) (omega arith)
 
 -- ---- opening and filling
 
@@ -61,14 +57,8 @@ pub opened-is : (p : List ℕ) (rules own : ℕ) (lasts chart chart' : List ℕ)
     → EmptyClosed p rules own lasts → OpenedWith own chart chart' → chart' ≡ opened (cfgIn 0 p) chart
 unfolding opened
 opened-is p rules own lasts chart chart' room used word closed e =
-    e ∙ column-zero p (fitsAt []) rules own lasts (replicate cells 0 ++ drop cells chart) (omega (arith, long)) used word closed
-  where
-    long : length (replicate cells 0 ++ drop cells chart) ≡ length chart
-    long = cleared-length chart room
-
-pub fill-start : (p start : List ℕ) → start ≡ extendedBy (cfgIn 0 p) [] [] start
-unfolding extendedBy
-fill-start p start = refl
+    e ∙ column-zero p (fitsAt []) rules own lasts (replicate cells 0 ++ drop cells chart) (omega (arith, cleared-length cells chart room))
+    used word closed
 
 module _ (p w start : List ℕ) where
   pub fill-step : (m m' : ℕ) (chart chart' : List ℕ) → m' ≡ m + 1 → m < length w → chart ≡ extendedBy (cfgIn 0 p) [] (take m w) start
@@ -83,28 +73,9 @@ module _ (p w start : List ℕ) where
       ∙ sym (extendedBy-append (cfgIn 0 p) [] (take m w) (getD w m 0 ∷ []) start)
       ∙ ap (λ (x : List ℕ). extendedBy (cfgIn 0 p) [] x start) (sym t)
 
-  pub taken-all : (m : ℕ) (chart : List ℕ) → length w ≤ m → chart ≡ extendedBy (cfgIn 0 p) [] (take m w) start
-      → chart ≡ extendedBy (cfgIn 0 p) [] w start
-  taken-all m chart h e = e ∙ ap (λ (x : List ℕ). extendedBy (cfgIn 0 p) [] x start) (take-all m w h)
-
-  pub fill-done : (chart found : List ℕ) → start ≡ opened (cfgIn 0 p) found → chart ≡ extendedBy (cfgIn 0 p) [] w start
-      → chart ≡ filled (cfgIn 0 p) w found
-  unfolding filled
-  fill-done chart found e f = f ∙ ap (extendedBy (cfgIn 0 p) [] w) e
-
 -- ---- the ends, while an input is taken
 
-pub told-found : (chart : List ℕ) (n : ℕ) (ends reach : List ℕ)
-    → ColumnsPut chart 0 n (replicate endsSize 0) (replicate maxInput 0) ends reach
-    → EndsTo chart n 0 ends reach
-told-found chart n ends reach put = put .step (ends-zero chart)
-
-pub told-next : (chart : List ℕ) (m m' : ℕ) (ends reach ends' reach' : List ℕ) → m' ≡ m + 1
-    → ColumnsPut chart m (m + 1) ends reach ends' reach'
-    → EndsTo chart m 0 ends reach → EndsTo chart m' 0 ends' reach'
-told-next chart m m' ends reach ends' reach' e put to = subst (λ (x : ℕ). EndsTo chart x 0 ends' reach') (sym e) (put .step to)
-
--- what is told of an input is told of its first bytes
+-- what the fit table says of an input it says of its first bytes
 fits-take : (w : List ℕ) (m i : ℕ) (s : Terminal) → i < m → m ≤ length w → fitsAt w i s ≡ fitsAt (take m w) i s
 unfolding fitsAt
 fits-take w m i s l h = rw (
@@ -117,7 +88,7 @@ told-take : (p t w : List ℕ) (m n : ℕ) → m ≤ n → length w ≡ n → Fi
 told-take p t w m n h e tells i r q l b c d = tells i r q (omega arith) b c d ∙ fits-take w m i (terminalIn p r q) l (omega arith)
 
 module _ (p t : List ℕ) (n : ℕ) (start : List ℕ) where
-  -- m positions are taken, and the columns before m told
+  -- m positions are taken, and the ends of the columns before m are known
   pub record FillTo (m : ℕ) (chart ends reach : List ℕ) : Type 0 where
     pub within : m ≤ n
     pub long : length chart ≡ length start
@@ -128,14 +99,14 @@ module _ (p t : List ℕ) (n : ℕ) (start : List ℕ) where
 
   fill-from : (k l : ℕ) → k ≡ endsSize → l ≡ maxInput → EndsTo start 0 0 (replicate k 0) (replicate l 0)
       → FillTo 0 start (replicate k 0) (replicate l 0)
-  fill-from k l e f to =
-      record {
-        within = omega arith;
-        long = refl;
-        taken = λ w _ _. (fill-start p start, to);
-        ends-long = length-replicate {A = ℕ} k 0 ∙ e;
-        reach-long = length-replicate {A = ℕ} l 0 ∙ f;
-      }
+  unfolding extendedBy
+  fill-from k l e f to = record {
+    within = omega arith;
+    long = refl;
+    taken = λ w _ _. (refl, to);
+    ends-long = length-replicate {A = ℕ} k 0 ∙ e;
+    reach-long = length-replicate {A = ℕ} l 0 ∙ f;
+  }
 
   pub fill-zero : FillTo 0 start (replicate endsSize 0) (replicate maxInput 0)
   fill-zero = fill-from endsSize maxInput refl refl (ends-zero start)
@@ -143,20 +114,19 @@ module _ (p t : List ℕ) (n : ℕ) (start : List ℕ) where
   pub fill-go : (m m' : ℕ) (chart chart' ends reach ends' reach' : List ℕ) → m' ≡ m + 1 → m < n → n ≤ maxInput
       → ColumnsPut chart m (m + 1) ends reach ends' reach' → ColumnWritten p t m' ends' reach' chart chart' → FillTo m chart ends reach
       → FillTo m' chart' ends' reach'
-  fill-go m m' chart chart' ends reach ends' reach' e l small put column to =
-      record {
-        within = omega arith;
-        long = column .long ∙ to .long;
-        taken = taken;
-        ends-long = put .long;
-        reach-long = put .reach-long;
-      }
+  fill-go m m' chart chart' ends reach ends' reach' e l small put column to = record {
+    within = omega arith;
+    long = column .long ∙ to .long;
+    taken = taken;
+    ends-long = put .long;
+    reach-long = put .reach-long;
+  }
     where
       taken : (w : List ℕ) → length w ≡ n → FitTold (fitsAt w) p t n
           → (chart' ≡ extendedBy (cfgIn 0 p) [] (take m' w) start) × EndsTo chart' m' 0 ends' reach'
       taken w d tells =
           let (x, y) = to .taken w d tells in
-          let z : EndsTo chart m' 0 ends' reach' = told-next chart m m' ends reach ends' reach' e put y in
+          let z = subst (λ (n : ℕ). EndsTo chart n 0 ends' reach') (sym e) (put .step y) in
           let f = column .exact (fitsAt (take m' w)) (told-take p t w m' n (omega arith) d tells) z in
           let g = told-on p (fitsAt (take m' w)) chart chart' m' ends' reach' (omega arith) f z in
           (fill-step p w start m m' chart chart' e (omega arith) x f, g)
@@ -164,7 +134,8 @@ module _ (p t : List ℕ) (n : ℕ) (start : List ℕ) where
   pub fill-taken : (m : ℕ) (chart ends reach : List ℕ) → n ≤ m → FillTo m chart ends reach → PositionsTaken p t n start chart
   fill-taken m chart ends reach h to = record {
     long = to .long;
-    exact = λ w d tells. taken-all p w start m chart (omega arith) (to .taken w d tells .0);
+    exact = λ w d tells.
+        to .taken w d tells .0 ∙ ap (λ (x : List ℕ). extendedBy (cfgIn 0 p) [] x start) (take-all m w (omega arith));
   }
 
 -- ---- opening and taking
@@ -172,8 +143,10 @@ module _ (p t : List ℕ) (n : ℕ) (start : List ℕ) where
 pub filled-is : (p t : List ℕ) (n rules own : ℕ) (lasts kinds found start chart : List ℕ) → cells ≤ length found → Used p rules
     → own < 2 ^ 32 → EmptyTold p rules own lasts kinds → OpenedWith own found start → PositionsTaken p t n start chart
     → (w : List ℕ) → length w ≡ n → FitTold (fitsAt w) p t n → chart ≡ filled (cfgIn 0 p) w found
+unfolding filled
 filled-is p t n rules own lasts kinds found start chart room used word told first taken w d tells =
-    fill-done p w start chart found (opened-is p rules own lasts found start room used word (told .closed) first) (taken .exact w d tells)
+    taken .exact w d tells
+    ∙ ap (extendedBy (cfgIn 0 p) [] w) (opened-is p rules own lasts found start room used word (told .closed) first)
 
 -- ---- one column of an input
 
@@ -181,4 +154,4 @@ pub column-of : (p w t : List ℕ) (n : ℕ) (ends reach chart chart' : List ℕ
     → ColumnsPut chart 0 n (replicate endsSize 0) (replicate maxInput 0) ends reach → ColumnWritten p t n ends reach chart chart'
     → chart' ≡ columnOf p w n chart
 column-of p w t n ends reach chart chart' small told put column =
-    column .exact (fitsAt w) (fit-told p w t n small told) (told-found chart n ends reach put)
+    column .exact (fitsAt w) (fit-told p w t n small told) (put .step (ends-zero chart))

@@ -1,16 +1,16 @@
--- A column, written cell by cell from the last start down: how one cell goes on, and where it begins and ends. Assumes nothing.
+-- A column, written cell by cell from the last start down: one more cell, the first cell, and the end. Assumes nothing.
 use Prim.Native.Nat.{ℕ, _+_, _*_, _-_, _^_, _≤_, _<_}
-use mathlib.Core.Bool.{true, false}
+use mathlib.Core.Bool.{true}
 use mathlib.Core.List.{List}
-use mathlib.Core.Logic.{_≢_, inl}
+use mathlib.Core.Logic.{_≢_, inl, dite}
 use mathlib.Core.Path.{_≡_, refl, sym, ap, _∙_, subst}
 use native.Mathlib.Decide.{ℕ-discrete}
 use native.Mathlib.Omega.{arith}
 use lib.ListN.{length, getD, set, replicate, length-set, length-replicate}
-use lib.Seq.{ext-getD, getD-set-same, getD-set-other}
+use lib.Seq.{ext-getD}
 use Rattle.sizes.specs.Sizes.{cells, maxRules, maxInput}
 use Rattle.laws.proofs.Bools.{true-false, bool-ext}
-use Rattle.laws.proofs.Lists.{zeros-at}
+use Rattle.laws.proofs.Lists.{zeros-at, set-each}
 use Rattle.sets.specs.Set.{has}
 use Rattle.sets.proofs.Laws.{has-empty}
 use Rattle.chart.specs.Cell.{Fit, cell, index}
@@ -35,32 +35,24 @@ module _ (p : List ℕ) (fit : Fit) (found : List ℕ) (rules n : ℕ) (small : 
   full-earlier : (a b : ℕ) → b < n → full a b ≡ cell found a b
   full-earlier a b l = written-cell-other (cfgIn 0 p) fit n found small a b (omega arith) (λ e. absurd (omega arith))
 
-  -- the ends of the earlier columns tell the sets of the column
+  -- the ends of the earlier columns have the members of their sets
   ends-told : (ends reach : List ℕ) → EndsTo found n 0 ends reach → (i : ℕ) → EndsTold full i n ends
-  ends-told ends reach to i = record { exact = exact; high = high }
-    where
-      exact : (k b : ℕ) → k < 32 → i < b → b < n → has b (endsOf ends i k) ≡ has k (full i b)
-      exact k b h l m = bool-ext (has b (endsOf ends i k)) (has k (full i b))
-          (λ e. ap (has k) (full-earlier i b m) ∙ to .sound i k b h l e .1)
-          (λ e. to .all i k b h (l, inl m) (ap (has k) (sym (full-earlier i b m)) ∙ e))
+  ends-told ends reach to i = record {
+    exact = λ k b h l m. bool-ext (has b (endsOf ends i k)) (has k (full i b))
+        (λ e. ap (has k) (full-earlier i b m) ∙ to .sound i k b h l e .1)
+        (λ e. to .all i k b h (l, inl m) (ap (has k) (sym (full-earlier i b m)) ∙ e));
+    high = λ k b h l m. ap (has k) (full-earlier i b m) ∙ to .high i k b h (l, inl m);
+  }
 
-      high : (k b : ℕ) → 32 ≤ k → i < b → b < n → has k (full i b) ≡ false
-      high k b h l m = ap (has k) (full-earlier i b m) ∙ to .high i k b h (l, inl m)
-
-  -- a cell more, its set being that of the column
+  -- one more cell, with the set that the column has
   cells-step : (i j v : ℕ) (chart : List ℕ) → cells ≤ length found → length chart ≡ length found → i ≤ n → j ≡ i + 1 → v ≡ full i n
       → ((x : ℕ) → ((a : ℕ) → a < j → x ≢ index a n) → getD chart x 0 ≡ getD (columnBy p fit n found) x 0)
       → (x : ℕ) → ((a : ℕ) → a < i → x ≢ index a n) → getD (set chart (index i n) v) x 0 ≡ getD (columnBy p fit n found) x 0
-  cells-step i j v chart room long order next own before x h = go (ℕ-discrete x (index i n))
-    where
-      go : Dec (x ≡ index i n) → getD (set chart (index i n) v) x 0 ≡ getD (columnBy p fit n found) x 0
-      go (yes e) = subst (λ (y : ℕ). getD (set chart (index i n) v) y 0 ≡ getD (columnBy p fit n found) y 0) (sym e)
-          (getD-set-same chart (index i n) v 0 (omega arith) ∙ own)
-      go (no e) = getD-set-other chart (index i n) x v 0 e ∙ before x (λ a l. others a l (ℕ-discrete a i))
-        where
-          others : (a : ℕ) → a < j → Dec (a ≡ i) → x ≢ index a n
-          others a l (yes d) q = e (q ∙ ap (λ (y : ℕ). index y n) d)
-          others a l (no d) q = let u : a ≢ i = d in h a (omega arith) q
+  cells-step i j v chart room long order next own before x h =
+      set-each (λ (y w : ℕ). w ≡ getD (columnBy p fit n found) y 0) 0 chart (index i n) v (omega arith) own x
+      (λ e. before x (λ a l q. dite (ℕ-discrete a i)
+      (λ d. e (q ∙ ap (λ (y : ℕ). index y n) d))
+      (λ d. let u : a ≢ i = d in h a (omega arith) q)))
 
   module _ (i j v reached : ℕ) (t ends reach lasts kinds insides flags made chart starts live starts' live' : List ℕ)
       (room : cells ≤ length found) (few : rules ≤ maxRules) (used : Used p rules) (order : i < n) (next : j ≡ i + 1) (word : v < 2 ^ 32)
@@ -103,15 +95,14 @@ module _ (p : List ℕ) (fit : Fit) (found : List ℕ) (rules n : ℕ) (small : 
         (closed .sound fit full i n order givens (full i n) (column-closed-at p fit found n small room i (omega arith)))
 
     step : WrittenFrom p fit found rules n i (set chart (index i n) v) starts' live'
-    step =
-        record {
-          long = length-set chart (index i n) v ∙ from .long;
-          cells = cells-step i j v chart room (from .long) (omega arith) next own (from .cells);
-          room = put .long;
-          live-room = put .live-long;
-          from = put .step fit full n order
-              (flags-are p fit found n small room i (omega arith) rules v (λ (r : ℕ). getD flags r 0) used settled own) behind;
-        }
+    step = record {
+      long = length-set chart (index i n) v ∙ from .long;
+      cells = cells-step i j v chart room (from .long) (omega arith) next own (from .cells);
+      room = put .long;
+      live-room = put .live-long;
+      from = put .step fit full n order
+          (flags-are p fit found n small room i (omega arith) rules v (λ (r : ℕ). getD flags r 0) used settled own) behind;
+    }
 
 pub cell-written : (p : List ℕ) (rules n i v reached : ℕ)
     (t ends reach lasts kinds insides flags made chart starts live starts' live' : List ℕ)
@@ -153,21 +144,20 @@ module _ (p : List ℕ) (fit : Fit) (found : List ℕ) (rules n own : ℕ) (last
 
   column-start : (k l : ℕ) → k ≡ startsSize → l ≡ maxRules
       → WrittenFrom p fit found rules n n (set found (index n n) own) (replicate k 0) (replicate l 0)
-  column-start k l e f =
-      record {
-        long = length-set found (index n n) own;
-        cells = cells-step p fit found rules n small n (n + 1) own found room refl (omega arith) refl last-own
-            (λ x h. sym (written-other (cfgIn 0 p) fit n found x (λ a m. h a (omega arith))));
-        room = length-replicate {A = ℕ} k 0 ∙ e;
-        live-room = length-replicate {A = ℕ} l 0 ∙ f;
-        from = record {
-          told = λ r h. record {
-            sound = λ q a _ _ x. absurd (zero-has k (8 * r + q) a x);
-            all = λ q a _ _ m o. absurd (omega arith);
-          };
-          lives = λ r q a _ _ _ x. absurd (zero-has k (8 * r + q) a x);
-        };
-      }
+  column-start k l e f = record {
+    long = length-set found (index n n) own;
+    cells = cells-step p fit found rules n small n (n + 1) own found room refl (omega arith) refl last-own
+        (λ x h. sym (written-other (cfgIn 0 p) fit n found x (λ a m. h a (omega arith))));
+    room = length-replicate {A = ℕ} k 0 ∙ e;
+    live-room = length-replicate {A = ℕ} l 0 ∙ f;
+    from = record {
+      told = λ r h. record {
+        sound = λ q a _ _ x. absurd (zero-has k (8 * r + q) a x);
+        all = λ q a _ _ m o. absurd (omega arith);
+      };
+      lives = λ r q a _ _ _ x. absurd (zero-has k (8 * r + q) a x);
+    };
+  }
 
   pub column-start-zero : WrittenFrom p fit found rules n n (set found (index n n) own) (replicate startsSize 0) (replicate maxRules 0)
   column-start-zero = column-start startsSize maxRules refl refl
@@ -180,7 +170,7 @@ column-done p fit found rules n i chart starts live h from = ext-getD 0 chart (c
 -- ---- the cells before the last
 
 module _ (p t : List ℕ) (rules n : ℕ) (ends reach lasts chart₀ starts₀ live₀ : List ℕ) where
-  -- those of the starts from i on
+  -- the cells of the starts from i on are written
   pub record LowerTo (i : ℕ) (chart starts live : List ℕ) : Type 0 where
     pub long : length chart ≡ length chart₀
     pub room : length starts ≡ startsSize
@@ -194,13 +184,12 @@ module _ (p t : List ℕ) (rules n : ℕ) (ends reach lasts chart₀ starts₀ l
   pub lower-step : (i j : ℕ) (chart starts live chart' starts' live' : List ℕ) → 0 < j → i ≡ j - 1
       → CellWritten p t rules n i ends reach lasts chart starts live chart' starts' live' → LowerTo j chart starts live
       → LowerTo i chart' starts' live'
-  lower-step i j chart starts live chart' starts' live' some less cell to =
-      record {
-        long = cell .long ∙ to .long;
-        room = cell .room;
-        live-room = cell .live-room;
-        from = λ fit found big around from. cell .step fit found big around j (omega arith) (to .from fit found big around from);
-      }
+  lower-step i j chart starts live chart' starts' live' some less cell to = record {
+    long = cell .long ∙ to .long;
+    room = cell .room;
+    live-room = cell .live-room;
+    from = λ fit found big around from. cell .step fit found big around j (omega arith) (to .from fit found big around from);
+  }
 
 pub lower-done : (p t : List ℕ) (rules n i : ℕ) (ends reach lasts chart₀ chart starts live : List ℕ) → i ≤ 0
     → LowerTo p t rules n ends reach lasts chart₀ (replicate startsSize 0) (replicate maxRules 0) i chart starts live
@@ -231,8 +220,6 @@ column-zero p fit rules own lasts chart room used word closed =
     column-done p fit chart rules 0 0 (set chart 0 own) (replicate startsSize 0) (replicate maxRules 0) (omega arith)
     (column-start-zero p fit chart rules 0 own lasts (omega arith) room used word closed)
 
--- a cell of the first row stands at its end
+-- a cell of the first row is stored at the index of its end
 pub cell-first-row : (chart : List ℕ) (n : ℕ) → getD chart n 0 ≡ cell chart 0 n
-cell-first-row chart n =
-    let e : n ≡ index 0 n = omega arith in
-    ap (λ (x : ℕ). getD chart x 0) e
+cell-first-row chart n = ap (λ (x : ℕ). getD chart x 0) {x = n} {y = index 0 n} (omega arith)

@@ -1,4 +1,4 @@
--- A column of the chart, written cell by cell from the last start down, by spans as bits. Assumes nothing.
+-- A column of the chart, written cell by cell from the last start down, with spans as bits. Assumes nothing.
 use Prim.Native.Nat.{ℕ, _+_, _≤_, _<_}
 use mathlib.Core.List.{List, [], _++_}
 use mathlib.Core.Logic.{_≢_}
@@ -31,8 +31,8 @@ pub record Around (p : List ℕ) (fit : Fit) (t found : List ℕ) (rules n : ℕ
   pub told : EndsTo found n 0 ends reach
   pub after : (r : ℕ) → r < rules → Cutting fit (cell (columnBy p fit n found)) p r n n (getD lasts r 0)
 
--- the cells of column n of the starts from i on are written, and all else is as it was in the chart found; the starts of the rules below
--- a number are told from i on
+-- the cells of column n from the start i on are written, and all else is as it was in the chart found; the starts from i on of the rules
+-- below a number are known
 pub record WrittenFrom (p : List ℕ) (fit : Fit) (found : List ℕ) (rules n i : ℕ) (chart starts live : List ℕ) : Type 0 where
   pub long : length chart ≡ length found
   pub cells : (x : ℕ) → ((a : ℕ) → a < i → x ≢ index a n) → getD chart x 0 ≡ getD (columnBy p fit n found) x 0
@@ -40,7 +40,7 @@ pub record WrittenFrom (p : List ℕ) (fit : Fit) (found : List ℕ) (rules n i 
   pub live-room : length live ≡ maxRules
   pub from : StartsFrom fit (cell (columnBy p fit n found)) p rules i n starts live
 
--- one cell more
+-- one more cell is written
 pub record CellWritten (p t : List ℕ) (rules n i : ℕ) (ends reach lasts chart starts live chart' starts' live' : List ℕ) : Type 0 where
   pub long : length chart' ≡ length chart
   pub room : length starts' ≡ startsSize
@@ -48,18 +48,18 @@ pub record CellWritten (p t : List ℕ) (rules n i : ℕ) (ends reach lasts char
   pub step : (fit : Fit) (found : List ℕ) → cells ≤ length found → Around p fit t found rules n ends reach lasts → (j : ℕ) → j ≡ i + 1
       → WrittenFrom p fit found rules n j chart starts live → WrittenFrom p fit found rules n i chart' starts' live'
 
--- all cells before the last: then the column is written
+-- all cells before the last are written, and so is the column
 pub record LowerWritten (p t : List ℕ) (rules n : ℕ) (ends reach lasts chart chart' : List ℕ) : Type 0 where
   pub long : length chart' ≡ length chart
   pub step : (fit : Fit) (found : List ℕ) → cells ≤ length found → Around p fit t found rules n ends reach lasts
       → WrittenFrom p fit found rules n n chart (replicate startsSize 0) (replicate maxRules 0) → chart' ≡ columnBy p fit n found
 
--- column n was written, right for whatever the fit table tells, where the ends of the columns before it are told
+-- column n was written, and is right for all that the fit table says if the ends of the columns before it are known
 pub record ColumnWritten (p t : List ℕ) (n : ℕ) (ends reach chart chart' : List ℕ) : Type 0 where
   pub long : length chart' ≡ length chart
   pub exact : (fit : Fit) → FitTold fit p t n → EndsTo chart n 0 ends reach → chart' ≡ columnBy p fit n chart
 
--- n positions were taken, right for each input that the fit table tells of
+-- n positions were taken, and the chart is right for each input of which the fit table is true
 pub record PositionsTaken (p t : List ℕ) (n : ℕ) (chart chart' : List ℕ) : Type 0 where
   pub long : length chart' ≡ length chart
   pub exact : (w : List ℕ) → length w ≡ n → FitTold (fitsAt w) p t n → chart' ≡ extendedBy (cfgIn 0 p) [] w chart

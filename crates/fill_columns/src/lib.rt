@@ -23,7 +23,7 @@ ghost use Rattle.packed_fit.specs.Fit.{FitTold};
 ghost use Rattle.fill_empty.specs.Empty.{EmptyTold};
 ghost use Rattle.fill_columns.specs.Columns.{columnOf, OpenedWith, PositionsTaken};
 
-// Writes column n of the chart as found.
+// Writes column n of the chart. The columns before it are taken as they are found.
 pub fn write_column(p: &Packed, w: &[u8], n: usize, chart: &mut [u32])
     requires { ⌜ (n ≤ maxInput) × (cells ≤ length (now chart)) ⌝ }
     ensures { λ _. ⌜ now (chart .exit) ≡ columnOf (now (p .entry)) (now (w .entry)) n (now (chart .entry)) ⌝ }
@@ -61,7 +61,7 @@ fn clear(chart: &mut [u32])
     }
 }
 
-// Opening, the set of the empty span being told.
+// Opens the chart. The set of the empty span is own.
 fn open_with(own: u32, chart: &mut [u32])
     requires { ⌜ cells ≤ length (now chart) ⌝ }
     ensures { λ _. ⌜ OpenedWith own (now (chart .entry)) (now (chart .exit)) ⌝ }
@@ -70,7 +70,7 @@ fn open_with(own: u32, chart: &mut [u32])
     chart[0] = own;
 }
 
-// Opening.
+// Opens the chart.
 pub fn open_chart(p: &Packed, chart: &mut [u32])
     requires { ⌜ cells ≤ length (now chart) ⌝ }
     ensures { λ _. ⌜ now (chart .exit) ≡ opened (cfgIn 0 (now (p .entry))) (now (chart .entry)) ⌝ }
@@ -80,7 +80,7 @@ pub fn open_chart(p: &Packed, chart: &mut [u32])
     open_with(own, chart);
 }
 
-// Taking n positions, what fits them and what is the same for every column being told.
+// Takes n positions. What fits them, and what is the same for every column, is given.
 fn take_all(
     p: &Packed,
     rules: usize,
@@ -105,7 +105,7 @@ fn take_all(
     }
 }
 
-// Opening, and then taking an input of n bytes, of which the fit table tells.
+// Opens the chart, and then takes an input of n bytes, whose fit table is given.
 pub fn fill(p: &Packed, fits: &FitTable, n: usize, chart: &mut [u32])
     requires { ⌜ (n ≤ maxInput) × (cells ≤ length (now chart)) ⌝ }
     ensures { λ _. ⌜ ((w : List ℕ) → length w ≡ n → FitTold (fitsAt w) (now (p .entry)) (now (fits .entry)) n

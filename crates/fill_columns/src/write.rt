@@ -1,4 +1,4 @@
-// One column of the chart, written cell by cell from the last start down, by spans as bits.
+// One column of the chart, written cell by cell from the last start down, with spans as bits.
 use fill_closure::passes::closure;
 use fill_inner::rules::begin_all;
 use fill_reach::Live;
@@ -18,7 +18,7 @@ ghost use Rattle.fill_words.specs.Spans.{startsSize};
 ghost use Rattle.fill_empty.specs.Empty.{KindsAll, EmptyTold};
 ghost use Rattle.fill_columns.specs.Columns.{CellWritten, LowerWritten, ColumnWritten};
 
-// Writes the cell (i, n), those of the later starts being written. What insides, flags and made hold before does not matter.
+// Writes the cell (i, n), after those of the later starts. What insides, flags and made hold before does not matter.
 fn close_cell(
     p: &Packed,
     rules: usize,
@@ -71,7 +71,7 @@ fn close_cell(
     chart[sizes::SIDE * i + n] = own;
 }
 
-// Writes the cells of column n before the last, which is written.
+// Writes the cells of column n before the last, which is already written.
 fn lower_cells(
     p: &Packed,
     rules: usize,
@@ -117,7 +117,7 @@ fn lower_cells(
     }
 }
 
-// Writes column n, what is the same for every column being told, and what fits its positions, and the ends of the columns before it.
+// Writes column n. What is the same for every column is given, and so are the fit table and the ends of the columns before n.
 pub fn column(
     p: &Packed,
     rules: usize,

@@ -10,13 +10,13 @@ use Rattle.laws.proofs.Bools.{true-false, clash}
 use Rattle.laws.proofs.Lists.{set-below, below-step}
 use Rattle.sets.specs.Set.{has, insert}
 use Rattle.sets.proofs.Laws.{has-insert, has-insert-same}
-use Rattle.cfg.specs.Grammar.{nonterminal, terminal}
-use Rattle.packed.specs.Packed.{placeCount, symbolIn, isNonterminalIn, valueIn, terminalIn}
+use Rattle.cfg.specs.Grammar.{nonterminal}
+use Rattle.packed.specs.Packed.{placeCount, symbolIn, isNonterminalIn, valueIn}
 use Rattle.packed.proofs.Fitting.{symbol-nonterminal, symbol-terminal}
 use Rattle.fill_empty.specs.Empty.{Kinds, KindAt, KindsAll}
 
 module _ (p : List ℕ) (r q last v : ℕ) where
-  -- where the place has no nonterminal that counts, nothing is added
+  -- if the place has no nonterminal that counts, nothing is added
   kind-skip : ((k : ℕ) → symbolIn p r q ≡ nonterminal k → k < 32 → has (q + 1) last ≡ true → ⊥) → KindAt p r q last v v
   kind-skip none = record { keeps = λ k h. h; here = λ k e l h. absurd (none k e l h) }
 
@@ -24,16 +24,11 @@ module _ (p : List ℕ) (r q last v : ℕ) where
   kind-behind f e g = kind-skip (λ k _ _ h. true-false h (sym e ∙ g))
 
   pub kind-terminal : (t : Bool) → t ≡ isNonterminalIn p r q → t ≡ false → KindAt p r q last v v
-  kind-terminal t e g = kind-skip (λ k d _ _.
-      let s : symbolIn p r q ≡ terminal (terminalIn p r q) = symbol-terminal p r q (sym e ∙ g) in
-      clash cc)
+  kind-terminal t e g = kind-skip (λ k d _ _. clash (cc (symbol-terminal p r q (sym e ∙ g))))
 
   module _ (t : Bool) (e : t ≡ isNonterminalIn p r q) (g : t ≡ true) (k : ℕ) (f : k ≡ valueIn p r q) where
     same : (j : ℕ) → symbolIn p r q ≡ nonterminal j → j ≡ k
-    same j d =
-        let s : symbolIn p r q ≡ nonterminal (valueIn p r q) = symbol-nonterminal p r q (sym e ∙ g) in
-        let c : j ≡ valueIn p r q = cc in
-        c ∙ sym f
+    same j d = cc (symbol-nonterminal p r q (sym e ∙ g))
 
     pub kind-high : 32 ≤ k → KindAt p r q last v v
     kind-high l = kind-skip (λ j d b _. omega (arith, same j d))
@@ -45,7 +40,7 @@ module _ (p : List ℕ) (r q last v : ℕ) where
     }
 
 module _ (p : List ℕ) (r last : ℕ) where
-  -- those of the places below m
+  -- the kinds of the places below m
   pub record KindsTo (m v : ℕ) : Type 0 where
     pub done : (q k : ℕ) → q < m → symbolIn p r q ≡ nonterminal k → k < 32 → has (q + 1) last ≡ true → has k v ≡ true
 
@@ -62,7 +57,7 @@ module _ (p : List ℕ) (r last : ℕ) where
   kinds-done m v h to = record { all = λ q k l. to .done q k (omega arith) }
 
 module _ (p : List ℕ) (rules : ℕ) (lasts : List ℕ) where
-  -- those of the rules below m
+  -- the kinds of the rules below m
   pub record AllTo (m : ℕ) (kinds : List ℕ) : Type 0 where
     pub long : length kinds ≡ maxRules
     pub done : (r : ℕ) → r < m → Kinds p r (getD lasts r 0) (getD kinds r 0)

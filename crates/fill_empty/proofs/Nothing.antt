@@ -2,15 +2,14 @@
 use Prim.Native.Nat.{ℕ, _+_, _≤_, _<_}
 use mathlib.Core.Bool.{true}
 use mathlib.Core.List.{List}
-use mathlib.Core.Logic.{_≢_}
 use mathlib.Core.Path.{_≡_, refl, sym, ap, _∙_, subst}
-use native.Mathlib.Decide.{ℕ-discrete}
+use native.Mathlib.Nat.{le-antisymm}
 use native.Mathlib.Omega.{arith}
 use lib.ListN.{length, getD, set, length-set}
-use lib.Seq.{getD-set-same, getD-set-other}
 use borrow.Author.Tests.{eq-eqb}
 use Rattle.sizes.specs.Sizes.{maxRules}
 use Rattle.laws.proofs.Bools.{true-false}
+use Rattle.laws.proofs.Lists.{set-below}
 use Rattle.sets.proofs.Laws.{has-empty}
 use Rattle.cfg.specs.Grammar.{Symbol}
 use Rattle.chart.specs.Cell.{Fit, cuts}
@@ -39,24 +38,22 @@ module _ (p : List ℕ) where
   })
 
   pub empty-start : (own : ℕ) (lasts : List ℕ) → length lasts ≡ maxRules → EmptyPassed p 0 own own lasts
-  empty-start own lasts long =
-      record {
-        long = long;
-        grows = omega arith;
-        sound = λ fit sets n T c s. s;
-        settled = λ e fit sets n r l. absurd (omega arith);
-      }
+  empty-start own lasts long = record {
+    long = long;
+    grows = omega arith;
+    sound = λ fit sets n T c s. s;
+    settled = λ e fit sets n r l. absurd (omega arith);
+  }
 
   pub empty-step : (rules r own v m v' : ℕ) (lasts : List ℕ) → r < rules → rules ≤ maxRules → RuleMask p r true v v 0 0 m
       → v' ≡ addedIn p r m v
       → EmptyPassed p r own v lasts → EmptyPassed p (r + 1) own v' (set lasts r m)
-  empty-step rules r own v m v' lasts below few mask result passed =
-      record {
-        long = length-set lasts r m ∙ passed .long;
-        grows = omega (arith, le, passed .grows);
-        sound = sound;
-        settled = λ e fit sets n s l. settled e fit sets n s l (ℕ-discrete s r);
-      }
+  empty-step rules r own v m v' lasts below few mask result passed = record {
+    long = length-set lasts r m ∙ passed .long;
+    grows = omega (arith, le, passed .grows);
+    sound = sound;
+    settled = settled;
+  }
     where
       le : v ≤ v'
       le = subst (λ (x : ℕ). v ≤ x) (sym result) (added-le p r m v)
@@ -71,28 +68,17 @@ module _ (p : List ℕ) where
           inT : Within v T
           inT = passed .sound fit sets n T closed s
 
-      settled : v' ≡ own → (fit : Fit) (sets : Sets) (n s : ℕ) → s < r + 1 → Dec (s ≡ r)
-          → RuleSettled fit sets p s n n v' (getD (set lasts r m) s 0)
-      settled e fit sets n s l (yes d) =
-          let f : v' ≡ v = omega (arith, le, passed .grows) in
-          subst (λ (y : ℕ). RuleSettled fit sets p y n n v' (getD (set lasts r m) y 0)) (sym d)
-          (subst (λ (y : ℕ). RuleSettled fit sets p r n n y (getD (set lasts r m) r 0)) (sym f)
-          (subst (λ (y : ℕ). RuleSettled fit sets p r n n v y) (sym (getD-set-same lasts r m 0 (omega (arith, passed .long)))) (record {
-            exact = mask-exact r v m mask fit sets n;
-            closed = added-same p r m v (sym result ∙ f);
-          })))
-      settled e fit sets n s l (no d) =
-          let g : s ≢ r = d in
+      settled : v' ≡ own → (fit : Fit) (sets : Sets) (n s : ℕ) → s < r + 1 → RuleSettled fit sets p s n n v' (getD (set lasts r m) s 0)
+      settled e fit sets n s l =
           let f : v' ≡ v = omega (arith, le, passed .grows) in
           let h : v ≡ own = omega (arith, le, passed .grows) in
-          subst (λ (y : ℕ). RuleSettled fit sets p s n n v' y) (sym (getD-set-other lasts r s m 0 d))
-          (subst (λ (y : ℕ). RuleSettled fit sets p s n n y (getD lasts s 0)) (sym f) (passed .settled h fit sets n s (omega arith)))
+          rw f (set-below (λ (s x : ℕ). RuleSettled fit sets p s n n v x) 0 lasts r m (omega (arith, passed .long))
+          (record { exact = mask-exact r v m mask fit sets n; closed = added-same p r m v (sym result ∙ f) })
+          (passed .settled h fit sets n) s l)
 
   pub empty-done : (r rules own v : ℕ) (lasts : List ℕ) → r ≤ rules → rules ≤ r → EmptyPassed p r own v lasts
       → EmptyPassed p rules own v lasts
-  empty-done r rules own v lasts h l passed =
-      let e : r ≡ rules = omega arith in
-      subst (λ (x : ℕ). EmptyPassed p x own v lasts) e passed
+  empty-done r rules own v lasts h l passed = subst (λ (x : ℕ). EmptyPassed p x own v lasts) (le-antisymm h l) passed
 
   -- own has nothing that a closed set lacks
   pub record EmptyReached (own : ℕ) (lasts : List ℕ) : Type 0 where
@@ -109,9 +95,8 @@ module _ (p : List ℕ) where
 
   pub empty-closed : (rules own v : ℕ) (lasts lasts' : List ℕ) → v ≡ own → EmptyReached own lasts → EmptyPassed p rules own v lasts'
       → EmptyClosed p rules v lasts'
-  empty-closed rules own v lasts lasts' e reached passed =
-      record {
-        long = passed .long;
-        sound = λ fit sets n T c. passed .sound fit sets n T c (reached .sound fit sets n T c);
-        settled = passed .settled e;
-      }
+  empty-closed rules own v lasts lasts' e reached passed = record {
+    long = passed .long;
+    sound = λ fit sets n T c. passed .sound fit sets n T c (reached .sound fit sets n T c);
+    settled = passed .settled e;
+  }

@@ -1,5 +1,5 @@
 -- The empty span at the end n of a column: its set and the flags of the rules at it, for every n, whatever fits and whatever the sets of
--- the other spans are. And on what of a cell's set a rule's flags depend. Assumes nothing.
+-- the other spans are. And on which part of a cell's set a rule's flags depend. Assumes nothing.
 use Prim.Native.Nat.{ℕ, _+_, _≤_, _<_}
 use mathlib.Core.Bool.{true}
 use mathlib.Core.List.{List}
@@ -30,16 +30,16 @@ pub record EmptyClosed (p : List ℕ) (rules v : ℕ) (lasts : List ℕ) : Type 
 
 -- ---- the kinds of the rules
 
--- kinds has each nonterminal in a place of rule r behind which the places cut the empty span, last being the flags at the end
+-- kinds has each nonterminal in a place of rule r after which the places cut the empty span; last has the flags at the end
 pub record Kinds (p : List ℕ) (r last kinds : ℕ) : Type 0 where
   pub all : (q k : ℕ) → q < placeCount p r → symbolIn p r q ≡ nonterminal k → k < 32 → has (q + 1) last ≡ true → has k kinds ≡ true
 
--- v' has what v has, and the nonterminal in place q of rule r if the places behind it cut the empty span
+-- v' has what v has, and the nonterminal in place q of rule r if the places after it cut the empty span
 pub record KindAt (p : List ℕ) (r q last v v' : ℕ) : Type 0 where
   pub keeps : (k : ℕ) → has k v ≡ true → has k v' ≡ true
   pub here : (k : ℕ) → symbolIn p r q ≡ nonterminal k → k < 32 → has (q + 1) last ≡ true → has k v' ≡ true
 
--- the kinds of the rules below a number
+-- the kinds of the rules below this number
 pub record KindsAll (p : List ℕ) (rules : ℕ) (lasts kinds : List ℕ) : Type 0 where
   pub long : length kinds ≡ maxRules
   pub each : (r : ℕ) → r < rules → Kinds p r (getD lasts r 0) (getD kinds r 0)

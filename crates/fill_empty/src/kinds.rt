@@ -6,7 +6,7 @@ ghost use lib.ListN.{length};
 ghost use Rattle.sizes.specs.Sizes.{maxRules, maxPlaces};
 ghost use Rattle.fill_empty.specs.Empty.{Kinds, KindAt, KindsAll};
 
-// The set, with the nonterminal in place q of rule r if the places behind it cut the empty span.
+// The set v, with the nonterminal in place q of rule r if the places after it cut the empty span.
 fn kind_at(p: &Packed, r: usize, q: usize, last: u32, v: u32) -> u32
     requires { ⌜ (r < maxRules) × (q < maxPlaces) ⌝ }
     ensures { λ x. ⌜ KindAt (now (p .entry)) r q last v x ⌝ }
@@ -22,7 +22,7 @@ fn kind_at(p: &Packed, r: usize, q: usize, last: u32, v: u32) -> u32
     v
 }
 
-// The nonterminals of rule r behind which its places cut the empty span.
+// The nonterminals of rule r after which its places cut the empty span.
 fn kinds_of(p: &Packed, r: usize, last: u32) -> u32
     requires { ⌜ r < maxRules ⌝ }
     ensures { λ v. ⌜ Kinds (now (p .entry)) r last v ⌝ }
@@ -37,7 +37,7 @@ fn kinds_of(p: &Packed, r: usize, last: u32) -> u32
     v
 }
 
-// The same of every rule below a number.
+// The same for every rule below this number.
 pub fn all_kinds(
     p: &Packed,
     rules: usize,

@@ -1,5 +1,5 @@
 // The empty span at the end of a column: its set, the flags of the rules at it, and on which nonterminals of a cell's set the flags of a
-// rule depend. No byte and no other cell is looked at, so all this is the same for every column.
+// rule depend. All this depends on no byte and on no other cell, so it is the same for every column.
 pub mod kinds;
 pub mod span;
 
@@ -12,7 +12,7 @@ ghost use lib.ListN.{length};
 ghost use Rattle.sizes.specs.Sizes.{maxRules};
 ghost use Rattle.fill_empty.specs.Empty.{EmptyTold};
 
-// The set of the empty span, with the flags and the kinds of the rules below a number.
+// The set of the empty span, with the flags and the kinds of the rules below this number.
 pub fn tell(
     p: &Packed,
     rules: usize,

@@ -8,7 +8,7 @@ ghost use lib.ListN.{length};
 ghost use Rattle.sizes.specs.Sizes.{maxRules};
 ghost use Rattle.fill_empty.specs.Empty.{EmptyPassed, EmptyClosed};
 
-// The rules below a number, once.
+// One pass over the rules below this number.
 fn pass(p: &Packed, rules: usize, own: u32, lasts: &mut [u32; sizes::MAX_RULES]) -> u32
     requires { ⌜ (rules ≤ maxRules) × (length (now lasts) ≡ maxRules) ⌝ }
     ensures { λ v. ⌜ EmptyPassed (now (p .entry)) rules own v (now (lasts .exit)) ⌝ }
@@ -24,7 +24,7 @@ fn pass(p: &Packed, rules: usize, own: u32, lasts: &mut [u32; sizes::MAX_RULES])
     v
 }
 
-// These rules, until nothing is added.
+// Passes over these rules until nothing is added.
 pub fn closure(p: &Packed, rules: usize, lasts: &mut [u32; sizes::MAX_RULES]) -> u32
     requires { ⌜ (rules ≤ maxRules) × (length (now lasts) ≡ maxRules) ⌝ }
     ensures { λ v. ⌜ EmptyClosed (now (p .entry)) rules v (now (lasts .exit)) ⌝ }

@@ -2,15 +2,15 @@
 use Prim.Native.Nat.{ℕ, suc, _+_, _≤_, _<_}
 use mathlib.Core.Bool.{Bool, true, false, cond}
 use mathlib.Core.List.{List}
-use mathlib.Core.Logic.{_↔_, _≢_}
+use mathlib.Core.Logic.{_↔_, _≢_, dite}
 use mathlib.Core.Path.{_≡_, sym, ap, _∙_, subst}
-use native.Mathlib.Decide.{ℕ-discrete, decLt}
+use native.Mathlib.Decide.{decLt}
 use native.Mathlib.Numerals.{add-one}
 use native.Mathlib.Omega.{arith}
 use lib.ListN.{length, getD, set, length-set}
 use Rattle.sizes.specs.Sizes.{maxRules}
 use Rattle.laws.proofs.Bools.{true-false}
-use Rattle.laws.proofs.Lists.{set-below}
+use Rattle.laws.proofs.Lists.{set-below, below-step}
 use Rattle.sets.specs.Set.{has, insert}
 use Rattle.sets.proofs.Laws.{has-empty, has-insert, has-insert-same}
 use Rattle.chart.specs.Cell.{Fit, cuts}
@@ -37,27 +37,18 @@ module _ (p : List ℕ) (r i n fits : ℕ) (ends starts : List ℕ) (last : ℕ)
 
   pub begins-step : (q v x : ℕ) (f : Bool) → BeginsAt p r q i n fits ends starts last f → x ≡ cond f (insert q v) v → BeginsTo q v
       → BeginsTo (q + 1) x
-  begins-step q v x f place e to = record { done = done; rest = rest }
+  begins-step q v x f place e to = record {
+    done = λ fit sets known. below-step (λ (j : ℕ). (has j x ≡ true) ↔ InnerAt fit sets p r i n j) q
+        (λ j l. subst (λ (b : Bool). (b ≡ true) ↔ InnerAt fit sets p r i n j) (sym (other j (omega arith))) (to .done fit sets known j l))
+        (subst (λ (b : Bool). (b ≡ true) ↔ InnerAt fit sets p r i n q) (sym same) (place .exact fit sets known));
+    rest = λ j l. other j (omega arith) ∙ to .rest j (omega arith);
+  }
     where
       other : (j : ℕ) → j ≢ q → has j x ≡ has j v
       other j d = ap (has j) e ∙ has-if-other q v f j d
 
       same : has q x ≡ f
       same = ap (has q) e ∙ has-if-same q v f (to .rest q (omega arith))
-
-      done : (fit : Fit) (sets : Sets) → InnerKnown fit sets p r i n fits ends starts last → (j : ℕ) → j < q + 1
-          → (has j x ≡ true) ↔ InnerAt fit sets p r i n j
-      done fit sets known j l = go (ℕ-discrete j q)
-        where
-          go : Dec (j ≡ q) → (has j x ≡ true) ↔ InnerAt fit sets p r i n j
-          go (yes d) = subst (λ (y : ℕ). (has y x ≡ true) ↔ InnerAt fit sets p r i n y) (sym d)
-              (subst (λ (b : Bool). (b ≡ true) ↔ InnerAt fit sets p r i n q) (sym same) (place .exact fit sets known))
-          go (no d) =
-              let u : j ≢ q = d in
-              subst (λ (b : Bool). (b ≡ true) ↔ InnerAt fit sets p r i n j) (sym (other j d)) (to .done fit sets known j (omega arith))
-
-      rest : (j : ℕ) → q + 1 ≤ j → has j x ≡ false
-      rest j l = other j (omega arith) ∙ to .rest j (omega arith)
 
   pub begins-done : (q v : ℕ) → placeCount p r ≤ q → BeginsTo q v → Begins p r i n fits ends starts last v
   begins-done q v h to = record { exact = λ fit sets known j l. to .done fit sets known j (omega arith) }
@@ -76,12 +67,10 @@ module _ (p : List ℕ) (r i n fits : ℕ) (ends starts : List ℕ) (last : ℕ)
       never : (fit : Fit) (sets : Sets) → InnerKnown fit sets p r i n fits ends starts last → Near sets p r i n starts reach live
           → (q b : ℕ) → q < placeCount p r → i < b → b < n → has b (insert (i + 1) reach) ≡ true
           → cuts fit sets (tail p r (suc q)) b n ≡ true → f ≡ true
-      never fit sets known near q b h l m x y = go (decLt (suc q) (placeCount p r))
-        where
-          go : Dec (suc q < placeCount p r) → f ≡ true
-          go (yes u) = can .before inside .all b x
-              (near .lives (suc q) b (omega arith) u (known .behind .all (suc q) b (omega arith) u (omega arith) m y))
-          go (no u) = absurd (true-false y (none-cuts fit sets p r (suc q) b n (omega arith) m))
+      never fit sets known near q b h l m x y = dite (decLt (suc q) (placeCount p r))
+          (λ u. can .before inside .all b x
+          (near .lives (suc q) b (omega arith) u (known .behind .all (suc q) b (omega arith) u (omega arith) m y)))
+          (λ u. absurd (true-false y (none-cuts fit sets p r (suc q) b n (omega arith) m)))
 
       begins-never : (fit : Fit) (sets : Sets) → InnerKnown fit sets p r i n fits ends starts last → Near sets p r i n starts reach live
           → (q : ℕ) → q < placeCount p r → InnerAt fit sets p r i n q → f ≡ true

@@ -1,2 +1,2 @@
--- Where the cuts of a span begin whose first piece lies inside it.
+-- Where inner cuts of a span begin.
 pub mod Begins

@@ -1,3 +1,3 @@
-// Where the cuts of a span begin whose first piece lies inside it, told by spans as bits: at one place of a rule, and for every rule.
+// Where inner cuts of a span begin, at one place of a rule and for every rule. The first piece of an inner cut lies inside the span.
 pub mod places;
 pub mod rules;

@@ -1,4 +1,4 @@
-// Where cuts of a span begin whose first piece lies inside the span, by spans as bits: one AND in place of a loop over the ends.
+// Where inner cuts of a span begin, found from spans as bits: one AND takes the place of a loop over the ends.
 use fill_rule::begins::with_if;
 use fill_words::words::Ends;
 use fill_words::words::Starts;
@@ -12,7 +12,7 @@ ghost use Rattle.chart.specs.Cell.{Fit};
 ghost use Rattle.packed.specs.Packed.{isNonterminalIn, placeCount};
 ghost use Rattle.fill_inner.specs.Begins.{Follows, BeginsAt, Begins};
 
-// The span from i to n, with two sets of places of a rule: those that fit the byte at i, and those from which on the places cut the empty
+// The span from i to n, with two sets of places of a rule: those that fit the byte at i, and those from which on the rule cuts the empty
 // span at n.
 pub struct Window {
     pub i: usize,
@@ -21,7 +21,7 @@ pub struct Window {
     pub last: u32,
 }
 
-// Whether the places q.. of rule r cut the span from a to n, the starts from j on being told.
+// Whether the places q.. of rule r cut the span from a to n, if the starts from j on are known.
 fn follows(p: &Packed, r: usize, q: usize, a: usize, n: usize, starts: &Starts, last: u32) -> bool
     requires { ⌜ (r < maxRules) × (0 < q) × (q ≤ placeCount (now p) r) × (a ≤ n) × (n ≤ maxInput) ⌝ }
     ensures { λ f. ⌜ ((fit : Fit) (j : ℕ) → j ≤ a → Follows fit (now (p .entry)) r q a j n (now (starts .entry)) last f) ⌝ }
@@ -35,7 +35,7 @@ fn follows(p: &Packed, r: usize, q: usize, a: usize, n: usize, starts: &Starts, 
     packed::contains(last, q)
 }
 
-// Whether place q of rule r holds a nonterminal that covers a span from i to some b, from which on the places behind it cut the rest.
+// Whether place q of rule r holds a nonterminal over a span from i to some b such that the places after q cut the rest.
 fn nonterminal_begins(
     p: &Packed,
     r: usize,
@@ -59,7 +59,7 @@ fn nonterminal_begins(
     false
 }
 
-// Whether place q of rule r holds a terminal that fits position i, after which the places behind it cut the rest.
+// Whether place q of rule r holds a terminal that fits position i, and the places after q cut the rest.
 fn terminal_begins(p: &Packed, r: usize, q: usize, window: Window, starts: &Starts) -> bool
     requires { ⌜ (r < maxRules) × (q < maxPlaces) × (window .i < window .n) × (window .n ≤ maxInput) × (q < placeCount (now p) r)
         × (isNonterminalIn (now p) r q ≡ false) ⌝ }
@@ -84,7 +84,7 @@ fn begins_at(p: &Packed, r: usize, q: usize, window: Window, ends: &Ends, starts
     terminal_begins(p, r, q, window, starts)
 }
 
-// The places of rule r at which such a cut of the span begins.
+// The places of rule r at which an inner cut of the span begins.
 pub fn begins(p: &Packed, r: usize, window: Window, ends: &Ends, starts: &Starts) -> u32
     requires { ⌜ (r < maxRules) × (window .i < window .n) × (window .n ≤ maxInput) ⌝ }
     ensures { λ v. ⌜ Begins (now (p .entry)) r (window .i) (window .n) (window .fits) (now (ends .entry)) (now (starts .entry))

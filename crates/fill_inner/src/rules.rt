@@ -1,4 +1,4 @@
-// Where inner cuts begin, for every rule; rules that can have none are passed over.
+// Where inner cuts begin, for every rule. Rules that can have none are passed over.
 use super::places::Window;
 use super::places::begins;
 use fill_reach::Live;
@@ -14,7 +14,7 @@ ghost use lib.ListN.{length};
 ghost use Rattle.sizes.specs.Sizes.{maxRules, maxInput};
 ghost use Rattle.fill_inner.specs.Begins.{BeginsNear, AllBegin};
 
-// The places of rule r at which such a cut begins, by the sets of all ends and of all starts too: a rule that can have none is passed over.
+// The places of rule r at which an inner cut begins. If the sets of all ends and all starts show that it has none, it is passed over.
 fn begins_near(
     p: &Packed,
     r: usize,
@@ -36,7 +36,7 @@ fn begins_near(
     }
 }
 
-// The places at which inner cuts of the span from i to n begin, for every rule below a number.
+// The places at which inner cuts of the span from i to n begin, for every rule below this number.
 pub fn begin_all(
     p: &Packed,
     rules: usize,

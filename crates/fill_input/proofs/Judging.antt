@@ -1,4 +1,4 @@
--- Checks 8 to 11 by the tests of the code, and what filling asks of them. Assumes nothing.
+-- Checks 8 to 11 by the tests in the code, and what filling requires. Assumes nothing.
 use Prim.Native.Nat.{ℕ, _≤_, _<_}
 use mathlib.Core.Bool.{Bool, true, false, not}
 use mathlib.Core.Path.{_≡_, refl, sym, subst, _∙_}
@@ -36,10 +36,10 @@ module _ (g : Grammar) (n m : ℕ) (v : Bool) (valid : v ≡ validGrammar g) whe
     pub judge-passed : (n ≡ 0 → ⊥) → n ≤ maxInput → cells ≤ m → Judging g n m Passed
     judge-passed e l r = passed fine (omega arith) l r
 
--- for `search`: whichever test a way through the code ends with
+-- for `search`: one law for each test that ends a path through the code
 pub ruleset judge-laws = (judge-invalid, judge-empty, judge-long, judge-room, judge-passed)
 
--- once the checks are passed, what filling asks
+-- once the checks are passed, what filling requires
 pub judged-ready : (g : Grammar) (n m : ℕ) (j : Judged) → Judging g n m j → j ≡ Passed
     → (validGrammar g ≡ true) × (n ≤ maxInput) × (cells ≤ m)
 judged-ready g n m j judging h = go (subst (Judging g n m) h judging)
@@ -63,7 +63,7 @@ module _ (g : Grammar) (n m k : ℕ) (j : Judged) (judging : Judging g n m j) wh
 -- for `search`, likewise
 pub ruleset judge-output-laws = (judge-before, judge-no-space, judge-space)
 
--- once these are passed, what filling and writing ask
+-- once these are passed, what filling and writing require
 pub output-ready : (g : Grammar) (n m k : ℕ) (j : Judged) → JudgingOutput g n m k j → j ≡ Passed
     → ((validGrammar g ≡ true) × (n ≤ maxInput) × (cells ≤ m)) × (outputSize ≤ k)
 output-ready g n m k j judging h = go (subst (JudgingOutput g n m k) h judging)

@@ -1,5 +1,5 @@
--- The laws of the preparation. What the calls cite: Judging (what filling asks), Deciding (what the checks decide), Packing (the chart and
--- the list L of the packed grammar), SameRules.
+-- The laws of what comes before a call's own work. The calls cite Judging (what filling requires), Deciding (what the checks decide),
+-- Packing (the chart and the list L of the packed grammar) and SameRules.
 pub mod Judging
 pub mod Deciding
 pub mod SameRules

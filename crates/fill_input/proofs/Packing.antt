@@ -26,7 +26,7 @@ module _ (g : Grammar) (p w : List ℕ) (same : (r : ℕ) → rule (cfgIn (g .st
   pub filled-packed : (chart chart' : List ℕ) → chart' ≡ filled (cfgIn 0 p) w chart → chart' ≡ filled (grammarOf g) w chart
   filled-packed chart chart' e = e ∙ filled-same-rules (cfgIn 0 p) (grammarOf g) same-zero (cfg-in-bounded 0 p) w chart
 
-  -- the same from what the fit table tells
+  -- the same from what the fit table says
   pub filled-told : (t chart chart' : List ℕ) → length w ≤ maxInput → Told p w t
       → ((x : List ℕ) → length x ≡ length w → FitTold (fitsAt x) p t (length w) → chart' ≡ filled (cfgIn 0 p) x chart)
       → chart' ≡ filled (grammarOf g) w chart

@@ -13,14 +13,13 @@ use Rattle.chart.proofs.SameTrees.{fits-same-rules, superfluous-same-rules}
 
 pub derivation-same-rules : (G G' : Cfg) → SameRules G G' → G .start ≡ G' .start → (b : ℕ) (w e : List ℕ) → Derivation G b w e
     → Derivation G' b w e
-derivation-same-rules G G' same start b w e d =
-    record {
-      tree = d .tree;
-      parse = (subst (λ (k : ℕ). Fits G' (nonterminal k ∷ []) (d .tree)) start (fits-same-rules G G' same (d .parse .0)), d .parse .1);
-      plain = λ s. d .plain (superfluous-same-rules G' G (same-sym G G' same) s);
-      small = d .small;
-      coded = d .coded;
-    }
+derivation-same-rules G G' same start b w e d = record {
+  tree = d .tree;
+  parse = (subst (λ (k : ℕ). Fits G' (nonterminal k ∷ []) (d .tree)) start (fits-same-rules G G' same (d .parse .0)), d .parse .1);
+  plain = λ s. d .plain (superfluous-same-rules G' G (same-sym G G' same) s);
+  small = d .small;
+  coded = d .coded;
+}
 
 pub derivations-same-rules : (G G' : Cfg) → SameRules G G' → G .start ≡ G' .start → (b : ℕ) (w : List ℕ)
     → derivations G b w ≡ derivations G' b w

@@ -1,4 +1,4 @@
--- What a call on an input gives that writes no output. Assumes nothing.
+-- What a call on an input gives if it writes no output. Assumes nothing.
 use Prim.Native.Nat.{ℕ}
 use mathlib.Core.List.{List}
 use Rattle.results.specs.Answer.{Answer}

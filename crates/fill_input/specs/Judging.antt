@@ -1,4 +1,4 @@
--- The first of the checks 8 to 11 that fails, and what filling asks. Assumes nothing.
+-- The first of the checks 8 to 11 that fails, and what filling requires. Assumes nothing.
 use Prim.Native.Nat.{ℕ, _≤_, _<_}
 use mathlib.Core.Bool.{true, false}
 use mathlib.Core.Path.{_≡_}
@@ -10,7 +10,7 @@ use Rattle.answers.specs.declared.Refusal.the-variants.{InvalidGrammar, InputLe
 use Rattle.fill_input.specs.declared.Judged.{Judged}
 use Rattle.fill_input.specs.declared.Judged.the-variants.{Passed, Refused}
 
--- what filling asks: a valid grammar, an input of at most 64 bytes (n) and a chart of enough cells (m)
+-- what filling requires: a valid grammar, an input of at most 64 bytes (n) and a chart of enough cells (m)
 abbrev pub Fillable : Grammar → ℕ → ℕ → Type 0
 Fillable g n m = (validGrammar g ≡ true) × (n ≤ maxInput) × (cells ≤ m)
 

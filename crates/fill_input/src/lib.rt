@@ -54,7 +54,7 @@ pub fn judge_output(g: Grammar, n: usize, m: usize, k: usize) -> Judged
     }
 }
 
-// The packed grammar, with the chart filled for the input and the fit table made, which the caller goes on with.
+// The packed grammar. The chart is filled for the input, and the fit table is made, which the caller needs after this.
 pub fn fill_fits(g: Grammar, input: &[u8], fits: &mut FitTable, chart: &mut [u32]) -> Packed
     requires { ⌜ Fillable g (length (now input)) (length (now chart)) ⌝ }
     ensures { λ p. ⌜ ((now (chart .exit) ≡ filled (grammarOf g) (now (input .entry)) (now (chart .entry)))
@@ -67,8 +67,8 @@ pub fn fill_fits(g: Grammar, input: &[u8], fits: &mut FitTable, chart: &mut [u32
     p
 }
 
-// The same where the fit table is not needed any more. It has a body of its own, and does not call the function above: so short a function
-// would be compiled into the checker's calls, and the fit table would take 8 KB of stack beside the checker's recursion.
+// The same if the fit table is not needed after this. It does not call the function above: so short a function would be inlined into the
+// checker's calls, and the fit table would take 8 KB of stack during the checker's recursion.
 pub fn fill(g: Grammar, input: &[u8], chart: &mut [u32]) -> Packed
     requires { ⌜ Fillable g (length (now input)) (length (now chart)) ⌝ }
     ensures { λ p. ⌜ (now (chart .exit) ≡ filled (grammarOf g) (now (input .entry)) (now (chart .entry)))

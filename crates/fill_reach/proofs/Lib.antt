@@ -1,3 +1,3 @@
--- Laws of these sets.
+-- The laws of these sets.
 pub mod Reaching
 pub mod Passing

@@ -1,4 +1,4 @@
--- Whether a rule can begin a cut, by the tests that the code makes, and what follows where it cannot. Assumes nothing.
+-- Whether a rule can begin a cut, by the tests in the code, and what follows if it cannot. Assumes nothing.
 use Prim.Native.Nat.{ℕ, _+_, _≤_, _<_}
 use mathlib.Core.Bool.{Bool, true, false}
 use mathlib.Core.Logic.{dite}

@@ -1,12 +1,12 @@
 -- The ends from one start, cell by cell, and from all starts. Assumes nothing.
 use Prim.Native.Nat.{ℕ, _+_, _*_, _≤_, _<_}
-use mathlib.Core.Bool.{false, true≢false}
+use mathlib.Core.Bool.{false}
 use mathlib.Core.List.{List}
-use mathlib.Core.Path.{_≡_, sym, ap, _∙_}
-use native.Mathlib.Decide.{ℕ-discrete}
+use mathlib.Core.Path.{_≡_, sym, _∙_}
 use native.Mathlib.Omega.{arith}
 use lib.ListN.{length, set, getD, length-set}
 use Rattle.sizes.specs.Sizes.{maxInput, side}
+use Rattle.laws.proofs.Bools.{true-false}
 use Rattle.laws.proofs.Lists.{set-below, below-step}
 use Rattle.sets.specs.Set.{has, insert}
 use Rattle.sets.proofs.Laws.{has-insert-same, has-insert-other}
@@ -20,19 +20,13 @@ module _ (chart : List ℕ) (i : ℕ) where
   module _ {m w : ℕ} (S : ReachFrom chart i m w) where
     -- an end with a nonterminal
     pub from-put : {u v : ℕ} → u ≡ insert m w → v ≡ u → ReachFrom chart i (m + 1) v
-    from-put {u} {v} y z = record { empty = λ c h l f. go c h l f (ℕ-discrete c m) }
-      where
-        e : v ≡ insert m w
-        e = z ∙ y
+    from-put y z = rw (z, y) (record {
+      empty = λ c h l f. below-step (λ (c : ℕ). i < c → has c (insert m w) ≡ false → cell chart i c ≡ 0) m
+          (λ c l h f. S .empty c h l (sym (has-insert-other c m w (omega arith)) ∙ f))
+          (λ h f. absurd (true-false (has-insert-same m w) f)) c l h f;
+    })
 
-        go : (c : ℕ) → i < c → c < m + 1 → has c v ≡ false → Dec (c ≡ m) → cell chart i c ≡ 0
-        go c h l f (yes d) =
-            absurd (true≢false (sym (has-insert-same m w) ∙ ap (λ (x : ℕ). has x (insert m w)) (sym d) ∙ ap (has c) (sym e) ∙ f))
-        go c h l f (no d) =
-            let x : ¬ (c ≡ m) = d in
-            S .empty c h (omega arith) (sym (ap (has c) e ∙ has-insert-other c m w d) ∙ f)
-
-    -- one without
+    -- an end without one
     pub from-none : {v : ℕ} → getD chart (side * i + m) 0 ≡ 0 → v ≡ w → ReachFrom chart i (m + 1) v
     from-none e y = rw y (record {
       empty = λ c h l f. below-step (λ (c : ℕ). i < c → has c w ≡ false → cell chart i c ≡ 0) m
@@ -56,7 +50,7 @@ module _ (chart : List ℕ) (n : ℕ) where
   pub reaches-end : {m : ℕ} {reach : List ℕ} → m ≤ n → n ≤ m → ReachesBefore chart n m reach → Reaches chart n reach
   reaches-end {m} h l S = let e : m ≡ n = omega arith in rw e at S
 
--- what is told before n is told before j
+-- what is known before n is known before j
 pub reaches-less : {chart : List ℕ} {n j : ℕ} {reach : List ℕ} → j ≤ n → Reaches chart n reach → Reaches chart j reach
 reaches-less h S = record {
   long = S .long;

@@ -1,5 +1,5 @@
--- The ends of nonterminals from each start, as sets: an end that is not in the set has an empty cell; and when a rule
--- can begin a cut, by them. Assumes nothing.
+-- The ends of nonterminals from each start, as sets: an end that is not in the set has an empty cell. And whether a rule can begin a cut,
+-- judged by these sets. Assumes nothing.
 use Prim.Native.Nat.{ℕ, _+_, _≤_, _<_}
 use mathlib.Core.Bool.{Bool, true, false}
 use mathlib.Core.List.{List}
@@ -10,7 +10,7 @@ use Rattle.sets.specs.Set.{has, insert}
 use Rattle.sets.specs.Pairs.{Meeting}
 use Rattle.chart.specs.Cell.{cell}
 
--- the set has the ends before n from i on
+-- the set has the ends before n of spans from i
 pub record ReachFrom (chart : List ℕ) (i n ends : ℕ) : Type 0 where
   pub empty : (c : ℕ) → i < c → c < n → has c ends ≡ false → cell chart i c ≡ 0
 
@@ -23,7 +23,7 @@ pub record ReachesBefore (chart : List ℕ) (n m : ℕ) (reach : List ℕ) : Typ
 abbrev pub Reaches : List ℕ → ℕ → List ℕ → Type 0
 Reaches chart n reach = ReachesBefore chart n n reach
 
--- f says whether a rule can have an inner cut of the span from i to n: not, where no end from i, and not i + 1, is one of its starts
+-- f says whether a rule can have an inner cut of the span from i to n: it has none if neither i + 1 nor an end from i is one of its starts
 pub record CanBegin (i n reach live : ℕ) (f : Bool) : Type 0 where
   pub before : i + 1 < n → Meeting 64 (insert (i + 1) reach) live f
   pub at-end : n ≤ i + 1 → f ≡ true

@@ -1,4 +1,4 @@
-// The ends of nonterminals from each start, as sets of positions, read from the chart; and whether a rule can be passed over by them.
+// The ends of nonterminals from each start, read from the chart as sets of positions, and whether a rule is passed over because of them.
 ghost use Prim.Native.Nat.{_<_, _≤_};
 ghost use lib.ListN.{length};
 ghost use Rattle.sizes.specs.Sizes.{cells, side};
@@ -7,10 +7,10 @@ ghost use Rattle.fill_reach.specs.Reach.{ReachFrom, Reaches, CanBegin};
 // A set of ends for each start.
 pub type Reach = [u64; sizes::MAX_INPUT];
 
-// A set of starts for each rule: those from which its places from 1 on can go on.
+// A set of starts for each rule: those from which the places after its first can go on.
 pub type Live = [u64; sizes::MAX_RULES];
 
-// The ends before n from i on: those whose cells have a nonterminal.
+// The ends before n of spans from i: those whose cells have a nonterminal.
 fn reach_from(chart: &[u32], i: usize, n: usize) -> u64
     requires { ⌜ (i < n) × (n < side) × (cells ≤ length (now chart)) ⌝ }
     ensures { λ w. ⌜ ReachFrom (now (chart .entry)) i n w ⌝ }
@@ -26,7 +26,7 @@ fn reach_from(chart: &[u32], i: usize, n: usize) -> u64
     ends
 }
 
-// Those from each start before n.
+// The ends before n of spans from each start before n.
 pub fn reaches(chart: &[u32], n: usize) -> Reach
     requires { ⌜ (n < side) × (cells ≤ length (now chart)) ⌝ }
     ensures { λ reach. ⌜ Reaches (now (chart .entry)) n reach ⌝ }
@@ -40,7 +40,7 @@ pub fn reaches(chart: &[u32], n: usize) -> Reach
     reach
 }
 
-// Whether a rule can have an inner cut of the span from i to n at all: else it is passed over.
+// Whether a rule can have any inner cut of the span from i to n. If not, the rule is passed over.
 pub fn can_begin(i: usize, n: usize, reach: u64, live: u64) -> bool
     requires { ⌜ (i < n) × (n < side) ⌝ }
     ensures { λ f. ⌜ CanBegin i n reach live f ⌝ }

@@ -1,4 +1,4 @@
--- Membership after an insertion that depends on a test; and tests. Assumes nothing.
+-- Membership after an insertion that depends on a test, and two tests in one. Assumes nothing.
 use Prim.Native.Nat.{ℕ}
 use mathlib.Core.Bool.{Bool, true, false, cond, _&&_}
 use mathlib.Core.Logic.{_≢_}

@@ -14,7 +14,7 @@ use Rattle.packed.specs.Packed.{placeCount}
 use Rattle.packed.proofs.Laws.{places-end}
 use Rattle.fill_rule.specs.Flags.{Sets, tail, InnerCut, inner-leaf, inner-node}
 
--- no places cut no span that is not empty
+-- where no place is left, only the empty span is cut
 pub none-cuts : (fit : Fit) (sets : Sets) (p : List ℕ) (r q a n : ℕ) → placeCount p r ≤ q → a < n → cuts fit sets (tail p r q) a n ≡ false
 unfolding cuts
 none-cuts fit sets p r q a n h l = ap (λ (s : List Symbol). cuts fit sets s a n) (places-end p r q h) ∙ ne-eqb a n (omega arith)

@@ -1,14 +1,14 @@
 -- The flags of a rule at one start, from its last place down, by the words of the cell. Assumes nothing.
 use Prim.Native.Nat.{ℕ, suc, _+_, _≤_, _<_}
-use mathlib.Core.Bool.{Bool, true, false, cond, _&&_, _||_}
+use mathlib.Core.Bool.{Bool, true, false, cond, _&&_, _||_, or-true}
 use mathlib.Core.List.{List}
-use mathlib.Core.Logic.{_≢_, _⊎_, inl, inr}
+use mathlib.Core.Logic.{_≢_, _⊎_, inl, inr, ⊎-elim, dite}
 use mathlib.Core.Path.{_≡_, refl, sym, ap, _∙_, subst}
 use native.Mathlib.Decide.{decLt, ℕ-discrete}
 use native.Mathlib.Numerals.{add-one}
 use native.Mathlib.Omega.{arith}
 use lib.Dec.{eqb}
-use Rattle.laws.proofs.Bools.{and-both, and-parts, true-false, bool-ext}
+use Rattle.laws.proofs.Bools.{and-parts, true-false, bool-ext}
 use Rattle.sets.specs.Set.{has, insert}
 use Rattle.sets.proofs.Laws.{has-empty}
 use Rattle.cfg.specs.Grammar.{Symbol, nonterminal, terminal}
@@ -24,60 +24,48 @@ or-parts : (a b : Bool) → (a || b) ≡ true → (a ≡ true) ⊎ (b ≡ true)
 or-parts true b e = inl refl
 or-parts false b e = inr e
 
-or-left : (a b : Bool) → a ≡ true → (a || b) ≡ true
-or-left a b e = rw e
-
-or-right : (a b : Bool) → b ≡ true → (a || b) ≡ true
-or-right true b e = refl
-or-right false b e = e
-
 module _ (fit : Fit) (sets : Sets) (p : List ℕ) (r i n empty own inner last : ℕ)
     (words : Words fit sets p r i n empty own inner last) (order : i ≤ n) where
-  -- the flags at the end of the span, for the places behind q
+  -- the flags at the end of the span, for the places after q
   last-cuts : (q : ℕ) → q < placeCount p r → has (q + 1) last ≡ true → (i < n) × (cuts fit sets (tail p r (suc q)) n n ≡ true)
-  last-cuts q h e = go (decLt i n)
-    where
-      go : Dec (i < n) → (i < n) × (cuts fit sets (tail p r (suc q)) n n ≡ true)
-      go (yes l) = (l, sym (words .after l (suc q) h) ∙ ap (λ (x : ℕ). has x last) (sym (add-one q)) ∙ e)
-      go (no l) = absurd (true-false e (ap (has (q + 1)) (words .none (omega arith)) ∙ has-empty (q + 1)))
+  last-cuts q h e = dite (decLt i n)
+      (λ l. (l, sym (words .after l (suc q) h) ∙ ap (λ (x : ℕ). has x last) (sym (add-one q)) ∙ e))
+      (λ l. absurd (true-false e (ap (has (q + 1)) (words .none (omega arith)) ∙ has-empty (q + 1))))
 
   module _ (q v : ℕ) (used : q < placeCount p r) (behind : has (q + 1) v ≡ cuts fit sets (tail p r (suc q)) i n) where
     to : (s : Symbol) → symbolIn p r q ≡ s → placeCuts s q empty own inner last v ≡ true
         → FirstCut fit sets n (symbolIn p r q) (tail p r (suc q)) i
     to (terminal t) e h = first-inner (words .inside q used .0 h)
-    to (nonterminal k) e h = go (or-parts (has q inner) ((has k empty && has (q + 1) v) || (has k own && has (q + 1) last)) h)
+    to (nonterminal k) e h = ⊎-elim (λ x. first-inner (words .inside q used .0 x)) (λ x. ⊎-elim by-empty by-whole
+        (or-parts (has k empty && has (q + 1) v) (has k own && has (q + 1) last) x))
+        (or-parts (has q inner) ((has k empty && has (q + 1) v) || (has k own && has (q + 1) last)) h)
       where
-        go' : ((has k empty && has (q + 1) v) ≡ true) ⊎ ((has k own && has (q + 1) last) ≡ true)
-            → FirstCut fit sets n (symbolIn p r q) (tail p r (suc q)) i
-        go' (inl x) =
+        by-empty : (has k empty && has (q + 1) v) ≡ true → FirstCut fit sets n (symbolIn p r q) (tail p r (suc q)) i
+        by-empty x =
             let y = and-parts (has k empty) (has (q + 1) v) x in
             first-empty k e (ap (has k) (words .start) ∙ y .0) (sym behind ∙ y .1)
-        go' (inr x) =
+
+        by-whole : (has k own && has (q + 1) last) ≡ true → FirstCut fit sets n (symbolIn p r q) (tail p r (suc q)) i
+        by-whole x =
             let y = and-parts (has k own) (has (q + 1) last) x in
             let z = last-cuts q used (y .1) in
             first-whole k e (z .0) (ap (has k) (words .whole) ∙ y .0) (z .1)
 
-        go : (has q inner ≡ true) ⊎ (((has k empty && has (q + 1) v) || (has k own && has (q + 1) last)) ≡ true)
-            → FirstCut fit sets n (symbolIn p r q) (tail p r (suc q)) i
-        go (inl x) = first-inner (words .inside q used .0 x)
-        go (inr x) = go' (or-parts (has k empty && has (q + 1) v) (has k own && has (q + 1) last) x)
-
     -- an inner cut, whatever the symbol is
     by-inner : (s : Symbol) → has q inner ≡ true → placeCuts s q empty own inner last v ≡ true
     by-inner (terminal t) h = h
-    by-inner (nonterminal k) h = or-left (has q inner) ((has k empty && has (q + 1) v) || (has k own && has (q + 1) last)) h
+    by-inner (nonterminal k) h = rw h
 
     from : FirstCut fit sets n (symbolIn p r q) (tail p r (suc q)) i → placeCuts (symbolIn p r q) q empty own inner last v ≡ true
     from (first-inner c) = by-inner (symbolIn p r q) (words .inside q used .1 c)
-    from (first-empty k e h c) = subst (λ (s : Symbol). placeCuts s q empty own inner last v ≡ true) (sym e)
-        (or-right (has q inner) ((has k empty && has (q + 1) v) || (has k own && has (q + 1) last))
-        (or-left (has k empty && has (q + 1) v) (has k own && has (q + 1) last)
-        (and-both (has k empty) (has (q + 1) v) (ap (has k) (sym (words .start)) ∙ h) (behind ∙ c))))
-    from (first-whole k e l h c) = subst (λ (s : Symbol). placeCuts s q empty own inner last v ≡ true) (sym e)
-        (or-right (has q inner) ((has k empty && has (q + 1) v) || (has k own && has (q + 1) last))
-        (or-right (has k empty && has (q + 1) v) (has k own && has (q + 1) last)
-        (and-both (has k own) (has (q + 1) last) (ap (has k) (sym (words .whole)) ∙ h)
-        (ap (λ (x : ℕ). has x last) (add-one q) ∙ words .after l (suc q) used ∙ c))))
+    from (first-empty k e h c) =
+        let x : has k empty ≡ true = ap (has k) (sym (words .start)) ∙ h in
+        let y : has (q + 1) v ≡ true = behind ∙ c in
+        rw (e, x, y, or-true (has q inner))
+    from (first-whole k e l h c) =
+        let x : has k own ≡ true = ap (has k) (sym (words .whole)) ∙ h in
+        let y : has (q + 1) last ≡ true = ap (λ (z : ℕ). has z last) (add-one q) ∙ words .after l (suc q) used ∙ c in
+        rw (e, x, y, or-true (has k empty && has (q + 1) v), or-true (has q inner))
 
     -- the words say whether the places from q on cut the span
     pub place-cuts : placeCuts (symbolIn p r q) q empty own inner last v ≡ cuts fit sets (tail p r q) i n
@@ -90,7 +78,7 @@ module _ (fit : Fit) (sets : Sets) (p : List ℕ) (r i n empty own inner last : 
 -- ---- from the last place down
 
 module _ (p : List ℕ) (r : ℕ) (ended : Bool) (empty own inner last : ℕ) where
-  -- v is right from q on, and has nothing below
+  -- v is right from place q on, and has no place below q
   pub record MaskFrom (q v : ℕ) : Type 0 where
     pub done : (fit : Fit) (sets : Sets) (i n : ℕ) → i ≤ n → ended ≡ eqb i n → Words fit sets p r i n empty own inner last
         → (j : ℕ) → q ≤ j → j ≤ placeCount p r → has j v ≡ cuts fit sets (tail p r j) i n
@@ -116,16 +104,12 @@ module _ (p : List ℕ) (r : ℕ) (ended : Bool) (empty own inner last : ℕ) wh
 
       done : (fit : Fit) (sets : Sets) (i n : ℕ) → i ≤ n → ended ≡ eqb i n → Words fit sets p r i n empty own inner last
           → (j : ℕ) → q ≤ j → j ≤ placeCount p r → has j x ≡ cuts fit sets (tail p r j) i n
-      done fit sets i n order end words j l m = go (ℕ-discrete j q)
-        where
-          behind : has (q + 1) v ≡ cuts fit sets (tail p r (suc q)) i n
-          behind = ap (λ (y : ℕ). has y v) (add-one q) ∙ mask .done fit sets i n order end words (suc q) (omega arith) h
-
-          go : Dec (j ≡ q) → has j x ≡ cuts fit sets (tail p r j) i n
-          go (yes d) = subst (λ (y : ℕ). has y x ≡ cuts fit sets (tail p r y) i n) (sym d)
-              (ap (has q) f ∙ has-if-same q v b (mask .rest q (omega arith)) ∙ e
-              ∙ place-cuts fit sets p r i n empty own inner last words order q v h behind)
-          go (no d) = let u : j ≢ q = d in other j d ∙ mask .done fit sets i n order end words j (omega arith) m
+      done fit sets i n order end words j l m = dite (ℕ-discrete j q)
+          (λ d. subst (λ (y : ℕ). has y x ≡ cuts fit sets (tail p r y) i n) (sym d)
+          (ap (has q) f ∙ has-if-same q v b (mask .rest q (omega arith)) ∙ e
+          ∙ place-cuts fit sets p r i n empty own inner last words order q v h
+          (ap (λ (y : ℕ). has y v) (add-one q) ∙ mask .done fit sets i n order end words (suc q) (omega arith) h)))
+          (λ d. let u : j ≢ q = d in other j d ∙ mask .done fit sets i n order end words j (omega arith) m)
 
       rest : (j : ℕ) → j < q → has j x ≡ false
       rest j l = other j (omega arith) ∙ mask .rest j (omega arith)

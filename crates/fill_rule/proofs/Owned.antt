@@ -1,8 +1,8 @@
--- Sets with another set for one span: where they differ, and what cuts a span by the ones and by the others. Assumes nothing.
+-- Sets, and the same with v for one span: where the two differ, and what cuts a span by each of them. Assumes nothing.
 use Prim.Native.Nat.{ℕ, suc, _≤_, _<_}
-use mathlib.Core.Bool.{Bool, true, false, cond, _&&_}
+use mathlib.Core.Bool.{true, and-false}
 use mathlib.Core.List.{List}
-use mathlib.Core.Logic.{_≢_}
+use mathlib.Core.Logic.{_≢_, dite}
 use mathlib.Core.Path.{_≡_, refl, sym, ap, ap₂, _∙_, subst}
 use native.Mathlib.Decide.{ℕ-discrete}
 use native.Mathlib.Omega.{arith}
@@ -27,26 +27,20 @@ module _ (sets : Sets) (i n v : ℕ) where
 
   pub owned-end : (a b : ℕ) → b ≢ n → owned sets i n v a b ≡ sets a b
   unfolding owned
-  owned-end a b d = go (eqb a i) (ne-eqb b n d)
-    where
-      go : (x : Bool) → eqb b n ≡ false → cond (x && eqb b n) v (sets a b) ≡ sets a b
-      go true e = rw e
-      go false e = refl
+  owned-end a b d = rw (ne-eqb b n d, and-false (eqb a i))
 
-  -- a property of the own set and of all others is one of each
+  -- what holds of v and of all sets of other spans holds of each set
   pub owned-cases : (P : ℕ → Type 0) (a b : ℕ) → (a ≡ i → b ≡ n → P v) → (a ≢ i → P (sets a b)) → (b ≢ n → P (sets a b))
       → P (owned sets i n v a b)
-  owned-cases P a b x y z = go (ℕ-discrete a i) (ℕ-discrete b n)
-    where
-      go : Dec (a ≡ i) → Dec (b ≡ n) → P (owned sets i n v a b)
-      go (no d) e = subst P (sym (owned-start a b d)) (y d)
-      go (yes d) (no e) = subst P (sym (owned-end a b e)) (z e)
-      go (yes d) (yes e) = subst P (sym (ap₂ (owned sets i n v) d e ∙ owned-here)) (x d e)
+  owned-cases P a b x y z = dite (ℕ-discrete a i) (λ d. dite (ℕ-discrete b n)
+      (λ e. subst P (sym (ap₂ (owned sets i n v) d e ∙ owned-here)) (x d e))
+      (λ e. subst P (sym (owned-end a b e)) (z e)))
+      (λ d. subst P (sym (owned-start a b d)) (y d))
 
 -- ---- cuts
 
 module _ (fit : Fit) (sets : Sets) (i n : ℕ) where
-  -- later starts do not look at the span from i
+  -- a cut from a later start does not depend on the spans from i
   pub cuts-owned : (v a : ℕ) → i < a → a ≤ n → (places : List Symbol)
       → cuts fit (owned sets i n v) places a n ≡ cuts fit sets places a n
   cuts-owned v a l h = cuts-cong a n h (λ x t _. refl) (λ x b m _ _. owned-start sets i n v x b (omega arith))
@@ -65,14 +59,14 @@ module _ (fit : Fit) (sets : Sets) (i n : ℕ) where
       inner-node k b e l m (ap (has k) (sym (owned-end sets i n v i b (omega arith))) ∙ h)
       (sym (cuts-owned v b l (omega arith) rest) ∙ c)
 
-  -- inner cuts do not look at it either
+  -- nor does an inner cut
   pub inner-owned : (p : List ℕ) (v r w : ℕ) → Inner fit sets p r i n w → Inner fit (owned sets i n v) p r i n w
   inner-owned p v r w h q l = (
     λ e. inner-to v (symbolIn p r q) (tail p r (suc q)) (h q l .0 e),
     λ c. h q l .1 (inner-from v (symbolIn p r q) (tail p r (suc q)) c),
   )
 
-  -- what a set cuts, a larger one cuts
+  -- what is cut with a set is cut with a larger one
   pub owned-mono : (v w : ℕ) → i ≤ n → Within v w → (places : List Symbol) → cuts fit (owned sets i n v) places i n ≡ true
       → cuts fit (owned sets i n w) places i n ≡ true
   owned-mono v w h s places e = cut→cuts fit (owned sets i n w) n h (cut-mono i n (λ a t _ q. q) part (omega arith)

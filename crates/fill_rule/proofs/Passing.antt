@@ -2,6 +2,7 @@
 use Prim.Native.Nat.{ℕ, _≤_, _<_}
 use mathlib.Core.Bool.{Bool, true, false, cond, _&&_}
 use mathlib.Core.List.{List}
+use mathlib.Core.Logic.{dite}
 use mathlib.Core.Path.{_≡_, refl, sym, ap, _∙_, subst}
 use native.Mathlib.Decide.{ℕ-discrete}
 use native.Mathlib.Omega.{arith}
@@ -14,29 +15,23 @@ use Rattle.packed.specs.Packed.{leftIn}
 use Rattle.fill_rule.specs.Passes.{Within, addedIn}
 
 module _ (p : List ℕ) (r v own : ℕ) where
+  -- what holds of the set, and of the set with the left side if it is added, holds of the result
+  pub added-cases : (P : ℕ → Type 0) → P own → (leftIn p r < 32 → has 0 v ≡ true → P (insert (leftIn p r) own)) → P (addedIn p r v own)
+  unfolding addedIn
+  added-cases P old new = go (has 0 v && ltb (leftIn p r) 32) refl
+    where
+      go : (b : Bool) → (has 0 v && ltb (leftIn p r) 32) ≡ b → P (cond b (insert (leftIn p r) own) own)
+      go true e = let u = and-parts (has 0 v) (ltb (leftIn p r) 32) e in new (ltb-true (leftIn p r) 32 (u .1)) (u .0)
+      go false e = old
+
   pub added-le : own ≤ addedIn p r v own
-  unfolding addedIn
-  added-le = go (has 0 v && ltb (leftIn p r) 32)
-    where
-      go : (b : Bool) → own ≤ cond b (insert (leftIn p r) own) own
-      go true = insert-le (leftIn p r) own
-      go false = omega arith
+  added-le = added-cases (λ (x : ℕ). own ≤ x) (omega arith) (λ _ _. insert-le (leftIn p r) own)
 
-  -- each member was one, or is the left side of the rule, whose places all cut the span
+  -- each member was one before, or is the left side of the rule if all places of the rule cut the span
   pub added-within : (T : ℕ) → Within own T → (leftIn p r < 32 → has 0 v ≡ true → has (leftIn p r) T ≡ true) → Within (addedIn p r v own) T
-  unfolding addedIn
-  added-within T s f = go (has 0 v && ltb (leftIn p r) 32) refl
-    where
-      new : (k : ℕ) → (has 0 v && ltb (leftIn p r) 32) ≡ true → Dec (k ≡ leftIn p r) → has k (insert (leftIn p r) own) ≡ true
-          → has k T ≡ true
-      new k e (yes d) h =
-          let u = and-parts (has 0 v) (ltb (leftIn p r) 32) e in
-          subst (λ (x : ℕ). has x T ≡ true) (sym d) (f (ltb-true (leftIn p r) 32 (u .1)) (u .0))
-      new k e (no d) h = s k (sym (has-insert-other k (leftIn p r) own d) ∙ h)
-
-      go : (b : Bool) → (has 0 v && ltb (leftIn p r) 32) ≡ b → Within (cond b (insert (leftIn p r) own) own) T
-      go true e k h = new k e (ℕ-discrete k (leftIn p r)) h
-      go false e k h = s k h
+  added-within T s f = added-cases (λ (x : ℕ). Within x T) s (λ l h k m. dite (ℕ-discrete k (leftIn p r))
+      (λ d. subst (λ (x : ℕ). has x T ≡ true) (sym d) (f l h))
+      (λ d. s k (sym (has-insert-other k (leftIn p r) own d) ∙ m)))
 
   pub added-same : addedIn p r v own ≡ own → leftIn p r < 32 → has 0 v ≡ true → has (leftIn p r) own ≡ true
   unfolding addedIn

@@ -10,7 +10,7 @@ use Rattle.packed.specs.Packed.{leftIn, isNonterminalIn, valueIn, symbolIn}
 use Rattle.packed.proofs.Fitting.{symbol-nonterminal, symbol-terminal}
 use Rattle.fill_rule.specs.Passes.{placeCuts, addedIn}
 
--- ---- whether a place and those behind it cut the span
+-- ---- whether a place and those after it cut the span
 
 module _ (p : List ℕ) (r q empty own inner last v : ℕ) (b : Bool) (e : b ≡ has q inner) where
   any-inner : (s : Symbol) → has q inner ≡ true → true ≡ placeCuts s q empty own inner last v

@@ -1,7 +1,7 @@
--- Flags: for a rule and a start, the set of the places from which on the rule's places cut the span up to the column's end. What such a
--- word means, also where only the cuts are meant whose first piece lies inside the span. Assumes nothing.
+-- Flags: for a rule and a start, the set of the places from which on the rule cuts the span up to the column's end. This file says what
+-- such a word means, also if it counts only the inner cuts, whose first piece lies inside the span. Assumes nothing.
 use Prim.Native.Nat.{ℕ, suc, _-_, _≤_, _<_}
-use mathlib.Core.Bool.{Bool, true, cond, _&&_}
+use mathlib.Core.Bool.{true, cond, _&&_}
 use mathlib.Core.List.{List}
 use mathlib.Core.Logic.{_↔_}
 use mathlib.Core.Path.{_≡_}
@@ -30,14 +30,14 @@ pub data InnerCut (fit : Fit) (sets : Sets) (n : ℕ) (s : Symbol) (rest : List 
   inner-node : (k b : ℕ) → s ≡ nonterminal k → a < b → b < n → has k (sets a b) ≡ true → cuts fit sets rest b n ≡ true
       → InnerCut fit sets n s rest a
 
--- such a cut begins at place q of rule r
+-- an inner cut begins at place q of rule r
 abbrev pub InnerAt : Fit → Sets → List ℕ → ℕ → ℕ → ℕ → ℕ → Type 0
 InnerAt fit sets p r a n q = InnerCut fit sets n (symbolIn p r q) (tail p r (suc q)) a
 
--- v has q exactly if such a cut begins at place q of rule r
+-- v has q exactly if an inner cut begins at place q of rule r
 abbrev pub Inner : Fit → Sets → List ℕ → ℕ → ℕ → ℕ → ℕ → Type 0
 Inner fit sets p r a n v = (q : ℕ) → q < placeCount p r → (has q v ≡ true) ↔ InnerAt fit sets p r a n q
 
--- the sets, but v for the span from i to n
+-- the sets, with v in place of that of the span from i to n
 unfoldable pub owned : Sets → ℕ → ℕ → ℕ → Sets
 owned sets i n v a b = cond (eqb a i && eqb b n) v (sets a b)

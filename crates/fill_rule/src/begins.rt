@@ -1,4 +1,4 @@
-// Two tests at once, and a set with a member if a test holds.
+// Two tests in one, and a set that gets a member if a test holds.
 ghost use mathlib.Core.Bool.{false, cond, _&&_};
 ghost use mathlib.Core.Path.{_≡_};
 ghost use Prim.Native.Nat.{_<_};

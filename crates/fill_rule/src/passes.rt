@@ -8,7 +8,7 @@ ghost use Rattle.sizes.specs.Sizes.{maxRules, maxPlaces};
 ghost use Rattle.packed.specs.Packed.{symbolIn};
 ghost use Rattle.fill_rule.specs.Passes.{placeCuts, RuleMask, addedIn};
 
-// Whether the places q.. of rule r cut a span, v having that of the places behind q.
+// Whether the places q.. of rule r cut a span. The flags v say the same for the places after q.
 fn place_cuts(
     p: &Packed,
     r: usize,
@@ -35,7 +35,7 @@ fn place_cuts(
     false
 }
 
-// The places q of rule r such that the places q.. cut a span, which is the empty one or not.
+// The places q of rule r such that the places q.. cut a span. The test ended says whether the span is empty.
 pub fn rule_mask(
     p: &Packed,
     r: usize,
@@ -57,7 +57,7 @@ pub fn rule_mask(
     v
 }
 
-// The set, with the left side of rule r in it if all its places cut the span.
+// The set own, with the left side of rule r in it if all places of the rule cut the span.
 pub fn added(p: &Packed, r: usize, m: u32, own: u32) -> u32
     requires { ⌜ r < maxRules ⌝ }
     ensures { λ v. ⌜ v ≡ addedIn (now (p .entry)) r m own ⌝ }

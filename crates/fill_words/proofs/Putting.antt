@@ -2,7 +2,7 @@
 use Prim.Native.Nat.{ℕ, _+_, _*_, _^_, _<_}
 use mathlib.Core.Bool.{true}
 use mathlib.Core.List.{List}
-use mathlib.Core.Logic.{_⊎_, inl, inr}
+use mathlib.Core.Logic.{_⊎_, inl, inr, ⊎-elim, dite}
 use mathlib.Core.Path.{_≡_, sym, ap, _∙_, subst}
 use native.Mathlib.Decide.{ℕ-discrete}
 use native.Mathlib.Omega.{arith}
@@ -19,7 +19,7 @@ use Rattle.fill_words.specs.Ends.{EndAdded, CellPut}
 -- ---- the members of a word
 
 module _ (i b word : ℕ) (ends₀ : List ℕ) where
-  -- the members but those of rest are done
+  -- all members except those of rest are done
   pub record PutTo (rest : ℕ) (ends : List ℕ) : Type 0 where
     pub long : length ends ≡ endsSize
     pub part : (k : ℕ) → has k rest ≡ true → has k word ≡ true
@@ -33,48 +33,30 @@ module _ (i b word : ℕ) (ends₀ : List ℕ) where
 
   pub put-step : (rest rest' k v : ℕ) (ends : List ℕ) → i < maxInput → LeastMember 32 rest k → v ≡ insert b (getD ends (32 * i + k) 0)
       → Without k rest rest' → PutTo rest ends → PutTo rest' (set ends (32 * i + k) v)
-  put-step rest rest' k v ends small low e without to =
-      record {
-        long = length-set ends (32 * i + k) v ∙ to .long;
-        part = λ j h. to .part j (in-rest j h);
-        keeps = λ x j h. row-keeps ends (32 * i + k) b v room e x j (to .keeps x j h);
-        all = all;
-        sound = sound;
-      }
+  put-step rest rest' k v ends small low e without to = record {
+    long = length-set ends (32 * i + k) v ∙ to .long;
+    part = λ j h. to .part j (ap (has j) (sym (without .whole)) ∙ has-insert j k rest' h);
+    keeps = λ x j h. row-keeps ends (32 * i + k) b v room e x j (to .keeps x j h);
+    all = λ j h. dite (ℕ-discrete j k)
+        (λ d. inr (subst (λ (y : ℕ). has b (endsOf (set ends (32 * i + k) v) i y) ≡ true) (sym d) (row-has ends (32 * i + k) b v room e)))
+        (λ d. ⊎-elim (λ x. inl (sym (has-insert-other j k rest' d) ∙ ap (has j) (without .whole) ∙ x))
+        (λ x. inr (row-keeps ends (32 * i + k) b v room e (32 * i + j) b x)) (to .all j h));
+    sound = λ x j h. ⊎-elim (to .sound x j) (λ y. inr (y .0, (k, low .below, y .1, to .part k (low .member))))
+        (row-sound ends (32 * i + k) b v room e x j h);
+  }
     where
       room : 32 * i + k < length ends
       room = omega (arith, to .long, low .below)
 
-      in-rest : (j : ℕ) → has j rest' ≡ true → has j rest ≡ true
-      in-rest j h = ap (has j) (sym (without .whole)) ∙ has-insert j k rest' h
-
-      all : (j : ℕ) → has j word ≡ true → (has j rest' ≡ true) ⊎ (has b (endsOf (set ends (32 * i + k) v) i j) ≡ true)
-      all j h = go (ℕ-discrete j k) (to .all j h)
-        where
-          go : Dec (j ≡ k) → (has j rest ≡ true) ⊎ (has b (endsOf ends i j) ≡ true)
-              → (has j rest' ≡ true) ⊎ (has b (endsOf (set ends (32 * i + k) v) i j) ≡ true)
-          go (yes d) _ = inr (subst (λ (y : ℕ). has b (endsOf (set ends (32 * i + k) v) i y) ≡ true) (sym d)
-              (row-has ends (32 * i + k) b v room e))
-          go (no d) (inl x) = inl (sym (has-insert-other j k rest' d) ∙ ap (has j) (without .whole) ∙ x)
-          go (no d) (inr x) = inr (row-keeps ends (32 * i + k) b v room e (32 * i + j) b x)
-
-      sound : (x j : ℕ) → has j (getD (set ends (32 * i + k) v) x 0) ≡ true
-          → (has j (getD ends₀ x 0) ≡ true) ⊎ ((j ≡ b) × ((m : ℕ) × (m < 32) × (x ≡ 32 * i + m) × (has m word ≡ true)))
-      sound x j h = go (row-sound ends (32 * i + k) b v room e x j h)
-        where
-          go : (has j (getD ends x 0) ≡ true) ⊎ ((j ≡ b) × (x ≡ 32 * i + k))
-              → (has j (getD ends₀ x 0) ≡ true) ⊎ ((j ≡ b) × ((m : ℕ) × (m < 32) × (x ≡ 32 * i + m) × (has m word ≡ true)))
-          go (inl y) = to .sound x j y
-          go (inr y) = inr (y .0, (k, low .below, y .1, to .part k (low .member)))
-
   pub put-done : (rest : ℕ) (ends : List ℕ) → rest ≡ 0 → PutTo rest ends → EndAdded i b word ends₀ ends
-  put-done rest ends z to = record { long = to .long; keeps = to .keeps; all = λ k h. go k (to .all k h); sound = to .sound }
-    where
-      go : (k : ℕ) → (has k rest ≡ true) ⊎ (has b (endsOf ends i k) ≡ true) → has b (endsOf ends i k) ≡ true
-      go k (inl x) = absurd (true-false x (ap (has k) z ∙ has-empty k))
-      go k (inr x) = x
+  put-done rest ends z to = record {
+    long = to .long;
+    keeps = to .keeps;
+    all = λ k h. ⊎-elim (λ x. absurd (true-false x (ap (has k) z ∙ has-empty k))) (λ x. x) (to .all k h);
+    sound = to .sound;
+  }
 
--- what is left gets less
+-- the rest gets smaller
 pub rest-less : (k rest rest' : ℕ) → Without k rest rest' → rest' < rest
 rest-less k rest rest' without = omega (arith, insert-new k rest' (without .gone), without .whole)
 
@@ -84,24 +66,22 @@ module _ (i b word : ℕ) (ends reach : List ℕ) (word-small : word < 2 ^ 32) w
   pub cell-put : (v : ℕ) (ends' : List ℕ) → i < maxInput → length reach ≡ maxInput → v ≡ insert b (getD reach i 0)
       → EndAdded i b word ends ends'
       → CellPut i b word ends reach ends' (set reach i v)
-  cell-put v ends' small long e put =
-      record {
-        put = put;
-        long = length-set reach i v ∙ long;
-        keeps = row-keeps reach i b v (omega (arith, long)) e;
-        all = λ k h. row-has reach i b v (omega (arith, long)) e;
-        high = λ k h. has-high k word word-small h;
-      }
+  cell-put v ends' small long e put = record {
+    put = put;
+    long = length-set reach i v ∙ long;
+    keeps = row-keeps reach i b v (omega (arith, long)) e;
+    all = λ k h. row-has reach i b v (omega (arith, long)) e;
+    high = λ k h. has-high k word word-small h;
+  }
 
   pub cell-empty : word ≡ 0 → length ends ≡ endsSize → length reach ≡ maxInput → CellPut i b word ends reach ends reach
-  cell-empty z long reach-long =
-      record {
-        put = record { long = long; keeps = λ x j h. h; all = λ k h. absurd (none k h); sound = λ x j h. inl h };
-        long = reach-long;
-        keeps = λ x j h. h;
-        all = λ k h. absurd (none k h);
-        high = λ k h. has-high k word word-small h;
-      }
+  cell-empty z long reach-long = record {
+    put = record { long = long; keeps = λ x j h. h; all = λ k h. absurd (none k h); sound = λ x j h. inl h };
+    long = reach-long;
+    keeps = λ x j h. h;
+    all = λ k h. absurd (none k h);
+    high = λ k h. has-high k word word-small h;
+  }
     where
       none : (k : ℕ) → has k word ≡ true → ⊥
       none k h = true-false h (ap (has k) z ∙ has-empty k)

@@ -1,4 +1,4 @@
--- The ends and the starts as they are written: what one cell, one column and the flags of one start add to the words. Assumes nothing.
+-- The ends and the starts while they are written: what one cell, one column and the flags of one start add to the words. Assumes nothing.
 use Prim.Native.Nat.{ℕ, _+_, _*_, _≤_, _<_}
 use mathlib.Core.Bool.{true, false}
 use mathlib.Core.List.{List}
@@ -30,18 +30,18 @@ pub record CellPut (i b word : ℕ) (ends reach ends' reach' : List ℕ) : Type 
   pub all : (k : ℕ) → has k word ≡ true → has b (getD reach' i 0) ≡ true
   pub high : (k : ℕ) → 32 ≤ k → has k word ≡ false
 
--- the spans that are told: those that end before b, and those of the starts before i that end at b
+-- the spans that are known: those that end before b, and those from the starts before i that end at b
 abbrev pub ToldTo : ℕ → ℕ → ℕ → ℕ → Type 0
 ToldTo b i a c = (a < c) × ((c < b) ⊎ ((c ≡ b) × (a < i)))
 
--- the words tell these spans of the chart, and have no end of another span
+-- the words have the ends of these spans of the chart, and of no other span
 pub record EndsTo (chart : List ℕ) (b i : ℕ) (ends reach : List ℕ) : Type 0 where
   pub sound : (a k c : ℕ) → k < 32 → a < c → has c (endsOf ends a k) ≡ true → ToldTo b i a c × (has k (cell chart a c) ≡ true)
   pub all : (a k c : ℕ) → k < 32 → ToldTo b i a c → has k (cell chart a c) ≡ true → has c (endsOf ends a k) ≡ true
   pub high : (a k c : ℕ) → 32 ≤ k → ToldTo b i a c → has k (cell chart a c) ≡ false
   pub reaches : (a k c : ℕ) → ToldTo b i a c → has k (cell chart a c) ≡ true → has c (getD reach a 0) ≡ true
 
--- the spans that end before b' are told where those were that end before b
+-- the spans that end before b' are known if those that end before b were
 pub record ColumnsPut (chart : List ℕ) (b b' : ℕ) (ends reach ends' reach' : List ℕ) : Type 0 where
   pub long : length ends' ≡ endsSize
   pub reach-long : length reach' ≡ maxInput
@@ -49,7 +49,7 @@ pub record ColumnsPut (chart : List ℕ) (b b' : ℕ) (ends reach ends' reach' :
 
 -- ---- starts
 
--- i was added to the starts of rule r at the places from 1 on that its flags have, and nothing else; and to what is live of the rule
+-- i was added to the starts of rule r at the places from 1 on that its flags have, and nothing else; and to the live starts of the rule
 pub record StartAdded (p : List ℕ) (r i flags : ℕ) (starts live starts' live' : List ℕ) : Type 0 where
   pub long : length starts' ≡ startsSize
   pub live-long : length live' ≡ maxRules
@@ -61,19 +61,19 @@ pub record StartAdded (p : List ℕ) (r i flags : ℕ) (starts live starts' live
   pub live-keeps : (x j : ℕ) → has j (getD live x 0) ≡ true → has j (getD live' x 0) ≡ true
   pub lives : (q : ℕ) → 0 < q → q < placeCount p r → has q flags ≡ true → has i (getD live' r 0) ≡ true
 
--- the words of rule r tell from which of the starts from j on and before n its places cut up to n, and have no other start
+-- the words of rule r have the starts from j on and before n from which its places cut up to n, and no other start
 pub record StartsTold (fit : Fit) (sets : Sets) (p : List ℕ) (r j n : ℕ) (starts : List ℕ) : Type 0 where
   pub sound : (q a : ℕ) → 0 < q → q < placeCount p r → has a (startsOf starts r q) ≡ true
       → (j ≤ a) × (a < n) × (cuts fit sets (tail p r q) a n ≡ true)
   pub all : (q a : ℕ) → 0 < q → q < placeCount p r → j ≤ a → a < n → cuts fit sets (tail p r q) a n ≡ true
       → has a (startsOf starts r q) ≡ true
 
--- the starts of these rules from j on are told, and live
+-- the starts of these rules from j on are known, and are live
 pub record StartsFrom (fit : Fit) (sets : Sets) (p : List ℕ) (rules j n : ℕ) (starts live : List ℕ) : Type 0 where
   pub told : (r : ℕ) → r < rules → StartsTold fit sets p r j n starts
   pub lives : (r q a : ℕ) → r < rules → 0 < q → q < placeCount p r → has a (startsOf starts r q) ≡ true → has a (getD live r 0) ≡ true
 
--- with the flags of the start i the starts from i on are told where those behind it were
+-- with the flags of the start i the starts from i on are known if those after i were
 pub record FlagsPut (p : List ℕ) (rules i : ℕ) (flags starts live starts' live' : List ℕ) : Type 0 where
   pub long : length starts' ≡ startsSize
   pub live-long : length live' ≡ maxRules

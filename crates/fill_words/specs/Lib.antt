@@ -1,3 +1,3 @@
--- Spans as bits, the cuts that begin with a piece inside the span by them, and how they are written.
+-- Spans as bits, and how they are written.
 pub mod Spans
 pub mod Ends

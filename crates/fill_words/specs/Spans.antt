@@ -1,5 +1,5 @@
--- Spans as bits: for a start and a nonterminal the set of its ends, and for a rule and a place the set of the starts from which on the
--- rule's places cut up to the column's end, each a set of 0..63. Where these words stand. Assumes nothing.
+-- Spans as bits, and where their words are stored. A start and a nonterminal have the set of the ends; a rule and a place have the set of
+-- the starts from which the rule's places cut up to the column's end. Each is a set of 0..63. Assumes nothing.
 use Prim.Native.Nat.{ℕ, _+_, _*_}
 use mathlib.Core.List.{List}
 use lib.ListN.{getD}
@@ -17,6 +17,6 @@ endsOf ends i k = getD ends (nonterminals * i + k) 0
 abbrev pub startsSize : ℕ
 startsSize = maxRules * maxPlaces
 
--- the starts from which on the places q.. of rule r cut
+-- the starts from which the places q.. of rule r cut
 abbrev pub startsOf : List ℕ → ℕ → ℕ → ℕ
 startsOf starts r q = getD starts (maxPlaces * r + q) 0

@@ -1,4 +1,4 @@
-// The ends: adding those of one cell and of one column of the chart.
+// The ends of spans: those of one cell and those of a column of the chart are added.
 use super::words::Ends;
 use fill_reach::Reach;
 ghost use mathlib.Core.Path.{_≡_};
@@ -8,7 +8,7 @@ ghost use Rattle.sizes.specs.Sizes.{cells, maxInput};
 ghost use Rattle.fill_words.specs.Spans.{endsSize};
 ghost use Rattle.fill_words.specs.Ends.{EndAdded, CellPut, ColumnsPut};
 
-// Adds b to the ends from i of each member of the word.
+// Adds b to the ends of spans from i, for each nonterminal in the word.
 fn put_members(i: usize, b: usize, word: u32, ends: &mut Ends)
     requires { ⌜ (i < maxInput) × (b < maxInput) × (length (now ends) ≡ endsSize) ⌝ }
     ensures { λ _. ⌜ EndAdded i b word (now (ends .entry)) (now (ends .exit)) ⌝ }
@@ -21,7 +21,7 @@ fn put_members(i: usize, b: usize, word: u32, ends: &mut Ends)
     }
 }
 
-// The same, and the reach of i.
+// The same, and adds b to the reach of i.
 fn put(i: usize, b: usize, word: u32, ends: &mut Ends, reach: &mut Reach)
     requires { ⌜ (i < maxInput) × (b < maxInput) × (length (now ends) ≡ endsSize) × (length (now reach) ≡ maxInput) ⌝ }
     ensures { λ _. ⌜ CellPut i b word (now (ends .entry)) (now (reach .entry)) (now (ends .exit)) (now (reach .exit)) ⌝ }
@@ -32,7 +32,7 @@ fn put(i: usize, b: usize, word: u32, ends: &mut Ends, reach: &mut Reach)
     }
 }
 
-// Adds the cells of column b.
+// Adds the ends of the cells of column b.
 pub fn put_column(b: usize, chart: &[u32], ends: &mut Ends, reach: &mut Reach)
     requires { ⌜ (b < maxInput) × (cells ≤ length (now chart)) × (length (now ends) ≡ endsSize) × (length (now reach) ≡ maxInput) ⌝ }
     ensures { λ _.
@@ -46,7 +46,7 @@ pub fn put_column(b: usize, chart: &[u32], ends: &mut Ends, reach: &mut Reach)
     }
 }
 
-// Adds the cells of the columns before n.
+// Adds the ends of the cells of the columns before n.
 pub fn put_columns(n: usize, chart: &[u32], ends: &mut Ends, reach: &mut Reach)
     requires { ⌜ (n ≤ maxInput) × (cells ≤ length (now chart)) × (length (now ends) ≡ endsSize) × (length (now reach) ≡ maxInput) ⌝ }
     ensures { λ _.

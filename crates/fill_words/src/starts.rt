@@ -1,4 +1,4 @@
-// The starts: adding the flags of one start.
+// The starts of spans: the flags of one start are added.
 use super::words::Starts;
 use fill_reach::Live;
 use packed::Packed;
@@ -36,7 +36,7 @@ fn put_places(p: &Packed, r: usize, i: usize, flags: u32, starts: &mut Starts, l
     }
 }
 
-// The same; a rule without flags is passed over.
+// The same, but a rule without flags is passed over.
 fn put_rule(p: &Packed, r: usize, i: usize, flags: u32, starts: &mut Starts, live: &mut Live)
     requires { ⌜ (r < maxRules) × (i < maxInput) × (length (now starts) ≡ startsSize) × (length (now live) ≡ maxRules) ⌝ }
     ensures { λ _.
@@ -48,7 +48,7 @@ fn put_rule(p: &Packed, r: usize, i: usize, flags: u32, starts: &mut Starts, liv
     }
 }
 
-// The same of every rule below a number.
+// The same for every rule below this number.
 pub fn put_flags(
     p: &Packed,
     rules: usize,

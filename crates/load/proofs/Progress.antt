@@ -1,4 +1,4 @@
--- The loop of loading: what holds of what has been read so far, that each command keeps it, and what the end and a fault make of it.
+-- The loop of loading: what holds after each command, why the next command keeps it, and what follows from it at the end and at a fault.
 -- Assumes nothing.
 use Prim.Native.Nat.{ℕ, suc, _+_, _*_, _-_, _^_, _≤_, _<_}
 use native.Mathlib.Omega.{arith}
@@ -64,7 +64,7 @@ moved-less len at n z h = omega arith
 
 -- ---- the loop
 
--- before the command at an offset: reading from here comes to what loading comes to, t has been read, and the grammar read so far is valid
+-- before the command at an offset: reading on from here gives what loading gives, t has been read, and the grammar read so far is valid
 pub record Progress (bytes : List ℕ) (at : ℕ) (t : Turn) (g : Grammar) : Type 0 where
   pub within : at ≤ length bytes
   pub reached : (d : ℕ) → run d bytes (suc (length bytes - at)) at g ≡ loadOf bytes d
@@ -94,7 +94,7 @@ some : (n : ℕ) → 0 < n → true ≡ ltb 0 n
 some n h = sym (lt-ltb 0 n h)
 
 module _ (bytes : List ℕ) (at : ℕ) (t : Turn) (g : Grammar) (P : Progress bytes at t g) where
-  -- the command that was read, after so many rules, the last of which, number q, has so many places
+  -- the command c that was read, where q is the number of the last rule
   module _ (q : ℕ) (c : Command) (f : q ≡ g .count - 1) (R : CommandRead bytes at t (g .count) (getD (g .rules) q noRule .count) c) where
     means : stepOf c at g ≡ step bytes at g
     unfolding openRule

@@ -15,7 +15,7 @@ pub record Refuses (f : Fault) (l : Loaded) : Type 0 where
   pub book : loadingOf l ≡ refusedLoad f
   pub depth : Depth (wholeOf (l .grammar)) (l .grammar .depth)
 
--- l is what a book leaves that was read to its end, as the grammar g
+-- l is what a book leaves that was read to its end as the grammar g
 pub record Accepts (g : Grammar) (l : Loaded) : Type 0 where
   pub book : loadingOf l ≡ acceptedLoad (l .grammar .depth) g
   pub depth : Depth (wholeOf (l .grammar)) (l .grammar .depth)

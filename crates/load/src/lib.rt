@@ -14,13 +14,13 @@ ghost use Rattle.answers.specs.Number.{numberOf};
 ghost use Rattle.results.specs.Load.{loadOf};
 ghost use Rattle.load.specs.Answer.{loadingOf, Refuses, Accepts};
 
-// What loading answers, and the grammar: that of the book, or one of zeros where the book is refused.
+// What loading answers, and the grammar: that of the book, or zeros if the book is refused.
 pub struct Loaded {
     pub outcome: Outcome,
     pub grammar: Grammar,
 }
 
-// A book refused at an offset.
+// The answer for a book that is refused at an offset.
 fn refused(r: Refusal, at: usize) -> Loaded
     ensures { λ l. ⌜ Refuses (record { number = numberOf r; offset = at }) l ⌝ }
 {
@@ -30,7 +30,7 @@ fn refused(r: Refusal, at: usize) -> Loaded
     }
 }
 
-// A book read to its end, as the grammar g, with its nullable depth.
+// The answer for a book read to its end as the grammar g, to which the nullable depth is added.
 fn accepted(g: Grammar) -> Loaded
     requires { ⌜ validGrammar g ≡ true ⌝ }
     ensures { λ l. ⌜ Accepts g l ⌝ }
@@ -44,7 +44,7 @@ fn accepted(g: Grammar) -> Loaded
     }
 }
 
-// Loads a book: one command a turn, each added to the grammar in place.
+// Loads a book. Each turn of the loop reads one command and adds it to the grammar in place.
 pub fn load(bytes: &[u8]) -> Loaded
     ensures { λ r. ⌜ loadingOf r ≡ loadOf (now (bytes .entry)) (r .grammar .depth) ⌝ }
     ensures depth { λ r. ⌜ Depth (wholeOf (r .grammar)) (r .grammar .depth) ⌝ }

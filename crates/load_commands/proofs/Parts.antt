@@ -1,7 +1,7 @@
--- The parts of a step, by the tests that the code makes of them. Assumes nothing.
+-- The parts of a step of loading, by the tests in the code. Assumes nothing.
 use Prim.Native.Nat.{ℕ, _≤_, _<_}
 use native.Mathlib.Omega.{arith}
-use mathlib.Core.Bool.{Bool, true, false, not, _||_}
+use mathlib.Core.Bool.{true, false, not, _||_, or-false}
 use mathlib.Core.Path.{_≡_, refl}
 use borrow.Author.Tests.{lt-ltb, le-ltb}
 use Rattle.sizes.specs.Sizes.{maxRules, maxPlaces}
@@ -26,11 +26,7 @@ byte-known O.Nonterminal = refl
 byte-known O.Terminal = refl
 byte-known O.End = refl
 
--- ---- the turn, of each opcode
-
-or-false : (b : Bool) → (b || false) ≡ b
-or-false true = refl
-or-false false = refl
+-- ---- the turn of each opcode
 
 module _ (k : Opcode) (t : Turn) where
   pub late-start : k ≡ O.Start → t .started ≡ late (byteOf k) t
@@ -56,7 +52,7 @@ module _ (k : Opcode) (t : Turn) where
     pub late-closed : not (t .started) ≡ false → not (t .opened) ≡ late (byteOf k) t
     late-closed n = rw (p, n)
 
--- ---- the limits. A law that refuses takes any m of the code's own test that is not below the limit
+-- ---- the limits. A law of a refusal takes the number m of the code's test, which is not below the limit
 module _ (at : ℕ) where
   module _ (rules left low high : ℕ) where
     pub rule-many : (m : ℕ) → m ≤ rules → maxRules ≤ m → Fault R.TooManyRules at ≡ ruleCommand at rules left low high

@@ -1,4 +1,4 @@
--- One step of loading, by the opcode and the tests that the code makes, in their order: from the limits backwards. Assumes nothing.
+-- One step of loading, by the opcode and the tests in the code. The tests come in the reverse order, the limits first. Assumes nothing.
 use Prim.Native.Nat.{ℕ, zero, suc, _+_, _-_, _≤_, _<_}
 use native.Mathlib.Omega.{arith}
 use mathlib.Core.Bool.{Bool, true, false, cond, not, _&&_, _||_}
@@ -16,7 +16,8 @@ use Rattle.results.specs.Answer.{decide}
 use Rattle.results.specs.Load.{fault, stop, next, step, operandChecks, commandChecks, carriedOut, unknown, outOfTurn}
 use Rattle.results.specs.Load.{operands, operand, after, openRule, withPlace}
 use Rattle.load_commands.specs.Class.{byteOf, Classified}
-use Rattle.load_commands.specs.Command.{tooLarge, ruleCommand, placeCommand, endCommand, stepPast, stepAfter, Bounded, Begun, ChecksPassed, CommandRead}
+use Rattle.load_commands.specs.Command.{tooLarge, ruleCommand, placeCommand, endCommand, stepPast, stepAfter}
+use Rattle.load_commands.specs.Command.{Bounded, Begun, ChecksPassed, CommandRead}
 use Rattle.load_commands.specs.Turn.{late, TurnAt}
 use Rattle.load_commands.specs.declared.opcode.Class.{Class}
 use Rattle.load_commands.specs.declared.opcode.Class.the-variants.{Known, Unknown}
@@ -52,7 +53,7 @@ module _ (bytes : List ℕ) (at : ℕ) (k : Opcode) (a rules places : ℕ) (room
       go r true f = record { means = λ g p q. rw (p, f); bounded = tt }
       go r false f = record { means = λ g p q. rw (p, f, four); bounded = (omega arith, omega (arith, ltb-false 127 rules f), refl) }
 
-  -- 30 and 40, a command c of one operand whose limit is check 6, for its symbol s
+  -- 30 and 40: a command c of one operand, whose limit is check 6, and its symbol s
   place-passed : (c : ℕ) (s : Symbol) → at + 1 + 1 ≤ length bytes → eqb c 0x10 ≡ false
       → ((g : Grammar) → stepPast 2 bytes at c g
       ≡ decide (fault (ltb 7 (openRule g .count)) 6 at ∷ []) stop (λ _. next (at + 2) (withPlace g s)))
@@ -78,7 +79,8 @@ module _ (bytes : List ℕ) (at : ℕ) (k : Opcode) (a rules places : ℕ) (room
   unfolding decide operandChecks carriedOut operands after
   end-passed e m i = rw (e, i) (go (ltb (at + 1) (length bytes)) refl)
     where
-      go : (b : Bool) → ltb (at + 1) (length bytes) ≡ b → ChecksPassed 2 bytes at 0x50 rules places (cond b (Fault R.FurtherByte (at + 1)) End)
+      go : (b : Bool) → ltb (at + 1) (length bytes) ≡ b
+          → ChecksPassed 2 bytes at 0x50 rules places (cond b (Fault R.FurtherByte (at + 1)) End)
       go true f = record { means = λ g p q. rw f; bounded = tt }
       go false f = record { means = λ g p q. rw f; bounded = tt }
 
@@ -111,7 +113,7 @@ not-pos : (n : ℕ) → not (ltb 0 n) ≡ eqb n 0
 not-pos zero = refl
 not-pos (suc n) = rw (lt-ltb 0 (suc n) (omega arith), ne-eqb (suc n) 0 (λ e. omega arith))
 
--- the turn by what has been read is that by the offset and the rules
+-- the turn judged by what has been read is the turn judged by the offset and the rules
 pub turn-law : (c at : ℕ) (g : Grammar) (t : Turn) → TurnAt at g t → late c t ≡ outOfTurn c at g
 unfolding outOfTurn
 turn-law c at g t T = rw (T .started, T .opened, not-pos at, not-pos (g .count))
@@ -121,7 +123,7 @@ pub turn-step : (bytes : List ℕ) (at : ℕ) (g : Grammar) (t : Turn) → TurnA
 unfolding step decide commandChecks
 turn-step bytes at g t T = rw (turn-law (getD bytes at 0) at g t T)
 
--- after the turn, each command but 10 has a start before it
+-- a command in turn that is not 10 has a start before it
 begun : (c : ℕ) (t : Turn) → late c t ≡ false → eqb c 0x10 ≡ false → t .started ≡ true
 begun c t f e = go (t .started) (rw e at f)
   where

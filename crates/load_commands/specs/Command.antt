@@ -22,7 +22,7 @@ use Rattle.load_commands.specs.declared.opcode.Turn.{Turn}
 abbrev pub tooLarge : (c a : ℕ) → Bool
 tooLarge c a = (eqb c 0x10 || eqb c 0x20 || eqb c 0x30) && ltb 31 a
 
--- 20 at an offset after so many rules; 30 and 40 in a rule of so many places; 50, which ends at an offset, in a book of so many bytes
+-- 20 at an offset after this many rules; 30 and 40 in a rule of this many places; 50, which ends at the offset past, in a book of len bytes
 abbrev pub ruleCommand : (at rules left low high : ℕ) → Command
 ruleCommand at rules left low high = cond (ltb 127 rules) (Fault R.TooManyRules at) (Rule left low high)
 
@@ -40,7 +40,7 @@ stepOf (Place s) at g = next (at + 2) (withPlace g s)
 stepOf End at g = done g
 stepOf (Fault r o) at g = stop (record { number = numberOf r; offset = o })
 
--- the bounds of a command, whose byte is c, in a book of so many bytes, after so many rules, the last of which has so many places
+-- the bounds of a command with the byte c in a book of len bytes, after this many rules, the last with this many places
 abbrev pub Bounded : (len at c rules places : ℕ) → Command → Type 0
 Bounded len at c rules places (Start k) = at + 2 ≤ len
 Bounded len at c rules places (Rule k low high) = (at + 4 ≤ len) × (rules < maxRules) × (eqb c 0x10 ≡ false)
@@ -60,12 +60,12 @@ Begun t (Fault r o) = Unit {0}
 abbrev pub stepPast : ℕ → List ℕ → (at c : ℕ) → Grammar → Step
 stepPast n bytes at c g = decide (drop n (operandChecks bytes at c g)) stop (λ _. carriedOut bytes at c g)
 
--- r is what c comes to once these checks are passed, for each grammar of so many rules, the last of which has so many places
+-- r is what c means once these checks are passed, for each grammar of this many rules, the last with this many places
 pub record ChecksPassed (n : ℕ) (bytes : List ℕ) (at c rules places : ℕ) (r : Command) : Type 0 where
   pub means : (g : Grammar) → g .count ≡ rules → openRule g .count ≡ places → stepOf r at g ≡ stepPast n bytes at c g
   pub bounded : Bounded (length bytes) at c rules places r
 
--- the step at an offset where t has been read, from any grammar on
+-- the step from any grammar at an offset, where t has been read
 abbrev pub stepAfter : Turn → List ℕ → ℕ → Grammar → Step
 stepAfter t bytes at g =
     let c = getD bytes at 0 in
@@ -74,7 +74,7 @@ stepAfter t bytes at g =
     ∷ fault (late c t) 3 at
     ∷ operandChecks bytes at c g) stop (λ _. carriedOut bytes at c g)
 
--- r is the command at an offset where t has been read, for each grammar of so many rules, the last of which has so many places
+-- r is the command at an offset where t has been read, for each grammar of this many rules, the last with this many places
 pub record CommandRead (bytes : List ℕ) (at : ℕ) (t : Turn) (rules places : ℕ) (r : Command) : Type 0 where
   pub means : (g : Grammar) → g .count ≡ rules → openRule g .count ≡ places → stepOf r at g ≡ stepAfter t bytes at g
   pub bounded : Bounded (length bytes) at (getD bytes at 0) rules places r

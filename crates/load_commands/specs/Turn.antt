@@ -6,11 +6,11 @@ use lib.Dec.{eqb, ltb}
 use Rattle.grammar.specs.declared.Grammar.{Grammar}
 use Rattle.load_commands.specs.declared.opcode.Turn.{Turn}
 
--- 10 not first or again, another command first, 30 or 40 before any 20
+-- a 10 that is not first, another command that is, and a 30 or 40 before any 20
 abbrev pub late : ℕ → Turn → Bool
 late c t = cond (eqb c 0x10) (t .started) (not (t .started) || ((eqb c 0x30 || eqb c 0x40) && not (t .opened)))
 
--- t is what has been read where a book is read from its start: up to this offset, as this grammar
+-- t is what has been read of a book, from its start up to this offset, as this grammar
 pub record TurnAt (at : ℕ) (g : Grammar) (t : Turn) : Type 0 where
   pub started : t .started ≡ ltb 0 at
   pub opened : t .opened ≡ ltb 0 (g .count)

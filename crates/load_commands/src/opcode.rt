@@ -1,5 +1,5 @@
-// The parts of a step of loading that need no more than a few numbers. A command byte is classified once; its turn, its operands and its
-// limits go by the opcode.
+// The parts of a step of loading that need only a few numbers. A command byte is classified once. Its turn, its operands and its limits
+// depend on the opcode.
 use answers::Refusal;
 use grammar::Symbol;
 ghost use mathlib.Core.Path.{_≡_};
@@ -25,7 +25,7 @@ pub enum Opcode {
     End,
 }
 
-// What a command byte says: an opcode, or nothing.
+// The class of a command byte: an opcode, or none.
 pub enum Class {
     Known(Opcode),
     Unknown,
@@ -40,7 +40,7 @@ pub enum Command {
     Fault(Refusal, usize),
 }
 
-// What has been read before a command: a start, and a rule, to which places can be added.
+// What has been read before a command: whether a start, and whether a rule, to which places can be added.
 pub struct Turn {
     pub started: bool,
     pub opened: bool,
@@ -73,7 +73,7 @@ pub fn operand_count(k: Opcode) -> usize
     }
 }
 
-// Check 3: a start not first or again, another command first, a place before any rule.
+// Check 3 refuses a start that is not first, another command that is, and a place before any rule.
 pub fn out_of_turn(k: Opcode, turn: Turn) -> bool
     ensures { λ r. ⌜ r ≡ late (byteOf k) turn ⌝ }
 {
@@ -99,7 +99,7 @@ pub fn too_large(k: Opcode, a: u8) -> bool
     }
 }
 
-// Command 20 after so many rules: check 5.
+// Check 5: command 20 after this many rules.
 pub fn rule(at: usize, rules: usize, left: u8, low: u8, high: u8) -> Command
     ensures { λ r. ⌜ r ≡ ruleCommand at rules left low high ⌝ }
 {
@@ -109,7 +109,7 @@ pub fn rule(at: usize, rules: usize, left: u8, low: u8, high: u8) -> Command
     Command::Rule(left, low, high)
 }
 
-// Commands 30 and 40, in an open rule of so many places: check 6.
+// Check 6: commands 30 and 40 in an open rule of this many places.
 pub fn place(at: usize, places: usize, symbol: Symbol) -> Command
     ensures { λ r. ⌜ r ≡ placeCommand at places symbol ⌝ }
 {
@@ -119,7 +119,7 @@ pub fn place(at: usize, places: usize, symbol: Symbol) -> Command
     Command::Place(symbol)
 }
 
-// Command 50, in a book of so many bytes, after which the offset is next: check 7.
+// Check 7: command 50 in a book of this many bytes. The offset after the command is next.
 pub fn end(next: usize, len: usize) -> Command
     ensures { λ r. ⌜ r ≡ endCommand next len ⌝ }
 {

@@ -1,5 +1,5 @@
-// The commands of a book: what stands at an offset, or the fault that it is refused for. At one command the checks are 2, 3, 1, then 4,
-// then 5 or 6, or 7 after the end.
+// The commands of a book: the command at an offset, or the fault for which it is refused. The checks of a command come in the order 2, 3,
+// 1, 4, and then 5 for a rule, 6 for a place or 7 for the end.
 use super::opcode;
 use super::opcode::Class;
 use super::opcode::Command;
@@ -14,7 +14,7 @@ ghost use Rattle.results.specs.Load.{operands, operand};
 ghost use Rattle.load_commands.specs.Class.{byteOf};
 ghost use Rattle.load_commands.specs.Command.{ChecksPassed, CommandRead};
 
-// Operand number i, from 0, of the command at an offset: 0 past the end.
+// Operand i, counted from 0, of the command at an offset, or 0 past the end of the book.
 pub fn operand_at(bytes: &[u8], at: usize, i: usize) -> u8
     requires { ⌜ at < length (now bytes) ⌝ }
     ensures { λ r. ⌜ r ≡ operand (now (bytes .entry)) at i ⌝ }
@@ -27,7 +27,7 @@ pub fn operand_at(bytes: &[u8], at: usize, i: usize) -> u8
     }
 }
 
-// The command k at an offset, with its first operand a and the others, all of them there: check 5, 6 or 7.
+// Check 5, 6 or 7 of the command k at an offset. All its operands are there, and the first is a.
 pub fn limits_at(bytes: &[u8], at: usize, k: Opcode, a: u8, rules: usize, places: usize) -> Command
     requires { ⌜ at + 1 + operands (byteOf k) ≤ length (now bytes) ⌝ }
     requires { ⌜ a ≡ operand (now bytes) at 0 ⌝ }
@@ -65,7 +65,7 @@ pub fn operands_at(bytes: &[u8], at: usize, k: Opcode, rules: usize, places: usi
     limits_at(bytes, at, k, a, rules, places)
 }
 
-// The command at an offset, where turn has been read as a grammar of so many rules, the last of which has so many places.
+// The command at an offset. What has been read before it: turn, and a grammar of this many rules, the last with this many places.
 pub fn command_at(bytes: &[u8], at: usize, turn: Turn, rules: usize, places: usize) -> Command
     ensures { λ r. ⌜ CommandRead (now (bytes .entry)) at turn rules places r ⌝ }
 {

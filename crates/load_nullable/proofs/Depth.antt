@@ -1,4 +1,4 @@
--- The number of nullable nonterminals is a nullable depth: a lowest empty tree has no nonterminal twice on a way down, and each of its
+-- The number of nullable nonterminals is a nullable depth: a lowest empty tree has no nonterminal twice on a path down, and each of its
 -- nodes is nullable. Assumes nothing.
 use Prim.Native.Nat.{ℕ, zero, suc, _+_, _≤_, _<_}
 use native.Mathlib.Decide.{ℕ-discrete, decLt}
@@ -82,7 +82,7 @@ count-last n k w h l m = h ∙ ap (λ (j : ℕ). countBelow j w) (le-antisymm l 
 
 -- ---- the nodes of an empty tree
 
--- the nonterminal of each node over nothing is nullable
+-- the nonterminal of a node that covers nothing is nullable
 node-nullable : (G : Cfg) {places : List Symbol} {t : Forest} {j : ℕ} → Fits G places t → Has G j 0 t → Nullable G j
 unfolding yield
 node-nullable G f h =

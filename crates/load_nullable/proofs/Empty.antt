@@ -3,7 +3,7 @@
 use Prim.Native.Nat.{ℕ, _<_}
 use native.Mathlib.Decide.{ℕ-discrete, decLt}
 use native.Mathlib.Omega.{arith}
-use mathlib.Core.Bool.{Bool, true, false, _&&_}
+use mathlib.Core.Bool.{Bool, true, _&&_}
 use mathlib.Core.List.{List, [], _∷_, _++_, map, append-nil, cons-ne-nil}
 use mathlib.Core.Logic.{dite}
 use mathlib.Core.Option.{Option·some-injective, Option·some-ne-none}
@@ -16,7 +16,7 @@ use Rattle.cfg.specs.Grammar.{Symbol, nonterminal, terminal, Cfg, Of}
 use Rattle.cfg.specs.Tree.{Forest, end, node, yield, Fits, fits-end, fits-leaf, fits-node}
 use Rattle.cfg.specs.Nullable.{Nullable}
 use Rattle.theory_shrinking.proofs.Nullable.{append-empty-left, append-empty-right}
-use Rattle.sets.specs.Set.{has, insert}
+use Rattle.sets.specs.Set.{has}
 use Rattle.sets.proofs.Laws.{has-insert-other}
 use Rattle.grammar.specs.declared.Place.{Place}
 use Rattle.grammar.specs.declared.Rule.{Rule}
@@ -26,17 +26,17 @@ use Rattle.grammar.specs.View.{placeOf, wholeOf}
 use Rattle.grammar.specs.Zero.{noRule}
 use Rattle.grammar.proofs.RuleAt.{rule-at, rule-past}
 use Rattle.load_nullable.specs.Nullable.{symbolKnown, placeKnown, ruleKnown, widen}
-use Rattle.load_nullable.proofs.Pass.{widen-in, widen-out}
+use Rattle.load_nullable.proofs.Pass.{widen-cases}
 
 -- each member is nullable
 abbrev pub Sound : Cfg → ℕ → Type 0
 Sound G known = (k : ℕ) → has k known ≡ true → Nullable G k
 
--- a row over nothing
+-- a forest that covers nothing
 abbrev EmptyForest : Cfg → List Symbol → Type 0
 EmptyForest G places = (t : Forest) × Fits G places t × (yield t ≡ [])
 
--- an empty tree before an empty row
+-- an empty tree before an empty forest
 join : (G : Cfg) {k : ℕ} {u : Forest} {places : List Symbol} → Fits G (nonterminal k ∷ []) u → yield u ≡ [] → EmptyForest G places
     → EmptyForest G (nonterminal k ∷ places)
 unfolding yield
@@ -46,7 +46,7 @@ join G (fits-node {r} {below} {rest} o b s) e t = (
   ap₂ (λ (x y : List ℕ). x ++ y) (append-empty-left (yield below) (yield rest) e) (t .2),
 )
 
--- places that hold members have an empty row
+-- places that hold members have an empty forest
 symbol-row : (G : Cfg) (known : ℕ) → Sound G known → (s : Symbol) → symbolKnown known s ≡ true → {places : List Symbol}
     → EmptyForest G places → EmptyForest G (s ∷ places)
 symbol-row G known sound (nonterminal k) e t = let n = sound k e in join G (n .1 .0) (n .1 .1) t
@@ -80,19 +80,11 @@ module _ (g : Grammar) (size : length (g .rules) ≡ maxRules) (valid : validGra
       (node i (t .0) end, (fits-node o (t .1) fits-end, append-nil (yield (t .0)) ∙ t .2))
 
   pub widen-sound : (known i : ℕ) → Sound (wholeOf g) known → i < g .count → Sound (wholeOf g) (widen (getD (g .rules) i noRule) known)
-  widen-sound known i sound h = go (ruleKnown known r) refl
-    where
-      r : Rule
-      r = getD (g .rules) i noRule
-
-      inserted : ruleKnown known r ≡ true → (k : ℕ) → has k (insert (r .left) known) ≡ true → Nullable (wholeOf g) k
-      inserted e k m = dite (ℕ-discrete k (r .left))
-          (λ p. subst (Nullable (wholeOf g)) (sym p) (rule-nullable known i sound h e))
-          (λ n. sound k (sym (has-insert-other k (r .left) known n) ∙ m))
-
-      go : (b : Bool) → ruleKnown known r ≡ b → Sound (wholeOf g) (widen r known)
-      go true e = subst (Sound (wholeOf g)) (widen-in known r true (sym e) refl) (inserted e)
-      go false e = subst (Sound (wholeOf g)) (widen-out known r false (sym e) refl) sound
+  widen-sound known i sound h =
+      let r = getD (g .rules) i noRule in
+      widen-cases known r (Sound (wholeOf g)) sound (λ e k m. dite (ℕ-discrete k (r .left))
+      (λ p. subst (Nullable (wholeOf g)) (sym p) (rule-nullable known i sound h e))
+      (λ n. sound k (sym (has-insert-other k (r .left) known n) ∙ m)))
 
   -- each rule whose places hold members has its left side in the set
   abbrev pub Closed : ℕ → Type 0

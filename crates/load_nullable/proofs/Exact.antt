@@ -1,5 +1,5 @@
--- A set to which a pass adds nothing, and whose members are nullable, has exactly the nullable nonterminals: the steps of the loop of the
--- search, with premises as its code gives them. Assumes nothing.
+-- A set to which a pass adds nothing, and whose members are nullable, has exactly the nullable nonterminals. The laws are the steps of the
+-- search's loop, with the premises that the code gives. Assumes nothing.
 use Prim.Native.Nat.{ℕ, zero, suc, _-_, _^_, _≤_, _<_}
 use native.Mathlib.Numerals.{add-one}
 use native.Mathlib.Omega.{arith}
@@ -55,10 +55,7 @@ module _ (g : Grammar) (size : length (g .rules) ≡ maxRules) (valid : validGra
       }
 
   pub searched-falls : (known next : ℕ) → Searched g known next → (next ≡ known → ⊥) → 2 ^ 32 - next < 2 ^ 32 - known
-  searched-falls known next S n =
-      let p = S .passed in
-      let w = S .word in
-      omega (arith, pass-le (take (g .count) (g .rules)) known)
+  searched-falls known next S n = omega (arith, pass-le (take (g .count) (g .rules)) known)
 
   closed-of : (known : ℕ) → pass (take (g .count) (g .rules)) known ≡ known → Closed g size valid known
   closed-of known e i h r =

@@ -1,10 +1,10 @@
--- The search for nullable nonterminals as numbers: a pass keeps the members and the width, a pass that adds nothing says that no rule adds
--- anything, and the steps of the loops, with premises as their code gives them. Assumes nothing.
+-- The search for nullable nonterminals as numbers. A pass keeps the members and the width, and if it adds nothing, no rule adds anything.
+-- Then the steps of the loops, with the premises that the code gives. Assumes nothing.
 use Prim.Native.Nat.{ℕ, zero, suc, _+_, _^_, _≤_, _<_}
 use native.Mathlib.Nat.{le-refl, le-trans, le-antisymm, le-of-suc-le-suc, not-suc-le-zero}
 use native.Mathlib.Numerals.{add-one}
 use native.Mathlib.Omega.{arith}
-use mathlib.Core.Bool.{Bool, true, false, not, and-false}
+use mathlib.Core.Bool.{Bool, true, false, cond, not, and-false}
 use mathlib.Core.List.{List, [], _∷_}
 use mathlib.Core.Path.{_≡_, refl, sym, ap, _∙_}
 use lib.ListN.{length, take, getD}
@@ -34,7 +34,7 @@ place-member known p k b e h = h ∙ sym (ap (λ (s : Symbol). symbolKnown known
 
 -- ---- the places of a rule
 
--- an element that is there and does not pass
+-- an element of the list that does not pass the test
 all-stops : {A : Type 0} (test : A → Bool) (d : A) (l : List A) (n q : ℕ) → q < n → q < length l → test (getD l q d) ≡ false
     → all test (take n l) ≡ false
 unfolding all
@@ -69,21 +69,22 @@ module _ (known : ℕ) (r : Rule) where
   unfolding widen
   widen-out b e t = rw (sym e ∙ t)
 
-  pub widen-le : known ≤ widen r known
-  widen-le = go (ruleKnown known r) refl
+  -- what holds of the set, and of the set with the left side if the places are known, holds of the result
+  pub widen-cases : (P : ℕ → Type 0) → P known → (ruleKnown known r ≡ true → P (insert (r .left) known)) → P (widen r known)
+  unfolding widen
+  widen-cases P old new = go (ruleKnown known r) refl
     where
-      go : (b : Bool) → ruleKnown known r ≡ b → known ≤ widen r known
-      go true e = omega (arith, insert-le (r .left) known, widen-in true (sym e) refl)
-      go false e = omega (arith, widen-out false (sym e) refl)
+      go : (b : Bool) → ruleKnown known r ≡ b → P (cond b (insert (r .left) known) known)
+      go true e = new e
+      go false e = old
+
+  pub widen-le : known ≤ widen r known
+  widen-le = widen-cases (λ (x : ℕ). known ≤ x) (le-refl known) (λ e. insert-le (r .left) known)
 
   pub widen-word : r .left ≤ 31 → known < 2 ^ 32 → widen r known < 2 ^ 32
-  widen-word h l = go (ruleKnown known r) refl
-    where
-      go : (b : Bool) → ruleKnown known r ≡ b → widen r known < 2 ^ 32
-      go true e = omega (arith, insert-lt (r .left) known (omega arith) l, widen-in true (sym e) refl)
-      go false e = omega (arith, widen-out false (sym e) refl)
+  widen-word h l = widen-cases (λ (x : ℕ). x < 2 ^ 32) l (λ e. insert-lt (r .left) known (omega arith) l)
 
-  -- a rule that adds nothing: its left side is in the set where its places are
+  -- a rule that adds nothing has its left side in the set if its places are
   pub widen-same : widen r known ≡ known → ruleKnown known r ≡ true → has (r .left) known ≡ true
   widen-same s e = insert-same→has (r .left) known (widen-in true (sym e) refl ∙ s)
 
@@ -126,7 +127,7 @@ pass-again l i n known s t e f h m k = f ∙ ap (widen (getD l i noRule)) e ∙ 
 pub pass-last : (l : List Rule) (i n known s : ℕ) → s ≡ pass (take i l) known → i ≤ n → n ≤ i → s ≡ pass (take n l) known
 pass-last l i n known s e h k = e ∙ ap (λ (m : ℕ). pass (take m l) known) (le-antisymm h k)
 
--- a pass that adds nothing: no rule adds anything
+-- if a pass adds nothing, no rule adds anything
 pub pass-same : (l : List Rule) (known : ℕ) → pass l known ≡ known → (i : ℕ) → i < length l → widen (getD l i noRule) known ≡ known
 unfolding pass
 pass-same [] known e i h = absurd (not-suc-le-zero h)

@@ -26,7 +26,7 @@ placeKnown known p = symbolKnown known (placeOf p)
 unfoldable pub ruleKnown : ℕ → Rule → Bool
 ruleKnown known r = all (placeKnown known) (take (r .count) (r .places))
 
--- what is known, with the rule's left side where each place of the rule holds a known nonterminal
+-- the known nonterminals, and the rule's left side if each place of the rule holds a known one
 unfoldable pub widen : Rule → ℕ → ℕ
 widen r known = cond (ruleKnown known r) (insert (r .left) known) known
 
@@ -35,7 +35,7 @@ unfoldable pub pass : List Rule → ℕ → ℕ
 pass [] known = known
 pass (r ∷ l) known = pass l (widen r known)
 
--- a word whose members are nullable nonterminals of the grammar, and all of them
+-- a word whose members are exactly the nullable nonterminals of the grammar
 pub record ExactNullable (g : Grammar) (known : ℕ) : Type 0 where
   pub word : known < 2 ^ 32
   pub sound : (k : ℕ) → has k known ≡ true → Nullable (wholeOf g) k

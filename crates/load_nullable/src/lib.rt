@@ -39,7 +39,7 @@ pub fn rule_in(rule: Rule, known: u32) -> bool
     true
 }
 
-// What is known, with the rule's left side where each of its places holds a known nonterminal.
+// The known nonterminals, and the rule's left side if each place of the rule holds a known one.
 pub fn widened(rule: Rule, known: u32) -> u32
     requires { ⌜ validRule rule ≡ true ⌝ }
     ensures { λ r. ⌜ r ≡ widen rule known ⌝ }
@@ -52,7 +52,7 @@ pub fn widened(rule: Rule, known: u32) -> u32
     }
 }
 
-// One pass over all rules, each of which finds what those before it added.
+// One pass over all rules. Each rule sees what the rules before it added.
 pub fn nullable_pass(g: Grammar, known: u32) -> u32
     requires { ⌜ validGrammar g ≡ true ⌝ }
     ensures { λ r. ⌜ r ≡ pass (take (g .count) (g .rules)) known ⌝ }
@@ -68,7 +68,7 @@ pub fn nullable_pass(g: Grammar, known: u32) -> u32
     s
 }
 
-// The nullable nonterminals: passes until one adds nothing.
+// The nullable nonterminals, found by passes until one adds nothing.
 pub fn nullable_set(g: Grammar) -> u32
     requires { ⌜ validGrammar g ≡ true ⌝ }
     ensures { λ r. ⌜ ExactNullable g r ⌝ }

@@ -1,4 +1,4 @@
--- Whether a byte of the input fits a place, and membership, by the tests that the code makes. Assumes nothing.
+-- Whether a byte of the input fits a place, and membership in a set, by the tests in the code. Assumes nothing.
 use Prim.Native.Nat.{ℕ, _^_, _≤_, _<_}
 use mathlib.Core.Bool.{Bool, true, false, cond}
 use mathlib.Core.List.{List}

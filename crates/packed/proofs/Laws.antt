@@ -18,12 +18,12 @@ use Rattle.packed.specs.Packed.{leftIn, placeCount, symbolIn, placesFrom
 
 -- ---- places
 
--- a rule that is there has the count that its byte says
+-- a rule that exists has the count in its byte
 pub count-used : (p : List ℕ) (r : ℕ) → leftIn p r < 32 → placeCount p r ≡ min (getD p (ruleBytes * r + 1) 0) 8
 unfolding placeCount
 count-used p r h = rw (lt-ltb (leftIn p r) 32 h)
 
--- one that is not there has no places
+-- a rule that does not exist has no places
 pub count-unused : (p : List ℕ) (r : ℕ) → 32 ≤ leftIn p r → placeCount p r ≡ 0
 unfolding placeCount
 count-unused p r h = rw (le-ltb (leftIn p r) 32 h)
@@ -31,36 +31,29 @@ count-unused p r h = rw (le-ltb (leftIn p r) 32 h)
 pub count-le : (p : List ℕ) (r : ℕ) → placeCount p r ≤ maxPlaces
 count-le p r = dite (decLt (leftIn p r) 32) (λ h. omega (arith, count-used p r h)) (λ h. omega (arith, count-unused p r (omega arith)))
 
--- what `count` answers: the byte of a rule that is there, 8 where it is larger, and 0 for one that is not
-pub count-small : (p : List ℕ) (r k n : ℕ) → k ≡ leftIn p r → k < 32 → n ≡ getD p (ruleBytes * r + 1) 0 → n < maxPlaces
-    → (n ≡ placeCount p r) × (n ≤ maxPlaces)
-count-small p r k n e h f l = let c = count-used p r (omega arith) in (omega arith, omega arith)
+-- what `count` answers: the byte of a rule that exists, or 8 if the byte is larger; 0 for a rule that does not exist
+module _ (p : List ℕ) (r k : ℕ) (e : k ≡ leftIn p r) where
+  pub count-small : (n : ℕ) → k < 32 → n ≡ getD p (ruleBytes * r + 1) 0 → n < maxPlaces → n ≡ placeCount p r
+  count-small n h f l = omega (arith, count-used p r (omega arith))
 
-pub count-large : (p : List ℕ) (r k n : ℕ) → k ≡ leftIn p r → k < 32 → n ≡ getD p (ruleBytes * r + 1) 0 → maxPlaces ≤ n
-    → (8 ≡ placeCount p r) × (maxPlaces ≤ maxPlaces)
-count-large p r k n e h f l = let c = count-used p r (omega arith) in (omega arith, omega arith)
+  pub count-large : (n : ℕ) → k < 32 → n ≡ getD p (ruleBytes * r + 1) 0 → maxPlaces ≤ n → 8 ≡ placeCount p r
+  count-large n h f l = omega (arith, count-used p r (omega arith))
 
-pub count-none : (p : List ℕ) (r k : ℕ) → k ≡ leftIn p r → 32 ≤ k → (0 ≡ placeCount p r) × (0 ≤ maxPlaces)
-count-none p r k e h = let c = count-unused p r (omega arith) in (omega arith, omega arith)
+  pub count-none : 32 ≤ k → 0 ≡ placeCount p r
+  count-none h = omega (arith, count-unused p r (omega arith))
 
 pub places-step : (p : List ℕ) (r q : ℕ) → q < placeCount p r
     → placesFrom p r q (placeCount p r - q) ≡ symbolIn p r q ∷ placesFrom p r (suc q) (placeCount p r - suc q)
 unfolding placesFrom
-places-step p r q h =
-    let e : placeCount p r - q ≡ suc (placeCount p r - suc q) = omega arith in
-    ap (placesFrom p r q) e
+places-step p r q h = ap (placesFrom p r q) {x = placeCount p r - q} {y = suc (placeCount p r - suc q)} (omega arith)
 
 pub places-end : (p : List ℕ) (r q : ℕ) → placeCount p r ≤ q → placesFrom p r q (placeCount p r - q) ≡ []
 unfolding placesFrom
-places-end p r q h =
-    let e : placeCount p r - q ≡ 0 = omega arith in
-    ap (placesFrom p r q) e
+places-end p r q h = ap (placesFrom p r q) {x = placeCount p r - q} {y = 0} (omega arith)
 
 pub places-start : (p : List ℕ) (r : ℕ) → placesFrom p r 0 (placeCount p r - 0) ≡ placesIn p r
 unfolding placesIn
-places-start p r =
-    let e : placeCount p r - 0 ≡ placeCount p r = omega arith in
-    ap (placesFrom p r 0) e
+places-start p r = ap (placesFrom p r 0) (omega arith)
 
 -- ---- one rule
 
@@ -89,12 +82,8 @@ used-rule p r ρ e = go (ltb (leftIn p r) 32) refl e
 rules-at : (p : List ℕ) (n a r : ℕ) → r < n → getElem? (packedRules p a n) r ≡ some (ruleIn p (a + r))
 unfolding packedRules
 rules-at p zero a r h = absurd (omega arith)
-rules-at p (suc n) a zero h =
-    let e : a ≡ a + 0 = omega arith in
-    ap (λ (x : ℕ). some (ruleIn p x)) e
-rules-at p (suc n) a (suc r) h =
-    let e : suc a + r ≡ a + suc r = omega arith in
-    rules-at p n (suc a) r (omega arith) ∙ ap (λ (x : ℕ). some (ruleIn p x)) e
+rules-at p (suc n) a zero h = ap (λ (x : ℕ). some (ruleIn p x)) (omega arith)
+rules-at p (suc n) a (suc r) h = rules-at p n (suc a) r (omega arith) ∙ ap (λ (x : ℕ). some (ruleIn p x)) {x = suc a + r} (omega arith)
 
 rules-past : (p : List ℕ) (n a r : ℕ) → n ≤ r → getElem? (packedRules p a n) r ≡ none
 unfolding packedRules
@@ -105,9 +94,7 @@ rules-past p (suc n) a (suc r) h = rules-past p n (suc a) r (omega arith)
 module _ (s : ℕ) (p : List ℕ) where
   pub rule-in : (r : ℕ) → r < maxRules → rule (cfgIn s p) r ≡ ruleIn p r
   unfolding cfgIn rulesIn joined
-  rule-in r h =
-      let e : 0 + r ≡ r = omega arith in
-      ap joined (rules-at p maxRules 0 r h) ∙ ap (ruleIn p) e
+  rule-in r h = ap joined (rules-at p maxRules 0 r h) ∙ ap (ruleIn p) {x = 0 + r} (omega arith)
 
   pub rule-in-past : (r : ℕ) → maxRules ≤ r → rule (cfgIn s p) r ≡ none
   unfolding cfgIn rulesIn joined
@@ -117,13 +104,11 @@ module _ (s : ℕ) (p : List ℕ) where
 
   pub of-in : (r k : ℕ) (o : Of (cfgIn s p) r k)
       → (r < maxRules) × (leftIn p r ≡ k) × (leftIn p r < 32) × (o .the .places ≡ placesIn p r)
-  of-in r k o = go (decLt r maxRules)
-    where
-      go : Dec (r < maxRules) → (r < maxRules) × (leftIn p r ≡ k) × (leftIn p r < 32) × (o .the .places ≡ placesIn p r)
-      go (yes h) =
-          let u = used-rule p r (o .the) (sym (rule-in r h) ∙ o .here) in
-          (h, ap (λ (ρ : Rule). ρ .left) (u .1) ∙ o .left, u .0, sym (ap (λ (ρ : Rule). ρ .places) (u .1)))
-      go (no h) = absurd (Option·none-ne-some (o .the) (sym (rule-in-past r (omega arith)) ∙ o .here))
+  of-in r k o = dite (decLt r maxRules)
+      (λ h.
+      let u = used-rule p r (o .the) (sym (rule-in r h) ∙ o .here) in
+      (h, ap (λ (ρ : Rule). ρ .left) (u .1) ∙ o .left, u .0, sym (ap (λ (ρ : Rule). ρ .places) (u .1))))
+      (λ h. absurd (Option·none-ne-some (o .the) (sym (rule-in-past r (omega arith)) ∙ o .here)))
 
   unfoldable pub in-of : (r k : ℕ) → r < maxRules → leftIn p r ≡ k → leftIn p r < 32 → Of (cfgIn s p) r k
   in-of r k h e l = record { the = rowRule p r; here = rule-in r h ∙ rule-used p r l; left = e }

@@ -1,4 +1,4 @@
--- The laws of packed grammars. What others cite: Laws.
+-- The laws of packed grammars.
 pub mod Laws
 pub mod Fitting
 pub mod Used

@@ -1,5 +1,5 @@
--- A packed grammar has as many bytes for each of 128 rules: the left side (32 or more: no rule of this number), the number of places,
--- and for each of 8 places a tag (0 a nonterminal, else a terminal) and a value. What such bytes mean. Assumes nothing.
+-- What the bytes of a packed grammar mean. Each of its 128 rules has the same number of bytes: the left side (32 or more: there is no such
+-- rule), the number of places, and for each of 8 places a tag (0: nonterminal, else terminal) and a value. Assumes nothing.
 use Prim.Native.Nat.{ℕ, zero, suc, _+_, _*_, _<_, min}
 use mathlib.Core.Bool.{Bool, false, cond}
 use mathlib.Core.List.{List, [], _∷_}
@@ -22,11 +22,11 @@ packedSize = maxRules * ruleBytes
 unfoldable pub leftIn : List ℕ → ℕ → ℕ
 leftIn p r = getD p (ruleBytes * r) 0
 
--- the rules that are used are below a number
+-- the used rules are below this number
 abbrev pub Used : List ℕ → ℕ → Type 0
 Used p rules = (r : ℕ) → r < maxRules → leftIn p r < 32 → r < rules
 
--- the number of places of rule r, 8 at most; none where there is no such rule
+-- the number of places of rule r: at most 8, and none if there is no such rule
 unfoldable pub placeCount : List ℕ → ℕ → ℕ
 placeCount p r = cond (ltb (leftIn p r) 32) (min (getD p (ruleBytes * r + 1) 0) maxPlaces) 0
 
@@ -42,7 +42,7 @@ valueIn p r q = getD p (ruleBytes * r + 3 + 2 * q) 0
 unfoldable pub isNonterminalIn : List ℕ → ℕ → ℕ → Bool
 isNonterminalIn p r q = eqb (tagIn p r q) 0
 
--- the terminal in place q of rule r, where it holds one
+-- the terminal in place q of rule r, if it holds one
 unfoldable pub terminalIn : List ℕ → ℕ → ℕ → Terminal
 terminalIn p r q = byte (valueIn p r q)
 
@@ -76,7 +76,7 @@ rulesIn p = packedRules p 0 maxRules
 unfoldable pub cfgIn : ℕ → List ℕ → Cfg
 cfgIn s p = record { start = s; rules = rulesIn p }
 
--- whether the byte at position i of the input fits a symbol: never a nonterminal
+-- whether the byte at position i of the input fits a symbol, which a nonterminal never does
 unfoldable pub fitsPlace : List ℕ → Symbol → ℕ → Bool
 fitsPlace w (nonterminal k) i = false
 fitsPlace w (terminal t) i = fitsAt w i t

@@ -1,4 +1,4 @@
-// The flat copy of a grammar for inner loops, which loops and recursion take by reference.
+// The flat copy of a grammar for inner loops. Loops and recursion take it by reference.
 use numbers::wide_byte;
 ghost use mathlib.Core.Path.{_≡_};
 ghost use Prim.Native.Nat.{_<_, _≤_};
@@ -19,7 +19,7 @@ pub fn tied_size() -> usize
     PACKED_SIZE
 }
 
-// The left side of rule r: 32 or more where there is no such rule.
+// The left side of rule r, or a number from 32 on if there is no such rule.
 pub fn left(p: &Packed, r: usize) -> usize
     requires { ⌜ r < maxRules ⌝ }
     ensures { λ k. ⌜ k ≡ leftIn (now (p .entry)) r ⌝ }
@@ -27,7 +27,7 @@ pub fn left(p: &Packed, r: usize) -> usize
     wide_byte(p[RULE_BYTES * r])
 }
 
-// A number that no used rule reaches: one past the last of them.
+// A number above that of every used rule: one past the last of them.
 pub fn rule_count(p: &Packed) -> usize
     ensures { λ m. ⌜ (m ≤ maxRules) × Used (now (p .entry)) m ⌝ }
 {
@@ -42,7 +42,7 @@ pub fn rule_count(p: &Packed) -> usize
     m
 }
 
-// How many places rule r has: none where there is no such rule, so that loops pass it over.
+// How many places rule r has: none if there is no such rule, so that loops pass over it.
 pub fn count(p: &Packed, r: usize) -> usize
     requires { ⌜ r < maxRules ⌝ }
     ensures { λ n. ⌜ (n ≡ placeCount (now (p .entry)) r) × (n ≤ 8) ⌝ }
@@ -86,7 +86,7 @@ pub fn contains(word: u32, k: usize) -> bool
     }
 }
 
-// Whether the byte at position i of the input fits place q of rule r. The only reading of the input.
+// Whether the byte at position i of the input fits place q of rule r. Only this function reads the input.
 pub fn fits_at(p: &Packed, r: usize, q: usize, w: &[u8], i: usize) -> bool
     requires { ⌜ (r < maxRules) × (q < maxPlaces) ⌝ }
     ensures { λ b. ⌜ b ≡ fitsPlace (now (w .entry)) (symbolIn (now (p .entry)) r q) i ⌝ }

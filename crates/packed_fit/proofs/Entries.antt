@@ -1,8 +1,8 @@
--- Entries of a fit table as they are written: one more place of one position, and what was written in two goes. Assumes nothing.
+-- Entries of a fit table while they are written: one more place at one position, and two writes one after the other. Assumes nothing.
 use Prim.Native.Nat.{ℕ, _+_, _*_, _<_}
 use mathlib.Core.Bool.{Bool, true, false}
 use mathlib.Core.List.{List}
-use mathlib.Core.Logic.{_⊎_, inl, inr}
+use mathlib.Core.Logic.{_⊎_, ⊎-elim}
 use mathlib.Core.Path.{_≡_, refl, sym, ap, _∙_}
 use native.Mathlib.Decide.{ℕ-discrete}
 use native.Mathlib.Omega.{arith}
@@ -26,35 +26,27 @@ module _ (p w : List ℕ) where
   pub put-none : (asked : Asked) (t : List ℕ) → length t ≡ fitSize → ((i r q : ℕ) → asked i r q → ⊥) → FitPut p w asked t t
   put-none asked t long none = record { long = long; here = λ i r q l m a. absurd (none i r q a); other = λ i r q l m n. refl }
 
-  -- one go and then another that asks nothing of the first; all says of each entry in which of them it is
+  -- one write and then another of other entries; split says for each entry in which of the two it is
   pub put-then : (first second both : Asked) (t t' t'' : List ℕ) → FitPut p w first t t' → FitPut p w second t' t''
       → ((i r q : ℕ) → both i r q → (first i r q × (second i r q → ⊥)) ⊎ (second i r q × (first i r q → ⊥)))
       → ((i r q : ℕ) → first i r q → both i r q) → ((i r q : ℕ) → second i r q → both i r q) → FitPut p w both t t''
-  put-then first second both t t' t'' a b split left right =
-      record {
-        long = b .long;
-        here = λ i r q l m x e. go i r q l m e (split i r q x);
-        other = λ i r q l m n. b .other i r q l m (λ x. n (right i r q x)) ∙ a .other i r q l m (λ x. n (left i r q x));
-      }
-    where
-      go : (i r q : ℕ) → i < maxInput → r < maxRules → fitIn t i r q ≡ false
-          → (first i r q × (second i r q → ⊥)) ⊎ (second i r q × (first i r q → ⊥)) → fitIn t'' i r q ≡ fitsPlace w (symbolIn p r q) i
-      go i r q l m e (inl x) = b .other i r q l m (x .1) ∙ a .here i r q l m (x .0) e
-      go i r q l m e (inr x) = b .here i r q l m (x .0) (a .other i r q l m (x .1) ∙ e)
+  put-then first second both t t' t'' a b split left right = record {
+    long = b .long;
+    here = λ i r q l m x e. ⊎-elim
+        (λ y. b .other i r q l m (y .1) ∙ a .here i r q l m (y .0) e)
+        (λ y. b .here i r q l m (y .0) (a .other i r q l m (y .1) ∙ e)) (split i r q x);
+    other = λ i r q l m n. b .other i r q l m (λ x. n (right i r q x)) ∙ a .other i r q l m (λ x. n (left i r q x));
+  }
 
   -- ---- one entry
 
   module _ (r q i : ℕ) (below : r < maxRules) (low : i < maxInput) (t : List ℕ) (long : length t ≡ fitSize) where
     pub unfit : (b : Bool) → b ≡ fitsPlace w (symbolIn p r q) i → b ≡ false → FitPut p w (At i r q) t t
-    unfit b e f =
-        record {
-          long = long;
-          here = λ a s j l m x z. z ∙ sym f ∙ e ∙ sym (at a s j x);
-          other = λ a s j l m n. refl;
-        }
-      where
-        at : (a s j : ℕ) → At i r q a s j → fitsPlace w (symbolIn p s j) a ≡ fitsPlace w (symbolIn p r q) i
-        at a s j (x, y, z) = rw (x, y, z)
+    unfit b e f = record {
+      long = long;
+      here = λ a s j l m x z. z ∙ sym f ∙ e ∙ rw (x .0, x .1, x .2);
+      other = λ a s j l m n. refl;
+    }
 
     module _ (v : ℕ) (b : Bool) (g : v ≡ insert q (entryIn t i r)) (e : b ≡ fitsPlace w (symbolIn p r q) i) (f : b ≡ true) where
       abbrev new : List ℕ
@@ -65,17 +57,13 @@ module _ (p w : List ℕ) where
 
       pub fitted : FitPut p w (At i r q) t new
       unfolding fitIn
-      fitted =
-          record {
-            long = length-set t (maxRules * i + r) v ∙ long;
-            here = here;
-            other = λ a s j. other a s j (ℕ-discrete (maxRules * a + s) (maxRules * i + r));
-          }
+      fitted = record {
+        long = length-set t (maxRules * i + r) v ∙ long;
+        here = λ a s j l m x _.
+            rw (x .0, x .1, x .2) (ap (has q) (new-here ∙ g) ∙ has-insert-same q (entryIn t i r) ∙ sym f ∙ e);
+        other = λ a s j. other a s j (ℕ-discrete (maxRules * a + s) (maxRules * i + r));
+      }
         where
-          here : (a s j : ℕ) → a < maxInput → s < maxRules → At i r q a s j → fitIn t a s j ≡ false
-              → fitIn new a s j ≡ fitsPlace w (symbolIn p s j) a
-          here a s j l m (x, y, z) _ = rw (x, y, z) (ap (has q) (new-here ∙ g) ∙ has-insert-same q (entryIn t i r) ∙ sym f ∙ e)
-
           other : (a s j : ℕ) → Dec (maxRules * a + s ≡ maxRules * i + r) → a < maxInput → s < maxRules → (At i r q a s j → ⊥)
               → fitIn new a s j ≡ fitIn t a s j
           other a s j (yes d) l m n =

@@ -1,22 +1,16 @@
--- What a fit table tells. Assumes nothing.
+-- What a fit table says. Assumes nothing.
 use Prim.Native.Nat.{ℕ, _≤_}
-use mathlib.Core.Bool.{Bool}
 use mathlib.Core.List.{List}
-use mathlib.Core.Path.{_≡_, ap, _∙_}
+use mathlib.Core.Path.{ap, _∙_}
 use native.Mathlib.Omega.{arith}
 use Rattle.sizes.specs.Sizes.{maxInput}
-use Rattle.sets.specs.Set.{has}
 use Rattle.cfg.specs.Grammar.{Symbol}
 use Rattle.chart.specs.Cell.{fitsAt}
 use Rattle.packed.specs.Packed.{fitsPlace}
 use Rattle.packed.proofs.Fitting.{symbol-terminal}
-use Rattle.packed_fit.specs.Fit.{entryIn, fitIn, Told, FitTold}
+use Rattle.packed_fit.specs.Fit.{fitIn, Told, FitTold}
 
-pub fit-read : (t : List ℕ) (i r q v : ℕ) (b : Bool) → v ≡ entryIn t i r → b ≡ has q v → b ≡ fitIn t i r q
-unfolding fitIn
-fit-read t i r q v b e f = f ∙ ap (has q) e
-
--- the fit table of an input tells what fits its bytes
+-- the fit table of an input says what fits its bytes
 pub fit-told : (p w t : List ℕ) (n : ℕ) → n ≤ maxInput → Told p w t → FitTold (fitsAt w) p t n
 unfolding fitIn fitsPlace
 fit-told p w t n h told i r q l m c e =

@@ -1,4 +1,4 @@
-// The fit table: which places of which rules fit which positions of an input. Made once for a call; nothing below it reads the input.
+// The fit table: which places of which rules fit which positions of an input. It is made once for a call, and nothing else reads the input.
 use packed::Packed;
 ghost use mathlib.Core.Path.{_≡_};
 ghost use Prim.Native.Nat.{_<_, _≤_};
@@ -26,7 +26,7 @@ pub fn wide_word(x: u8) -> u32
     x as u32
 }
 
-// How many positions of an input are told: all, 64 at most.
+// How many positions of an input the table has: all, but at most 64.
 fn positions(n: usize) -> usize
     ensures { λ m. ⌜ Positions n m ⌝ }
 {
@@ -45,7 +45,7 @@ fn with_place(x: u8, q: usize) -> u8
     sets::with(wide_word(x), q) as u8
 }
 
-// Tells of place q of rule r whether it fits position i.
+// Writes whether place q of rule r fits position i.
 fn put_at(p: &Packed, r: usize, q: usize, w: &[u8], i: usize, t: &mut FitTable)
     requires { ⌜ (r < maxRules) × (q < maxPlaces) × (i < maxInput) × (length (now t) ≡ fitSize) ⌝ }
     ensures { λ _. ⌜ FitPut (now (p .entry)) (now (w .entry)) (At i r q) (now (t .entry)) (now (t .exit)) ⌝ }
@@ -55,7 +55,7 @@ fn put_at(p: &Packed, r: usize, q: usize, w: &[u8], i: usize, t: &mut FitTable)
     }
 }
 
-// Tells of place q of rule r which of n positions it fits.
+// Writes which of n positions place q of rule r fits.
 fn write_place(p: &Packed, r: usize, q: usize, w: &[u8], n: usize, t: &mut FitTable)
     requires { ⌜ (r < maxRules) × (q < maxPlaces) × (n ≤ maxInput) × (length (now t) ≡ fitSize) ⌝ }
     ensures { λ _. ⌜ FitPut (now (p .entry)) (now (w .entry)) (AtPlace n r q) (now (t .entry)) (now (t .exit)) ⌝ }
@@ -67,7 +67,7 @@ fn write_place(p: &Packed, r: usize, q: usize, w: &[u8], n: usize, t: &mut FitTa
     }
 }
 
-// The same; a nonterminal fits no position.
+// The same, without a loop for a nonterminal, which fits no position.
 fn put_place(p: &Packed, r: usize, q: usize, w: &[u8], n: usize, t: &mut FitTable)
     requires { ⌜ (r < maxRules) × (q < maxPlaces) × (n ≤ maxInput) × (length (now t) ≡ fitSize) ⌝ }
     ensures { λ _. ⌜ FitPut (now (p .entry)) (now (w .entry)) (AtPlace n r q) (now (t .entry)) (now (t .exit)) ⌝ }
@@ -78,10 +78,12 @@ fn put_place(p: &Packed, r: usize, q: usize, w: &[u8], n: usize, t: &mut FitTabl
     write_place(p, r, q, w, n, t);
 }
 
-// Tells of the places of rule r which of n positions they fit.
+// Writes which of n positions the places of rule r fit.
 fn write_rule(p: &Packed, r: usize, w: &[u8], n: usize, t: &mut FitTable)
     requires { ⌜ (r < maxRules) × (n ≤ maxInput) × (length (now t) ≡ fitSize) ⌝ }
-    ensures { λ _. ⌜ FitPut (now (p .entry)) (now (w .entry)) (AtRule n r (placeCount (now (p .entry)) r)) (now (t .entry)) (now (t .exit)) ⌝ }
+    ensures { λ _.
+        ⌜ FitPut (now (p .entry)) (now (w .entry)) (AtRule n r (placeCount (now (p .entry)) r))
+        (now (t .entry)) (now (t .exit)) ⌝ }
 {
     let count = packed::count(p, r);
     let mut q = 0;
@@ -91,7 +93,7 @@ fn write_rule(p: &Packed, r: usize, w: &[u8], n: usize, t: &mut FitTable)
     }
 }
 
-// The fit table of a grammar and an input. Of an input longer than 64 bytes the first 64 positions are told.
+// The fit table of a grammar and an input. For an input longer than 64 bytes it has the first 64 positions.
 pub fn table(p: &Packed, w: &[u8]) -> FitTable
     ensures { λ t. ⌜ Told (now (p .entry)) (now (w .entry)) t ⌝ }
 {

@@ -1,16 +1,15 @@
 -- Writing a declared rule into row r of a packed grammar, place by place. Assumes nothing.
-use Prim.Native.Nat.{ℕ, zero, suc, _+_, _*_, _≤_, _<_, min}
+use Prim.Native.Nat.{ℕ, zero, suc, _+_, _*_, _≤_, _<_}
 use mathlib.Core.Bool.{true, cond}
 use mathlib.Core.List.{List, _∷_, map}
 use mathlib.Core.Logic.{_≢_}
-use mathlib.Core.Option.{none, some}
 use mathlib.Core.Path.{_≡_, refl, sym, ap, _∙_}
-use native.Mathlib.Decide.{ℕ-discrete}
 use native.Mathlib.Omega.{arith}
-use lib.Dec.{eqb, ltb}
+use lib.Dec.{eqb}
 use lib.ListN.{length, getD, take, drop, set, length-set}
 use lib.Seq.{getD-set-same, getD-set-other, drop-cons}
 use Rattle.sizes.specs.Sizes.{maxRules, maxPlaces}
+use Rattle.laws.proofs.Lists.{below-step}
 use Rattle.cfg.specs.Grammar as Abstract
 use Rattle.grammar.specs.declared.Symbol.{Symbol}
 use Rattle.grammar.specs.declared.Symbol.the-variants.{Nonterminal, Terminal}
@@ -32,7 +31,7 @@ two-bytes : (s : Symbol) (t v : ℕ) → t ≡ tagOf s → v ≡ valueOf s
 two-bytes (Nonterminal k) t v e f = rw (e, f)
 two-bytes (Terminal m) t v e f = rw (e, f)
 
--- p is p₀ but for row r, which has the left side, the count and the first q places of the rule
+-- p is p₀ except for row r, which has the left side, the count and the first q places of the rule
 pub record Row (ρ : Rule) (r q : ℕ) (p₀ p : List ℕ) : Type 0 where
   pub long : length p ≡ packedSize
   pub left : leftIn p r ≡ ρ .left
@@ -66,14 +65,13 @@ headed-other p r left count s b d h =
 module _ (ρ : Rule) (r : ℕ) (low : r < maxRules) where
   pub row-start : (p : List ℕ) → length p ≡ packedSize → Row ρ r 0 (headed p r (ρ .left) (ρ .count)) (headed p r (ρ .left) (ρ .count))
   unfolding leftIn
-  row-start p e =
-      record {
-        long = two-length p (ruleBytes * r) (ρ .left) (ruleBytes * r + 1) (ρ .count) ∙ e;
-        left = two-first p (ruleBytes * r) (ρ .left) (ruleBytes * r + 1) (ρ .count) (omega arith) (omega arith);
-        count = two-second p (ruleBytes * r) (ρ .left) (ruleBytes * r + 1) (ρ .count) (omega arith);
-        places = λ k h. absurd (omega arith);
-        other = λ s b d h. refl;
-      }
+  row-start p e = record {
+    long = two-length p (ruleBytes * r) (ρ .left) (ruleBytes * r + 1) (ρ .count) ∙ e;
+    left = two-first p (ruleBytes * r) (ρ .left) (ruleBytes * r + 1) (ρ .count) (omega arith) (omega arith);
+    count = two-second p (ruleBytes * r) (ρ .left) (ruleBytes * r + 1) (ρ .count) (omega arith);
+    places = λ k h. absurd (omega arith);
+    other = λ s b d h. refl;
+  }
 
   module _ (p₀ p : List ℕ) (q t v : ℕ) (few : q < maxPlaces) (row : Row ρ r q p₀ p)
       (et : t ≡ tagOf (getD (ρ .places) q zeroPlace .symbol)) (ev : v ≡ valueOf (getD (ρ .places) q zeroPlace .symbol)) where
@@ -96,27 +94,16 @@ module _ (ρ : Rule) (r : ℕ) (low : r < maxRules) where
     place-other k h =
         rw (stays (ruleBytes * r + 2 + 2 * k) (omega arith) (omega arith), stays (ruleBytes * r + 3 + 2 * k) (omega arith) (omega arith))
 
-    places-more : (k : ℕ) → k < q + 1 → symbolIn next r k ≡ placeOf (getD (ρ .places) k zeroPlace)
-    places-more k h = go (ℕ-discrete k q)
-      where
-        go : Dec (k ≡ q) → symbolIn next r k ≡ placeOf (getD (ρ .places) k zeroPlace)
-        go (yes e) =
-            ap (symbolIn next r) e ∙ place-same ∙ ap (λ (j : ℕ). placeOf (getD (ρ .places) j zeroPlace)) (sym e)
-        go (no e) =
-            let d : k ≢ q = e in
-            let l : k < q = omega arith in
-            place-other k l ∙ row .places k l
-
     pub row-step : Row ρ r (q + 1) p₀ next
     unfolding leftIn
-    row-step =
-        record {
-          long = two-length p (ruleBytes * r + 2 + 2 * q) t (ruleBytes * r + 3 + 2 * q) v ∙ row .long;
-          left = stays (ruleBytes * r) (omega arith) (omega arith) ∙ row .left;
-          count = stays (ruleBytes * r + 1) (omega arith) (omega arith) ∙ row .count;
-          places = places-more;
-          other = λ s b d h. stays (ruleBytes * s + b) (omega arith) (omega arith) ∙ row .other s b d h;
-        }
+    row-step = record {
+      long = two-length p (ruleBytes * r + 2 + 2 * q) t (ruleBytes * r + 3 + 2 * q) v ∙ row .long;
+      left = stays (ruleBytes * r) (omega arith) (omega arith) ∙ row .left;
+      count = stays (ruleBytes * r + 1) (omega arith) (omega arith) ∙ row .count;
+      places = below-step (λ (k : ℕ). symbolIn next r k ≡ placeOf (getD (ρ .places) k zeroPlace)) q
+          (λ k l. place-other k l ∙ row .places k l) place-same;
+      other = λ s b d h. stays (ruleBytes * s + b) (omega arith) (omega arith) ∙ row .other s b d h;
+    }
 
 -- ---- the places written are those of the rule
 
@@ -141,32 +128,23 @@ module _ (p p' : List ℕ) (s : ℕ) (same : (b : ℕ) → b < ruleBytes → get
 
   count-same : placeCount p s ≡ placeCount p' s
   unfolding placeCount
-  count-same =
-      let e = left-same in
-      let f = byte-same (ruleBytes * s + 1) 1 refl (omega arith) in
-      λ i. cond (ltb (e i) 32) (min (f i) 8) 0
+  count-same = rw (left-same, byte-same (ruleBytes * s + 1) 1 refl (omega arith))
 
   symbol-same : (q : ℕ) → q < maxPlaces → symbolIn p s q ≡ symbolIn p' s q
   unfolding symbolIn isNonterminalIn tagIn terminalIn valueIn
-  symbol-same q h =
-      let e = byte-same (ruleBytes * s + 2 + 2 * q) (2 + 2 * q) (omega arith) (omega arith) in
-      let f = byte-same (ruleBytes * s + 3 + 2 * q) (3 + 2 * q) (omega arith) (omega arith) in
-      rw (e, f)
+  symbol-same q h = rw (
+    byte-same (ruleBytes * s + 2 + 2 * q) (2 + 2 * q) (omega arith) (omega arith),
+    byte-same (ruleBytes * s + 3 + 2 * q) (3 + 2 * q) (omega arith) (omega arith),
+  )
 
   places-same : (n q : ℕ) → q + n ≤ maxPlaces → placesFrom p s q n ≡ placesFrom p' s q n
   unfolding placesFrom
   places-same zero q h = refl
-  places-same (suc n) q h =
-      let e = symbol-same q (omega arith) in
-      let f = places-same n (suc q) (omega arith) in
-      λ i. e i ∷ f i
+  places-same (suc n) q h = rw (symbol-same q (omega arith), places-same n (suc q) (omega arith))
 
   row-same : ruleIn p s ≡ ruleIn p' s
   unfolding ruleIn placesIn
-  row-same =
-      let e = left-same in
-      let f = places-same (placeCount p s) 0 (omega (arith, count-le p s)) ∙ ap (placesFrom p' s 0) count-same in
-      λ i. cond (ltb (e i) 32) (some (record { left = e i; places = f i })) none
+  row-same = rw (left-same, places-same (placeCount p s) 0 (omega (arith, count-le p s)), count-same)
 
 -- ---- the whole rule
 
@@ -174,8 +152,7 @@ module _ (ρ : Rule) (r q : ℕ) (p₀ p : List ℕ) (full : length (ρ .places)
     (row : Row ρ r q (headed p₀ r (ρ .left) (ρ .count)) p) where
   count-is : placeCount p r ≡ ρ .count
   count-is =
-      let c = count-used p r (omega (arith, row .left, rule-parts ρ valid .0)) in
-      omega (arith, c, row .count, rule-parts ρ valid .1)
+      omega (arith, count-used p r (omega (arith, row .left, rule-parts ρ valid .0)), row .count, rule-parts ρ valid .1)
 
   places-done : placesIn p r ≡ map placeOf (take (ρ .count) (ρ .places))
   unfolding placesIn
@@ -184,13 +161,11 @@ module _ (ρ : Rule) (r q : ℕ) (p₀ p : List ℕ) (full : length (ρ .places)
       ∙ places-are (ρ .places) p r (ρ .count) 0 (omega (arith, rule-parts ρ valid .1)) (λ k l. row .places k (omega arith))
 
   rule-done : ruleIn p r ≡ ruleOf ρ
-  rule-done =
-      let e = row .left in
-      let f = places-done in
-      rule-used p r (omega (arith, row .left, rule-parts ρ valid .0)) ∙ λ i. some (record { left = e i; places = f i })
+  rule-done = rule-used p r (omega (arith, row .left, rule-parts ρ valid .0)) ∙ rw (row .left, places-done)
 
   pub row-done : RulePacked ρ r p₀ p
-  row-done = record { long = row .long; here = rule-done; other = other }
-    where
-      other : (s : ℕ) → s ≢ r → ruleIn p s ≡ ruleIn p₀ s
-      other s d = row-same p p₀ s (λ b l. row .other s b d l ∙ headed-other p₀ r (ρ .left) (ρ .count) s b d l)
+  row-done = record {
+    long = row .long;
+    here = rule-done;
+    other = λ s d. row-same p p₀ s (λ b l. row .other s b d l ∙ headed-other p₀ r (ρ .left) (ρ .count) s b d l);
+  }

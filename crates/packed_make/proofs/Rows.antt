@@ -2,13 +2,13 @@
 use Prim.Native.Nat.{ℕ, _+_, _*_, _≤_, _<_}
 use mathlib.Core.Bool.{true}
 use mathlib.Core.List.{List}
-use mathlib.Core.Logic.{_≢_}
 use mathlib.Core.Option.{none}
-use mathlib.Core.Path.{_≡_, sym, ap, _∙_}
-use native.Mathlib.Decide.{decLt, ℕ-discrete}
+use mathlib.Core.Path.{_≡_, sym, _∙_}
+use native.Mathlib.Decide.{decLt}
 use native.Mathlib.Omega.{arith}
 use lib.ListN.{length, getD, replicate, length-replicate, getD-replicate}
 use Rattle.sizes.specs.Sizes.{maxRules}
+use Rattle.laws.proofs.Lists.{below-step}
 use Rattle.cfg.specs.Grammar.{rule}
 use Rattle.grammar.specs.declared.Grammar.{Grammar}
 use Rattle.grammar.specs.Valid.{validGrammar}
@@ -34,31 +34,23 @@ all-unused n k e h =
 
 -- any number of bytes, so that nothing computes
 rows-of : (g : Grammar) (n : ℕ) → n ≡ packedSize → Rows g 0 (replicate n 255)
-rows-of g n e =
-    record {
-      long = length-replicate {A = ℕ} n 255 ∙ e;
-      done = λ k h. absurd (omega arith);
-      unused = λ k _ h. all-unused n k e h;
-    }
+rows-of g n e = record {
+  long = length-replicate {A = ℕ} n 255 ∙ e;
+  done = λ k h. absurd (omega arith);
+  unused = λ k _ h. all-unused n k e h;
+}
 
 pub rows-start : (g : Grammar) → Rows g 0 (replicate packedSize 255)
 rows-start g = rows-of g packedSize (λ i. packedSize)
 
 module _ (g : Grammar) where
   pub rows-step : (r : ℕ) (p p' : List ℕ) → Rows g r p → RulePacked (getD (g .rules) r noRule) r p p' → Rows g (r + 1) p'
-  rows-step r p p' rows put = record { long = put .long; done = done; unused = unused }
-    where
-      done : (k : ℕ) → k < r + 1 → ruleIn p' k ≡ ruleOf (getD (g .rules) k noRule)
-      done k h = go (ℕ-discrete k r)
-        where
-          go : Dec (k ≡ r) → ruleIn p' k ≡ ruleOf (getD (g .rules) k noRule)
-          go (yes e) = ap (ruleIn p') e ∙ put .here ∙ ap (λ (j : ℕ). ruleOf (getD (g .rules) j noRule)) (sym e)
-          go (no e) =
-              let d : k ≢ r = e in
-              put .other k d ∙ rows .done k (omega arith)
-
-      unused : (k : ℕ) → r + 1 ≤ k → k < maxRules → ruleIn p' k ≡ none
-      unused k h l = put .other k (omega arith) ∙ rows .unused k (omega arith) l
+  rows-step r p p' rows put = record {
+    long = put .long;
+    done = below-step (λ (k : ℕ). ruleIn p' k ≡ ruleOf (getD (g .rules) k noRule)) r
+        (λ k l. put .other k (omega arith) ∙ rows .done k l) (put .here);
+    unused = λ k h l. put .other k (omega arith) ∙ rows .unused k (omega arith) l;
+  }
 
   pub rows-done : (s r : ℕ) (p : List ℕ) → length (g .rules) ≡ maxRules → validGrammar g ≡ true → r ≤ g .count → g .count ≤ r → Rows g r p
       → (k : ℕ) → rule (cfgIn s p) k ≡ rule (grammarOf g) k
@@ -67,9 +59,5 @@ module _ (g : Grammar) where
       go : Dec (k < g .count) → Dec (k < maxRules) → rule (cfgIn s p) k ≡ rule (grammarOf g) k
       go (yes a) b =
           rule-in s p k (omega (arith, valid-count g valid)) ∙ rows .done k (omega arith) ∙ sym (rule-at g k full valid a)
-      go (no a) (yes b) =
-          let d : g .count ≤ k = omega arith in
-          rule-in s p k b ∙ rows .unused k (omega arith) b ∙ sym (rule-past g k d)
-      go (no a) (no b) =
-          let d : g .count ≤ k = omega arith in
-          rule-in-past s p k (omega arith) ∙ sym (rule-past g k d)
+      go (no a) (yes b) = rule-in s p k b ∙ rows .unused k (omega arith) b ∙ sym (rule-past g k (omega arith))
+      go (no a) (no b) = rule-in-past s p k (omega arith) ∙ sym (rule-past g k (omega arith))

@@ -8,7 +8,7 @@ use Rattle.grammar.specs.declared.Rule.{Rule}
 use Rattle.grammar.specs.View.{ruleOf}
 use Rattle.packed.specs.Packed.{ruleIn, packedSize}
 
--- p is p₀ but for rule r, which is the declared rule
+-- p is p₀ except for rule r, which is the declared rule
 pub record RulePacked (ρ : Rule) (r : ℕ) (p₀ p : List ℕ) : Type 0 where
   pub long : length p ≡ packedSize
   pub here : ruleIn p r ≡ ruleOf ρ

@@ -1,4 +1,4 @@
-// Makes the flat copy of a declared grammar.
+// Packing: the flat copy of a declared grammar.
 use grammar::Grammar;
 use grammar::Rule;
 use grammar::tagged;

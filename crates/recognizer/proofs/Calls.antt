@@ -1,4 +1,4 @@
--- What opening and taking give, by the checks that the code makes: one law for each way through the code. Assumes nothing.
+-- What opening and taking give, by the checks in the code: one law for each path through the code. Assumes nothing.
 use Prim.Native.Nat.{ℕ, _+_, _≤_, _<_}
 use mathlib.Core.Bool.{Bool, true, false, not}
 use mathlib.Core.List.{List, [], _∷_, _++_}
@@ -50,13 +50,10 @@ was-invalid t v e f = sym e ∙ not-true t f
 pub was-valid : (t v : Bool) → t ≡ v → not t ≡ false → v ≡ true
 was-valid t v e f = sym e ∙ not-false t f
 
--- the answer "complete"
-module _ (chart : List ℕ) (n k s : ℕ) (b : Bool) (start : k ≡ s) (read : b ≡ has k (cell chart 0 n)) where
-  pub says-yes : b ≡ true → answered true ≡ answered (has s (cell chart 0 n))
-  says-yes e = sym (ap answered (ap (λ (x : ℕ). has x (cell chart 0 n)) (sym start) ∙ sym read ∙ e))
-
-  pub says-no : b ≡ false → answered false ≡ answered (has s (cell chart 0 n))
-  says-no e = sym (ap answered (ap (λ (x : ℕ). has x (cell chart 0 n)) (sym start) ∙ sym read ∙ e))
+-- the answer whether the input is complete
+pub says-same : (chart : List ℕ) (n k s : ℕ) (b t : Bool) → k ≡ s → b ≡ has k (cell chart 0 n) → b ≡ t
+    → answered t ≡ answered (has s (cell chart 0 n))
+says-same chart n k s b t start read e = ap answered (sym e ∙ read ∙ ap (λ (x : ℕ). has x (cell chart 0 n)) start)
 
 module _ (g : Grammar) (chart : List ℕ) where
   -- ---- opening

@@ -1,5 +1,5 @@
--- What is known of a state of the recognizer because its type is declared: how long its array is. A need hands this over as a path into the
--- record's fields (`c .good .0`), and here the path has its name. Assumes nothing.
+-- What is known of a state of the recognizer because its type is declared: how long its array is. An obligation has this as a path into the
+-- record's fields (`c .good .0`), and here the path gets a name. Assumes nothing.
 use mathlib.Core.List.{List}
 use mathlib.Core.Path.{_≡_}
 use lib.ListN.{length, length-map}

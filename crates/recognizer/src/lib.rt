@@ -36,7 +36,7 @@ pub struct Advanced {
     pub recognizer: Recognizer,
 }
 
-// The answer "complete", after n bytes.
+// The answer whether the input is complete after n bytes.
 fn says(start: u8, n: usize, chart: &[u32]) -> Verdict
     requires { ⌜ (n ≤ maxInput) × (cells ≤ length (now chart)) ⌝ }
     ensures { λ a. ⌜ verdictOf a ≡ answered (inSet start (cell (now (chart .entry)) 0 n)) ⌝ }
@@ -57,7 +57,7 @@ fn refused(h: Recognizer, r: Refusal) -> Advanced
     }
 }
 
-// Opening, once the checks are passed.
+// Opens, once the checks are passed.
 fn opening(g: Grammar, chart: &mut [u32]) -> Advanced
     requires { ⌜ (validGrammar g ≡ true) × (cells ≤ length (now chart)) ⌝ }
     ensures { λ r. ⌜ recognitionOf r (now (chart .exit)) ≡ openOf g (now (chart .entry)) ⌝ }
@@ -71,7 +71,7 @@ fn opening(g: Grammar, chart: &mut [u32]) -> Advanced
     }
 }
 
-// Opening. Refusals 8 and 10.
+// Opens. Refusals 8 and 10.
 pub fn open(g: Grammar, chart: &mut [u32]) -> Advanced
     ensures { λ r. ⌜ recognitionOf r (now (chart .exit)) ≡ openOf g (now (chart .entry)) ⌝ }
 {
@@ -84,7 +84,7 @@ pub fn open(g: Grammar, chart: &mut [u32]) -> Advanced
     opening(g, chart)
 }
 
-// Taking, once the checks are passed.
+// Takes a byte, once the checks are passed.
 fn taking(h: Recognizer, g: Grammar, byte: u8, chart: &mut [u32]) -> Advanced
     requires { ⌜ (validGrammar g ≡ true) × (h .count < maxInput) × (cells ≤ length (now chart)) ⌝ }
     ensures { λ r. ⌜ recognitionOf r (now (chart .exit)) ≡ takeOf g (stateIn h) byte (now (chart .entry)) ⌝ }
@@ -101,7 +101,7 @@ fn taking(h: Recognizer, g: Grammar, byte: u8, chart: &mut [u32]) -> Advanced
 }
 
 impl Recognizer {
-    // Taking a byte. Refusals 8, 14, 10 and 15.
+    // Takes a byte. Refusals 8, 14, 10 and 15.
     pub fn take(self, g: Grammar, byte: u8, chart: &mut [u32]) -> Advanced
         ensures { λ r. ⌜ recognitionOf r (now (chart .exit)) ≡ takeOf g (stateIn self) byte (now (chart .entry)) ⌝ }
     {

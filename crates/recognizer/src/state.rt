@@ -1,4 +1,4 @@
-// The state of the recognizer: that of no bytes, and that with one byte more.
+// The state of the recognizer: the state without bytes, and the state with one more byte.
 use super::Recognizer;
 ghost use mathlib.Core.List.{[], _∷_, _++_};
 ghost use mathlib.Core.Path.{_≡_};
@@ -18,7 +18,7 @@ pub fn blank() -> Recognizer
     }
 }
 
-// The state with one byte more, and zeros behind it.
+// The state with one more byte, and zeros after it.
 pub fn with_byte(h: Recognizer, byte: u8) -> Recognizer
     requires { ⌜ h .count < maxInput ⌝ }
     ensures { λ r. ⌜ (stateIn r ≡ stateOf (takeFirst (h .count) (h .bytes) ++ (byte ∷ []))) × (r .count ≡ h .count + 1) ⌝ }

@@ -1,4 +1,4 @@
--- `fill_columns::take_all` meets its contract. The loop's invariant: the positions passed are taken, and the columns before them told.
+-- `fill_columns::take_all` meets its contract. The loop's invariant: the positions passed are taken, and the ends before them are known.
 -- The measure is what is left of the positions. Assumes nothing.
 use borrow.Author.Needs.{needs}
 use native.Mathlib.Omega.{arith}

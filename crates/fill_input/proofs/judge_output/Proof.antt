@@ -1,4 +1,4 @@
--- `fill_input::judge_output` meets its contract: a check before 11 that fails refuses, and else the output is judged. Assumes nothing.
+-- `fill_input::judge_output` meets its contract: a check before 11 that fails refuses; else the output is judged. Assumes nothing.
 use native.Mathlib.Omega.{arith}
 use Rattle.fill_input.proofs.Judging.{judge-output-laws}
 use Rattle.fill_input.proofs.judge_output.Statement.{statement}

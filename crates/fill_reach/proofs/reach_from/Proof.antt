@@ -20,5 +20,8 @@ loop-again c = ⊎-elim (λ w. (search needs, search (needs, from-put))) (λ w. 
 
 pub reach-from-spec : {M : Type 1} → statement M
 reach-from-spec = tie.close (tie.spec
-    Inv-loop μ-loop (λ c. omega arith) (λ c. search (needs, from-start)) (λ c. omega arith) (λ c. omega arith) (λ c. omega arith)
-    (λ c. search needs) (λ c κs. search needs) (λ c. omega arith) (λ c. omega arith) loop-again (λ c. search (needs, from-end)))
+    Inv-loop μ-loop (λ c. omega arith) (λ c. search (needs, from-start))
+    -- the cell is read, and its end is added
+    (λ c. omega arith) (λ c. omega arith) (λ c. omega arith) (λ c. search needs) (λ c κs. search needs)
+    -- the next end, and the last
+    (λ c. omega arith) (λ c. omega arith) loop-again (λ c. search (needs, from-end)))

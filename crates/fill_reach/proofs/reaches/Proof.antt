@@ -1,5 +1,5 @@
--- `fill_reach::reaches` meets its contract. The loop's invariant: the sets of the starts passed are right. The measure is what is left of them.
--- Assumes nothing.
+-- `fill_reach::reaches` meets its contract. The loop's invariant: the sets of the starts passed are right.
+-- The measure is what is left of them. Assumes nothing.
 use Prim.Native.Nat.{_-_, _≤_}
 use native.Mathlib.Omega.{arith}
 use borrow.Author.Needs.{needs}

@@ -1,7 +1,8 @@
--- `load::load` meets its contract. The loop's invariant: reading from here comes to what loading comes to, and the grammar read so far is
+-- `load::load` meets its contract. The loop's invariant: reading on from here gives what loading gives, and the grammar read so far is
 -- valid. The measure is what is left of the bytes. Assumes nothing.
 use Prim.Native.Nat.{_-_}
 use native.Mathlib.Omega.{arith}
+use borrow.Author.Needs.{needs}
 use lib.Dec.{lit<}
 use lib.ListN.{length}
 use Rattle.load.proofs.Progress.{start-room, rule-room, rule-few, place-room, place-few, moved-fits, moved-less}
@@ -18,11 +19,17 @@ abbrev μ-loop : tie.MeasureT-loop
 
 pub load-spec : {M : Type 1} → statement M
 load-spec = tie.close (tie.spec
-    Inv-loop μ-loop (λ c κs. omega arith) (λ c. search progress-first) (λ c κs. omega arith) (λ c. omega arith) (λ c. omega arith)
-    (λ c κs. omega arith) (λ c. omega arith) (λ c. search (moved-fits, start-room)) (λ c. search (moved-less, start-room, lit<))
-    (λ c. search progress-start) (λ c. omega arith) (λ c κs. omega arith) (λ c. omega arith) (λ c. search rule-few) (λ c. omega arith)
-    (λ c. search (moved-fits, rule-room)) (λ c. search (moved-less, rule-room, lit<)) (λ c. search progress-rule) (λ c. omega arith)
-    (λ c κs. search place-few) (λ c. omega arith) (λ c. omega arith) (λ c. search (moved-fits, place-room))
-    (λ c. search (moved-less, place-room, lit<)) (λ c. search progress-place) (λ c. omega arith)
-    (λ c κs. c .before .before .before .before .before .loop .inv .valid) (λ c. (search loads-end, c .accepted .ensures .depth))
+    Inv-loop μ-loop (λ c κs. omega arith) (λ c. search progress-first)
+    -- the last rule and the command
+    (λ c κs. omega arith) (λ c. omega arith) (λ c. omega arith) (λ c κs. omega arith)
+    -- a start
+    (λ c. omega arith) (λ c. search (moved-fits, start-room)) (λ c. search (moved-less, start-room, lit<)) (λ c. search progress-start)
+    -- a rule
+    (λ c. omega arith) (λ c κs. omega arith) (λ c. omega arith) (λ c. search rule-few) (λ c. omega arith)
+    (λ c. search (moved-fits, rule-room)) (λ c. search (moved-less, rule-room, lit<)) (λ c. search progress-rule)
+    -- a place
+    (λ c. omega arith) (λ c κs. search place-few) (λ c. omega arith) (λ c. omega arith) (λ c. search (moved-fits, place-room))
+    (λ c. search (moved-less, place-room, lit<)) (λ c. search progress-place)
+    -- the end, and a fault
+    (λ c. omega arith) (λ c κs. search needs) (λ c. (search loads-end, c .accepted .ensures .depth))
     (λ c. omega arith) (λ c κs. omega arith) (λ c. (search loads-fault, c .refused .ensures .depth)))

@@ -1,4 +1,4 @@
--- `packed::contains` meets its contract: from 32 on nothing is in a word of 32 bits. Assumes nothing.
+-- `packed::contains` meets its contract: a word of 32 bits has no member from 32 on. Assumes nothing.
 use native.Mathlib.Omega.{arith}
 use borrow.Author.Needs.{needs}
 use Rattle.packed.proofs.Fitting.{contains-high}

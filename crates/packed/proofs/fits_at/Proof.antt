@@ -1,4 +1,4 @@
--- `packed::fits_at` meets its contract: a nonterminal never fits, a terminal where its byte stands in the input. Assumes nothing.
+-- `packed::fits_at` meets its contract: a nonterminal never fits, a terminal fits its own byte. Assumes nothing.
 use native.Mathlib.Omega.{arith}
 use Rattle.packed.proofs.Fitting.{fits-nonterminal, fits-byte, fits-past}
 use Rattle.packed.proofs.fits_at.Statement.{statement}

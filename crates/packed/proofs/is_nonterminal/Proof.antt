@@ -5,10 +5,7 @@ use Rattle.packed.specs.Packed.{isNonterminalIn, tagIn}
 use Rattle.packed.proofs.is_nonterminal.Statement.{statement}
 use Rattle.packed.proofs.is_nonterminal.Tie as tie
 
-returns : tie.Need-returns
-unfolding isNonterminalIn tagIn
-returns c = search needs
-
 pub is-nonterminal-spec : {M : Type 1} → statement M
+unfolding isNonterminalIn tagIn
 is-nonterminal-spec = tie.close (tie.spec
-    (λ c. omega arith) (λ c. omega arith) (λ c. omega arith) (λ c. omega arith) (λ c. omega arith) returns)
+    (λ c. omega arith) (λ c. omega arith) (λ c. omega arith) (λ c. omega arith) (λ c. omega arith) (λ c. search needs))

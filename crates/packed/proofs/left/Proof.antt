@@ -4,9 +4,6 @@ use Rattle.packed.specs.Packed.{leftIn}
 use Rattle.packed.proofs.left.Statement.{statement}
 use Rattle.packed.proofs.left.Tie as tie
 
-returns : tie.Need-returns
-unfolding leftIn
-returns c = omega arith
-
 pub left-spec : {M : Type 1} → statement M
-left-spec = tie.close (tie.spec (λ c. omega arith) (λ c. omega arith) (λ c κs. omega arith) returns)
+unfolding leftIn
+left-spec = tie.close (tie.spec (λ c. omega arith) (λ c. omega arith) (λ c κs. omega arith) (λ c. omega arith))

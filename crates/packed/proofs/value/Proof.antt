@@ -4,10 +4,8 @@ use Rattle.packed.specs.Packed.{valueIn}
 use Rattle.packed.proofs.value.Statement.{statement}
 use Rattle.packed.proofs.value.Tie as tie
 
-returns : tie.Need-returns
-unfolding valueIn
-returns c = omega arith
-
 pub value-spec : {M : Type 1} → statement M
+unfolding valueIn
 value-spec = tie.close (tie.spec
-    (λ c. omega arith) (λ c. omega arith) (λ c. omega arith) (λ c. omega arith) (λ c. omega arith) (λ c κs. omega arith) returns)
+    (λ c. omega arith) (λ c. omega arith) (λ c. omega arith) (λ c. omega arith) (λ c. omega arith) (λ c κs. omega arith)
+    (λ c. omega arith))

@@ -1,4 +1,4 @@
--- `packed_fit::table` meets its contract. The loop's invariant: the rules passed are told.
+-- `packed_fit::table` meets its contract. The loop's invariant: the rules passed are written.
 -- The measure is what is left of the rules. Assumes nothing.
 use borrow.Author.Needs.{needs}
 use native.Mathlib.Omega.{arith}

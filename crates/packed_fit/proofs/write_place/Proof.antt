@@ -1,4 +1,4 @@
--- `packed_fit::write_place` meets its contract. The loop's invariant: the positions passed are told.
+-- `packed_fit::write_place` meets its contract. The loop's invariant: the positions passed are written.
 -- The measure is what is left of the positions. Assumes nothing.
 use native.Mathlib.Omega.{arith}
 use Prim.Native.Nat.{_≤_, _-_}

@@ -1,4 +1,4 @@
--- `packed_fit::write_rule` meets its contract. The loop's invariant: the places passed are told.
+-- `packed_fit::write_rule` meets its contract. The loop's invariant: the places passed are written.
 -- The measure is what is left of the count. Assumes nothing.
 use borrow.Author.Needs.{needs}
 use native.Mathlib.Omega.{arith}

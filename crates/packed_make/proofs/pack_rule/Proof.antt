@@ -16,12 +16,14 @@ abbrev μ-loop : tie.MeasureT-loop
 μ-loop r p₀ rule n q₀ p q = n - q
 
 loop-again : tie.Need-loop-again Inv-loop μ-loop
-loop-again c = (
-  omega arith,
-  omega arith,
-  row-step _ _ (c .before .before .before .before .before .pre .0) _ _ _ _ _ (omega arith)
-      (c .before .before .before .before .loop .inv .2) (c .before .tag-of .ensures) (c .value-of .ensures),
-)
+loop-again c =
+    let at-tag = c .before in
+    let in-loop = at-tag .before .before .before in (
+      omega arith,
+      omega arith,
+      row-step _ _ (in-loop .before .pre .0) _ _ _ _ _ (omega arith) (in-loop .loop .inv .2) (at-tag .tag-of .ensures)
+          (c .value-of .ensures),
+    )
 
 returns : tie.Need-returns Inv-loop μ-loop
 returns c =
@@ -30,9 +32,16 @@ returns c =
 
 pub pack-rule-spec : {M : Type 1} → statement M
 pack-rule-spec = tie.close (tie.spec
-    Inv-loop μ-loop (λ c. omega arith) (λ c. omega arith) (λ c. omega (arith, rule-parts _ (c .pre .1) .1)) (λ c. omega arith)
-    (λ c. omega arith) (λ c. omega arith)
+    Inv-loop μ-loop
+    -- the stores of the left side and of the count
+    (λ c. omega arith) (λ c. omega arith) (λ c. omega (arith, rule-parts _ (c .pre .1) .1)) (λ c. omega arith) (λ c. omega arith)
+    (λ c. omega arith)
+    -- the loop is entered, and a place is read
     (λ c. (omega arith, rule-parts _ (c .pre .1) .1, row-start _ _ (c .pre .0) (c .args .p .now) (c .pre .2))) (λ c. omega arith)
-    (λ c. omega arith) (λ c κs. omega arith) (λ c. omega arith) (λ c. omega arith) (λ c. omega arith) (λ c. omega arith)
-    (λ c. omega arith) (λ c κs. omega arith) (λ c. omega arith) (λ c. omega arith) (λ c. omega arith) (λ c. omega arith)
-    (λ c. omega arith) (λ c. omega arith) (λ c. omega arith) loop-again returns)
+    (λ c. omega arith)
+    -- the store of its tag
+    (λ c κs. omega arith) (λ c. omega arith) (λ c. omega arith) (λ c. omega arith) (λ c. omega arith) (λ c. omega arith)
+    -- the store of its value
+    (λ c κs. omega arith) (λ c. omega arith) (λ c. omega arith) (λ c. omega arith) (λ c. omega arith) (λ c. omega arith)
+    -- the next place, and the end
+    (λ c. omega arith) (λ c. omega arith) loop-again returns)

@@ -7,10 +7,12 @@ use Rattle.recognizer.proofs.opening.Tie as tie
 
 returns : tie.Need-returns
 returns c =
-    let s = c .before .before .before .before .before .before .before .before .before .before in
-    open-right _ _ _ _ (c .blank .ensures) _ _ (s .pre .0) (s .pre .1)
-    (c .before .before .before .before .before .before .before .before .pack .ensures)
-    (c .before .before .before .before .before .open-chart .ensures) (c .before .says .ensures)
+    let after-open = c .before .before in
+    let at-open = after-open .before .before .before in
+    let at-pack = at-open .before .before .before in
+    let at-start = at-pack .before .before in
+    open-right _ _ _ _ (c .blank .ensures) _ _ (at-start .pre .0) (at-start .pre .1) (at-pack .pack .ensures)
+    (at-open .open-chart .ensures) (c .before .says .ensures)
 
 pub opening-spec : {M : Type 1} → statement M
 opening-spec = tie.close (tie.spec

@@ -13,10 +13,13 @@ slice-aggregate-write-column c =
 
 returns : tie.Need-returns
 returns c =
-    let s = c .before .before .before .before .before .before .before .before .before .before .before .before in
-    let h = c .before .before .before .before .before .before .before .before .before in
-    take-right _ _ _ _ _ _ (h .with-byte .ensures .0) (h .with-byte .ensures .1) _ _ (s .pre .0) (s .pre .1) (s .pre .2)
-    (h .before .pack .ensures) (c .before .before .before .before .write-column .ensures) (c .says .ensures)
+    let after-column = c .before .before in
+    let at-column = after-column .before .before in
+    let at-slice = at-column .before .before in
+    let at-byte = at-slice .before .before .before in
+    let at-start = at-byte .before .before .before in
+    take-right _ _ _ _ _ _ (at-byte .with-byte .ensures .0) (at-byte .with-byte .ensures .1) _ _ (at-start .pre .0) (at-start .pre .1)
+    (at-start .pre .2) (at-byte .before .pack .ensures) (at-column .write-column .ensures) (c .says .ensures)
 
 pub taking-spec : {M : Type 1} → statement M
 taking-spec = tie.close (tie.spec

@@ -1,4 +1,4 @@
--- `fill_closure::passes::again` meets its contract. The loop's invariant: the same of the rules passed.
+-- `fill_closure::passes::again` meets its contract. The loop's invariant: what is promised holds for the rules passed.
 -- The measure is what is left of the rules. Assumes nothing.
 use borrow.Author.Needs.{needs}
 use native.Mathlib.Omega.{arith}
@@ -17,6 +17,9 @@ abbrev μ-loop : tie.MeasureT-loop
 
 pub again-spec : {M : Type 1} → statement M
 again-spec = tie.close (tie.spec
-    Inv-loop μ-loop (λ c. (omega arith, search again-start)) (λ c. omega arith) (λ c. omega arith) (λ c. omega arith) (λ c. omega arith)
-    (λ c. omega arith) (λ c. omega arith) (λ c κs. (omega arith, search needs, search needs)) (λ c. omega arith) (λ c. omega arith)
-    (λ c. (omega arith, search again-step)) (λ c. search again-done))
+    Inv-loop μ-loop (λ c. (omega arith, search again-start))
+    -- the three words of the rule, and the look at it
+    (λ c. omega arith) (λ c. omega arith) (λ c. omega arith) (λ c. omega arith) (λ c. omega arith) (λ c. omega arith)
+    (λ c κs. (omega arith, search needs, search needs))
+    -- the next rule, and the end
+    (λ c. omega arith) (λ c. omega arith) (λ c. (omega arith, search again-step)) (λ c. search again-done))

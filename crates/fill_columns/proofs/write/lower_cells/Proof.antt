@@ -18,23 +18,20 @@ Inv-loop p rules fits n ends reach lasts kinds chart₀ starts₀ live₀ inside
 abbrev μ-loop : tie.MeasureT-loop
 μ-loop p rules fits n ends reach lasts kinds chart₀ starts₀ live₀ insides₀ flags₀ made₀ i₀ chart starts live insides flags made i = i
 
-close-cell-requires : tie.Need-close-cell-requires Inv-loop μ-loop
-close-cell-requires c κs = (
-  omega arith,
-  search needs,
-  omega arith,
-  omega arith,
-  search needs,
-  search needs,
-  search needs,
-  search needs,
-  search needs,
-  search needs,
-  search needs,
-)
-
 pub lower-cells-spec : {M : Type 1} → statement M
 lower-cells-spec = tie.close (tie.spec
     Inv-loop μ-loop (λ c. (omega arith, search needs, search needs, search needs, search lower-start)) (λ c. omega arith)
-    close-cell-requires (λ c. omega arith) (λ c. (omega arith, search needs, search needs, search needs, search lower-step))
+    (λ c κs. (
+      omega arith,
+      search needs,
+      omega arith,
+      omega arith,
+      search needs,
+      search needs,
+      search needs,
+      search needs,
+      search needs,
+      search needs,
+      search needs,
+    )) (λ c. omega arith) (λ c. (omega arith, search needs, search needs, search needs, search lower-step))
     (λ c. omega arith) (λ c. search lower-done))

@@ -1,4 +1,4 @@
--- `fill_empty::kinds::all_kinds` meets its contract. The loop's invariant: those of the rules passed.
+-- `fill_empty::kinds::all_kinds` meets its contract. The loop's invariant: the kinds of the rules passed are stored.
 -- The measure is what is left of the rules. Assumes nothing.
 use native.Mathlib.Omega.{arith}
 use Prim.Native.Nat.{_≤_, _-_}

@@ -1,4 +1,4 @@
--- `fill_empty::kinds::kinds_of` meets its contract. The loop's invariant: those of the places passed.
+-- `fill_empty::kinds::kinds_of` meets its contract. The loop's invariant: the set has the kinds of the places passed.
 -- The measure is what is left of the count. Assumes nothing.
 use borrow.Author.Needs.{needs}
 use native.Mathlib.Omega.{arith}

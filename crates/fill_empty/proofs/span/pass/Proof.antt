@@ -1,4 +1,4 @@
--- `fill_empty::span::pass` meets its contract. The loop's invariant: the same of the rules passed.
+-- `fill_empty::span::pass` meets its contract. The loop's invariant: what is promised holds for the rules passed.
 -- The measure is what is left of the rules. Assumes nothing.
 use native.Mathlib.Omega.{arith}
 use Prim.Native.Nat.{_≤_, _-_}

@@ -6,5 +6,10 @@ use Rattle.fill_rule.proofs.passes.place_cuts.Tie as tie
 
 pub place-cuts-spec : {M : Type 1} → statement M
 place-cuts-spec = tie.close (tie.spec
-    (λ c κs. omega arith) (λ c. search placed-inner) (λ c κs. omega arith) (λ c κs. omega arith) (λ c. omega arith) (λ c κs. omega arith)
-    (λ c. search placed-empty) (λ c. omega arith) (λ c κs. omega arith) (λ c. search placed-whole) (λ c. search placed-terminal))
+    -- an inner cut
+    (λ c κs. omega arith) (λ c. search placed-inner)
+    -- a nonterminal, over the empty span or the whole
+    (λ c κs. omega arith) (λ c κs. omega arith) (λ c. omega arith) (λ c κs. omega arith) (λ c. search placed-empty)
+    (λ c. omega arith) (λ c κs. omega arith) (λ c. search placed-whole)
+    -- a terminal
+    (λ c. search placed-terminal))

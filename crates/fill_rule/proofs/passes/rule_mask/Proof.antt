@@ -1,4 +1,4 @@
--- `fill_rule::passes::rule_mask` meets its contract. The loop's invariant: the set is right from place q on, and has nothing below.
+-- `fill_rule::passes::rule_mask` meets its contract. The loop's invariant: the set is right from place q on, and has no place below q.
 -- The measure is q. Assumes nothing.
 use Rattle.sizes.specs.Sizes.{maxPlaces}
 use Rattle.fill_rule.proofs.Mask.{MaskFrom, mask-from-start, mask-from-step, mask-from-done}
@@ -19,8 +19,8 @@ loop-again : tie.Need-loop-again Inv-loop μ-loop
 loop-again c = (
   omega arith,
   omega arith,
-  mask-from-step _ _ _ _ _ _ _ _ _ _ _ _ (omega arith) (omega arith)
-      (c .before .place-cuts .ensures) (c .with-if2 .ensures) (c .before .before .before .loop .inv .2),
+  mask-from-step _ _ _ _ _ _ _ _ _ _ _ _ (omega arith) (omega arith) (c .before .place-cuts .ensures) (c .with-if2 .ensures)
+      (c .before .before .before .loop .inv .2),
 )
 
 pub rule-mask-spec : {M : Type 1} → statement M

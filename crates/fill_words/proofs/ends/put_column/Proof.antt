@@ -1,4 +1,4 @@
--- `fill_words::ends::put_column` meets its contract. The loop's invariant: the cells of the starts passed are told too.
+-- `fill_words::ends::put_column` meets its contract. The loop's invariant: the ends of the starts passed are added.
 -- The measure is what is left of the starts. Assumes nothing.
 use borrow.Author.Needs.{needs}
 use native.Mathlib.Omega.{arith}

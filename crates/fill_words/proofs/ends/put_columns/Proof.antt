@@ -1,4 +1,4 @@
--- `fill_words::ends::put_columns` meets its contract. The loop's invariant: the columns passed are told.
+-- `fill_words::ends::put_columns` meets its contract. The loop's invariant: the ends of the columns passed are added.
 -- The measure is what is left of the columns. Assumes nothing.
 use borrow.Author.Needs.{needs}
 use native.Mathlib.Omega.{arith}

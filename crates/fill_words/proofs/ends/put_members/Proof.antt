@@ -14,6 +14,9 @@ abbrev μ-loop : tie.MeasureT-loop
 
 pub put-members-spec : {M : Type 1} → statement M
 put-members-spec = tie.close (tie.spec
-    Inv-loop μ-loop (λ c. search put-start) (λ c κs. omega arith) (λ c. omega arith) (λ c. omega arith) (λ c. omega arith)
-    (λ c. omega arith) (λ c κs. omega arith) (λ c. omega arith) (λ c. omega arith) (λ c. omega arith) (λ c. omega arith)
+    Inv-loop μ-loop (λ c. search put-start) (λ c κs. omega arith)
+    -- the word of the lowest member is read, and stored with b
+    (λ c. omega arith) (λ c. omega arith) (λ c. omega arith) (λ c. omega arith) (λ c κs. omega arith) (λ c. omega arith)
+    (λ c. omega arith) (λ c. omega arith) (λ c. omega arith)
+    -- the next member, and the end
     (λ c κs. search needs) (λ c. search rest-less) (λ c. search put-step) (λ c. search put-done))

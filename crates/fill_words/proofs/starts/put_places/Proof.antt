@@ -19,18 +19,24 @@ abbrev μ-loop : tie.MeasureT-loop
 μ-loop p r i flags starts₀ live₀ count q₀ starts live q = count - q
 
 loop-again : tie.Need-loop-again Inv-loop μ-loop
-loop-again c = (
-  omega arith,
-  search needs,
-  omega arith,
-  inl (omega arith),
-  places-step _ _ _ _ _ _ _ _ _ _ _ _ (omega arith) (omega arith) (omega arith) (c .before .before .before .before .contains .ensures)
-      (c .before .before .with-if .ensures) (c .with-if2 .ensures) (c .before .before .before .before .before .before .loop .inv .4),
-)
+loop-again c =
+    let at-store = c .before .before in
+    let at-test = at-store .before .before in (
+      omega arith,
+      search needs,
+      omega arith,
+      inl (omega arith),
+      places-step _ _ _ _ _ _ _ _ _ _ _ _ (omega arith) (omega arith) (omega arith) (at-test .contains .ensures)
+          (at-store .with-if .ensures) (c .with-if2 .ensures) (at-test .before .before .loop .inv .4),
+    )
 
 pub put-places-spec : {M : Type 1} → statement M
 put-places-spec = tie.close (tie.spec
     Inv-loop μ-loop (λ c κs. omega arith) (λ c. (omega arith, c .count .ensures .0, c .count .ensures .1, inr refl, search places-start))
+    -- the test, and the word of the place
     (λ c κs. omega arith) (λ c. omega arith) (λ c. omega arith) (λ c. omega arith) (λ c. omega arith) (λ c κs. omega arith)
-    (λ c. omega arith) (λ c. omega arith) (λ c. omega arith) (λ c. omega arith) (λ c. omega arith) (λ c. omega arith)
-    (λ c κs. omega arith) (λ c. omega arith) (λ c. omega arith) (λ c. omega arith) (λ c. omega arith) loop-again (λ c. search places-done))
+    (λ c. omega arith) (λ c. omega arith) (λ c. omega arith) (λ c. omega arith)
+    -- the live starts of the rule
+    (λ c. omega arith) (λ c. omega arith) (λ c κs. omega arith) (λ c. omega arith) (λ c. omega arith)
+    -- the next place, and the end
+    (λ c. omega arith) (λ c. omega arith) loop-again (λ c. search places-done))

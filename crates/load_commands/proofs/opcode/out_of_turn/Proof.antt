@@ -6,6 +6,9 @@ use Rattle.load_commands.proofs.opcode.out_of_turn.Tie as tie
 
 pub out-of-turn-spec : {M : Type 1} → statement M
 out-of-turn-spec = tie.close (tie.spec
-    (λ c. omega arith) (λ c. omega arith) (λ c. omega arith) (λ c. omega arith) (λ c. omega arith) (λ c. search late-start)
-    (λ c. search late-rule) (λ c. search (late-first, late-nonterminal)) (λ c. search (late-closed, late-nonterminal))
+    -- the opcode of each arm
+    (λ c. omega arith) (λ c. omega arith) (λ c. omega arith) (λ c. omega arith) (λ c. omega arith)
+    -- what each arm returns
+    (λ c. search late-start) (λ c. search late-rule)
+    (λ c. search (late-first, late-nonterminal)) (λ c. search (late-closed, late-nonterminal))
     (λ c. search (late-first, late-terminal)) (λ c. search (late-closed, late-terminal)) (λ c. search late-end))

@@ -6,7 +6,11 @@ use Rattle.load_commands.proofs.scan.limits_at.Tie as tie
 
 pub limits-at-spec : {M : Type 1} → statement M
 limits-at-spec = tie.close (tie.spec
-    (λ c. omega arith) (λ c. omega arith) (λ c κs. omega arith) (λ c κs. omega arith) (λ c κs. omega arith) (λ c. omega arith)
-    (λ c κs. omega arith) (λ c. omega arith) (λ c κs. omega arith) (λ c. omega arith) (λ c. omega arith) (λ c κs. omega arith)
+    -- the arm of a start, and that of a rule with its three calls
+    (λ c. omega arith) (λ c. omega arith) (λ c κs. omega arith) (λ c κs. omega arith) (λ c κs. omega arith)
+    -- the arms of a nonterminal, a terminal and the end, each with its call
+    (λ c. omega arith) (λ c κs. omega arith) (λ c. omega arith) (λ c κs. omega arith) (λ c. omega arith) (λ c. omega arith)
+    (λ c κs. omega arith)
+    -- what each arm returns
     (λ c. search start-passed) (λ c. search rule-passed) (λ c. search nonterminal-passed) (λ c. search terminal-passed)
     (λ c. search end-passed))

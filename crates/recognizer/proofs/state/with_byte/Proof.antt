@@ -1,4 +1,4 @@
--- `recognizer::state::with_byte` meets its contract. The loop's invariant: the bytes passed are copied, and zeros stand behind them.
+-- `recognizer::state::with_byte` meets its contract. The loop's invariant: the bytes passed are copied, and zeros come after them.
 -- The measure is what is left of the count. Assumes nothing.
 use Rattle.sizes.specs.Sizes.{maxInput}
 use Rattle.recognizer.proofs.Declared.{bytes-long}
