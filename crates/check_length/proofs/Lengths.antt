@@ -34,7 +34,7 @@ module _ (z : ℤ) (fits : SFits w16 z) where
 
 -- ---- one length more
 
--- z: the length, y: what the function hands on of it
+-- z is the length, and y what `widened` answers for it
 module _ (z y : ℤ) (is : y ≡ z) (little : mag y < 32768) (s i : ℕ) (small : mag (toZ w32 s) ≤ 32768 * i) where
   size : mag z < 32768
   size = subst (λ (x : ℤ). mag x < 32768) is little
@@ -55,9 +55,14 @@ module _ (z y : ℤ) (is : y ≡ z) (little : mag y < 32768) (s i : ℕ) (small 
 
 -- ---- the sum
 
+-- s and the lengths of the nodes from i on make the whole sum, and s is at most 32768 for each node before i
+pub record SumTo (lengthAt : ℕ → ℤ) (e : List ℕ) (i s : ℕ) : Type 0 where
+  pub whole : toZ w32 s +ℤ sum lengthAt (drop (2 * i) e) ≡ sum lengthAt e
+  pub small : mag (toZ w32 s) ≤ 32768 * i
+
 module _ (lengthAt : ℕ → ℤ) (e : List ℕ) where
-  pub sum-start : pos 0 +ℤ sum lengthAt e ≡ sum lengthAt e
-  sum-start = +ℤ-idl (sum lengthAt e)
+  pub sum-start : SumTo lengthAt e 0 0
+  sum-start = record { whole = +ℤ-idl (sum lengthAt e); small = omega arith }
 
   sum-step : (i r : ℕ) → i < length e / 2 → r ≡ getD e (2 * i + 1) 0
       → sum lengthAt (drop (2 * i) e) ≡ lengthAt r +ℤ sum lengthAt (drop (2 * (i + 1)) e)
@@ -77,40 +82,37 @@ module _ (lengthAt : ℕ → ℤ) (e : List ℕ) where
       go (a ∷ []) k = refl
       go (a ∷ b ∷ l) k = absurd (omega arith)
 
-  module _ (i s s' r : ℕ) (h : i < length e / 2) (short : length e ≤ outputSize) (number : r ≡ min (getD e (2 * i + 1) 0) maxRules)
-      (so-far : toZ w32 s +ℤ sum lengthAt (drop (2 * i) e) ≡ sum lengthAt e) (small : mag (toZ w32 s) ≤ 32768 * i) where
-    -- what the invariant says after the node
-    abbrev Next : Type 0
-    Next = (toZ w32 s' +ℤ sum lengthAt (drop (2 * (i + 1)) e) ≡ sum lengthAt e) × (mag (toZ w32 s') ≤ 32768 * (i + 1))
-
-    next : (q : ℕ) → q ≡ getD e (2 * i + 1) 0 → toZ w32 s' ≡ toZ w32 s +ℤ lengthAt q → mag (toZ w32 s') ≤ 32768 * (i + 1) → Next
-    next q k d l = (
-      ap (λ (x : ℤ). x +ℤ sum lengthAt (drop (2 * (i + 1)) e)) d
+  module _ {i s s' r : ℕ} (h : i < length e / 2) (short : length e ≤ outputSize) (number : r ≡ min (getD e (2 * i + 1) 0) maxRules)
+      (so-far : SumTo lengthAt e i s) where
+    next : (q : ℕ) → q ≡ getD e (2 * i + 1) 0 → toZ w32 s' ≡ toZ w32 s +ℤ lengthAt q → mag (toZ w32 s') ≤ 32768 * (i + 1)
+        → SumTo lengthAt e (i + 1) s'
+    next q k d l = record {
+      whole =
+          ap (λ (x : ℤ). x +ℤ sum lengthAt (drop (2 * (i + 1)) e)) d
           ∙ +ℤ-assoc (toZ w32 s) (lengthAt q) (sum lengthAt (drop (2 * (i + 1)) e))
           ∙ ap (λ (x : ℤ). toZ w32 s +ℤ x) (sym (sum-step i q h k))
-          ∙ so-far,
-      l,
-    )
+          ∙ so-far .whole;
+      small = l;
+    }
 
-    pub next-rule : (y : ℤ) → r < maxRules → (y ≡ lengthAt r) × (mag y < 32768) → s' ≡ ofZ w32 (toZ w32 s +ℤ toZ w32 (ofZ w32 y)) → Next
-    next-rule y low told d =
-        let x = more (lengthAt r) y (told .0) (told .1) s i small s' (omega arith) d in
-        next r (omega arith) x
-        (subst (λ (z : ℤ). mag z ≤ 32768 * (i + 1)) (sym x) (more-size (lengthAt r) y (told .0) (told .1) s i small))
+    pub next-rule : (y : ℤ) → r < maxRules → (y ≡ lengthAt r) × (mag y < 32768) → s' ≡ ofZ w32 (toZ w32 s +ℤ toZ w32 (ofZ w32 y))
+        → SumTo lengthAt e (i + 1) s'
+    next-rule y low (is, little) d =
+        let x = more (lengthAt r) y is little s i (so-far .small) s' (omega arith) d in
+        next r (omega arith) x (rw x (more-size (lengthAt r) y is little s i (so-far .small)))
 
-    pub next-none : ((q : ℕ) → maxRules ≤ q → lengthAt q ≡ pos 0) → maxRules ≤ r → s' ≡ s → Next
+    pub next-none : ((q : ℕ) → maxRules ≤ q → lengthAt q ≡ pos 0) → maxRules ≤ r → s' ≡ s → SumTo lengthAt e (i + 1) s'
     next-none beyond high d =
         let q = getD e (2 * i + 1) 0 in
         let none : lengthAt q ≡ pos 0 = beyond q (omega arith) in
-        next q refl (ap (toZ w32) d ∙ sym (ap (λ (x : ℤ). toZ w32 s +ℤ x) none ∙ +ℤ-idr (toZ w32 s)))
-        (subst (λ (x : ℕ). mag (toZ w32 x) ≤ 32768 * (i + 1)) (sym d) (omega arith))
+        next q refl (ap (toZ w32) d ∙ sym (ap (λ (x : ℤ). toZ w32 s +ℤ x) none ∙ +ℤ-idr (toZ w32 s))) (rw d (omega (arith, so-far .small)))
 
-  pub sum-done : (i s : ℕ) → length e / 2 ≤ i → toZ w32 s +ℤ sum lengthAt (drop (2 * i) e) ≡ sum lengthAt e → toZ w32 s ≡ sum lengthAt e
-  sum-done i s h d = sym (+ℤ-idr (toZ w32 s)) ∙ ap (λ (x : ℤ). toZ w32 s +ℤ x) (sym (sum-end i h)) ∙ d
+  pub sum-done : {i s : ℕ} → length e / 2 ≤ i → SumTo lengthAt e i s → toZ w32 s ≡ sum lengthAt e
+  sum-done {i} {s} h d = sym (+ℤ-idr (toZ w32 s)) ∙ ap (λ (x : ℤ). toZ w32 s +ℤ x) (sym (sum-end i h)) ∙ d .whole
 
 -- ---- a row of lengths
 
--- behind its end there is none
+-- past its end the length is 0
 pub lengths-beyond : (l : List ℤ) → length l ≡ maxRules → (q : ℕ) → maxRules ≤ q → lengthsIn l q ≡ pos 0
 lengths-beyond l full q h = List·getD-eq-default l (pos 0) {n = q} (omega arith)
 
@@ -119,7 +121,7 @@ mapped [] r = refl
 mapped (ρ ∷ rules) zero = refl
 mapped (ρ ∷ rules) (suc r) = mapped rules r
 
--- one more written
+-- one more length is written
 pub lengths-step : (l : List ℤ) (rules : List Rule) (r : ℕ) → r < length l → r < length rules
     → take r l ≡ take r (map lengthOfRule rules)
     → take (r + 1) (set l r (getD rules r noRule .length)) ≡ take (r + 1) (map lengthOfRule rules)
@@ -136,7 +138,7 @@ pub lengths-done : (l : List ℤ) (rules : List Rule) (r : ℕ) → length l ≡
 lengths-done l rules r n m h k e =
     sym (take-all r l (omega arith)) ∙ e ∙ take-all r (map lengthOfRule rules) (omega (arith, length-map rules lengthOfRule))
 
--- the lengths of a grammar, from their row
+-- the sum by the row is the sum by the grammar
 pub sum-row : (g : Grammar) (l : List ℤ) → l ≡ map lengthOfRule (g .rules) → (e : List ℕ) → sum (lengthsIn l) e ≡ sum (lengthsOf g) e
 unfolding sum
 sum-row g l h [] = refl

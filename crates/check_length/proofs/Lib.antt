@@ -1,3 +1,3 @@
--- The laws of the sum and of its rounding.
+-- The laws of the sum of the lengths and of its rounding.
 pub mod Signed
 pub mod Lengths

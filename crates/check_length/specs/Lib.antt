@@ -1,2 +1,2 @@
--- The lengths that are added up.
+-- The rule lengths of which the sum is made.
 pub mod Measure

@@ -1,4 +1,4 @@
-// The total length of a derivation: the rule lengths of its nodes added up, and the sum rounded to tenths.
+// The total length of a derivation: the sum of the rule lengths of its nodes, rounded to tenths.
 use check_walk::offered::rule_number;
 use grammar::Grammar;
 use grammar::Rule;
@@ -48,14 +48,14 @@ pub fn lengths_of(g: Grammar) -> Lengths
     l
 }
 
-// A length, as a wider number.
+// A length as a number of 32 bits.
 pub fn widened(z: i16) -> i32
     ensures { λ y. ⌜ (y ≡ z) × (mag y < 32768) ⌝ }
 {
     z as i32
 }
 
-// The rule lengths of all nodes of an offered derivation, empty ones too, added up.
+// The sum of the rule lengths of all nodes of an offered derivation, the empty ones included.
 pub fn total(l: &[i16], e: &[u16]) -> i32
     requires { ⌜ (length (now e) ≤ outputSize) × (length (now l) ≡ maxRules) ⌝ }
     ensures { λ r. ⌜ (r ≡ sumOf (lengthsIn (now (l .entry))) (now (e .entry))) × (mag r ≤ 16777216) ⌝ }

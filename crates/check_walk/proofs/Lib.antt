@@ -1,4 +1,4 @@
--- The laws of the walk over an offered derivation, and over the whole of it. What others cite: Nodes, Whole.
+-- The laws of the walk over an offered derivation. Other crates cite Nodes and Whole.
 pub mod Spans
 pub mod Walks
 pub mod Nodes

@@ -1,9 +1,9 @@
--- A node before a row: a row that starts with a nonterminal is a node alone and a row after it; a node alone is its two numbers and the row
--- below it. Assumes nothing.
+-- A row that starts with a nonterminal is a node alone and a row after it. A node alone is its two numbers and the row below it.
+-- Assumes nothing.
 use Prim.Native.Nat.{ℕ, suc, _+_, _*_, _-_, _≤_, _<_}
 use mathlib.Core.Bool.{false}
-use mathlib.Core.List.{List, [], _∷_, _++_, append-nil, append-assoc, head-eq-of-cons-eq, tail-eq-of-cons-eq}
-use mathlib.Core.Path.{_≡_, sym, ap, ap₂, subst, _∙_}
+use mathlib.Core.List.{List, [], _∷_, _++_, append-nil, append-assoc}
+use mathlib.Core.Path.{_≡_, refl, sym, ap, ap₂, subst, _∙_}
 use native.Mathlib.Omega.{arith}
 use lib.ListN.{length, getD, drop, length-drop}
 use lib.Seq.{slice, length-slice, drop-cons, drop-drop, drop-append-seam}
@@ -18,29 +18,19 @@ use Rattle.theory_enumeration.proofs.Free.{join-plain, join-free, first-plain, 
 use Rattle.check_walk.specs.Walk.{Walked}
 use Rattle.check_walk.proofs.Spans.{node-plain, node-free, below-plain, node-fresh, below-free}
 
--- a list that goes on with two numbers has them at that place
-two-at : (e x : List ℕ) (i a b : ℕ) → a ∷ b ∷ x ≡ drop i e
-    → (suc i < length e) × (getD e i 0 ≡ a) × (getD e (i + 1) 0 ≡ b) × (x ≡ drop (i + 2) e)
-two-at e x i a b h =
-    let m : suc (suc (length x)) ≡ length e - i = ap length h ∙ length-drop i e in
-    let p : a ∷ b ∷ x ≡ getD e i 0 ∷ getD e (suc i) 0 ∷ drop (suc (suc i)) e =
-    h ∙ drop-cons e i 0 (omega arith) ∙ ap (λ (l : List ℕ). getD e i 0 ∷ l) (drop-cons e (suc i) 0 (omega arith)) in
-    let q = tail-eq-of-cons-eq p in
-    let j : suc i ≡ i + 1 = omega arith in
-    let k : suc (suc i) ≡ i + 2 = omega arith in (
-      omega arith,
-      sym (head-eq-of-cons-eq p),
-      ap (λ (y : ℕ). getD e y 0) (sym j) ∙ sym (head-eq-of-cons-eq q),
-      tail-eq-of-cons-eq q ∙ ap (λ (y : ℕ). drop y e) k,
-    )
-
 pub at-two : (e : List ℕ) (i a b : ℕ) → suc i < length e → getD e i 0 ≡ a → getD e (i + 1) 0 ≡ b → drop i e ≡ a ∷ b ∷ drop (i + 2) e
 at-two e i a b h p q =
     let j : suc i ≡ i + 1 = omega arith in
     let k : suc (suc i) ≡ i + 2 = omega arith in
-    let x : getD e (suc i) 0 ≡ b = ap (λ (y : ℕ). getD e y 0) j ∙ q in
-    let d : drop (suc (suc i)) e ≡ drop (i + 2) e = ap (λ (y : ℕ). drop y e) k in
-    drop-cons e i 0 (omega arith) ∙ ap (λ (l : List ℕ). getD e i 0 ∷ l) (drop-cons e (suc i) 0 h) ∙ λ z. p z ∷ x z ∷ d z
+    cc (drop-cons e i 0 (omega arith), drop-cons e (suc i) 0 h)
+
+-- if a list continues at i with two numbers, they are at i and i + 1
+two-at : (e x : List ℕ) (i a b : ℕ) → a ∷ b ∷ x ≡ drop i e
+    → (suc i < length e) × (getD e i 0 ≡ a) × (getD e (i + 1) 0 ≡ b) × (x ≡ drop (i + 2) e)
+two-at e x i a b h =
+    let m : suc (suc (length x)) ≡ length e - i = ap length h ∙ length-drop i e in
+    let p = at-two e i (getD e i 0) (getD e (i + 1) 0) (omega arith) refl refl in
+    (omega arith, cc, cc, cc)
 
 yield-alone : (r : ℕ) (below : Forest) → yield (node r below end) ≡ yield below
 unfolding yield
@@ -55,17 +45,25 @@ pub code-first : (r : ℕ) (below rest : Forest) (x : List ℕ)
 unfolding code
 code-first r below rest x = ap (λ (l : List ℕ). length (yield below) ∷ r ∷ l) (append-assoc (code below) (code rest) x)
 
--- after the code of a row, what follows it
+-- what follows the code of a row
 code-after : (e x : List ℕ) (t : Forest) (at next : ℕ) → next ≡ at + nodes t → code t ++ x ≡ drop (2 * at) e → x ≡ drop (2 * next) e
 code-after e x t at next h d =
     let i : 2 * at + length (code t) ≡ 2 * next = omega (arith, length-code t) in
     sym (drop-append-seam (code t) x) ∙ ap (drop (length (code t))) d ∙ drop-drop (length (code t)) (2 * at) e
     ∙ ap (λ (y : ℕ). drop y e) i
 
-module _ (G : Cfg) (w e : List ℕ) (n cover mask k : ℕ) (places : List Symbol) where
+-- the node that a row starts with, and the row after it
+pub record Parted (G : Cfg) (w e : List ℕ) (n cover mask k : ℕ) (places : List Symbol) (at from to next : ℕ) : Type 0 where
+  pub middle : ℕ
+  pub early : at < n
+  pub fitting : from + getD e (2 * at) 0 ≤ to
+  pub first : Walked G w e n cover mask (nonterminal k ∷ []) at from (from + getD e (2 * at) 0) middle
+  pub rest : Walked G w e n cover mask places middle (from + getD e (2 * at) 0) to next
+
+module _ {G : Cfg} {w e : List ℕ} {n cover mask k : ℕ} {places : List Symbol} where
   -- ---- a node alone, and a row after it
 
-  module _ (at from mid to middle next : ℕ) (order : from ≤ mid) (rising : mid ≤ to) (known : to ≤ length w) where
+  module _ {at from mid to middle next : ℕ} (order : from ≤ mid) (rising : mid ≤ to) (known : to ≤ length w) where
     pub walk-node : Walked G w e n cover mask (nonterminal k ∷ []) at from mid middle
         → Walked G w e n cover mask places middle mid to next → Walked G w e n cover mask (nonterminal k ∷ places) at from to next
     unfolding yield nodes
@@ -93,22 +91,15 @@ module _ (G : Cfg) (w e : List ℕ) (n cover mask k : ℕ) (places : List Symbol
               inside = b .inside;
             }
 
-  -- the node that a row starts with, and the row after it
-  pub record Parted (at from to next : ℕ) : Type 0 where
-    pub middle : ℕ
-    pub early : at < n
-    pub fitting : from + getD e (2 * at) 0 ≤ to
-    pub first : Walked G w e n cover mask (nonterminal k ∷ []) at from (from + getD e (2 * at) 0) middle
-    pub rest : Walked G w e n cover mask places middle (from + getD e (2 * at) 0) to next
-
-  module _ (at from to next : ℕ) (rising : from ≤ to) (known : to ≤ length w) where
-    pub node-walk : Walked G w e n cover mask (nonterminal k ∷ places) at from to next → Parted at from to next
+  module _ {at from to next : ℕ} (rising : from ≤ to) (known : to ≤ length w) where
+    pub node-walk : Walked G w e n cover mask (nonterminal k ∷ places) at from to next → Parted G w e n cover mask k places at from to next
     unfolding yield nodes
     node-walk a = go (a .fit) (a .plain) (a .free) (a .covers) (a .coded) (a .ends)
       where
         go : {forest : Forest} → Fits G (nonterminal k ∷ places) forest → ¬ Superfluous G forest → Free G cover mask forest
             → yield forest ≡ slice from to w
-            → code forest ++ drop (2 * next) e ≡ drop (2 * at) e → next ≡ at + nodes forest → Parted at from to next
+            → code forest ++ drop (2 * next) e ≡ drop (2 * at) e → next ≡ at + nodes forest
+            → Parted G w e n cover mask k places at from to next
         go (fits-node {r = r} {below = below} {rest = rest} o f g) s z c d m =
             let x = drop (2 * next) e in
             let middle : ℕ = at + suc (nodes below) in
@@ -148,65 +139,56 @@ module _ (G : Cfg) (w e : List ℕ) (n cover mask k : ℕ) (places : List Symbol
 
 -- ---- a node alone: its two numbers, and the row below it
 
-module _ (G : Cfg) (w e : List ℕ) (n cover mask own k at from to next : ℕ) (span : SameSpan cover mask (to - from) own)
-    (rising : from ≤ to) (known : to ≤ length w) where
-  -- the rule of a node alone, and the row below it
-  pub record Opened : Type 0 where
-    pub rule : ℕ
-    pub of : Of G rule k
-    pub early : at < n
-    pub bytes : getD e (2 * at) 0 ≡ to - from
-    pub number : getD e (2 * at + 1) 0 ≡ rule
-    pub fresh : has k own ≡ false
-    pub below : Walked G w e n (to - from) (insert k own) (of .the .places) (at + 1) from to next
+-- the rule of a node alone, and the row below it
+pub record Opened (G : Cfg) (w e : List ℕ) (n own k at from to next : ℕ) : Type 0 where
+  pub rule : ℕ
+  pub of : Of G rule k
+  pub early : at < n
+  pub bytes : getD e (2 * at) 0 ≡ to - from
+  pub number : getD e (2 * at + 1) 0 ≡ rule
+  pub fresh : has k own ≡ false
+  pub below : Walked G w e n (to - from) (insert k own) (of .the .places) (at + 1) from to next
 
-  -- the node over its own row, the cover being the row's own
-  alone : {t : Forest} {r : ℕ} (o : Of G r k) → Fits G (o .the .places) t → ¬ Superfluous G t → Free G (length (yield t)) (insert k own) t
-      → SameSpan cover mask (length (yield t)) own → has k own ≡ false → length (yield t) ≤ cover → yield t ≡ slice from to w
-      → suc (2 * at) < length e → getD e (2 * at) 0 ≡ length (yield t) → getD e (2 * at + 1) 0 ≡ r
-      → code t ++ drop (2 * next) e ≡ drop (2 * (at + 1)) e → next ≡ at + 1 + nodes t → next ≤ n
+module _ {G : Cfg} {w e : List ℕ} {n cover mask own k at from to next : ℕ} (span : SameSpan cover mask (to - from) own)
+    (rising : from ≤ to) (known : to ≤ length w) where
+  pub walk-open : to ≤ from + cover → 2 * n ≤ length e → Opened G w e n own k at from to next
       → Walked G w e n cover mask (nonterminal k ∷ []) at from to next
   unfolding nodes
-  alone {t} {r} o f s z same fresh narrow c h x y d m l =
+  walk-open narrow long a =
+      let r = a .rule in
+      let b = a .below in
+      let t = b .forest in
+      let early = a .early in
+      let m = b .ends in
+      let width : length (yield t) ≡ to - from = ap length (b .covers) ∙ length-slice from to w known in
+      let free : Free G (length (yield t)) (insert k own) t = rw width (b .free) in
+      let same : SameSpan cover mask (length (yield t)) own = rw width span in
       let i : 2 * (at + 1) ≡ 2 * at + 2 = omega arith in
       record {
         forest = node r t end;
-        fit = fits-node o f fits-end;
-        plain = node-plain G cover mask own k r o t s z;
-        free = node-free G cover mask own k r o t same narrow fresh z;
-        covers = yield-alone r t ∙ c;
+        fit = fits-node (a .of) (b .fit) fits-end;
+        plain = node-plain G cover mask own k r (a .of) t (b .plain) free;
+        free = node-free G cover mask own k r (a .of) t same (omega arith) (a .fresh) free;
+        covers = yield-alone r t ∙ b .covers;
         coded =
             code-alone r t (drop (2 * next) e)
-            ∙ ap (λ (v : List ℕ). length (yield t) ∷ r ∷ v) (d ∙ ap (λ (v : ℕ). drop v e) i)
-            ∙ sym (at-two e (2 * at) (length (yield t)) r h x y);
+            ∙ ap (λ (v : List ℕ). length (yield t) ∷ r ∷ v) (b .coded ∙ ap (λ (v : ℕ). drop v e) i)
+            ∙ sym (at-two e (2 * at) (length (yield t)) r (omega arith) (a .bytes ∙ sym width) (a .number));
         ends = omega arith;
-        inside = l;
+        inside = b .inside;
       }
 
-  pub walk-open : to ≤ from + cover → 2 * n ≤ length e → Opened → Walked G w e n cover mask (nonterminal k ∷ []) at from to next
-  walk-open narrow long a = go (ap length (a .below .covers) ∙ length-slice from to w known)
-    where
-      go : length (yield (a .below .forest)) ≡ to - from → Walked G w e n cover mask (nonterminal k ∷ []) at from to next
-      go h =
-          let b = a .below in
-          let early = a .early in
-          let free : Free G (length (yield (b .forest))) (insert k own) (b .forest) =
-          subst (λ (x : ℕ). Free G x (insert k own) (b .forest)) (sym h) (b .free) in
-          let same : SameSpan cover mask (length (yield (b .forest))) own = subst (λ (x : ℕ). SameSpan cover mask x own) (sym h) span in
-          alone (a .of) (b .fit) (b .plain) free same (a .fresh) (omega arith) (b .covers) (omega arith) (a .bytes ∙ sym h) (a .number)
-          (b .coded) (b .ends) (b .inside)
-
-  pub open-walk : Walked G w e n cover mask (nonterminal k ∷ []) at from to next → Opened
+  pub open-walk : Walked G w e n cover mask (nonterminal k ∷ []) at from to next → Opened G w e n own k at from to next
   unfolding yield nodes
   open-walk a = go (a .fit) (a .plain) (a .free) (a .covers) (a .coded) (a .ends)
     where
       go : {forest : Forest} → Fits G (nonterminal k ∷ []) forest → ¬ Superfluous G forest → Free G cover mask forest
           → yield forest ≡ slice from to w
-          → code forest ++ drop (2 * next) e ≡ drop (2 * at) e → next ≡ at + nodes forest → Opened
+          → code forest ++ drop (2 * next) e ≡ drop (2 * at) e → next ≡ at + nodes forest → Opened G w e n own k at from to next
       go (fits-node {r = r} {below = below} o f fits-end) s z c d m =
           let q : yield below ≡ slice from to w = sym (yield-alone r below) ∙ c in
           let width : length (yield below) ≡ to - from = ap length q ∙ length-slice from to w known in
-          let same : SameSpan cover mask (length (yield below)) own = subst (λ (x : ℕ). SameSpan cover mask x own) (sym width) span in
+          let same : SameSpan cover mask (length (yield below)) own = rw width span in
           let x = drop (2 * next) e in
           let u = two-at e (code below ++ x) (2 * at) (length (yield below)) r (sym (code-alone r below x) ∙ d) in
           let i : 2 * at + 2 ≡ 2 * (at + 1) = omega arith in

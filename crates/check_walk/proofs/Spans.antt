@@ -1,4 +1,4 @@
--- How the set of the nonterminals above is passed on from a node to the row below it, which may cover as many bytes or fewer.
+-- How the mask passes from a node to the row below it, which covers the same bytes or fewer.
 -- Assumes nothing.
 use Prim.Native.Nat.{ℕ, _≤_}
 use mathlib.Core.Bool.{Bool, true, false, true≢false}
@@ -16,13 +16,13 @@ use Rattle.cfg.proofs.Has.{has-within}
 use Rattle.theory_enumeration.specs.Rows.{Free, SameSpan}
 use Rattle.theory_enumeration.proofs.Free.{end-free, node-plain as node-plain-over}
 
--- own: what matters of the mask for the node
+-- `own` is the part of the mask that applies to the node
 module _ (G : Cfg) (cover mask own k r : ℕ) (o : Of G r k) (below : Forest) where
   pub node-plain : ¬ Superfluous G below → Free G (length (yield below)) (insert k own) below → ¬ Superfluous G (node r below end)
   node-plain = node-plain-over G (length (yield below)) own k r o below refl
 
   module _ (span : SameSpan cover mask (length (yield below)) own) where
-    -- a member of the mask over the bytes of the node is one that matters
+    -- a member of the mask over the bytes of the node is in `own`
     member : (j : ℕ) → length (yield below) ≡ cover → has j mask ≡ true → has j own ≡ true
     member j e h = ap (has j) (span .same e) ∙ h
 
@@ -43,7 +43,7 @@ module _ (G : Cfg) (cover mask own k r : ℕ) (o : Of G r k) (below : Forest) wh
       pub below-plain : ¬ Superfluous G below
       below-plain i = plain (super-below i)
 
-      -- a member that matters is one of the mask, over the bytes of the node
+      -- a member of `own` is in the mask, and the node covers `cover` bytes
       matters : (j : ℕ) → has j own ≡ true → (length (yield below) ≡ cover) × (has j mask ≡ true)
       matters j h = go (ℕ-discrete (length (yield below)) cover)
         where

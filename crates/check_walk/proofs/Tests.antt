@@ -1,4 +1,4 @@
--- What the tests of the functions that do not call themselves say, with premises as their code gives them. Assumes nothing.
+-- What the tests of `rule_at` and `look` say, with premises as the code gives them. Assumes nothing.
 use Prim.Native.Nat.{ℕ, _+_, _*_, _-_, _≤_, _<_}
 use mathlib.Core.Bool.{Bool, true, false, _&&_, true≢false}
 use mathlib.Core.List.{List}
@@ -6,7 +6,7 @@ use mathlib.Core.Path.{_≡_, sym, ap, _∙_}
 use native.Mathlib.Omega.{arith}
 use lib.ListN.{length, getD}
 use borrow.Author.Tests.{lt-ltb}
-use Rattle.sizes.specs.Sizes.{maxRules}
+use Rattle.sizes.specs.Sizes.{maxRules, nonterminals}
 use Rattle.sets.specs.Set.{has}
 use Rattle.cfg.specs.Grammar.{Symbol, nonterminal, terminal, fits}
 use Rattle.chart.specs.Cell.{fitsAt}
@@ -25,7 +25,7 @@ module _ (p e : List ℕ) (n mask k c at : ℕ) where
   none-fits : ((r : ℕ) → Rules r → ⊥) → Answers Rules maxRules maxRules
   none-fits f = record { found = λ h. absurd (omega arith); none = λ _. f }
 
-  pub rule-high : 31 < k → Answers Rules maxRules maxRules
+  pub rule-high : nonterminals ≤ k → Answers Rules maxRules maxRules
   rule-high h = none-fits (λ s o. let l = o .used in omega arith)
 
   pub rule-late : n ≤ at → Answers Rules maxRules maxRules
@@ -38,7 +38,7 @@ module _ (p e : List ℕ) (n mask k c at : ℕ) where
     same : (s : ℕ) → Rules s → r ≡ s
     same s o = number ∙ o .number
 
-    pub rule-number : 127 < r → Answers Rules maxRules maxRules
+    pub rule-number : maxRules ≤ r → Answers Rules maxRules maxRules
     rule-number h = none-fits (λ s o. let q = same s o in let l = o .low in omega arith)
 
     module _ (l : ℕ) (left : l ≡ leftIn p r) where
@@ -49,15 +49,16 @@ module _ (p e : List ℕ) (n mask k c at : ℕ) where
         pub rule-barred : b ≡ true → Answers Rules maxRules maxRules
         rule-barred h = none-fits (λ s o. true≢false (sym h ∙ member ∙ o .fresh))
 
-        pub rule-found : (m : ℕ) → m ≡ getD e (2 * at) 0 → at < n → m ≡ c → r ≤ 127 → k ≤ 31 → l ≡ k → b ≡ false → Answers Rules maxRules r
-        rule-found m x early y low high z h =
+        pub rule-found : (m : ℕ) → m ≡ getD e (2 * at) 0 → at < n → m ≡ c → r < maxRules → k < nonterminals → l ≡ k → b ≡ false
+            → Answers Rules maxRules r
+        rule-found m x early y low used z h =
             record {
               found = λ _. record {
                 inside = early;
                 covers = sym x ∙ y;
                 number = sym number;
-                low = omega arith;
-                used = omega arith;
+                low = low;
+                used = used;
                 left = sym left ∙ z;
                 fresh = sym member ∙ h;
               };
@@ -88,7 +89,7 @@ module _ (p w e : List ℕ) (n r q at from to count : ℕ) (counted : count ≡ 
     terminal-here : b ≡ false → symbolIn p r q ≡ terminal (terminalIn p r q)
     terminal-here t = symbol-terminal p r q (sym tag ∙ t)
 
-    -- the test of a byte is that of the terminal
+    -- at a terminal the test of the place is the test of the terminal
     fits-here : b ≡ false → from < to → to ≤ length w → fitsPlace w (symbolIn p r q) from ≡ fits (terminalIn p r q) (getD w from 0)
     unfolding fitsPlace fitsAt
     fits-here t h l =

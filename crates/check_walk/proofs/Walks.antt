@@ -1,4 +1,4 @@
--- How rows that are walked are made of their first place and the rest, and taken apart again; and there is only one. Assumes nothing.
+-- A walked row is made of its first place and the rest, and can be taken apart again; there is at most one. Assumes nothing.
 use Prim.Native.Nat.{ℕ, suc, _+_, _*_, _≤_, _<_}
 use mathlib.Core.Bool.{true}
 use mathlib.Core.List.{List, [], _∷_, _++_}
@@ -15,21 +15,21 @@ use Rattle.theory_enumeration.specs.Rows.{Free}
 use Rattle.theory_enumeration.proofs.Free.{end-plain, end-free, leaf-plain, leaf-free, after-plain, after-free}
 use Rattle.check_walk.specs.Walk.{Walked}
 
-module _ (G : Cfg) (w e : List ℕ) (n cover mask : ℕ) where
-  -- ---- one row at most
+module _ {G : Cfg} {w e : List ℕ} {n cover mask : ℕ} where
+  -- ---- at most one row
 
-  pub walk-unique : (places : List Symbol) (at from to next next' : ℕ) → Walked G w e n cover mask places at from to next
+  pub walk-unique : {places : List Symbol} {at from to next next' : ℕ} → Walked G w e n cover mask places at from to next
       → Walked G w e n cover mask places at from to next' → next ≡ next'
-  walk-unique places at from to next next' a b =
+  walk-unique {at = at} {next = next} {next'} a b =
       let u = row-unique G (drop (2 * next) e) (drop (2 * next') e) [] [] (a .fit) (b .fit)
       (ap (λ (l : List ℕ). l ++ []) (a .covers ∙ sym (b .covers))) (a .coded ∙ sym (b .coded)) in
       a .ends ∙ ap (λ (t : Forest). at + nodes t) (u .0) ∙ sym (b .ends)
 
   -- ---- the end of a row
 
-  pub walk-end : (at from to : ℕ) → at ≤ n → from ≡ to → Walked G w e n cover mask [] at from to at
+  pub walk-end : {at from to : ℕ} → at ≤ n → from ≡ to → Walked G w e n cover mask [] at from to at
   unfolding yield code nodes
-  walk-end at from to l h =
+  walk-end {from = from} l h =
       record {
         forest = end;
         fit = fits-end;
@@ -41,16 +41,16 @@ module _ (G : Cfg) (w e : List ℕ) (n cover mask : ℕ) where
         inside = l;
       }
 
-  pub end-walk : (at from to next : ℕ) → from ≤ to → to ≤ length w → Walked G w e n cover mask [] at from to next → from ≡ to
+  pub end-walk : {at from to next : ℕ} → from ≤ to → to ≤ length w → Walked G w e n cover mask [] at from to next → from ≡ to
   unfolding yield
-  end-walk at from to next h l a = go (a .forest) (a .fit) (a .covers)
+  end-walk {from = from} {to} h l a = go (a .forest) (a .fit) (a .covers)
     where
       go : (t : Forest) → Fits G [] t → yield t ≡ slice from to w → from ≡ to
       go end fits-end c = slice-nil from to w h l c
 
   -- ---- a byte before a row
 
-  module _ (t : Terminal) (places : List Symbol) (at from to next : ℕ) (known : to ≤ length w) where
+  module _ {t : Terminal} {places : List Symbol} {at from to next : ℕ} (known : to ≤ length w) where
     pub walk-leaf : from < to → fits t (getD w from 0) ≡ true → Walked G w e n cover mask places at (from + 1) to next
         → Walked G w e n cover mask (terminal t ∷ places) at from to next
     unfolding yield code nodes

@@ -1,4 +1,4 @@
--- A node that is walked over the whole input and the whole offered derivation is one, and back; so the answer of `is_derivation`.
+-- An offered row is a derivation exactly if the walk finds one node over the whole row and the whole input: the answer of `is_derivation`.
 -- Assumes nothing.
 use Prim.Native.Nat.{ℕ, _*_, _/_, _%_, _≤_, _<_}
 use mathlib.Core.Bool.{Bool, true, false, true≢false}
@@ -29,6 +29,9 @@ use Rattle.check_walk.proofs.Walks.{walk-unique}
 -- ---- the test `listed` in terms of derivations
 
 module _ (G : Cfg) (w e : List ℕ) where
+  pub listed-derivation : listed e (L G w) ≡ true → Derivation G limit w e
+  listed-derivation h = listed→derivation G limit w e (listed-member e (L G w) h)
+
   pub derivation-listed : Derivation G limit w e → true ≡ listed e (L G w)
   derivation-listed d = sym (member-listed e (derivation→listed G limit w e d))
 
@@ -36,28 +39,22 @@ module _ (G : Cfg) (w e : List ℕ) where
   none-listed f = go (listed e (L G w)) refl
     where
       go : (b : Bool) → listed e (L G w) ≡ b → false ≡ listed e (L G w)
-      go true h = absurd (f (listed→derivation G limit w e (listed-member e (L G w) h)))
+      go true h = absurd (f (listed-derivation h))
       go false h = sym h
 
-  pub listed-derivation : listed e (L G w) ≡ true → Derivation G limit w e
-  listed-derivation h = listed→derivation G limit w e (listed-member e (L G w) h)
-
-  -- a derivation has an even number of numbers, at most 1,024
-  pub derivation-even : Derivation G limit w e → length e ≡ 2 * (length e / 2)
-  derivation-even d =
-      let h : length e ≡ 2 * nodes (d .tree) = ap length (sym (d .coded)) ∙ length-code (d .tree) in
-      omega arith
+  derivation-length-nodes : (d : Derivation G limit w e) → length e ≡ 2 * nodes (d .tree)
+  derivation-length-nodes d = ap length (sym (d .coded)) ∙ length-code (d .tree)
 
   pub long-unlisted : outputSize < length e → false ≡ listed e (L G w)
   long-unlisted h = none-listed (λ d. let l = derivation-length G limit w e d in omega arith)
 
   pub odd-unlisted : length e % 2 ≡ 1 → false ≡ listed e (L G w)
-  odd-unlisted h = none-listed (λ d. let l = derivation-even d in omega arith)
+  odd-unlisted h = none-listed (λ d. let l = derivation-length-nodes d in omega arith)
 
 -- ---- the whole input and the whole offered derivation
 
 module _ (p w e : List ℕ) (start : ℕ) where
-  -- the node that stands for the whole
+  -- the walk finds one node over the whole row and the whole input
   abbrev Top : ℕ → Type 0
   Top = Walked (cfgIn 0 p) w e (length e / 2) (length w) 0 (nonterminal start ∷ []) 0 0 (length w)
 
@@ -82,7 +79,7 @@ module _ (p w e : List ℕ) (start : ℕ) where
   unfolding cfgIn
   derivation→top d =
       let back = same-sym (cfgIn 0 p) (cfgIn start p) rules-same in
-      let h : length e ≡ 2 * nodes (d .tree) = ap length (sym (d .coded)) ∙ length-code (d .tree) in
+      let h = derivation-length-nodes (cfgIn start p) w e d in
       let none : drop (2 * (length e / 2)) e ≡ [] = drop-of-length-le e {i = 2 * (length e / 2)} (omega arith) in
       record {
         forest = d .tree;
@@ -111,6 +108,5 @@ module _ (p w e : List ℕ) (start : ℕ) where
         where
           other : Dec (next < tooMany) → Top (length e / 2) → ⊥
           other (yes l) t =
-              h (walk-unique (cfgIn 0 p) w e (length e / 2) (length w) 0 (nonterminal start ∷ []) 0 0 (length w) next (length e / 2)
-              (a .found (omega arith)) t)
+              h (walk-unique (a .found (omega arith)) t)
           other (no l) t = a .none (omega arith) (length e / 2) t

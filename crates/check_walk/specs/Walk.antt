@@ -1,5 +1,5 @@
--- What the checker of a node and the walker of a row of places find in an offered derivation e. Its node i is the two numbers at 2 * i (how
--- many bytes it covers) and 2 * i + 1 (its rule). A mask is a set of nonterminals, as a word of crate sets. Assumes nothing.
+-- What `node` and `row` find in an offered derivation e. Node i of e is the two numbers at 2 * i (how many bytes it covers) and 2 * i + 1
+-- (its rule). A mask is a set of nonterminals, as a word of crate sets. Assumes nothing.
 use Prim.Native.Nat.{ℕ, _+_, _*_, _≤_, _<_}
 use mathlib.Core.Bool.{true, false}
 use mathlib.Core.List.{List, _++_}
@@ -16,8 +16,8 @@ use Rattle.packed.specs.Packed.{leftIn, placeCount, symbolIn}
 use Rattle.check_walk.specs.declared.walk.Step.{Step}
 use Rattle.check_walk.specs.declared.walk.Step.the-variants.{No, End, Byte, Node}
 
--- a forest for the places over the bytes `from` to `to`, without superfluous recursion and free of the mask over `cover` bytes, whose code
--- stands in e from node `at` on; `next` is the node after it, and n the number of nodes that e has
+-- there is a forest for the places over the bytes `from` to `to`, without superfluous recursion and free of the mask over `cover` bytes; e
+-- has its code from node `at` on, `next` is the node after it, and e has n nodes
 pub record Walked (G : Cfg) (w e : List ℕ) (n cover mask : ℕ) (places : List Symbol) (at from to next : ℕ) : Type 0 where
   pub forest : Forest
   pub fit : Fits G places forest
@@ -33,7 +33,7 @@ pub record Answers (P : ℕ → Type 0) (bound r : ℕ) : Type 0 where
   pub found : r < bound → P r
   pub none : bound ≤ r → (s : ℕ) → P s → ⊥
 
--- what the walkers ask of where they stand: e has n nodes, at most 512, and the bytes `from` to `to` are at most `cover` bytes of w
+-- what `node` and `row` require: e has n nodes, at most 512, and the bytes `from` to `to` are at most `cover` bytes of w
 pub record Room (w e : List ℕ) (n cover at from to : ℕ) : Type 0 where
   pub few : n ≤ maxNodes
   pub long : 2 * n ≤ length e
@@ -42,7 +42,7 @@ pub record Room (w e : List ℕ) (n cover at from to : ℕ) : Type 0 where
   pub known : to ≤ length w
   pub narrow : to ≤ from + cover
 
--- node `at` of e covers c bytes and has rule r, a rule of the nonterminal k, which is not in the mask
+-- node `at` of e covers c bytes and has rule r; r is a rule of the nonterminal k, and the mask does not have k
 pub record RuleOpens (p e : List ℕ) (n mask k c at r : ℕ) : Type 0 where
   pub inside : at < n
   pub covers : getD e (2 * at) 0 ≡ c
@@ -52,7 +52,7 @@ pub record RuleOpens (p e : List ℕ) (n mask k c at r : ℕ) : Type 0 where
   pub left : leftIn p r ≡ k
   pub fresh : has k mask ≡ false
 
--- what comes next at place q of rule r: the end of the row, a byte that fits, a node of k over c bytes, or none of these
+-- what comes next at place q of rule r: the row's end, a byte that fits, a node of k over c bytes, or none
 pub data OfferedLooked (p w e : List ℕ) (n r q at from to : ℕ) : Step → Type 0 where
   at-end : placeCount p r ≤ q → from ≡ to → OfferedLooked p w e n r q at from to End
   not-end : placeCount p r ≤ q → (from ≡ to → ⊥) → OfferedLooked p w e n r q at from to No

@@ -1,4 +1,4 @@
-// Whether an offered row of numbers is a derivation of an input: the walk over the whole of both.
+// Whether an offered row of numbers is a derivation of an input. The walk goes over the whole row and the whole input.
 use super::walk::node;
 use packed::Packed;
 ghost use mathlib.Core.Path.{_≡_};

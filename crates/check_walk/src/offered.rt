@@ -1,4 +1,4 @@
-// The numbers of an offered derivation e: its node i is the two at 2 i (how many bytes it covers) and 2 i + 1 (its rule).
+// The numbers of an offered derivation e. Node i has two: how many bytes it covers, at 2 i, and its rule, at 2 i + 1.
 ghost use mathlib.Core.Path.{_≡_};
 ghost use Prim.Native.Nat.{_*_, _+_, _<_, min};
 ghost use lib.ListN.{length, getD};
@@ -12,7 +12,7 @@ pub fn number(e: &[u16], i: usize) -> usize
     e[i] as usize
 }
 
-// The rule of node i, or that of no rule if it is larger.
+// The rule of node i, or NO_RULE if no rule has that number.
 pub fn rule_number(e: &[u16], i: usize) -> usize
     requires { ⌜ (2 * i + 1 < length (now e)) × (i < maxNodes) ⌝ }
     ensures { λ r. ⌜ r ≡ min (getD (now (e .entry)) (2 * i + 1) 0) maxRules ⌝ }

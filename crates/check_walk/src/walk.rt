@@ -1,4 +1,4 @@
-// The checker proper: the checker of a node calls the walker of a row of places, which calls the checker of a node.
+// The checker proper. `node` checks one node and calls `row` for the places of its rule; `row` calls `node` for each nonterminal.
 use super::offered::number;
 use packed::Packed;
 use tree_node::child_set;
@@ -10,7 +10,7 @@ ghost use Rattle.packed.specs.Packed.{placesFrom, placeCount, cfgIn};
 ghost use Rattle.check_walk.specs.Walk.{Walked, Answers, Room, RuleOpens, OfferedLooked};
 ghost use Rattle.sizes.specs.Sizes.{tooMany, maxRules, maxNodes};
 
-// What comes next in a row: nothing that fits, its end, a byte, or a node of a nonterminal over so many bytes.
+// What comes next in a row: nothing that fits, its end, a byte, or a node with its nonterminal and the number of its bytes.
 pub enum Step {
     No,
     End,
@@ -18,19 +18,19 @@ pub enum Step {
     Node(usize, usize),
 }
 
-// Where a row goes on: at node `at`, over the bytes `from` to `to`.
+// Where a row continues: at node `at`, over the bytes `from` to `to`.
 struct Here {
     at: usize,
     from: usize,
     to: usize,
 }
 
-// The rule of node `at`, if the node covers c bytes and is of the nonterminal k, which is not in the mask; else that of no rule.
+// The rule of node `at`, if the node covers c bytes, is a node of k, and the mask does not have k. Otherwise NO_RULE.
 fn rule_at(p: &Packed, e: &[u16], n: usize, mask: u32, k: usize, c: usize, at: usize) -> usize
     requires { ⌜ (2 * n ≤ length (now e)) × (n ≤ maxNodes) ⌝ }
     ensures { λ r. ⌜ Answers (RuleOpens (now (p .entry)) (now (e .entry)) n mask k c at) maxRules r ⌝ }
 {
-    if k > 31 {
+    if k >= sizes::NONTERMINALS {
         return sizes::NO_RULE;
     }
     if at >= n {
@@ -40,7 +40,7 @@ fn rule_at(p: &Packed, e: &[u16], n: usize, mask: u32, k: usize, c: usize, at: u
         return sizes::NO_RULE;
     }
     let r = number(e, 2 * at + 1);
-    if r > 127 {
+    if r >= sizes::MAX_RULES {
         return sizes::NO_RULE;
     }
     if packed::left(p, r) != k {
@@ -82,7 +82,8 @@ fn look(p: &Packed, w: &[u8], e: &[u16], n: usize, r: usize, q: usize, here: Her
     Step::No
 }
 
-// The node after a node of the nonterminal k over the bytes `from` to `to` that stands at node `at`; TOO_MANY if there is none there.
+// Checks that a node of the nonterminal k over the bytes `from` to `to` begins at node `at`. The answer is the node after its subtree, or
+// TOO_MANY if no such node is there.
 pub fn node(
     p: &Packed,
     w: &[u8],
@@ -102,13 +103,13 @@ pub fn node(
     let c = to - from;
     let mask = child_set(cover, above, c);
     let r = rule_at(p, e, n, mask, k, c, at);
-    if r > 127 {
+    if r >= sizes::MAX_RULES {
         return sizes::TOO_MANY;
     }
     row(p, w, e, n, c, sets::with(mask, k), r, 0, at + 1, from, to)
 }
 
-// The node after a row for the places of rule r from place q on; TOO_MANY if there is none.
+// Checks the row for the places of rule r from place q on. The answer is the node after the row, or TOO_MANY if there is no such row.
 pub fn row(
     p: &Packed,
     w: &[u8],

@@ -1,4 +1,4 @@
--- What the three exported calls answer: over the list of the packed grammar's derivations, and then over the grammar that the struct means.
+-- What the three exported calls answer: over the list of the packed grammar's derivations, and over the grammar that the struct means.
 -- Assumes nothing.
 use Prim.Native.Nat.{ℕ, _≤_}
 use mathlib.Core.Bool.{Bool, true, false, not}
@@ -37,7 +37,7 @@ use Rattle.check_walk.proofs.Whole.{listed-derivation}
 use Rattle.checker.proofs.Bags.{derivation-low}
 use Rattle.check_length.proofs.Lengths.{sum-row}
 
--- ---- a row that `is_derivation` affirms
+-- ---- a row of which `is_derivation` says that it is one
 
 module _ (p w e : List ℕ) (s : ℕ) (b : Bool) (told : b ≡ listed e (L (cfgIn s p) w)) where
   pub offered-short : b ≡ true → length e ≤ outputSize
@@ -58,11 +58,8 @@ both-ready p w d e s a b first second h k = (
 -- ---- the answers over a list of derivations
 
 module _ (l : List (List ℕ)) (e : List ℕ) (b : Bool) (told : b ≡ listed e l) where
-  pub check-yes : b ≡ true → answered true ≡ checkAnswer l e
-  check-yes h = ap answered (sym h ∙ told)
-
-  pub check-no : b ≡ false → answered false ≡ checkAnswer l e
-  check-no h = ap answered (sym h ∙ told)
+  pub check-says : {v : Bool} → b ≡ v → answered v ≡ checkAnswer l e
+  check-says h = ap answered (sym h ∙ told)
 
   pub length-yes : (lengths : ℕ → ℤ) (z : ℤ) → b ≡ true → SFits w32 z → z ≡ rounded (sum lengths e)
       → answered (toZ w32 (ofZ w32 z)) ≡ lengthAnswer lengths l e
@@ -84,13 +81,9 @@ module _ (l : List (List ℕ)) (d e : List ℕ) (a : Bool) (first : a ≡ listed
     build-second k = rw (← first, ← second, not-false a h, not-true b k)
 
     module _ (k : not b ≡ false) (c : Bool) (compared : c ≡ sameBag (rulesUsed d) (rulesUsed e)) where
-      pub build-same : c ≡ true → answered true ≡ buildAnswer l d e
+      pub build-says : {v : Bool} → c ≡ v → answered v ≡ buildAnswer l d e
       unfolding decide
-      build-same m = rw (← first, ← second, ← compared, not-false a h, not-false b k, m)
-
-      pub build-different : c ≡ false → answered false ≡ buildAnswer l d e
-      unfolding decide
-      build-different m = rw (← first, ← second, ← compared, not-false a h, not-false b k, m)
+      build-says m = rw (← first, ← second, ← compared, not-false a h, not-false b k, m)
 
 -- ---- the calls
 

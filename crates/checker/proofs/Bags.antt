@@ -1,15 +1,16 @@
--- When two lists agree as bags; and the rules of a derivation are below 128. Assumes nothing.
+-- When two lists are the same bag; and the rules of a derivation are below 128. Assumes nothing.
 use Prim.Native.Nat.{ℕ, suc, _+_, _≤_, _<_}
 use mathlib.Core.Bool.{Bool, true, false, cond}
+use mathlib.Core.Logic.{_≢_}
 use mathlib.Core.List.{List, [], _∷_, _++_, append-nil}
 use mathlib.Core.Path.{_≡_, refl, sym, ap, _∙_}
-use native.Mathlib.Decide.{decLt}
+use native.Mathlib.Decide.{decLt, ℕ-discrete}
 use native.Mathlib.Omega.{arith}
 use lib.Dec.{eqb}
 use lib.ListN.{length, getD}
 use borrow.Author.Tests.{eq-eqb, ne-eqb, eqb-true}
 use Rattle.sizes.specs.Sizes.{maxRules}
-use Rattle.laws.proofs.Bools.{and-parts, and-both}
+use Rattle.laws.proofs.Bools.{bool-false, and-parts, and-both}
 use Rattle.cfg.specs.Grammar.{Symbol}
 use Rattle.cfg.specs.Tree.{Forest, yield, code, Fits, fits-end, fits-leaf, fits-node}
 use Rattle.cfg.specs.Derivation.{Derivation, limit}
@@ -19,6 +20,29 @@ use Rattle.packed.proofs.Laws.{of-in}
 use Rattle.results.specs.Measure.{rulesUsed, occurrences, sameBag}
 use Rattle.checker.specs.Build.{Tallied, Low}
 use Rattle.check_walk.proofs.Nodes.{code-first}
+
+-- ---- how often a number occurs
+
+-- how often k is in a list of one
+abbrev pub once : ℕ → ℕ → ℕ
+once k r = cond (eqb k r) 1 0
+
+pub once-other : (k r : ℕ) → k ≢ r → once k r ≡ 0
+once-other k r d = ap (λ (t : Bool). cond t 1 0) (ne-eqb k r d)
+
+pub occurrences-cons : (k r : ℕ) (l : List ℕ) → occurrences k (r ∷ l) ≡ once k r + occurrences k l
+unfolding occurrences
+occurrences-cons k r l = go (eqb k r)
+  where
+    go : (t : Bool) → cond t (suc (occurrences k l)) (occurrences k l) ≡ cond t 1 0 + occurrences k l
+    go true = omega arith
+    go false = omega arith
+
+occurrences-append : (k : ℕ) (x y : List ℕ) → occurrences k (x ++ y) ≡ occurrences k x + occurrences k y
+unfolding occurrences
+occurrences-append k [] y = omega arith
+occurrences-append k (a ∷ x) y =
+    omega (arith, occurrences-cons k a (x ++ y), occurrences-cons k a x, occurrences-append k x y)
 
 -- ---- the test `all`
 
@@ -30,26 +54,12 @@ all-true test (a ∷ l) f = and-both (test a) (all test l) (f a) (all-true test 
 all-member : (test : ℕ → Bool) (l : List ℕ) (k : ℕ) → 0 < occurrences k l → all test l ≡ true → test k ≡ true
 unfolding all occurrences
 all-member test [] k h e = absurd (omega arith)
-all-member test (a ∷ l) k h e = go (eqb k a) refl h (λ m. all-member test l k m (both .1))
-  where
-    both : (test a ≡ true) × (all test l ≡ true)
-    both = and-parts (test a) (all test l) e
-
-    go : (t : Bool) → eqb k a ≡ t → 0 < cond t (suc (occurrences k l)) (occurrences k l) → (0 < occurrences k l → test k ≡ true)
-        → test k ≡ true
-    go true q m later = ap test (eqb-true k a q) ∙ both .0
-    go false q m later = later m
-
-occurrences-append : (k : ℕ) (x y : List ℕ) → occurrences k (x ++ y) ≡ occurrences k x + occurrences k y
-unfolding occurrences
-occurrences-append k [] y = omega arith
-occurrences-append k (a ∷ x) y = go (eqb k a) (occurrences-append k x y)
-  where
-    go : (t : Bool) → occurrences k (x ++ y) ≡ occurrences k x + occurrences k y
-        → cond t (suc (occurrences k (x ++ y))) (occurrences k (x ++ y))
-        ≡ cond t (suc (occurrences k x)) (occurrences k x) + occurrences k y
-    go true e = omega arith
-    go false e = e
+all-member test (a ∷ l) k h e =
+    let both = and-parts (test a) (all test l) e in
+    elim (ℕ-discrete k a) [
+      | yes d ↦ ap test d ∙ both .0
+      | no d ↦ all-member test l k (omega (arith, occurrences-cons k a l, once-other k a d)) (both .1)
+    ]
 
 -- ---- bags
 
@@ -64,14 +74,9 @@ module _ (x y : List ℕ) where
 
   pub bags-differ : (k : ℕ) → (occurrences k x ≡ occurrences k y → ⊥) → false ≡ sameBag x y
   unfolding sameBag
-  bags-differ k d = go (all equal (x ++ y)) refl
-    where
-      some : 0 < occurrences k (x ++ y)
-      some = omega (arith, occurrences-append k x y)
-
-      go : (t : Bool) → all equal (x ++ y) ≡ t → false ≡ all equal (x ++ y)
-      go true e = absurd (d (eqb-true (occurrences k x) (occurrences k y) (all-member equal (x ++ y) k some e)))
-      go false e = sym e
+  bags-differ k d =
+      let some : 0 < occurrences k (x ++ y) = omega (arith, occurrences-append k x y) in
+      sym (bool-false (all equal (x ++ y)) (λ e. d (eqb-true _ _ (all-member equal (x ++ y) k some e))))
 
 -- ---- two tallies
 
@@ -94,12 +99,9 @@ module _ (k : ℕ) (high : maxRules ≤ k) where
   unfolding rulesUsed occurrences
   node-low c r l h e = go (eqb c 0)
     where
-      other : eqb k r ≡ false
-      other = ne-eqb k r (omega arith)
-
       go : (t : Bool) → occurrences k (elim t [ true ↦ rulesUsed l | false ↦ r ∷ rulesUsed l ]) ≡ 0
       go true = e
-      go false = ap (λ (b : Bool). cond b (suc (occurrences k (rulesUsed l))) (occurrences k (rulesUsed l))) other ∙ e
+      go false = omega (arith, occurrences-cons k r (rulesUsed l), once-other k r (omega arith))
 
   row-low : (s : ℕ) (p : List ℕ) {places : List Symbol} {t : Forest} (x : List ℕ) → Fits (cfgIn s p) places t
       → occurrences k (rulesUsed x) ≡ 0 → occurrences k (rulesUsed (code t ++ x)) ≡ 0

@@ -1,4 +1,4 @@
 -- The laws of the checker's calls.
-pub mod Tally
 pub mod Bags
+pub mod Tally
 pub mod Answers

@@ -1,20 +1,19 @@
--- Counting the rules of the nodes that cover something, node by node. Assumes nothing.
-use Prim.Native.Nat.{ℕ, suc, _+_, _*_, _/_, _≤_, _<_, min}
+-- The count of the rules of the nodes that cover something, node by node. Assumes nothing.
+use Prim.Native.Nat.{ℕ, _+_, _*_, _/_, _≤_, _<_, min}
 use mathlib.Core.Bool.{Bool, true, false, cond}
 use mathlib.Core.List.{List, [], _∷_}
-use mathlib.Core.Logic.{_≢_}
 use mathlib.Core.Path.{_≡_, refl, sym, ap, _∙_}
 use native.Mathlib.Decide.{ℕ-discrete}
 use native.Mathlib.Omega.{arith}
 use lib.Dec.{eqb}
 use lib.ListN.{length, getD, drop, set, replicate, length-drop, length-set, length-replicate}
-use lib.Seq.{getD-set-same, getD-set-other}
 use borrow.Author.Tests.{eq-eqb, ne-eqb}
 use Rattle.sizes.specs.Sizes.{maxRules}
-use Rattle.laws.proofs.Lists.{zeros-at}
+use Rattle.laws.proofs.Lists.{zeros-at, set-each}
 use Rattle.results.specs.Measure.{rulesUsed, occurrences}
 use Rattle.checker.specs.Build.{usedAt, Tallied}
 use Rattle.check_walk.proofs.Nodes.{at-two}
+use Rattle.checker.proofs.Bags.{once, once-other, occurrences-cons}
 
 -- ---- the rule of a node, by the tests of `used`
 
@@ -29,21 +28,6 @@ module _ (e : List ℕ) (i c : ℕ) (cover : c ≡ getD e (2 * i) 0) where
       ∙ sym (ap (λ (t : Bool). cond t maxRules (min (getD e (2 * i + 1) 0) maxRules)) (ne-eqb (getD e (2 * i) 0) 0 (λ h. some (cover ∙ h))))
 
 -- ---- one node more
-
--- how often k is in a list of one
-abbrev once : ℕ → ℕ → ℕ
-once k r = cond (eqb k r) 1 0
-
-occurrences-cons : (k r : ℕ) (l : List ℕ) → occurrences k (r ∷ l) ≡ once k r + occurrences k l
-unfolding occurrences
-occurrences-cons k r l = go (eqb k r)
-  where
-    go : (t : Bool) → cond t (suc (occurrences k l)) (occurrences k l) ≡ cond t 1 0 + occurrences k l
-    go true = omega arith
-    go false = omega arith
-
-once-other : (k r : ℕ) → k ≢ r → once k r ≡ 0
-once-other k r d = ap (λ (t : Bool). cond t 1 0) (ne-eqb k r d)
 
 -- a node, with what is below it and after it
 occurrences-node : (k c r : ℕ) (l : List ℕ) → k < maxRules
@@ -97,37 +81,21 @@ module _ (e : List ℕ) where
       }
 
   pub counted-start : Counted 0 (replicate 129 0)
-  counted-start = counted-of 129 (λ i. 129)
+  counted-start = counted-of 129 refl
 
   pub counted-step : (i r : ℕ) (t : List ℕ) → i < length e / 2 → r ≡ usedAt e i → r ≤ maxRules → Counted i t
       → Counted (i + 1) (set t r (getD t r 0 + 1))
   counted-step i r t h q l c =
+      let long : r < length t = omega (arith, c .long) in
+      let one : once r (usedAt e i) ≡ 1 = ap (λ (b : Bool). cond b 1 0) (eq-eqb r (usedAt e i) q) in
       record {
         long = length-set t r (getD t r 0 + 1) ∙ c .long;
-        few = λ k. few k (ℕ-discrete k r);
-        counts = λ k m. counts k m (ℕ-discrete k r);
+        few = λ k. set-each (λ (x y : ℕ). y ≤ i + 1) 0 t r (getD t r 0 + 1) long (omega (arith, c .few r)) k (λ _. omega (arith, c .few k));
+        counts = λ k.
+            set-each (λ (x y : ℕ). x < maxRules → y + occurrences x (rulesUsed (drop (2 * (i + 1)) e)) ≡ occurrences x (rulesUsed e)) 0
+            t r (getD t r 0 + 1) long (λ m. omega (arith, c .counts r m, used-step i r h m)) k
+            (λ d m. omega (arith, once-other k (usedAt e i) (λ x. d (x ∙ sym q)), c .counts k m, used-step i k h m));
       }
-    where
-      t' : List ℕ
-      t' = set t r (getD t r 0 + 1)
-
-      here : (k : ℕ) → k ≡ r → getD t' k 0 ≡ getD t k 0 + 1
-      here k d =
-          ap (λ (x : ℕ). getD t' x 0) d ∙ getD-set-same t r (getD t r 0 + 1) 0 (omega (arith, c .long))
-          ∙ ap (λ (x : ℕ). getD t x 0 + 1) (sym d)
-
-      few : (k : ℕ) → Dec (k ≡ r) → getD t' k 0 ≤ i + 1
-      few k (yes d) = omega (arith, here k d, c .few k)
-      few k (no d) = omega (arith, getD-set-other t r k (getD t r 0 + 1) 0 d, c .few k)
-
-      counts : (k : ℕ) → k < maxRules → Dec (k ≡ r)
-          → getD t' k 0 + occurrences k (rulesUsed (drop (2 * (i + 1)) e)) ≡ occurrences k (rulesUsed e)
-      counts k m (yes d) =
-          let one : once k (usedAt e i) ≡ 1 = ap (λ (b : Bool). cond b 1 0) (eq-eqb k (usedAt e i) (d ∙ q)) in
-          omega (arith, here k d, c .counts k m, used-step i k h m)
-      counts k m (no d) =
-          let none : once k (usedAt e i) ≡ 0 = once-other k (usedAt e i) (λ x. d (x ∙ sym q)) in
-          omega (arith, getD-set-other t r k (getD t r 0 + 1) 0 d, c .counts k m, used-step i k h m)
 
   pub counted-done : (i : ℕ) (t : List ℕ) → length e / 2 ≤ i → Counted i t → Tallied e t
   counted-done i t h c k l = omega (arith, c .counts k l, used-end i k h)

@@ -12,10 +12,10 @@ use Rattle.results.specs.Measure.{rulesUsed, occurrences}
 abbrev pub usedAt : List ℕ → ℕ → ℕ
 usedAt e i = cond (eqb (getD e (2 * i) 0) 0) maxRules (min (getD e (2 * i + 1) 0) maxRules)
 
--- t has, for each rule below 128, how many nodes that cover something have it
+-- for each rule below 128, t has the number of nodes that have it and cover something
 abbrev pub Tallied : List ℕ → List ℕ → Type 0
 Tallied e t = (k : ℕ) → k < maxRules → getD t k 0 ≡ occurrences k (rulesUsed e)
 
--- no node that covers something has a rule from 128 on
+-- no node that covers something has a rule of 128 or above
 abbrev pub Low : List ℕ → Type 0
 Low e = (k : ℕ) → maxRules ≤ k → occurrences k (rulesUsed e) ≡ 0

@@ -7,7 +7,7 @@ use Rattle.results.specs.Answer.{Answer, refused, answered, check, decide}
 use Rattle.results.specs.Check.{listed}
 use Rattle.results.specs.Measure.{sum, rounded, rulesUsed, sameBag}
 
--- what is answered once checks 8, 9 and 10 are passed, the derivations of the input being those of the list l: check, length, same build
+-- what check, length and same build answer once checks 8, 9 and 10 are passed; l is the list of the input's derivations
 abbrev pub checkAnswer : List (List ℕ) → List ℕ → Answer Bool
 checkAnswer l e = answered (listed e l)
 

@@ -1,3 +1,3 @@
--- What the checker's calls say: the count of a derivation's rules, and the answers.
+-- The answers of the checker's calls, and how often a derivation uses each rule.
 pub mod Build
 pub mod Calls

@@ -1,4 +1,4 @@
-// Whether two derivations are the same build: the rules of the nodes that cover something agree as a bag.
+// Whether two derivations are the same build: the rules of their nodes that cover something are the same bag.
 use check_walk::offered::number;
 use check_walk::offered::rule_number;
 ghost use mathlib.Core.Path.{_≡_};
@@ -8,7 +8,7 @@ ghost use Rattle.sizes.specs.Sizes.{maxRules, maxNodes, outputSize};
 ghost use Rattle.results.specs.Measure.{rulesUsed, sameBag};
 ghost use Rattle.checker.specs.Build.{usedAt, Tallied, Low};
 
-// The rule of node i, if the node covers something and there is such a number; else that of no rule.
+// The rule of node i, if the node covers something and its rule is below 128. Otherwise NO_RULE.
 fn used(e: &[u16], i: usize) -> usize
     requires { ⌜ (2 * i + 1 < length (now e)) × (i < maxNodes) ⌝ }
     ensures { λ r. ⌜ (r ≡ usedAt (now (e .entry)) i) × (r ≤ maxRules) ⌝ }
@@ -19,7 +19,7 @@ fn used(e: &[u16], i: usize) -> usize
     rule_number(e, i)
 }
 
-// How many nodes that cover something have each rule.
+// For each rule, the number of nodes that have it and cover something.
 fn tally(e: &[u16]) -> [u16; 129]
     requires { ⌜ length (now e) ≤ outputSize ⌝ }
     ensures { λ t. ⌜ Tallied (now (e .entry)) t ⌝ }

@@ -1,4 +1,4 @@
-// The checker of an offered derivation (document 01: reading), its length, and the same build.
+// The calls on offered derivations (document 01: readings): check, length and same build.
 use answers::Measured;
 use answers::Refusal;
 use answers::Verdict;
@@ -21,7 +21,7 @@ ghost use Rattle.checker.specs.Calls.{checkAnswer, lengthAnswer, buildAn
 
 mod build;
 
-// Whether the offered derivation is one.
+// Whether the offered row of numbers is a derivation.
 fn check_offered(p: &Packed, start: usize, input: &[u8], offered: &[u16]) -> Verdict
     ensures { λ r. ⌜ verdictOf r ≡ checkAnswer (L (cfgIn start (now (p .entry))) (now (input .entry))) (now (offered .entry)) ⌝ }
 {
@@ -65,7 +65,7 @@ fn compare_offered(p: &Packed, start: usize, input: &[u8], a: &[u16], b: &[u16])
 
 // ---- the exported calls
 
-// Whether the offered derivation is one of the input. Refusals 8, 9 and 10.
+// Whether the offered row of numbers is a derivation of the input. Refusals 8, 9 and 10.
 pub fn check(g: Grammar, input: &[u8], offered: &[u16], chart: &mut [u32]) -> Verdict
     ensures { λ r. ⌜ checkingOf (verdictOf r) (now (chart .exit))
         ≡ checkOf g (now (input .entry)) (now (offered .entry)) (now (chart .entry)) ⌝ }

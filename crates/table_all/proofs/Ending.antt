@@ -2,7 +2,7 @@
 use Prim.Native.Nat.{ℕ, _+_, _*_, _-_, _≤_, _<_}
 use mathlib.Core.Bool.{false}
 use mathlib.Core.List.{List}
-use mathlib.Core.Path.{_≡_, ap, subst, _∙_}
+use mathlib.Core.Path.{_≡_, ap, _∙_}
 use native.Mathlib.Omega.{arith}
 use lib.ListN.{length, getD}
 use Rattle.sizes.specs.Sizes.{tooMany, maxRules, side}
@@ -40,13 +40,12 @@ module _ (p : List ℕ) (rules : ℕ) (fits chart : List ℕ) where
       exact = λ fit can G C S. S;
     }
 
-    -- an end whose bit is not set costs too many: its cell is empty, so that no nonterminal has a tree there
+    -- an end whose bit is not set costs too much: its cell is empty, so that no nonterminal has a tree there
     reached-by : {fit : Fit} {bytes : ℕ → ℕ → Type 0} {i : ℕ} {tables rows reach : List ℕ} → i < j → j < side
         → Sofar fit bytes p rules (i + 1) j tables rows → ChartTrue p bytes chart j → Reaches chart j reach
         → ReachedOnly tables (getD reach i 0) i j
     reached-by {i = i} {tables} h l S C R k c x y f =
-        let e : cell chart i c ≡ 0 = R .from i h .empty c x y f in
-        let g : has k (cell chart i c) ≡ false = ap (has k) e ∙ has-empty k in
+        let g : has k (cell chart i c) ≡ false = ap (has k) (R .from i h .empty c x y f) ∙ has-empty k in
         let z : tooMany ≡ costIn tables k i c =
         lowest-unique (lowest-none (λ u t. absurd (C i c (omega arith) (omega arith) k g (t .0) (t .1))))
         (S .least k i c (omega arith) (omega arith) (omega arith))
@@ -63,9 +62,7 @@ module _ (p : List ℕ) (rules : ℕ) (fits chart : List ℕ) where
       size = P .size;
       told = P .told live;
       exact = λ fit can G C D.
-          let A : Sofar fit (Standing can) p rules (n - 1 + 1) j tables₁ rows₁ =
-          subst (λ (x : ℕ). Sofar fit (Standing can) p rules x j tables₁ rows₁) e (S .exact fit can G C D)
-          in
+          let A : Sofar fit (Standing can) p rules (n - 1 + 1) j tables₁ rows₁ = rw (← e) (S .exact fit can G C D) in
           P .exact fit can G (C (n - 1) j (omega arith) (omega arith)) (reached-by (omega arith) k A C R) live A;
     }
       where
@@ -73,7 +70,7 @@ module _ (p : List ℕ) (rules : ℕ) (fits chart : List ℕ) where
         e = omega arith
 
         live : LiveFrom p rules (n - 1 + 1) j rows₁ live₁
-        live = subst (λ (x : ℕ). LiveFrom p rules x j rows₁ live₁) e (S .told)
+        live = rw (← e) (S .told)
 
     pub end-put : (empty : List ℕ) {i : ℕ} {tables₀ rows₀ tables₁ rows₁ tables rows live : List ℕ} → i ≤ 0
         → EmptyPut p rules fits empty j tables₀ rows₀ tables₁ rows₁ → EndFrom p rules fits chart i j tables₁ rows₁ tables rows live
@@ -83,8 +80,7 @@ module _ (p : List ℕ) (rules : ℕ) (fits chart : List ℕ) where
       wide = S .wide;
       exact = λ fit can G E C R.
           let e : i ≡ 0 = omega arith in
-          subst (λ (x : ℕ). Sofar fit (Standing can) p rules x j tables rows) e
-          (S .exact fit can G C (D .exact fit can (G .told) E R));
+          rw e at (S .exact fit can G C (D .exact fit can (G .told) E R));
     }
 
   -- ---- all ends
@@ -102,7 +98,8 @@ module _ (p : List ℕ) (rules : ℕ) (fits chart : List ℕ) where
   }
 
   -- what is given up to n is given up to j
-  given-less : {fit : Fit} {bytes : ℕ → ℕ → Type 0} {n j : ℕ} → j ≤ n → SpanGiven fit bytes p rules fits n → SpanGiven fit bytes p rules fits j
+  given-less : {fit : Fit} {bytes : ℕ → ℕ → Type 0} {n j : ℕ} → j ≤ n → SpanGiven fit bytes p rules fits n
+      → SpanGiven fit bytes p rules fits j
   given-less l G = record { tells = G .tells; past = G .past; told = λ a r q h. G .told a r q (omega arith) }
 
   module _ (empty : List ℕ) (n : ℕ) where

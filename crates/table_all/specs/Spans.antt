@@ -1,5 +1,5 @@
--- What the functions do that make the tables span by span: from what was right before to what is right after. The bytes that may stand at
--- a position are told by a test. Assumes nothing.
+-- What the functions that make the tables span by span do: from what was right before to what is right after. A test gives the bytes that
+-- are allowed at a position. Assumes nothing.
 use Prim.Native.Nat.{ℕ, _+_, _<_}
 use mathlib.Core.Bool.{Bool}
 use mathlib.Core.List.{List}
@@ -14,7 +14,7 @@ use Rattle.table_layout.specs.Exact.{Alones, PastLast, ChartTrue, ExactTables}
 use Rattle.table_write.specs.Writes.{allRows}
 use Rattle.table_span.specs.Sofar.{Standing, SpanGiven, EmptyTrue, Sofar, LiveFrom}
 
--- the spans that end at j and start from i on are done, the empty one having been
+-- the spans that end at j and start from i on are done; tables₀ and rows₀ are those after the empty span
 pub record EndFrom (p : List ℕ) (rules : ℕ) (fits chart : List ℕ) (i j : ℕ) (tables₀ rows₀ tables rows live : List ℕ) : Type 0 where
   pub long : length tables ≡ tablesSize
   pub wide : length rows ≡ allRows

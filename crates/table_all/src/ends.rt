@@ -22,7 +22,7 @@ ghost use Rattle.table_write.specs.Writes.{allRows, Nothing};
 ghost use Rattle.fill_reach.specs.Reach.{Reaches};
 ghost use Rattle.table_all.specs.Spans.{EndDone, EndsPut, Tabulated};
 
-// The spans that end at j, those that end before being done.
+// Does the spans that end at j. The spans that end before j are already done.
 fn put_end(
     p: &Packed,
     rules: usize,
@@ -56,7 +56,7 @@ fn put_end(
     }
 }
 
-// The spans up to n; `empty` has the numbers of the empty ones.
+// Does the spans up to n; `empty` has the numbers of the empty spans.
 fn put_ends(
     p: &Packed,
     rules: usize,
@@ -92,7 +92,7 @@ fn put_ends(
     }
 }
 
-// The tables for the rules below a number, the fit table and the filled chart of an input of n bytes.
+// Makes the tables from the rules below `rules`, the fit table and the filled chart of an input of n bytes.
 pub fn tabulate(
     p: &Packed,
     rules: usize,

@@ -1,4 +1,4 @@
--- The least cost at a nonterminal place, as a running minimum over its ends. Assumes nothing.
+-- The least cost at a nonterminal place is a running minimum over its ends. Assumes nothing.
 use Prim.Native.Nat.{ℕ, suc, _+_, _≤_, _<_, min}
 use mathlib.Core.List.{List}
 use mathlib.Core.Path.{_≡_, ap, _∙_}
@@ -16,7 +16,7 @@ use Rattle.table_layout.specs.Layout.{costIn}
 use Rattle.table_cut.specs.Suffix.{Behind, AtStart, AtNonterminal, EndsBefore}
 
 module _ {tables : List ℕ} {k a from b last : ℕ} {rests : List ℕ} {at : ℕ} where
-  -- the ends behind a and before `from` cost too many
+  -- the ends after a and before `from` cost too much
   module _ (fit : Fit) (cost : Cost) (places : List Symbol) (R : Behind fit cost k places a from b tables last rests at) where
     passed : {c u : ℕ} → a < c → c < from → c < b → First fit cost k places a b c u → tooMany ≤ u
     passed {c} {u} h l m p =

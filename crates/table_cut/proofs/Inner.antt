@@ -1,19 +1,18 @@
 -- The least cost of the places of a rule from one place on, inside a span, by the tests that the code makes. Assumes nothing.
-use Prim.Native.Nat.{ℕ, suc, _-_, _≤_, _<_}
+use Prim.Native.Nat.{ℕ, suc, _≤_, _<_}
 use mathlib.Core.Bool.{Bool, true, false}
-use mathlib.Core.List.{List, _∷_}
+use mathlib.Core.List.{List}
 use mathlib.Core.Logic.{_≢_}
-use mathlib.Core.Path.{_≡_, sym, ap, subst, _∙_}
+use mathlib.Core.Path.{_≡_, sym, ap, _∙_}
 use native.Mathlib.Omega.{arith}
-use Rattle.cfg.specs.Grammar.{Symbol, nonterminal, terminal}
 use Rattle.theory_costs.specs.Cut.{within}
 use Rattle.theory_costs.proofs.Within.{within-whole, within-part}
-use Rattle.packed.specs.Packed.{placeCount, isNonterminalIn, valueIn, terminalIn, symbolIn}
+use Rattle.packed.specs.Packed.{placeCount, isNonterminalIn, valueIn, terminalIn}
 use Rattle.packed.proofs.Laws.{places-step}
 use Rattle.packed.proofs.Fitting.{symbol-nonterminal, symbol-terminal}
 use Rattle.table_layout.specs.Layout.{costIn, fullIn}
 use Rattle.table_cut.specs.Suffix.{AtNonterminal, AtTerminal}
-use Rattle.table_cut.specs.Within.{tailIn, InsideCost, NonterminalAt, SuffixAt}
+use Rattle.table_cut.specs.Within.{tailIn, NonterminalAt, SuffixAt}
 
 module _ (tables full : List ℕ) (k i a j : ℕ) where
   pub last-whole : {v : ℕ} → a ≡ i → v ≡ fullIn full k → v ≡ within i j (fullIn full) (costIn tables) k a j
@@ -41,23 +40,15 @@ module _ (p : List ℕ) (r q : ℕ) (fits : Bool) (tables full : List ℕ) (i a 
     (h : q < placeCount p r) (e : b ≡ isNonterminalIn p r q) where
   pub suffix-nonterminal : {k v : ℕ} → b ≡ true → k ≡ valueIn p r q → NonterminalAt tables full k i a from j rests at v
       → SuffixAt p r q fits tables full i a from j rests at v
-  suffix-nonterminal {k} {v} t f S = record {
+  suffix-nonterminal t f S = record {
     exact = λ fit _ P R.
-        let s : symbolIn p r q ≡ nonterminal k = symbol-nonterminal p r q (sym e ∙ t) ∙ ap (λ (x : ℕ). nonterminal x) (sym f) in
-        let d : tailIn p r q ≡ nonterminal k ∷ tailIn p r (suc q) =
-        places-step p r q h ∙ ap (λ (x : Symbol). x ∷ tailIn p r (suc q)) s
-        in
-        subst (λ (l : List Symbol). InsideCost fit tables full i j l a v) (sym d) (S .exact fit (tailIn p r (suc q)) P R);
+        rw (places-step p r q h, symbol-nonterminal p r q (sym e ∙ t), ← f) (S .exact fit (tailIn p r (suc q)) P R);
   }
 
   pub suffix-terminal : {v : ℕ} → b ≡ false → AtTerminal fits a j rests at v → SuffixAt p r q fits tables full i a from j rests at v
-  suffix-terminal {v} t S = record {
+  suffix-terminal t S = record {
     exact = λ fit f P R.
-        let n : isNonterminalIn p r q ≡ false = sym e ∙ t in
-        let d : tailIn p r q ≡ terminal (terminalIn p r q) ∷ tailIn p r (suc q) =
-        places-step p r q h ∙ ap (λ (x : Symbol). x ∷ tailIn p r (suc q)) (symbol-terminal p r q n)
-        in
-        subst (λ (l : List Symbol). InsideCost fit tables full i j l a v) (sym d)
-        (S .exact fit (within i j (fullIn full) (costIn tables)) (terminalIn p r q) (tailIn p r (suc q)) (f n)
+        rw (places-step p r q h, symbol-terminal p r q (sym e ∙ t))
+        (S .exact fit (within i j (fullIn full) (costIn tables)) (terminalIn p r q) (tailIn p r (suc q)) (f (sym e ∙ t))
         (λ l. R (suc a) (omega arith) (omega arith)));
   }

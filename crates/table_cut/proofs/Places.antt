@@ -1,4 +1,4 @@
--- The least cost at a terminal place and behind the last place, by the tests that the code makes. Assumes nothing.
+-- The least cost at a terminal place and after the last place, by the tests that the code makes. Assumes nothing.
 use Prim.Native.Nat.{ℕ, _+_, _≤_, _<_}
 use mathlib.Core.Bool.{Bool, true, false}
 use mathlib.Core.List.{List}

@@ -1,5 +1,5 @@
-// The least cost of the places of a rule from one place on, over a span: at a nonterminal, at a terminal, at the end of the row. The costs
-// of the places behind it stand in `rests` from `at` on, one for each start.
+// The least cost of the places of a rule from one place on, over a span: at a nonterminal, a terminal, or the end of the row. The costs
+// of the places after it are in `rests` from `at` on, one for each start.
 use table_layout::layout::Tables;
 use table_layout::layout::cost;
 use table_layout::least::TOO_MANY;
@@ -11,15 +11,15 @@ ghost use lib.ListN.{length};
 ghost use Rattle.sizes.specs.Sizes.{side, tooMany};
 ghost use Rattle.table_cut.specs.Suffix.{AtStart, AtNonterminal, AtTerminal, AtEnd};
 
-// The sum of two numbers of nodes, of each 513 if that is less. It stays a 16-bit number without a test of its own, so that the loop below
-// takes several ends at a time.
+// The sum of two numbers of nodes, each capped at 513. It fits 16 bits without a test of its own, so that the loop below takes several ends
+// at a time.
 fn sum(a: u16, b: u16) -> u16
     ensures { λ r. ⌜ r ≡ min a tooMany + min b tooMany ⌝ }
 {
     lower(a, TOO_MANY) + lower(b, TOO_MANY)
 }
 
-// At the nonterminal k, over no byte: its cost and that of the places behind it, unless the whole span from a to b is empty.
+// At the nonterminal k, over no byte: its cost and that of the places after it, unless the span from a to b is empty.
 fn at_start(tables: &Tables, k: usize, a: usize, b: usize, rests: &[u16], at: usize) -> u16
     requires { ⌜ (a ≤ b) × (b < side) × (at + side ≤ length (now rests)) ⌝ }
     ensures { λ v. ⌜ AtStart (now (tables .entry)) k a b (now (rests .entry)) at v ⌝ }
@@ -30,9 +30,9 @@ fn at_start(tables: &Tables, k: usize, a: usize, b: usize, rests: &[u16], at: us
     TOO_MANY
 }
 
-// At the nonterminal k, from a to b: the least over its ends c of its own cost and that of the places behind it. It looks at the end a, at
-// the ends from `from` on, and at b; those between a and `from` cost too many. `last` is its cost up to b, which is not the table's where
-// that span is the whole.
+// At the nonterminal k, from a to b: the least over its ends c of its own cost and that of the places after it. It reads the end a, the
+// ends from `from` on, and b; those between a and `from` cost too much. `last` is its cost up to b, which is not that of the table if the
+// nonterminal covers the whole span.
 pub fn over_ends(
     tables: &Tables,
     k: usize,
@@ -55,7 +55,7 @@ pub fn over_ends(
     lower(best, capped(last, rests[at + b]))
 }
 
-// At a terminal, from a to b: the cost of the places behind it, if it fits the byte at a.
+// At a terminal, from a to b: the cost of the places after it, if it fits the byte at a.
 pub fn at_terminal(fits: bool, a: usize, b: usize, rests: &[u16], at: usize) -> u16
     requires { ⌜ (b < side) × (at + side ≤ length (now rests)) ⌝ }
     ensures { λ v. ⌜ AtTerminal fits a b (now (rests .entry)) at v ⌝ }
@@ -68,7 +68,7 @@ pub fn at_terminal(fits: bool, a: usize, b: usize, rests: &[u16], at: usize) -> 
     TOO_MANY
 }
 
-// Behind the last place, from a to b: nothing is left, or too much.
+// After the last place, from a to b: 0 if no byte is left, else 513.
 pub fn at_end(a: usize, b: usize) -> u16
     requires { ⌜ a ≤ b ⌝ }
     ensures { λ v. ⌜ AtEnd a b v ⌝ }

@@ -1,5 +1,5 @@
-// The least cost of the places q.. of a rule from a to j, inside a span from i to j: a child over the whole of it costs `full`, any other
-// what the least table says. The costs of the places behind q stand in `rests` from `at` on.
+// The least cost of the places q.. of a rule from a to j, inside a span from i to j. A child over the whole span costs what `full`
+// says, any other child what the least table says. The costs of the places after q are in `rests` from `at` on.
 use super::suffix::at_terminal;
 use super::suffix::over_ends;
 use packed::Packed;
@@ -16,7 +16,7 @@ ghost use Rattle.packed.specs.Packed.{placeCount};
 ghost use Rattle.table_layout.specs.Layout.{costIn, fullIn};
 ghost use Rattle.table_cut.specs.Within.{Proper, NonterminalAt, SuffixAt};
 
-// The part from a to j of a span from i to j. Of the ends behind a those from `from` on are looked at.
+// The part from a to j of a span from i to j. Of the ends after a, those from `from` on are read.
 pub struct Part {
     pub i: usize,
     pub a: usize,
@@ -37,7 +37,7 @@ fn last_cost(tables: &Tables, full: &Full, k: usize, part: Part) -> u16
     }
 }
 
-// At the nonterminal k.
+// The cost at the nonterminal k and the places after it.
 fn nonterminal_at(
     tables: &Tables,
     full: &Full,
@@ -55,7 +55,7 @@ fn nonterminal_at(
     over_ends(tables, k, part.a, part.from, part.j, last, rests, at)
 }
 
-// At place q of rule r; `fits` says of a terminal there whether it fits the byte at a.
+// The cost at place q of rule r and the places after it; `fits` says whether a terminal at q fits the byte at a.
 pub fn suffix_at(
     p: &Packed,
     r: usize,

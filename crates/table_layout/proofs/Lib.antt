@@ -1,3 +1,3 @@
--- Laws of the tables' places.
+-- Laws of where the tables' numbers are stored.
 pub mod Entries
 pub mod Bares

@@ -1,5 +1,5 @@
--- When the tables are right, for a packed grammar and the bytes that may stand at the positions before n. Nothing here reads an input: the
--- fit table and the chart stand for it. Assumes nothing.
+-- When the tables are right, for a packed grammar and the bytes that are allowed at the positions before n. Nothing here reads an input:
+-- the fit table and the chart represent it. Assumes nothing.
 use Prim.Native.Nat.{ℕ, _≤_, _<_}
 use mathlib.Core.Bool.{false}
 use mathlib.Core.List.{List}
@@ -17,7 +17,7 @@ use Rattle.theory_costs.specs.Span.{TreeOver, Least}
 use Rattle.theory_costs.specs.Rule.{BareCost, alone}
 use Rattle.table_layout.specs.Layout.{costIn, aloneIn, bareIn, tablesSize}
 
--- the grammar of the packed bytes; its start does not matter below the root
+-- the grammar of the packed bytes; its start symbol does not matter below the root
 abbrev pub Packing : List ℕ → Cfg
 Packing p = cfgIn 0 p
 
@@ -29,16 +29,16 @@ PastLast p m = (r : ℕ) → m ≤ r → r < maxRules → nonterminals ≤ leftI
 abbrev pub CellTrue : List ℕ → (ℕ → ℕ → Type 0) → ℕ → ℕ → ℕ → Type 0
 CellTrue p bytes i j members = (k : ℕ) → has k members ≡ false → (t : Forest) → TreeOver (Packing p) bytes k i j t → ⊥
 
--- the same for each cell of the chart up to n
+-- this holds for each cell of the chart up to n
 abbrev pub ChartTrue : List ℕ → (ℕ → ℕ → Type 0) → List ℕ → ℕ → Type 0
 ChartTrue p bytes chart n = (i j : ℕ) → i ≤ j → j ≤ n → CellTrue p bytes i j (cell chart i j)
 
--- the numbers of the places of rule r that stand alone are those of `empty`, the costs over no byte
+-- the tables have the `alone` costs of rule r, which follow from `empty`, the costs over no byte
 abbrev pub Alones : (ℕ → ℕ) → List ℕ → ℕ → List ℕ → Type 0
 Alones empty p r tables = (q : ℕ) → q < placeCount p r → aloneIn tables r q ≡ alone empty (placesIn p r) q
 
--- what the cost of a rule over the span from i to j, which is not empty, is made of: `least` has the costs over the spans inside. Of a
--- number that has no rule nothing is said
+-- what the costs of rules over the span from i to j, which is not empty, are made of; `least` has the costs over the spans inside. Nothing
+-- is said of a number that has no rule
 pub record SpanReady (fit : Fit) (least : Cost) (p tables : List ℕ) (i j : ℕ) : Type 0 where
   pub empty : ℕ → ℕ
   pub start : (k : ℕ) → least k i i ≡ empty k

@@ -1,3 +1,3 @@
--- The enumerator's tables: where their numbers stand, and when they are right.
+-- The enumerator's tables: where their numbers are stored, and when they are right.
 pub mod Layout
 pub mod Exact

@@ -1,4 +1,4 @@
-// The costs of rules without a child over the whole span: where each stands in the tables, and its reading.
+// The costs of rules without a child over the whole span: where each is stored in the tables, and how it is read.
 use super::layout::BARES;
 use super::layout::Tables;
 ghost use mathlib.Core.Path.{_≡_};
@@ -6,10 +6,10 @@ ghost use Prim.Native.Nat.{_*_, _<_};
 ghost use Rattle.sizes.specs.Sizes.{maxRules, side};
 ghost use Rattle.table_layout.specs.Layout.{half, spanAt, bareAt, bareIn, tablesSize};
 
-// The starts before this one have a row of spans each, which the other starts share from its end.
+// Two starts share a row of spans: a start below HALF uses its front, a start from HALF on its end.
 const HALF: usize = sizes::MAX_INPUT / 2;
 
-// The place of the span from i to j among the spans that are not empty.
+// The index of the span from i to j among the spans that are not empty.
 fn span_at(i: usize, j: usize) -> usize
     requires { ⌜ (i < j) × (j < side) ⌝ }
     ensures { λ n. ⌜ (n ≡ spanAt i j) × (n < half * side) ⌝ }
@@ -21,7 +21,7 @@ fn span_at(i: usize, j: usize) -> usize
     }
 }
 
-// Where the number of rule r over the span from i to j stands.
+// Where the cost of rule r over the span from i to j is stored.
 pub fn bare_at(i: usize, j: usize, r: usize) -> usize
     requires { ⌜ (i < j) × (j < side) × (r < maxRules) ⌝ }
     ensures { λ n. ⌜ (n ≡ bareAt i j r) × (n < tablesSize) ⌝ }
@@ -29,7 +29,7 @@ pub fn bare_at(i: usize, j: usize, r: usize) -> usize
     BARES + sizes::MAX_RULES * span_at(i, j) + r
 }
 
-// That number.
+// The cost of rule r over the span from i to j, without a child over the whole span.
 pub fn bare(tables: &Tables, i: usize, j: usize, r: usize) -> u16
     requires { ⌜ (i < j) × (j < side) × (r < maxRules) ⌝ }
     ensures { λ v. ⌜ v ≡ bareIn (now (tables .entry)) i j r ⌝ }

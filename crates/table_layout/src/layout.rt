@@ -1,5 +1,5 @@
-// Where numbers of nodes stand, all in one array. In front the least table: a number for each nonterminal, start and end, the last index
-// the end, so that a minimum over ends runs along memory.
+// Where the costs are stored, all in one array. The least table comes first: a number for each nonterminal, start and end. The end is the
+// last index, so that a minimum over ends reads memory in order.
 use super::least::TOO_MANY;
 ghost use mathlib.Core.Path.{_≡_};
 ghost use Prim.Native.Nat.{_<_};
@@ -17,11 +17,11 @@ pub fn tied_least() -> usize
     LEAST_SIZE
 }
 
-// Behind it, what a node costs beside a child that covers all: one number for each rule and place.
+// After the least table: what a node costs in addition to a child that covers all, one number for each rule and place.
 pub const ALONES: usize = LEAST_SIZE;
 
-// Behind them, what a rule costs without a child over the whole span: for each span that is not empty one number for each rule. Two
-// starts share a row, so that there are half as many rows as starts.
+// After them: what a rule costs without a child over the whole span, for each span that is not empty one number for each rule. Two starts
+// share a row, so that there are half as many rows as starts.
 pub const BARES: usize = ALONES + sizes::MAX_RULES * sizes::MAX_PLACES;
 
 pub const TABLES_SIZE: usize = BARES + sizes::MAX_INPUT / 2 * sizes::SIDE * sizes::MAX_RULES;
@@ -46,7 +46,7 @@ pub fn tied_tables() -> usize
     TABLES_SIZE
 }
 
-// The rows of one rule: one for each place and one behind the last, with a number for each start.
+// The rows of one rule: one for each place and one after the last, with a number for each start.
 pub const ROWS_SIZE: usize = sizes::SIDE * (sizes::MAX_PLACES + 1);
 
 pub fn tied_rows() -> usize
@@ -55,7 +55,7 @@ pub fn tied_rows() -> usize
     ROWS_SIZE
 }
 
-// The cost of the nonterminal k from a to b: 513 where k is from 32 on.
+// The cost of the nonterminal k from a to b: 513 if k is 32 or above.
 pub fn cost(tables: &Tables, k: usize, a: usize, b: usize) -> u16
     requires { ⌜ (a < side) × (b < side) ⌝ }
     ensures { λ v. ⌜ v ≡ costIn (now (tables .entry)) k a b ⌝ }
@@ -66,7 +66,7 @@ pub fn cost(tables: &Tables, k: usize, a: usize, b: usize) -> u16
     TOO_MANY
 }
 
-// The cost of the nonterminal k over the span of these numbers: 513 where k is from 32 on.
+// The cost of the nonterminal k, from the numbers of one span: 513 if k is 32 or above.
 pub fn full_of(full: &Full, k: usize) -> u16
     ensures { λ v. ⌜ v ≡ fullIn (now (full .entry)) k ⌝ }
 {

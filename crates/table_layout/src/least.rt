@@ -1,9 +1,9 @@
-// Sums and minima of numbers of nodes, for every two numbers.
+// The capped sum and the minimum of two numbers of nodes.
 ghost use mathlib.Core.Path.{_≡_};
 ghost use Prim.Native.Nat.{_+_, min};
 ghost use Rattle.sizes.specs.Sizes.{tooMany};
 
-// One more than the nodes of any derivation, which stands for none, as the tables hold it.
+// One more than the nodes of any derivation, as a number of the tables. It means none.
 pub const TOO_MANY: u16 = sizes::TOO_MANY as u16;
 
 pub fn tied_too_many() -> u16

@@ -1,4 +1,4 @@
-// The enumerator's tables: least numbers of nodes, capped at 513, which stands for none.
+// The enumerator's tables: least numbers of nodes, capped at 513, which means none.
 pub mod bare;
 pub mod layout;
 pub mod least;

@@ -1,14 +1,16 @@
--- The live starts of a rule and the first end that is one, by the tests that the code makes, and rows of too many. Assumes nothing.
+-- The live starts of a rule and the first end that is one, by the tests that the code makes, and rows of 513. Assumes nothing.
 use Prim.Native.Nat.{ℕ, _+_, _*_, _-_, _≤_, _<_}
 use mathlib.Core.Bool.{Bool, true, false, _&&_, true≢false}
 use mathlib.Core.List.{List}
-use mathlib.Core.Path.{_≡_, refl, sym, ap, subst, _∙_}
+use mathlib.Core.Logic.{dite}
+use mathlib.Core.Path.{_≡_, refl, sym, ap, _∙_}
 use native.Mathlib.Decide.{ℕ-discrete}
 use native.Mathlib.Omega.{arith}
 use lib.ListN.{length, set, getD, length-set}
 use lib.Seq.{getD-set-same, getD-set-other}
 use Rattle.table_layout.specs.Layout.{rowsSize}
 use Rattle.sizes.specs.Sizes.{tooMany, maxRules, side, maxPlaces}
+use Rattle.laws.proofs.Lists.{below-step}
 use Rattle.sets.specs.Set.{has, insert}
 use Rattle.sets.specs.Pairs.{Common, FirstMember}
 use Rattle.sets.proofs.Laws.{has-insert, has-insert-same}
@@ -18,7 +20,7 @@ use Rattle.table_live.specs.Live.{Silent, liveIn, Marked, FirstEnd, None
 
 -- ---- whether a start is live
 
--- the places behind q cost too many from i on
+-- the places after q cost too much from i on
 pub record Above (p : List ℕ) (r i : ℕ) (rows : List ℕ) (q : ℕ) : Type 0 where
   pub many : (s : ℕ) → q < s → s ≤ placeCount p r → tooMany ≤ getD rows (placeAt r s i) 0
 
@@ -27,20 +29,18 @@ module _ (p : List ℕ) (r i : ℕ) (rows : List ℕ) where
   above-start e = record { many = λ s l m. absurd (omega arith) }
 
   pub above-back : (q : ℕ) → 0 < q → Above p r i rows q → tooMany ≤ getD rows (placeAt r q i) 0 → Above p r i rows (q - 1)
-  above-back q z A h = record { many = λ s l m. go s l m (ℕ-discrete s q) }
-    where
-      go : (s : ℕ) → q - 1 < s → s ≤ placeCount p r → Dec (s ≡ q) → tooMany ≤ getD rows (placeAt r s i) 0
-      go s l m (yes e) = rw e h
-      go s l m (no n) = let d : ¬ (s ≡ q) = n in A .many s (omega arith) m
+  above-back q z A h = record {
+    many = λ s l m. dite (ℕ-discrete s q) (λ e. rw e h) (λ (d : ¬ (s ≡ q)). A .many s (omega arith) m);
+  }
 
   pub above-all : {q : ℕ} → q ≤ 0 → Above p r i rows q → Silent p r i rows
   above-all z A s l m = A .many s (omega arith) m
 
--- ---- marking it
+-- ---- marking a start
 
 module _ (p : List ℕ) (r i : ℕ) (rows live : List ℕ) (h : length live ≡ maxRules) where
   module _ (l : r < maxRules) {w : ℕ} (e : w ≡ insert i (getD live r 0)) where
-    -- a member is there still
+    -- a start that was live is still live
     still : (s c : ℕ) → Dec (s ≡ r) → liveIn (set live r w) s c ≡ false → (b : Bool) → liveIn live s c ≡ b → liveIn live s c ≡ false
     still s c d f false g = g
     still s c (yes x) f true g =
@@ -64,7 +64,7 @@ module _ (p : List ℕ) (r i : ℕ) (rows live : List ℕ) (h : length live ≡ 
   pub marked-not : {b : Bool} → b ≡ false → (b ≡ false → Silent p r i rows) → Marked p r i rows live live
   marked-not e f = record { size = h; grown = λ s c g. g; here = λ g. f e }
 
--- ---- rows of too many
+-- ---- rows of 513
 
 module _ (p : List ℕ) (r i : ℕ) where
   pub none-start : (rows : List ℕ) → NoneBefore p r i 0 rows rows
@@ -76,19 +76,14 @@ module _ (p : List ℕ) (r i : ℕ) where
   none-step q rows₀ rows {m} {v} e b h l k o f S = record {
     long = length-set rows (placeAt r q i) v ∙ S .long;
     other = λ n d. getD-set-other rows (placeAt r q i) n v 0 (d q (omega arith)) ∙ S .other n d;
-    here = λ s x. go s x (ℕ-discrete s q);
+    here = below-step (λ (s : ℕ). getD (set rows (placeAt r q i) v) (placeAt r s i) 0 ≡ tooMany) q
+        (λ s x. getD-set-other rows (placeAt r q i) (placeAt r s i) v 0 (λ z. omega arith) ∙ S .here s x)
+        (getD-set-same rows (placeAt r q i) v 0 (omega arith) ∙ f);
   }
-    where
-      go : (s : ℕ) → s < q + 1 → Dec (s ≡ q) → getD (set rows (placeAt r q i) v) (placeAt r s i) 0 ≡ tooMany
-      go s x (yes d) = rw d (getD-set-same rows (placeAt r q i) v 0 (omega arith) ∙ f)
-      go s x (no d) =
-          let y : ¬ (s ≡ q) = d in
-          getD-set-other rows (placeAt r q i) (placeAt r s i) v 0 (λ z. y (omega arith)) ∙ S .here s (omega arith)
 
   pub none-end : {q m : ℕ} {rows₀ rows : List ℕ} → m ≡ placeCount p r → q ≤ m + 1 → m < q → NoneBefore p r i q rows₀ rows
       → NonePut p r i rows₀ rows
-  none-end {q} {m} {rows₀} {rows} e h l S =
-      let d : q ≡ placeCount p r + 1 = omega arith in subst (λ (x : ℕ). NoneBefore p r i x rows₀ rows) d S
+  none-end {q} e h l S = let d : q ≡ placeCount p r + 1 = omega arith in rw d at S
 
 -- ---- the first end that is in both sets
 

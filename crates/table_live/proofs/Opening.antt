@@ -1,4 +1,4 @@
--- One rule from one start on, as the code does it: put, or passed over. Assumes nothing.
+-- One rule from one start, as the code does it: its costs are written, or it is passed over. Assumes nothing.
 use Prim.Native.Nat.{ℕ, _+_, _*_, _≤_, _<_}
 use mathlib.Core.Bool.{Bool, true, false}
 use mathlib.Core.List.{List}
@@ -16,7 +16,7 @@ use Rattle.table_live.specs.Live.{LiveTold, ReachedOnly, Marked, FirstEn
 use Rattle.table_live.proofs.Passed.{passed-over}
 
 module _ (p : List ℕ) (r : ℕ) (fits tables full : List ℕ) (i j : ℕ) (rows₀ live₀ : List ℕ) where
-  -- the ends behind i and before the first that is in both sets cost too many, or the places behind from there on
+  -- an end after i and before the first in both sets costs too much, alone or with the places after it
   passed : {reach from : ℕ} → FirstEnd i reach (getD live₀ r 0) from → ReachedOnly tables reach i j → LiveTold p r i j rows₀ live₀
       → EndsPassed p r tables i from j rows₀ (rowsSize * r)
   passed {reach} E R L q z h k c x y w = go (has c reach) refl

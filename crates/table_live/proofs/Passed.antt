@@ -1,5 +1,5 @@
--- A rule that is passed over has no suffix from i to j without a child over the whole span: an end whose bit is not set costs too many,
--- and so do the places behind from a start that is not live. Assumes nothing.
+-- A rule that is passed over has no suffix from i to j without a child over the whole span. An end whose bit is not set costs too much,
+-- and so do the places after an end that is not a live start. Assumes nothing.
 use Prim.Native.Nat.{ℕ, zero, suc, _+_, _*_, _-_, _≤_, _<_}
 use mathlib.Core.Bool.{Bool, true, false}
 use mathlib.Core.List.{List, _∷_}
@@ -24,7 +24,7 @@ use Rattle.table_suffix.specs.Within.{tailIn, InsideCost, LaterStarts}
 use Rattle.table_write.specs.Writes.{Nothing}
 use Rattle.table_live.specs.Live.{liveIn, LiveTold, ReachedOnly}
 
--- one place and those behind it: from i on and from each later start before j either the place or those behind it cost too many
+-- one place and those after it: for each end of the place, the place or those after it cost too much
 module _ {fit : Fit} {cost : Cost} {i j : ℕ} {places : List Symbol}
     (same : (v : ℕ) → Cut fit cost j places i v → tooMany ≤ v)
     (next : (v : ℕ) → Cut fit cost j places (suc i) v → tooMany ≤ v)
@@ -51,7 +51,7 @@ module _ (p : List ℕ) (r : ℕ) (tables full : List ℕ) (reach i j : ℕ) (ro
   abbrev costs : Cost
   costs = within i j (fullIn full) (costIn tables)
 
-  -- the places behind the first, from a start that is not live
+  -- the places after the first cost too much from a start that is not live
   silent : (q c v : ℕ) → 0 < q → q ≤ placeCount p r → i < c → c < j → liveIn live r c ≡ false → Cut fit costs j (tailIn p r q) c v
       → tooMany ≤ v
   silent q c v z h m n f d =
@@ -59,7 +59,7 @@ module _ (p : List ℕ) (r : ℕ) (tables full : List ℕ) (reach i j : ℕ) (ro
       let y = S q c h m (omega arith) .below v d in
       omega arith
 
-  -- an end inside: no nonterminal ends there, or the start is not live
+  -- an end inside costs too much: no nonterminal ends there, or it is not a live start
   inner : (q k c v : ℕ) → 0 < q → q ≤ placeCount p r → i < c → c < j → Cut fit costs j (tailIn p r q) c v → (x : Bool) → liveIn live r c ≡ x
       → tooMany ≤ costs k i c + v
   inner q k c v z h m n d false f = let y = silent q c v z h m n f d in omega arith
@@ -71,7 +71,7 @@ module _ (p : List ℕ) (r : ℕ) (tables full : List ℕ) (reach i j : ℕ) (ro
   whole : (k : ℕ) → tooMany ≤ costs k i j
   whole k = let e : costs k i j ≡ tooMany = within-whole i j (fullIn full) (costIn tables) k ∙ N .none k in omega arith
 
-  -- all suffixes, the last first
+  -- all suffixes cost too much, by induction from the last
   suffix : (n q : ℕ) → q + n ≡ placeCount p r → (u : ℕ) → Cut fit costs j (placesFrom p r q n) i u → tooMany ≤ u
   unfolding placesFrom
   suffix zero q e u (cut-end f) = absurd (omega arith)

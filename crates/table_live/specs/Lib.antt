@@ -1,2 +1,2 @@
--- Live starts, and the rows of one rule from one start on.
+-- Live starts, and the rows of one rule from one start.
 pub mod Live

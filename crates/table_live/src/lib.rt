@@ -1,3 +1,3 @@
-// The rows of one rule from one start on, where most rules cost too many: which starts are live, and when a rule is passed over.
+// The rows of one rule from one start. Most rules cost too much there: which starts are live, and when a rule is passed over.
 pub mod mark;
 pub mod open;

@@ -1,4 +1,4 @@
-// The live starts of each rule up to one end: those from which places behind the rule's first cost less than too many.
+// The live starts of each rule up to one end: those from which places after the rule's first cost less than 513.
 use fill_reach::Live;
 use packed::Packed;
 use table_layout::layout::ROWS_SIZE;
@@ -11,7 +11,7 @@ ghost use lib.ListN.{length};
 ghost use Rattle.sizes.specs.Sizes.{maxInput, maxRules, side};
 ghost use Rattle.table_live.specs.Live.{Silent, Marked};
 
-// Whether a place of rule r behind its first costs less than too many from i on.
+// Whether a suffix of rule r after its first place costs less than 513 from i on.
 fn stands(p: &Packed, r: usize, i: usize, rows: &AllRows) -> bool
     requires { ⌜ (r < maxRules) × (i < side) ⌝ }
     ensures { λ b. ⌜ (b ≡ false → Silent (now (p .entry)) r i (now (rows .entry))) ⌝ }
@@ -26,7 +26,7 @@ fn stands(p: &Packed, r: usize, i: usize, rows: &AllRows) -> bool
     false
 }
 
-// Adds i to the live starts of rule r if it is one.
+// Adds i to the live starts of rule r if i is one.
 pub fn mark(p: &Packed, r: usize, i: usize, rows: &AllRows, live: &mut Live)
     requires { ⌜ (r < maxRules) × (i < maxInput) × (length (now live) ≡ maxRules) ⌝ }
     ensures { λ _. ⌜ Marked (now (p .entry)) r i (now (rows .entry)) (now (live .entry)) (now (live .exit)) ⌝ }

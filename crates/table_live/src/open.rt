@@ -1,5 +1,5 @@
-// The costs of one rule from i to j, without a child over the whole span: made as everywhere, or too many for all its places where no
-// piece from i ends at a live start.
+// The costs of one rule from i to j without a child over the whole span. If no piece from i ends at a live start, they are 513 for all its
+// places.
 use super::mark::mark;
 use fill_reach::Live;
 use fill_reach::can_begin;
@@ -19,7 +19,7 @@ ghost use Rattle.sizes.specs.Sizes.{maxRules, side};
 ghost use Rattle.table_write.specs.Writes.{allRows, Nothing};
 ghost use Rattle.table_live.specs.Live.{NonePut, FirstEnd, RuleRowsPut};
 
-// A span from i to j, with what the chart tells of it: its cell, and the ends of nonterminals from i on.
+// A span from i to j, with what the chart says of it: its cell, and the ends of nonterminals that start at i.
 pub struct Over {
     pub i: usize,
     pub j: usize,
@@ -27,7 +27,7 @@ pub struct Over {
     pub reach: u64,
 }
 
-// Writes too many for all places of rule r from i on.
+// Writes 513 for all places of rule r from the start i.
 fn put_none(p: &Packed, r: usize, i: usize, rows: &mut AllRows)
     requires { ⌜ (r < maxRules) × (i < side) × (length (now rows) ≡ allRows) ⌝ }
     ensures { λ _. ⌜ NonePut (now (p .entry)) r i (now (rows .entry)) (now (rows .exit)) ⌝ }
@@ -40,7 +40,7 @@ fn put_none(p: &Packed, r: usize, i: usize, rows: &mut AllRows)
     }
 }
 
-// The first end behind i that is in both sets, or some later one: no end behind i and before it is in both.
+// An end after i such that no end between i and it is in both sets.
 fn first_end(reach: u64, live: u64, i: usize) -> usize
     requires { ⌜ i < side ⌝ }
     ensures { λ v. ⌜ FirstEnd i reach live v ⌝ }
@@ -49,8 +49,8 @@ fn first_end(reach: u64, live: u64, i: usize) -> usize
     if i < first { first } else { i + 1 }
 }
 
-// Writes the costs of rule r over the span, those of the later starts being written, and adds i to its live starts if it is one. The sums
-// begin at the first end reached that is a live start, since those before cost too many.
+// Writes the costs of rule r over the span, and adds i to its live starts if i is one. The costs from the later starts are already written.
+// The sums begin at the first end in `reach` that is a live start, since the ends before it cost too much.
 pub fn put_rule(
     p: &Packed,
     r: usize,
@@ -75,7 +75,7 @@ pub fn put_rule(
     mark(p, r, i, rows, live);
 }
 
-// The same where nothing covers the whole span, a rule that is passed over having too many everywhere.
+// Does the same if nothing covers the whole span. A rule that is passed over gets 513 everywhere.
 pub fn open_rule(
     p: &Packed,
     r: usize,

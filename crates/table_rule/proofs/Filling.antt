@@ -1,8 +1,7 @@
--- The table of places that stand alone, written place by place and rule by rule. Assumes nothing.
+-- The table of `alone` costs is written place by place and rule by rule. Assumes nothing.
 use Prim.Native.Nat.{ℕ, _+_, _*_, _≤_, _<_}
 use mathlib.Core.List.{List}
 use mathlib.Core.Path.{_≡_, refl, _∙_}
-use native.Mathlib.Decide.{ℕ-discrete}
 use native.Mathlib.Omega.{arith}
 use lib.ListN.{length, set, length-set}
 use lib.Seq.{getD-set-same, getD-set-other}
@@ -21,21 +20,17 @@ module _ (p : List ℕ) (r : ℕ) (empty : List ℕ) where
 
   module _ (q : ℕ) (tables₀ tables : List ℕ) (v : ℕ) (h : r < maxRules) (l : q < maxPlaces) (S : AloneBefore p r empty q tables₀ tables)
       (e : v ≡ alone (fullIn empty) (placesIn p r) q) where
-    same : aloneIn (set tables (alonesAt + 8 * r + q) v) r q ≡ v
-    same = getD-set-same tables (alonesAt + 8 * r + q) v 0 (omega (arith, S .long))
-
     apart : (s n : ℕ) → ¬ (alonesAt + 8 * s + n ≡ alonesAt + 8 * r + q)
         → aloneIn (set tables (alonesAt + 8 * r + q) v) s n ≡ aloneIn tables s n
     apart s n d = getD-set-other tables (alonesAt + 8 * r + q) (alonesAt + 8 * s + n) v 0 d
 
-    here : (n : ℕ) → n < q + 1 → Dec (n ≡ q) → aloneIn (set tables (alonesAt + 8 * r + q) v) r n ≡ alone (fullIn empty) (placesIn p r) n
-    here n m (yes d) = rw d (same ∙ e)
-    here n m (no d) = let c : ¬ (n ≡ q) = d in apart r n (λ x. c (omega arith)) ∙ S .here n (omega arith)
-
     pub alone-step : AloneBefore p r empty (q + 1) tables₀ (set tables (alonesAt + 8 * r + q) v)
     alone-step = record {
       long = length-set tables (alonesAt + 8 * r + q) v ∙ S .long;
-      here = λ n m. here n m (ℕ-discrete n q);
+      here = below-step
+          (λ (n : ℕ). aloneIn (set tables (alonesAt + 8 * r + q) v) r n ≡ alone (fullIn empty) (placesIn p r) n) q
+          (λ n m. apart r n (λ x. omega arith) ∙ S .here n m)
+          (getD-set-same tables (alonesAt + 8 * r + q) v 0 (omega (arith, S .long)) ∙ e);
       other = λ s n d m. let c : ¬ (s ≡ r) = d in apart s n (λ x. c (omega arith)) ∙ S .other s n d m;
     }
 

@@ -1,4 +1,4 @@
--- The cost of a rule's places over no byte, by the tests that the code makes: one place, all of them as a running sum, all but one.
+-- The cost of a rule's places over no byte, by the tests that the code makes: one place, all as a running sum, all but one.
 -- Assumes nothing.
 use Prim.Native.Nat.{ℕ, zero, suc, _+_, _-_, _≤_, _<_, min}
 use mathlib.Core.Bool.{Bool, true, false}
@@ -10,7 +10,7 @@ use native.Mathlib.Omega.{arith}
 use lib.ListN.{getElem?}
 use Rattle.sizes.specs.Sizes.{tooMany}
 use Rattle.laws.proofs.Bools.{clash}
-use Rattle.cfg.specs.Grammar.{Symbol, nonterminal, terminal, Terminal}
+use Rattle.cfg.specs.Grammar.{Symbol, nonterminal, terminal}
 use Rattle.theory_costs.specs.Rule.{single, together, others, alone}
 use Rattle.theory_costs.proofs.Rule.{others-total}
 use Rattle.packed.specs.Packed.{placeCount, isNonterminalIn, valueIn, symbolIn, placesFrom, placesIn}
@@ -30,31 +30,22 @@ module _ (cost : ℕ → ℕ) (p : List ℕ) (r q : ℕ) {b : Bool} (e : b ≡ i
 
 -- ---- all of them
 
--- the sum of the places before q, and what the others cost
+-- `sum` and the cost of the places from q on make the cost of all places
 pub record Summed (cost : ℕ → ℕ) (p : List ℕ) (r q sum : ℕ) : Type 0 where
   pub all : sum + together cost (placesFrom p r q (placeCount p r - q)) ≡ together cost (placesIn p r)
 
 module _ {cost : ℕ → ℕ} {p : List ℕ} {r : ℕ} where
   pub summed-start : Summed cost p r 0 0
-  summed-start =
-      let s : together cost (placesFrom p r 0 (placeCount p r - 0)) ≡ together cost (placesIn p r) = ap (together cost) (places-start p r) in
-      record { all = omega arith }
+  summed-start = record { all = omega (arith, ap (together cost) (places-start p r)) }
 
   pub summed-step : {m q sum n : ℕ} → m ≡ placeCount p r → q < m → Summed cost p r q sum → n ≡ single cost (symbolIn p r q)
       → Summed cost p r (q + 1) (sum + n)
   unfolding together
-  summed-step {m} {q} {sum} {n} d h S e =
-      let s : together cost (placesFrom p r q (placeCount p r - q))
-      ≡ single cost (symbolIn p r q) + together cost (placesFrom p r (suc q) (placeCount p r - suc q)) =
-      ap (together cost) (places-step p r q (omega arith))
-      in
-      rw add-one (record { all = omega (arith, S .all) })
+  summed-step {q = q} d h S e = rw add-one (record { all = omega (arith, S .all, ap (together cost) (places-step p r q (omega arith))) })
 
   pub summed-end : {m q sum : ℕ} → m ≡ placeCount p r → m ≤ q → Summed cost p r q sum → sum ≡ together cost (placesIn p r)
   unfolding together
-  summed-end {m} {q} {sum} d h S =
-      let s : together cost (placesFrom p r q (placeCount p r - q)) ≡ 0 = ap (together cost) (places-end p r q (omega arith)) in
-      omega (arith, S .all)
+  summed-end {q = q} d h S = omega (arith, S .all, ap (together cost) (places-end p r q (omega arith)))
 
 -- ---- all but one
 
@@ -85,39 +76,32 @@ pub place-past : (p : List ℕ) (r q : ℕ) → placeCount p r ≤ q → getElem
 unfolding placesIn
 place-past p r q h = places-past p r (placeCount p r) 0 q h
 
--- no place, and a terminal, cannot stand alone
-others-past : (cost : ℕ → ℕ) (places : List Symbol) (q : ℕ) → getElem? places q ≡ none → tooMany ≤ others cost places q
-unfolding others
-others-past cost [] q e = omega arith
-others-past cost (s ∷ places) zero e = clash cc
-others-past cost (nonterminal k ∷ places) (suc q) e = omega (arith, others-past cost places q e)
-others-past cost (terminal t ∷ places) (suc q) e = omega (arith, others-past cost places q e)
-
-others-terminal : (cost : ℕ → ℕ) (places : List Symbol) (q : ℕ) {t : Terminal} → getElem? places q ≡ some (terminal t)
+-- a place without a nonterminal has no child over the whole span
+others-none : (cost : ℕ → ℕ) (places : List Symbol) (q : ℕ) → ((k : ℕ) → getElem? places q ≡ some (nonterminal k) → ⊥)
     → tooMany ≤ others cost places q
 unfolding others
-others-terminal cost [] q e = clash cc
-others-terminal cost (nonterminal k ∷ places) zero e = clash cc
-others-terminal cost (terminal s ∷ places) zero e = omega arith
-others-terminal cost (nonterminal k ∷ places) (suc q) e = omega (arith, others-terminal cost places q e)
-others-terminal cost (terminal s ∷ places) (suc q) e = omega (arith, others-terminal cost places q e)
+others-none cost [] q f = omega arith
+others-none cost (nonterminal k ∷ places) zero f = absurd (f k refl)
+others-none cost (terminal t ∷ places) zero f = omega arith
+others-none cost (nonterminal k ∷ places) (suc q) f = omega (arith, others-none cost places q f)
+others-none cost (terminal t ∷ places) (suc q) f = omega (arith, others-none cost places q f)
 
 module _ (cost : ℕ → ℕ) (p : List ℕ) (r q : ℕ) where
   pub alone-past : {n : ℕ} → n ≡ placeCount p r → n ≤ q → tooMany ≡ alone cost (placesIn p r) q
   unfolding alone
-  alone-past e h = omega (arith, others-past cost (placesIn p r) q (place-past p r q (omega arith)))
+  alone-past e h =
+      let y = place-past p r q (omega arith) in
+      omega (arith, others-none cost (placesIn p r) q (λ k x. clash cc))
 
   module _ {n : ℕ} {b : Bool} (l : n ≡ placeCount p r) (h : q < n) (e : b ≡ isNonterminalIn p r q) where
     pub alone-terminal : b ≡ false → tooMany ≡ alone cost (placesIn p r) q
     unfolding alone
     alone-terminal t =
-        omega (
-          arith,
-          others-terminal cost (placesIn p r) q
-              (place-at p r q (omega arith) ∙ ap (λ (s : Symbol). some s) (symbol-terminal p r q (sym e ∙ t))),
-        )
+        let y = place-at p r q (omega arith) in
+        let z = symbol-terminal p r q (sym e ∙ t) in
+        omega (arith, others-none cost (placesIn p r) q (λ k x. clash cc))
 
-    -- the own cost is among all
+    -- the cost of place q is part of the cost of all places
     own-total : b ≡ true → others cost (placesIn p r) q + cost (valueIn p r q) ≡ together cost (placesIn p r)
     own-total t = others-total cost (placesIn p r) q
         (place-at p r q (omega arith) ∙ ap (λ (s : Symbol). some s) (symbol-nonterminal p r q (sym e ∙ t)))

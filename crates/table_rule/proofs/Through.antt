@@ -1,4 +1,4 @@
--- The cost of a rule over a span that is not empty, as a running minimum over its places. Assumes nothing.
+-- The cost of a rule over a span that is not empty is a running minimum over its places. Assumes nothing.
 use Prim.Native.Nat.{ℕ, zero, suc, _+_, _≤_, _<_, min}
 use mathlib.Core.Bool.{Bool, true, false}
 use mathlib.Core.List.{List}

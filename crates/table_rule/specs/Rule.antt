@@ -13,7 +13,7 @@ use Rattle.packed.specs.Packed.{placesIn}
 use Rattle.table_layout.specs.Layout.{fullIn, aloneIn, tablesSize}
 use Rattle.table_layout.specs.Exact.{Alones}
 
--- what is known of rule r over the span from i to j: its numbers of places that stand alone, and its cost without a child over the whole
+-- what is known of rule r over the span from i to j: its `alone` costs and its cost without a child over all of it
 pub record RuleKnown (fit : Fit) (empty : ℕ → ℕ) (least : Cost) (i j : ℕ) (p : List ℕ) (r : ℕ) (tables : List ℕ) (bare : ℕ) : Type 0 where
   pub span : i < j
   pub start : (k : ℕ) → least k i i ≡ empty k
@@ -26,22 +26,22 @@ pub record OfRule (p : List ℕ) (r : ℕ) (full tables : List ℕ) (bare v : �
   pub exact : (fit : Fit) (empty : ℕ → ℕ) (least : Cost) (i j : ℕ) → RuleKnown fit empty least i j p r tables bare
       → Lowest (NodeCost fit (fullIn full) least (placesIn p r) i j) v
 
--- v is the least of those through the places before q
+-- v is the least of the costs without a child over the whole span and with one at a place before q
 pub record PlacesBefore (p : List ℕ) (r : ℕ) (full tables : List ℕ) (bare q v : ℕ) : Type 0 where
   pub lowest : (fit : Fit) (empty : ℕ → ℕ) (least : Cost) (i j : ℕ) → RuleKnown fit empty least i j p r tables bare
       → Lowest (Costs fit empty (fullIn full) least (placesIn p r) i j q) v
 
--- the table with the numbers of the places before q of rule r written: the others are as found
+-- the `alone` costs of the places before q of rule r are written; those of other rules are unchanged
 pub record AloneBefore (p : List ℕ) (r : ℕ) (empty : List ℕ) (q : ℕ) (tables₀ tables : List ℕ) : Type 0 where
   pub long : length tables ≡ tablesSize
   pub here : (n : ℕ) → n < q → aloneIn tables r n ≡ alone (fullIn empty) (placesIn p r) n
   pub other : (s n : ℕ) → s ≢ r → n < maxPlaces → aloneIn tables s n ≡ aloneIn tables₀ s n
 
--- the same with all of them written
+-- the `alone` costs of all places of rule r are written; those of other rules are unchanged
 abbrev pub AlonePut : List ℕ → ℕ → List ℕ → List ℕ → List ℕ → Type 0
 AlonePut p r empty tables₀ tables = AloneBefore p r empty maxPlaces tables₀ tables
 
--- the numbers of the rules before r are right
+-- the `alone` costs of the rules before r are right
 pub record AlonesFilled (p empty : List ℕ) (r : ℕ) (tables : List ℕ) : Type 0 where
   pub long : length tables ≡ tablesSize
   pub here : (s n : ℕ) → s < r → n < maxPlaces → aloneIn tables s n ≡ alone (fullIn empty) (placesIn p s) n

@@ -1,4 +1,4 @@
-// What a rule's places cost over no byte: all of them, and all but one beside a child that covers the whole span.
+// What a rule's places cost over no byte: all of them, and all but the one whose child covers the whole span.
 use numbers::wide;
 use packed::Packed;
 use table_layout::layout::ALONES;
@@ -60,7 +60,7 @@ pub fn rule_empty(p: &Packed, r: usize, full: &Full) -> u16
     one_more(total(p, r, full))
 }
 
-// What a node of rule r costs beside its child at place q, where that child covers all; `sum` is the cost of all places.
+// What a node of rule r costs in addition to its child at place q, if that child covers all. `sum` is the cost of all places over no byte.
 pub fn alone_at(p: &Packed, r: usize, q: usize, empty: &Full, sum: usize) -> u16
     requires { ⌜ (r < maxRules) × (q < maxPlaces) × (sum ≡ together (fullIn (now empty)) (placesIn (now p) r)) ⌝ }
     ensures { λ v. ⌜ v ≡ aloneOf (fullIn (now (empty .entry))) (placesIn (now (p .entry)) r) q ⌝ }
@@ -74,7 +74,7 @@ pub fn alone_at(p: &Packed, r: usize, q: usize, empty: &Full, sum: usize) -> u16
     TOO_MANY
 }
 
-// Writes the numbers of rule r.
+// Writes what `alone_at` says of each place of rule r.
 fn put_alone(p: &Packed, r: usize, empty: &Full, tables: &mut Tables)
     requires { ⌜ (r < maxRules) × (length (now tables) ≡ tablesSize) ⌝ }
     ensures { λ _. ⌜ AlonePut (now (p .entry)) r (now (empty .entry)) (now (tables .entry)) (now (tables .exit)) ⌝ }
@@ -87,7 +87,7 @@ fn put_alone(p: &Packed, r: usize, empty: &Full, tables: &mut Tables)
     }
 }
 
-// Writes the numbers of every rule.
+// Writes what `alone_at` says of each place of every rule.
 pub fn fill_alone(p: &Packed, empty: &Full, tables: &mut Tables)
     requires { ⌜ length (now tables) ≡ tablesSize ⌝ }
     ensures { λ _. ⌜ AlonesFilled (now (p .entry)) (now (empty .entry)) maxRules (now (tables .exit)) ⌝ }

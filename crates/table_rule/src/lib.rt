@@ -1,3 +1,3 @@
-// What a rule costs over a span, from the numbers of the span and the tables: over no byte, beside a child that covers all, and together.
+// What a rule costs over a span, from the numbers of the span and from the tables.
 pub mod alone;
 pub mod rule;

@@ -1,4 +1,4 @@
-// The cost of a rule over a span that is not empty, the node included: the least without a child over the whole span, or through one.
+// The cost of a rule over a nonempty span, the node included: the least with and without a child over the whole span.
 use packed::Packed;
 use table_layout::layout::ALONES;
 use table_layout::layout::Full;
@@ -14,8 +14,8 @@ ghost use Rattle.packed.specs.Packed.{valueIn};
 ghost use Rattle.table_layout.specs.Layout.{fullIn};
 ghost use Rattle.table_rule.specs.Rule.{OfRule};
 
-// The cost through place q of rule r, `beside` being that of the rest. A place that cannot stand
-// alone, as a terminal, has 513 there and is not looked at.
+// The cost of rule r with a child over the whole span at place q; `beside` is the cost of all but that child. It is 513 if the place cannot
+// have such a child, for example a terminal. Then the place is not read.
 fn through(p: &Packed, r: usize, q: usize, full: &Full, beside: u16) -> u16
     requires { ⌜ (r < maxRules) × (q < maxPlaces) ⌝ }
     ensures { λ v. ⌜ v ≡ min (beside + fullIn (now (full .entry)) (valueIn (now (p .entry)) r q)) tooMany ⌝ }
@@ -26,7 +26,7 @@ fn through(p: &Packed, r: usize, q: usize, full: &Full, beside: u16) -> u16
     TOO_MANY
 }
 
-// The cost of rule r, from its cost without a child over the whole span and the numbers of its places that stand alone.
+// The cost of rule r, from its cost without a child over the whole span and from its numbers that `alone_at` made.
 pub fn rule_cost(p: &Packed, r: usize, full: &Full, tables: &Tables, bare: u16) -> u16
     requires { ⌜ r < maxRules ⌝ }
     ensures { λ v. ⌜ OfRule (now (p .entry)) r (now (full .entry)) (now (tables .entry)) bare v ⌝ }

@@ -1,8 +1,9 @@
--- One rule at its left side's number: a lower cost is written, which is reached; else the number is settled for this rule. Assumes nothing.
+-- One rule and the number of its left side: a lower cost is written and is reached, or the number is settled. Assumes nothing.
 use Prim.Native.Nat.{ℕ, _≤_, _<_}
 use mathlib.Core.Bool.{Bool, true, false, true≢false}
 use mathlib.Core.List.{List}
-use mathlib.Core.Path.{_≡_, refl, sym, ap, subst, _∙_}
+use mathlib.Core.Logic.{dite}
+use mathlib.Core.Path.{_≡_, refl, sym, ap, _∙_}
 use native.Mathlib.Decide.{ℕ-discrete, decLt}
 use native.Mathlib.Omega.{arith}
 use lib.ListN.{length, set, getD, length-set}
@@ -23,20 +24,14 @@ module _ (full : List ℕ) (k v : ℕ) where
   full-same e h = sym (full-read (set full k v) k h) ∙ getD-set-same full k v 0 (omega arith)
 
   pub full-other : (x : ℕ) → ¬ (x ≡ k) → fullIn (set full k v) x ≡ fullIn full x
-  full-other x d = go (decLt x 32)
-    where
-      go : Dec (x < 32) → fullIn (set full k v) x ≡ fullIn full x
-      go (yes h) = sym (full-read (set full k v) x h) ∙ getD-set-other full k x v 0 d ∙ full-read full x h
-      go (no h) = let l : 32 ≤ x = omega arith in sym (full-none (set full k v) x l) ∙ full-none full x l
+  full-other x d =
+      dite (decLt x 32) (λ h. sym (full-read (set full k v) x h) ∙ getD-set-other full k x v 0 d ∙ full-read full x h)
+      (λ h. sym (full-none (set full k v) x (omega arith)) ∙ full-none full x (omega arith))
 
-  -- a fact of each number, from that of the new one and those of the old ones
+  -- what holds of the new number and of each old one holds of each number
   pub full-each : (P : ℕ → ℕ → Type 0) → length full ≡ 32 → k < 32 → P k v → ((x : ℕ) → P x (fullIn full x))
       → (x : ℕ) → P x (fullIn (set full k v) x)
-  full-each P e h new old x = go (ℕ-discrete x k)
-    where
-      go : Dec (x ≡ k) → P x (fullIn (set full k v) x)
-      go (yes d) = subst (λ (y : ℕ). P y (fullIn (set full k v) y)) (sym d) (subst (P k) (sym (full-same e h)) new)
-      go (no d) = subst (P x) (sym (full-other x d)) (old x)
+  full-each P e h new old x = dite (ℕ-discrete x k) (λ d. rw (d, full-same e h) new) (λ d. rw (full-other x d) (old x))
 
 -- ---- one rule
 
@@ -55,7 +50,7 @@ module _ (p : List ℕ) (r cell mask : ℕ) (tables : List ℕ) (i j : ℕ) (ful
   pub improved-hole : 32 ≤ k → Improved p r cell mask tables i j full full false
   improved-hole h = kept (λ fit least R l. absurd (omega arith))
 
-  -- its left side is not looked for
+  -- the number of its left side is not wanted
   pub improved-not : {b : Bool} → Wanted k cell mask b → b ≡ false → Improved p r cell mask tables i j full full false
   improved-not W f = kept (λ fit least R h c m. absurd
       (W .left f (ap (λ (x : ℕ). has x cell) e ∙ c) (ap (λ (x : ℕ). has x mask) e ∙ m)))

@@ -1,4 +1,4 @@
--- The cost of a rule over a span, by the test that the code makes, and whether a number is looked for. Assumes nothing.
+-- The cost of a rule over a span, by the test that the code makes, and whether a number is wanted. Assumes nothing.
 use Prim.Native.Nat.{ℕ, suc, _≤_, _<_, min}
 use mathlib.Core.Bool.{Bool, true, false, not, true≢false}
 use mathlib.Core.List.{List}
@@ -45,7 +45,7 @@ module _ (p : List ℕ) (r : ℕ) (full tables : List ℕ) (i j : ℕ) where
             (rw e (rule-empty fit (fullIn full) least (placesIn p r) i));
       }
 
--- ---- whether a number is looked for
+-- ---- whether a number is wanted
 
 module _ (k cell mask : ℕ) where
   pub wanted-masked : {b d : Bool} → b ≡ has k cell → b ≡ true → d ≡ has k mask → Wanted k cell mask (not d)

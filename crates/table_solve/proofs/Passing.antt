@@ -3,16 +3,14 @@ use Prim.Native.Nat.{ℕ, _+_, _≤_, _<_}
 use mathlib.Core.Bool.{Bool, true, false, not, true≢false, Bool·not-not}
 use mathlib.Core.List.{List}
 use mathlib.Core.Path.{_≡_, refl, sym, ap, subst, _∙_}
-use native.Mathlib.Decide.{decLt}
 use native.Mathlib.Omega.{arith}
-use lib.ListN.{replicate, length-replicate, getD-replicate}
+use lib.ListN.{replicate, length-replicate}
 use Rattle.sizes.specs.Sizes.{tooMany}
 use Rattle.laws.proofs.Lists.{below-step}
 use Rattle.sets.specs.Set.{has}
 use Rattle.sets.proofs.Laws.{has-empty}
 use Rattle.packed.specs.Packed.{leftIn}
-use Rattle.table_layout.specs.Layout.{fullIn}
-use Rattle.table_layout.proofs.Entries.{full-read, full-none}
+use Rattle.table_layout.proofs.Entries.{full-many}
 use Rattle.table_solve.specs.Solve.{total, Numbers, AllReached, Settled, Improved, PassSolved, Solved}
 
 -- ---- one pass
@@ -29,7 +27,7 @@ module _ (p : List ℕ) (cell mask : ℕ) (tables : List ℕ) (i j : ℕ) (full�
 
   module _ (full full' : List ℕ) {m : ℕ} {changed b : Bool} (S : PassSolved p m cell mask tables i j full₀ full changed)
       (I : Improved p m cell mask tables i j full full' b) where
-    -- the sum before rule m is at most that at the start
+    -- the sum before rule m is at most the sum at the start
     fallen : (c : Bool) → changed ≡ c → total full ≤ total full₀
     fallen true e = let h = S .less e in omega arith
     fallen false e = omega (arith, ap total (S .same e))
@@ -59,21 +57,14 @@ module _ (p : List ℕ) (cell mask : ℕ) (tables : List ℕ) (i j : ℕ) (full�
 
 -- ---- until nothing changes
 
-full-none-yet : (k : ℕ) → fullIn (replicate 32 tooMany) k ≡ tooMany
-full-none-yet k = go (decLt k 32)
-  where
-    go : Dec (k < 32) → fullIn (replicate 32 tooMany) k ≡ tooMany
-    go (yes h) = sym (full-read (replicate 32 tooMany) k h) ∙ getD-replicate 32 k tooMany 0 h
-    go (no h) = let l : 32 ≤ k = omega arith in sym (full-none (replicate 32 tooMany) k l)
-
 pub numbers-none : Numbers (replicate 32 tooMany)
-numbers-none = record { long = length-replicate 32 tooMany; capped = λ k. omega (arith, full-none-yet k) }
+numbers-none = record { long = length-replicate 32 tooMany; capped = λ k. omega (arith, full-many k) }
 
 module _ (p : List ℕ) (mask : ℕ) (tables : List ℕ) (i j : ℕ) where
   pub reached-none : AllReached p mask tables i j (replicate 32 tooMany)
-  reached-none = record { at = λ fit least R k h. absurd (omega (arith, full-none-yet k)) }
+  reached-none = record { at = λ fit least R k h. absurd (omega (arith, full-many k)) }
 
-  -- nothing is looked for where the cell has nothing
+  -- if the cell is empty, no number is wanted
   pub solved-nothing : {rules cell : ℕ} → cell ≡ 0 → Solved p rules cell mask tables i j (replicate 32 tooMany)
   solved-nothing e = record {
     numbers = numbers-none;

@@ -1,4 +1,4 @@
--- The sum of numbers falls where one of them is set lower. Assumes nothing.
+-- The sum of numbers falls if one of them is lowered. Assumes nothing.
 use Prim.Native.Nat.{ℕ, zero, suc, _<_}
 use mathlib.Core.List.{List, [], _∷_}
 use native.Mathlib.Omega.{arith}

@@ -1,5 +1,5 @@
--- What solved numbers say of trees, whatever bytes the fit tells of: each number is reached by a tree, no rule gives a lower one, so they
--- are the least numbers of nodes. Assumes nothing.
+-- What solved numbers say of trees: for any bytes that agree with the fit, a tree reaches each, and no rule gives a lower one. So they are
+-- the least numbers of nodes. Assumes nothing.
 use Prim.Native.Nat.{ℕ, _≤_, _<_}
 use mathlib.Core.Bool.{Bool, true, false}
 use mathlib.Core.List.{List}
@@ -24,7 +24,7 @@ use Rattle.table_solve.specs.Solve.{Reach, reach, Solved}
 
 module _ {fit : Fit} {bytes : ℕ → ℕ → Type 0} {least : Cost} {p : List ℕ} {mask i j : ℕ} (tells : Tells fit bytes)
     (inside : Inside (Packing p) bytes i j least) where
-  -- a number that is reached is reached by a tree
+  -- if a number is reached, a tree has that many nodes
   pub reach-sound : {k v : ℕ} → Reach fit least p mask i j k v → SoundAt (Packing p) bytes mask i j k v
   reach-sound {k} {v} (reach {r} full h e l m below L) =
       let u : leftIn p r < 32 = omega arith in

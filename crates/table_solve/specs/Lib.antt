@@ -1,2 +1,2 @@
--- The least numbers of nodes over one whole span.
+-- The least numbers of nodes over one whole span, as passes over the rules find them.
 pub mod Solve

@@ -1,6 +1,6 @@
--- The least numbers of nodes over one whole span, found by passes of the rules from too many everywhere on: each number is reached, and at
--- the end no rule gives a lower one. Numbers only, no trees: the promises hold for all fits and costs that the tables are right for.
--- Assumes nothing.
+-- The least numbers of nodes over one whole span. Passes over the rules find them, from 513 everywhere: each number is reached, and at the
+-- end no rule gives a lower one. The definitions speak of numbers, not of trees, and hold for all fits and costs for which the tables are
+-- right. Assumes nothing.
 use Prim.Native.Nat.{ℕ, _+_, _≤_, _<_}
 use mathlib.Core.Bool.{Bool, true, false}
 use mathlib.Core.List.{List, [], _∷_}
@@ -18,12 +18,12 @@ use Rattle.table_layout.specs.Exact.{SpanReady}
 
 -- ---- one rule
 
--- v is the cost of rule r over the span from i to j, the node included, `full` having the costs over the whole span
+-- v is the cost of rule r over the span from i to j, the node included; `full` has the costs over the whole span
 pub record RuleOver (p : List ℕ) (r : ℕ) (full tables : List ℕ) (i j v : ℕ) : Type 0 where
   pub exact : leftIn p r < nonterminals → (fit : Fit) (least : Cost) → (i < j → SpanReady fit least p tables i j)
       → Lowest (NodeCost fit (fullIn full) least (placesIn p r) i j) v
 
--- the answer b tells whether the number of k is looked for: k is in the cell and not in the mask
+-- the answer b says whether the number of k is wanted: the cell has k, and the mask does not
 pub record Wanted (k cell mask : ℕ) (b : Bool) : Type 0 where
   pub taken : b ≡ true → (has k cell ≡ true) × (has k mask ≡ false)
   pub left : b ≡ false → has k cell ≡ true → has k mask ≡ false → ⊥
@@ -33,24 +33,24 @@ unfoldable pub total : List ℕ → ℕ
 total [] = 0
 total (n ∷ numbers) = n + total numbers
 
--- the numbers of one span, none above too many
+-- the numbers of one span, none above 513
 pub record Numbers (full : List ℕ) : Type 0 where
   pub long : length full ≡ nonterminals
   pub capped : (k : ℕ) → fullIn full k ≤ tooMany
 
--- the number v of the nonterminal k is reached: a rule of k, which is not in the mask, costs v by numbers that are none or reached. That a
--- tree has so many nodes follows, whatever bytes the fit tells of
+-- the number v of k is reached: the mask does not have k, and a rule of k costs v by numbers that are 513 or reached. It follows that a
+-- tree has v nodes, for any bytes that agree with the fit
 pub data Reach (fit : Fit) (least : Cost) (p : List ℕ) (mask i j : ℕ) : ℕ → ℕ → Type 0 where
   reach : {r k v : ℕ} (full : ℕ → ℕ) → r < maxRules → leftIn p r ≡ k → k < nonterminals → has k mask ≡ false
       → ((x : ℕ) → full x < tooMany → Reach fit least p mask i j x (full x))
       → Lowest (NodeCost fit full least (placesIn p r) i j) v → Reach fit least p mask i j k v
 
--- each number is none or reached, for all fits and costs that the tables are right for
+-- each number is 513 or reached, for all fits and costs for which the tables are right
 pub record AllReached (p : List ℕ) (mask : ℕ) (tables : List ℕ) (i j : ℕ) (full : List ℕ) : Type 0 where
   pub at : (fit : Fit) (least : Cost) → (i < j → SpanReady fit least p tables i j)
       → (k : ℕ) → fullIn full k < tooMany → Reach fit least p mask i j k (fullIn full k)
 
--- rule r gives no lower number to a left side in the cell and not in the mask
+-- rule r gives no lower number to its left side, if that is in the cell and not in the mask
 abbrev pub Settled : List ℕ → ℕ → ℕ → ℕ → List ℕ → ℕ → ℕ → List ℕ → Type 0
 Settled p r cell mask tables i j full = (fit : Fit) (least : Cost) → (i < j → SpanReady fit least p tables i j)
     → leftIn p r < nonterminals → has (leftIn p r) cell ≡ true → has (leftIn p r) mask ≡ false
@@ -58,7 +58,7 @@ Settled p r cell mask tables i j full = (fit : Fit) (least : Cost) → (i < j �
 
 -- ---- passes
 
--- the rules below m were looked at, and full₀ became full; `changed` says whether a number got lower
+-- a pass over the rules below m turned full₀ into full; `changed` says whether a number got lower
 pub record PassSolved (p : List ℕ) (m cell mask : ℕ) (tables : List ℕ) (i j : ℕ) (full₀ full : List ℕ) (changed : Bool) : Type 0 where
   pub numbers : Numbers full
   pub reached : AllReached p mask tables i j full₀ → AllReached p mask tables i j full
@@ -66,7 +66,7 @@ pub record PassSolved (p : List ℕ) (m cell mask : ℕ) (tables : List ℕ) (i 
   pub same : changed ≡ false → full ≡ full₀
   pub settled : changed ≡ false → (r : ℕ) → r < m → Settled p r cell mask tables i j full
 
--- rule r was looked at
+-- the look at rule r turned full₀ into full; `changed` says whether a number got lower
 pub record Improved (p : List ℕ) (r cell mask : ℕ) (tables : List ℕ) (i j : ℕ) (full₀ full : List ℕ) (changed : Bool) : Type 0 where
   pub numbers : Numbers full
   pub reached : AllReached p mask tables i j full₀ → AllReached p mask tables i j full
@@ -74,8 +74,8 @@ pub record Improved (p : List ℕ) (r cell mask : ℕ) (tables : List ℕ) (i j 
   pub same : changed ≡ false → full ≡ full₀
   pub settled : changed ≡ false → Settled p r cell mask tables i j full
 
--- passes until one changes nothing: each number is reached, and no rule below `rules` gives a lower one. By the law `solved-full` these
--- are the least numbers of nodes over the whole of i to j, where no nonterminal of `mask` may stand over the whole
+-- the numbers once a pass changes nothing: each is reached, and no rule below `rules` gives a lower one. By the law `solved-full` they are
+-- the least numbers of nodes over the span from i to j; no node over the whole span may have a nonterminal of `mask`
 pub record Solved (p : List ℕ) (rules cell mask : ℕ) (tables : List ℕ) (i j : ℕ) (full : List ℕ) : Type 0 where
   pub numbers : Numbers full
   pub reached : AllReached p mask tables i j full

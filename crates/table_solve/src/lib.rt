@@ -1,4 +1,4 @@
-// The least numbers of nodes over one whole span: passes of the rules, from too many everywhere on, until a pass changes nothing.
+// The least numbers of nodes over one whole span: passes over the rules, from 513 everywhere, until a pass changes nothing.
 use packed::Packed;
 use table_layout::bare::bare;
 use table_layout::layout::Full;
@@ -10,8 +10,8 @@ ghost use Prim.Native.Nat.{_<_, _≤_};
 ghost use Rattle.sizes.specs.Sizes.{maxRules, nonterminals, side};
 ghost use Rattle.table_solve.specs.Solve.{RuleOver, Wanted, Numbers, Improved, PassSolved, Solved};
 
-// The cost of rule r over the span from i to j, the node included: over no byte that of its places together, else by the table of costs
-// without a child over the whole span and through its places.
+// The cost of rule r over the span from i to j, the node included. Over no byte it is the cost of its places together. Otherwise it
+// comes from the tables: the cost without a child over the whole span, and the costs with one.
 pub fn rule_over(p: &Packed, r: usize, full: &Full, tables: &Tables, i: usize, j: usize) -> u16
     requires { ⌜ (r < maxRules) × (i ≤ j) × (j < side) ⌝ }
     ensures { λ v. ⌜ RuleOver (now (p .entry)) r (now (full .entry)) (now (tables .entry)) i j v ⌝ }
@@ -23,7 +23,7 @@ pub fn rule_over(p: &Packed, r: usize, full: &Full, tables: &Tables, i: usize, j
     }
 }
 
-// Whether the number of the nonterminal k is looked for: k is in the cell and not in the mask.
+// Whether the number of the nonterminal k is wanted: the cell has k, and the mask does not.
 fn wanted(k: usize, cell: u32, mask: u32) -> bool
     requires { ⌜ k < nonterminals ⌝ }
     ensures { λ b. ⌜ Wanted k cell mask b ⌝ }
@@ -34,7 +34,7 @@ fn wanted(k: usize, cell: u32, mask: u32) -> bool
     false
 }
 
-// Rule r at its left side's number. Says whether that got lower.
+// Lowers the number of rule r's left side to the rule's cost, if that is lower. Says whether it did.
 fn improve(
     p: &Packed,
     r: usize,
@@ -62,7 +62,7 @@ fn improve(
     false
 }
 
-// The rules below a number, once. Says whether a number got lower.
+// One pass over the rules below `rules`. Says whether a number got lower.
 fn pass(
     p: &Packed,
     rules: usize,
@@ -88,7 +88,7 @@ fn pass(
     changed
 }
 
-// These rules, until a pass changes nothing.
+// Passes over the rules below `rules` until one changes nothing.
 pub fn solve(
     p: &Packed,
     rules: usize,

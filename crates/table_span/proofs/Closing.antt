@@ -1,9 +1,8 @@
--- One span done: from its numbers to the rows, and the empty span. Assumes nothing.
+-- One span is done: from its numbers to the rows, and the empty span. Assumes nothing.
 use Prim.Native.Nat.{ℕ, zero, suc, _+_, _*_, _-_, _≤_, _<_}
 use mathlib.Core.Bool.{Bool, true, false}
 use mathlib.Core.List.{List, List·Memᴰ, List·Memᴰ·head, List·Memᴰ·tail}
 use mathlib.Core.Path.{_≡_, refl, sym, subst}
-use native.Mathlib.Decide.{ℕ-discrete}
 use native.Mathlib.Omega.{arith}
 use Rattle.sizes.specs.Sizes.{tooMany, maxRules, side}
 use Rattle.laws.proofs.Bools.{clash}
@@ -29,22 +28,22 @@ use Rattle.table_layout.proofs.Bares.{bare-behind}
 use Rattle.table_solve.specs.Solve.{Solved}
 use Rattle.table_solve.proofs.Trees.{solved-full}
 use Rattle.table_write.specs.Writes.{LeastPut}
-use Rattle.table_live.specs.Live.{Silent, liveIn, ReachedOnly}
-use Rattle.table_start.proofs.Columns.{silent-kept}
+use Rattle.table_live.specs.Live.{ReachedOnly}
 use Rattle.table_start.specs.Starts.{Untouched, OtherStarts, StartRight, StartsPut, SuffixesPut}
 use Rattle.table_span.specs.Sofar.{Standing, SpanGiven, Sofar, OpenedSofar, LiveFrom}
 use Rattle.table_span.specs.Spans.{SpanOpened, SpanPut, EmptyPut}
 use Rattle.table_span.proofs.Kept.{sofar-kept, sofar-more, ready-by, inside-by}
+use Rattle.table_span.proofs.Opening.{live-more}
 
 -- ---- the nonterminals of a rule's places
 
--- what a nonterminal in one place is
+-- if the symbol of a place is the nonterminal k, the place is a nonterminal with the value k
 module _ (p : List ℕ) (r q k : ℕ) (e : nonterminal k ≡ symbolIn p r q) where
   place-is : (b : Bool) → isNonterminalIn p r q ≡ b → (isNonterminalIn p r q ≡ true) × (valueIn p r q ≡ k)
   place-is true f = let g = symbol-nonterminal p r q f in (f, cc)
   place-is false f = let g = symbol-terminal p r q f in clash cc
 
--- a nonterminal among the places stands in one of them
+-- a nonterminal among the places is at one of them
 pub places-have : (p : List ℕ) (r n a : ℕ) {k : ℕ} → List·Memᴰ (nonterminal k) (placesFrom p r a n)
     → (q : ℕ) × (a ≤ q) × (q < a + n) × (isNonterminalIn p r q ≡ true) × (valueIn p r q ≡ k)
 unfolding placesFrom
@@ -63,7 +62,7 @@ module _ {i j : ℕ} {full tables₀ tables : List ℕ} (l : j < side) (L : Leas
   part-same : (k a b : ℕ) → a ≤ b → b ≤ j → b - a < j - i → costIn tables₀ k a b ≡ costIn tables k a b
   part-same k a b x y s = sym (L .other k a b (omega arith) (omega arith) (λ e. let u = e .0 in let v = e .1 in omega arith))
 
-  -- what is right for the starts behind
+  -- what is right for the later starts
   behind-kept : {fit : Fit} {bytes : ℕ → ℕ → Type 0} {p : List ℕ} {rules : ℕ} {rows₀ rows : List ℕ}
       → Sofar fit bytes p rules (i + 1) j tables₀ rows₀ → rules ≤ maxRules → OtherStarts i rows₀ rows
       → Sofar fit bytes p rules (i + 1) j tables rows
@@ -122,30 +121,20 @@ module _ {fit : Fit} {bytes : ℕ → ℕ → Type 0} {p : List ℕ} {rules : �
       (λ r q x y. leastcut-same i j (λ k a b u v w. within-even (fullIn full) (costIn tables) i j k a b u v w (L .here k))
       (P .exact fit (G .told) ends r x (λ c u v f. T .told r c x (omega arith) v f) (later r x) (untouched r x) q y))
 
--- what is told of the live starts is told still
-module _ {p : List ℕ} {rules : ℕ} {fits tables full : List ℕ} {members reach i j : ℕ} {rows₀ live₀ rows live : List ℕ}
-    (o : rules ≤ maxRules) (l : j < side) (P : SuffixesPut p rules fits tables full members reach i j rows₀ live₀ rows live) where
-  told-again : LiveFrom p rules i j rows₀ live₀ → LiveFrom p rules i j rows live
-  told-again L = record { told = λ r c x y z f. go r c x y z f (ℕ-discrete c i) }
-    where
-      go : (r c : ℕ) → r < rules → i ≤ c → c < j → liveIn live r c ≡ false → Dec (c ≡ i) → Silent p r c rows
-      go r c x y z f (yes e) = rw e (P .told r x (L .told r i x (omega arith) (omega arith)) (rw e at f))
-      go r c x y z f (no e) =
-          let d : ¬ (c ≡ i) = e in
-          silent-kept p r c rows₀ rows (λ q w. P .other r q c (omega arith) w (omega arith) e)
-          (L .told r c x y z (P .grown r c f))
-
 -- as the code does it
 pub span-put : (p : List ℕ) (rules : ℕ) (fits : List ℕ) (members reach i j : ℕ)
     {full tables₀ rows₀ live₀ tables₁ rows₁ live₁ tables rows live : List ℕ} → rules ≤ maxRules → i < j → j < side
     → SpanOpened p rules fits reach i j tables₀ rows₀ live₀ tables₁ rows₁ live₁ → Solved p rules members 0 tables₁ i j full
     → LeastPut full i j tables₁ tables → SuffixesPut p rules fits tables full members reach i j rows₁ live₁ rows live
     → SpanPut p rules fits members reach i j tables₀ rows₀ live₀ tables rows live
-span-put p rules fits members reach i j {rows₁ = rows₁} {live₁} {rows = rows} {live} o h l S X L P = record {
+span-put p rules fits members reach i j {rows₁ = rows₁} {live₁} o h l S X L P = record {
   long = L .long;
   wide = P .long;
   size = P .size;
-  told = λ A. told-again o l P (S .told A);
+  told = λ A.
+      let L = S .told A in
+      live-more {rows₀ = rows₁} {live₀ = live₁} o l (P .other) (P .grown) (λ r x. P .told r x (L .told r i x (omega arith) h))
+      (record { told = λ r c x y. L .told r c x (omega arith) });
   exact = λ fit can G C R A D. span-done o h l X L P G C (S .exact fit can (G .told) R A D) (S .ends R) (S .told A);
 }
 
@@ -154,7 +143,7 @@ span-put p rules fits members reach i j {rows₁ = rows₁} {live₁} {rows = ro
 pub empty-put : (p : List ℕ) (rules : ℕ) (fits empty : List ℕ) (j : ℕ) {tables₀ rows₀ tables rows : List ℕ} → rules ≤ maxRules → j < side
     → LeastPut empty j j tables₀ tables → StartsPut p rules fits tables empty j j rows₀ rows
     → EmptyPut p rules fits empty j tables₀ rows₀ tables rows
-empty-put p rules fits empty j {tables₀} {rows₀} {tables} {rows} o l L A = record {
+empty-put p rules fits empty j {tables = tables} o l L A = record {
   long = L .long;
   wide = A .long;
   exact = λ fit can F E S.

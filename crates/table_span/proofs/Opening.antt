@@ -1,7 +1,8 @@
--- The costs over one span that need no numbers of the whole of it. Assumes nothing.
+-- The costs over one span that need no numbers of the whole span. Assumes nothing.
 use Prim.Native.Nat.{ℕ, _+_, _*_, _≤_, _<_}
 use mathlib.Core.Bool.{false}
 use mathlib.Core.List.{List}
+use mathlib.Core.Logic.{dite}
 use mathlib.Core.Path.{_≡_, sym, subst}
 use native.Mathlib.Decide.{ℕ-discrete}
 use native.Mathlib.Omega.{arith}
@@ -21,13 +22,24 @@ use Rattle.table_suffix.specs.Within.{tailIn, LaterStarts}
 use Rattle.table_layout.specs.Layout.{alonesAt, costIn, fullIn, bareIn, rowsSize}
 use Rattle.packed_fit.specs.Fit.{FitTold}
 use Rattle.table_write.specs.Writes.{placeAt, Nothing, BaresPut}
-use Rattle.table_live.specs.Live.{Silent, liveIn, ReachedOnly}
-use Rattle.table_start.specs.Starts.{StartsOpened}
+use Rattle.table_live.specs.Live.{Silent, liveIn, Grown, ReachedOnly}
+use Rattle.table_start.specs.Starts.{OtherStarts, StartsOpened}
 use Rattle.table_start.proofs.Columns.{silent-kept}
 use Rattle.table_span.specs.Sofar.{Standing, Sofar, OpenedSofar, LiveFrom}
 use Rattle.table_span.specs.Spans.{SpanOpened}
 use Rattle.table_write.proofs.Written.{cost-same}
 use Rattle.table_span.proofs.Kept.{sofar-kept}
+
+-- if the live starts are known after i, and i is marked, they are known from i on
+pub live-more : {p : List ℕ} {rules i j : ℕ} {rows₀ live₀ rows live : List ℕ} → rules ≤ maxRules → j < side → OtherStarts i rows₀ rows
+    → Grown live₀ live → ((r : ℕ) → r < rules → liveIn live r i ≡ false → Silent p r i rows) → LiveFrom p rules (i + 1) j rows₀ live₀
+    → LiveFrom p rules i j rows live
+live-more {p} {i = i} {rows₀ = rows₀} {rows = rows} o l O G here L = record {
+  told = λ r c x y z f.
+      dite (ℕ-discrete c i) (λ e. rw e (here r x (rw e at f)))
+      (λ (d : ¬ (c ≡ i)). silent-kept p r c rows₀ rows (λ q w. O r q c (omega arith) w (omega arith) d)
+      (L .told r c x (omega arith) z (G r c f)));
+}
 
 module _ (p : List ℕ) (rules : ℕ) (fits nothing : List ℕ) (reach i j : ℕ) (tables₀ rows₀ live₀ tables rows live : List ℕ)
     (o : rules ≤ maxRules) (h : i < j) (l : j < side) (N : Nothing nothing)
@@ -35,17 +47,6 @@ module _ (p : List ℕ) (rules : ℕ) (fits nothing : List ℕ) (reach i j : ℕ
     (B : BaresPut rules i j rows tables₀ tables) where
   costs : (k a b : ℕ) → a < side → b < side → costIn tables k a b ≡ costIn tables₀ k a b
   costs k a b x y = cost-same tables₀ tables k a b (λ z. B .front (cells * k + side * a + b) (omega arith))
-
-  -- the starts told live, with i among them
-  told : LiveFrom p rules (i + 1) j rows₀ live₀ → LiveFrom p rules i j rows live
-  told L = record { told = λ r c x y z f. go r c x y z f (ℕ-discrete c i) }
-    where
-      go : (r c : ℕ) → r < rules → i ≤ c → c < j → liveIn live r c ≡ false → Dec (c ≡ i) → Silent p r c rows
-      go r c x y z f (yes e) = rw e (A .told r x (rw e at f))
-      go r c x y z f (no e) =
-          let d : ¬ (c ≡ i) = e in
-          silent-kept p r c rows₀ rows (λ q w. A .other r q c (omega arith) w (omega arith) e)
-          (L .told r c x (omega arith) z (A .grown r c f))
 
   ends : ReachedOnly tables₀ reach i j → ReachedOnly tables reach i j
   ends R k c x y f = let e = costs k i c (omega arith) (omega arith) in let m = R k c x y f in omega arith
@@ -86,7 +87,7 @@ module _ (p : List ℕ) (rules : ℕ) (fits nothing : List ℕ) (reach i j : ℕ
     long = B .long;
     wide = A .long;
     size = A .size;
-    told = told;
+    told = live-more o l (A .other) (A .grown) (A .told);
     ends = ends;
     exact = λ fit can. opened fit (Standing can);
   }

@@ -1,3 +1,3 @@
--- One span: what is right when the spans up to it are done, and what the functions make of it.
+-- One span: what is right when the spans before it are done, and what the functions do for it.
 pub mod Sofar
 pub mod Spans

@@ -1,5 +1,4 @@
--- What is right in the tables and the rows when some spans are done: all that end before j, and of those that end at j all that start from
--- i on. Assumes nothing.
+-- What is right when some spans are done: those that end before j, and those that end at j and start from i on. Assumes nothing.
 use Prim.Native.Nat.{ℕ, _+_, _*_, _≤_, _<_}
 use mathlib.Core.Bool.{Bool, true, false}
 use mathlib.Core.List.{List}
@@ -19,7 +18,7 @@ use Rattle.table_layout.specs.Exact.{Alones, Packing, PastLast}
 use Rattle.table_write.specs.Writes.{placeAt}
 use Rattle.table_live.specs.Live.{Silent, liveIn}
 
--- the bytes that may stand at a position, told by a test
+-- the bytes that are allowed at a position, given by a test
 abbrev pub Standing : (ℕ → ℕ → Bool) → ℕ → ℕ → Type 0
 Standing can a m = can a m ≡ true
 
@@ -48,13 +47,13 @@ pub record Sofar (fit : Fit) (bytes : ℕ → ℕ → Type 0) (p : List ℕ) (ru
   pub starts : (r q c : ℕ) → r < rules → q ≤ placeCount p r → i ≤ c → c ≤ j
       → LeastCut fit (costIn tables) (tailIn p r q) c j (getD rows (placeAt r q c) 0)
 
--- the same for the starts behind i, and for the span from i to j all that needs no numbers of the whole of it
+-- Sofar for the starts after i, and for the span from i to j all that needs no numbers of the whole span
 pub record OpenedSofar (fit : Fit) (bytes : ℕ → ℕ → Type 0) (p : List ℕ) (rules i j : ℕ) (tables rows : List ℕ) : Type 0 where
   pub sofar : Sofar fit bytes p rules (i + 1) j tables rows
   pub bare : (r : ℕ) → r < rules → Lowest (BareCost fit (costIn tables) (placesIn p r) i j) (bareIn tables i j r)
   pub column : (r q : ℕ) → r < rules → q ≤ placeCount p r
       → LeastCut fit (within i j (λ _. tooMany) (costIn tables)) (tailIn p r q) i j (getD rows (placeAt r q i) 0)
 
--- from a start between a and j that is not live the places of a rule behind its first cost too many
+-- from each start from a on and before j that is not live, the places of a rule after its first cost too much
 pub record LiveFrom (p : List ℕ) (rules a j : ℕ) (rows live : List ℕ) : Type 0 where
   pub told : (r c : ℕ) → r < rules → a ≤ c → c < j → liveIn live r c ≡ false → Silent p r c rows

@@ -1,5 +1,5 @@
--- What the functions do that make the tables over one span: from what was right before to what is right after. The bytes that may stand at
--- a position are told by a test. Assumes nothing.
+-- What the functions that make the tables over one span do: from what was right before to what is right after. A test gives the bytes that
+-- are allowed at a position. Assumes nothing.
 use Prim.Native.Nat.{ℕ, _+_}
 use mathlib.Core.Bool.{Bool}
 use mathlib.Core.List.{List}
@@ -14,7 +14,7 @@ use Rattle.table_write.specs.Writes.{allRows}
 use Rattle.table_live.specs.Live.{ReachedOnly}
 use Rattle.table_span.specs.Sofar.{Standing, SpanGiven, EmptyTrue, Sofar, OpenedSofar, LiveFrom}
 
--- the costs over the span from i to j that need no numbers of the whole of it are made
+-- the costs over the span from i to j that need no numbers of the whole span are written
 pub record SpanOpened (p : List ℕ) (rules : ℕ) (fits : List ℕ) (reach i j : ℕ) (tables₀ rows₀ live₀ tables rows live : List ℕ)
     : Type 0 where
   pub long : length tables ≡ tablesSize
@@ -22,8 +22,9 @@ pub record SpanOpened (p : List ℕ) (rules : ℕ) (fits : List ℕ) (reach i j 
   pub size : length live ≡ maxRules
   pub told : LiveFrom p rules (i + 1) j rows₀ live₀ → LiveFrom p rules i j rows live
   pub ends : ReachedOnly tables₀ reach i j → ReachedOnly tables reach i j
-  pub exact : (fit : Fit) (can : ℕ → ℕ → Bool) → FitTold fit p fits j → ReachedOnly tables₀ reach i j → LiveFrom p rules (i + 1) j rows₀ live₀
-      → Sofar fit (Standing can) p rules (i + 1) j tables₀ rows₀ → OpenedSofar fit (Standing can) p rules i j tables rows
+  pub exact : (fit : Fit) (can : ℕ → ℕ → Bool) → FitTold fit p fits j → ReachedOnly tables₀ reach i j
+      → LiveFrom p rules (i + 1) j rows₀ live₀ → Sofar fit (Standing can) p rules (i + 1) j tables₀ rows₀
+      → OpenedSofar fit (Standing can) p rules i j tables rows
 
 -- the span from i to j is done
 pub record SpanPut (p : List ℕ) (rules : ℕ) (fits : List ℕ) (members reach i j : ℕ) (tables₀ rows₀ live₀ tables rows live : List ℕ)

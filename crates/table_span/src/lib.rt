@@ -1,4 +1,4 @@
-// One span: its costs that need no numbers of the whole of it, its numbers, and with them the rows from its start on.
+// One span: its costs that need no numbers of the whole span, its numbers, and with them the rows from its start.
 use fill_reach::Live;
 use packed::Packed;
 use packed_fit::FitTable;
@@ -20,7 +20,7 @@ ghost use Rattle.table_layout.specs.Layout.{tablesSize};
 ghost use Rattle.table_write.specs.Writes.{allRows, Nothing};
 ghost use Rattle.table_span.specs.Spans.{SpanOpened, SpanPut, EmptyPut};
 
-// The rows from the start of the span on and the costs of the rules, without a child over the whole of it.
+// Writes the rows from the start of the span and the costs of the rules, without a child over the whole span.
 fn open_span(
     p: &Packed,
     rules: usize,
@@ -41,7 +41,7 @@ fn open_span(
     put_bares(rules, over.i, over.j, rows, tables);
 }
 
-// The span, which is not empty, those with the same end and a later start being done.
+// Does a span that is not empty. The spans with the same end and a later start are already done.
 pub fn put_span(
     p: &Packed,
     rules: usize,
@@ -64,7 +64,7 @@ pub fn put_span(
     put_suffixes(p, rules, fits, tables, &full, over, rows, live);
 }
 
-// The empty span at j; `empty` has its numbers.
+// Does the empty span at j; `empty` has its numbers.
 pub fn put_empty(
     p: &Packed,
     rules: usize,

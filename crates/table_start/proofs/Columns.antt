@@ -1,23 +1,22 @@
--- The rows of all rules, written rule by rule from one start on. Assumes nothing.
+-- The rows of all rules are written rule by rule for one start. Assumes nothing.
 use Prim.Native.Nat.{ℕ, _+_, _*_, _≤_, _<_}
 use mathlib.Core.List.{List}
 use mathlib.Core.Bool.{false}
 use mathlib.Core.Path.{_≡_, refl, sym, subst, _∙_}
-use native.Mathlib.Decide.{ℕ-discrete}
 use native.Mathlib.Omega.{arith}
 use lib.ListN.{length, getD}
 use Rattle.table_layout.specs.Layout.{rowsSize}
 use Rattle.sizes.specs.Sizes.{maxRules, maxPlaces, side}
+use Rattle.laws.proofs.Lists.{below-step}
 use Rattle.chart.specs.Cell.{Fit}
 use Rattle.packed.proofs.Laws.{count-le}
 use Rattle.table_suffix.specs.Within.{tailIn, InsideCost, LaterStarts}
 use Rattle.table_suffix.specs.Rows.{StartPut}
-use Rattle.packed_fit.specs.Fit.{FitTold}
 use Rattle.table_write.specs.Writes.{allRows, placeAt}
-use Rattle.table_live.specs.Live.{Silent, liveIn, LiveTold, ReachedOnly, OneRule, Grown, RuleRowsPut}
+use Rattle.table_live.specs.Live.{Silent, liveIn, LiveTold, OneRule, Grown, RuleRowsPut}
 use Rattle.table_start.specs.Starts.{OtherStarts, StartRight, StartsPut, StartsOpened}
 
--- ---- what writing one rule from i on leaves as found
+-- ---- what writing one rule from the start i leaves unchanged
 
 module _ (p : List ℕ) (i m : ℕ) (rows rows' : List ℕ) (l : i < side) (O : OneRule p m i rows rows') where
   pub other-starts : OtherStarts i rows rows'
@@ -32,12 +31,12 @@ module _ (p : List ℕ) (i m : ℕ) (rows rows' : List ℕ) (l : i < side) (O : 
       let b = count-le p r in
       subst (λ (v : ℕ). InsideCost fit tables full i j (tailIn p r q) i v) (sym (other-rules r q d (omega arith))) (R q y)
 
--- a start stays silent where its numbers stay
+-- a start stays silent if its numbers stay
 pub silent-kept : (p : List ℕ) (r c : ℕ) (rows rows' : List ℕ)
     → ((q : ℕ) → q ≤ maxPlaces → getD rows' (placeAt r q c) 0 ≡ getD rows (placeAt r q c) 0) → Silent p r c rows → Silent p r c rows'
 silent-kept p r c rows rows' f S q z y = let b = count-le p r in let e = f q (omega arith) in let x = S q z y in omega arith
 
--- what is told of the later starts is told still
+-- what is known of the later starts stays known
 pub live-kept : (p : List ℕ) (r i j : ℕ) (rows₀ live₀ rows live : List ℕ) → r < maxRules → j < side → OtherStarts i rows₀ rows
     → Grown live₀ live → LiveTold p r i j rows₀ live₀ → LiveTold p r i j rows live
 live-kept p r i j rows₀ live₀ rows live h l O G L c x y f =
@@ -60,20 +59,14 @@ module _ (p fits tables full : List ℕ) (i j : ℕ) where
 
   module _ (m rules : ℕ) (rows₀ rows rows' : List ℕ) (b : i ≤ j) (l : j < side) (h : m < rules) (o : rules ≤ maxRules)
       (S : StartsPut p m fits tables full i j rows₀ rows) (P : StartPut p m fits tables full i i (i + 1) j (rowsSize * m) rows rows') where
-    right : (fit : Fit) → FitTold fit p fits j → (r : ℕ) → r < m + 1 → Dec (r ≡ m)
-        → LaterStarts fit p r tables full i i j rows₀ (rowsSize * r) → StartRight fit p r tables full i j rows'
-    right fit F r x (yes e) L q y =
-        rw e (P .exact fit F (λ s x y z u v w. absurd (omega arith)) (later-kept fit m rows₀ rows (omega arith) l (S .other)
-        (subst (λ (v : ℕ). LaterStarts fit p v tables full i i j rows₀ (rowsSize * v)) e L)) q (rw e at y))
-    right fit F r x (no e) L q y =
-        let d : ¬ (r ≡ m) = e in
-        right-kept p i m rows rows' (omega arith) (P .other) fit tables full j r e (S .exact fit F r (omega arith) L) q y
-
     pub starts-step : StartsPut p (m + 1) fits tables full i j rows₀ rows'
     starts-step = record {
       long = P .long ∙ S .long;
       other = λ r q c x y z d. other-starts p i m rows rows' (omega arith) (P .other) r q c x y z d ∙ S .other r q c x y z d;
-      exact = λ fit F r x L. right fit F r x (ℕ-discrete r m) L;
+      exact = λ fit F. below-step
+          (λ (r : ℕ). LaterStarts fit p r tables full i i j rows₀ (rowsSize * r) → StartRight fit p r tables full i j rows') m
+          (λ r x L. right-kept p i m rows rows' (omega arith) (P .other) fit tables full j r (λ e. omega arith) (S .exact fit F r x L))
+          (λ L. P .exact fit F (λ s x y z u v w. absurd (omega arith)) (later-kept fit m rows₀ rows (omega arith) l (S .other) L));
     }
 
   pub starts-end : {m rules : ℕ} {rows₀ rows : List ℕ} → m ≤ rules → rules ≤ m → StartsPut p m fits tables full i j rows₀ rows
@@ -97,34 +90,23 @@ module _ (p fits tables full : List ℕ) (i j : ℕ) where
     module _ (m rules : ℕ) {rows₀ live₀ rows live rows' live' : List ℕ} (b : i < j) (l : j < side) (h : m < rules) (o : rules ≤ maxRules)
         (S : StartsOpened p m fits tables full reach i j rows₀ live₀ rows live)
         (P : RuleRowsPut p m fits tables full reach i j rows live rows' live') where
-      right-opened : (fit : Fit) → FitTold fit p fits j → ReachedOnly tables reach i j → (r : ℕ) → r < m + 1 → Dec (r ≡ m)
-          → LiveTold p r i j rows₀ live₀ → LaterStarts fit p r tables full i i j rows₀ (rowsSize * r)
-          → StartRight fit p r tables full i j rows'
-      right-opened fit F R r x (yes e) L X q y =
-          rw e (P .exact fit F R
-          (live-kept p m i j rows₀ live₀ rows live (omega arith) l (S .other) (S .grown)
-          (subst (λ (v : ℕ). LiveTold p v i j rows₀ live₀) e L))
-          (later-kept fit m rows₀ rows (omega arith) l (S .other)
-          (subst (λ (v : ℕ). LaterStarts fit p v tables full i i j rows₀ (rowsSize * v)) e X)) q (rw e at y))
-      right-opened fit F R r x (no e) L X q y =
-          let d : ¬ (r ≡ m) = e in
-          right-kept p i m rows rows' (omega arith) (P .other) fit tables full j r e (S .exact fit F R r (omega arith) L X) q y
-
-      told-opened : (r : ℕ) → r < m + 1 → Dec (r ≡ m) → liveIn live' r i ≡ false → Silent p r i rows'
-      told-opened r x (yes e) f = rw e (P .marked .here (rw e at f))
-      told-opened r x (no e) f =
-          let d : ¬ (r ≡ m) = e in
-          silent-kept p r i rows rows' (λ q z. other-rules p i m rows rows' (omega arith) (P .other) r q e z)
-          (S .told r (omega arith) (P .marked .grown r i f))
-
       pub opened-step : StartsOpened p (m + 1) fits tables full reach i j rows₀ live₀ rows' live'
       opened-step = record {
         long = P .long ∙ S .long;
         size = P .marked .size;
         other = λ r q c x y z d. other-starts p i m rows rows' (omega arith) (P .other) r q c x y z d ∙ S .other r q c x y z d;
-        exact = λ fit F R r x L X. right-opened fit F R r x (ℕ-discrete r m) L X;
+        exact = λ fit F R. below-step
+            (λ (r : ℕ). LiveTold p r i j rows₀ live₀ → LaterStarts fit p r tables full i i j rows₀ (rowsSize * r)
+            → StartRight fit p r tables full i j rows') m
+            (λ r x L X.
+            right-kept p i m rows rows' (omega arith) (P .other) fit tables full j r (λ e. omega arith) (S .exact fit F R r x L X))
+            (λ L X. P .exact fit F R (live-kept p m i j rows₀ live₀ rows live (omega arith) l (S .other) (S .grown) L)
+            (later-kept fit m rows₀ rows (omega arith) l (S .other) X));
         grown = λ r c f. S .grown r c (P .marked .grown r c f);
-        told = λ r x f. told-opened r x (ℕ-discrete r m) f;
+        told = below-step (λ (r : ℕ). liveIn live' r i ≡ false → Silent p r i rows') m
+            (λ r x f. silent-kept p r i rows rows' (λ q. other-rules p i m rows rows' (omega arith) (P .other) r q (λ e. omega arith))
+            (S .told r x (P .marked .grown r i f)))
+            (P .marked .here);
       }
 
     pub opened-end : {m rules : ℕ} {rows₀ live₀ rows live : List ℕ} → m ≤ rules → rules ≤ m

@@ -1,3 +1,3 @@
--- Laws of these rows.
+-- Laws of the rows of all rules.
 pub mod Columns
 pub mod Again

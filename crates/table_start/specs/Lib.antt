@@ -1,2 +1,2 @@
--- The rows of all rules, written from one start on.
+-- The rows of all rules, written for one start.
 pub mod Starts

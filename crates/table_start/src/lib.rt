@@ -1,4 +1,4 @@
-// The rows of all rules from one start on: of each, of those that are not passed over, of those that the numbers of the whole span change.
+// The rows from one start, for all rules, for those that are not passed over, or for those that the numbers of the whole span change.
 use fill_reach::Live;
 use packed::Packed;
 use packed_fit::FitTable;
@@ -19,7 +19,7 @@ ghost use Rattle.sizes.specs.Sizes.{maxRules, side};
 ghost use Rattle.table_write.specs.Writes.{allRows, Nothing};
 ghost use Rattle.table_start.specs.Starts.{Untouched, StartsPut, StartsOpened, SuffixesPut};
 
-// Writes the costs from i to j, those of the later starts being written.
+// Writes the costs from i to j for every rule. The costs from the later starts are already written.
 pub fn put_starts(
     p: &Packed,
     rules: usize,
@@ -48,7 +48,8 @@ pub fn put_starts(
     }
 }
 
-// Writes those without a child over the whole span. A rule is passed over where no piece from i ends at one of its live starts.
+// Writes the costs from i to j without a child over the whole span. A rule is passed over if no piece from i ends at
+// one of its live starts.
 pub fn open_starts(
     p: &Packed,
     rules: usize,
@@ -72,7 +73,7 @@ pub fn open_starts(
     }
 }
 
-// Whether a nonterminal of the set stands in a place of rule r.
+// Whether a place of rule r has a nonterminal of the cell.
 fn touched(p: &Packed, r: usize, cell: u32) -> bool
     requires { ⌜ r < maxRules ⌝ }
     ensures { λ b. ⌜ (b ≡ false → Untouched (now (p .entry)) r cell) ⌝ }
@@ -90,7 +91,7 @@ fn touched(p: &Packed, r: usize, cell: u32) -> bool
     false
 }
 
-// Writes them for those rules that have a nonterminal of the cell in a place.
+// Writes the costs from i to j for the rules that have a nonterminal of the cell in a place.
 pub fn put_suffixes(
     p: &Packed,
     rules: usize,

@@ -1,7 +1,7 @@
 -- The costs from one start by the word of the fit table, and from all starts, from the last to the first. Assumes nothing.
 use Prim.Native.Nat.{ℕ, _+_, _-_, _≤_, _<_}
 use mathlib.Core.List.{List}
-use mathlib.Core.Path.{_≡_, sym, ap, subst, _∙_}
+use mathlib.Core.Path.{_≡_, ap, _∙_}
 use native.Mathlib.Decide.{ℕ-discrete}
 use native.Mathlib.Omega.{arith}
 use lib.ListN.{length, getD}
@@ -42,8 +42,7 @@ module _ (p : List ℕ) (r : ℕ) (fits tables full : List ℕ) (i j : ℕ) wher
         rw d (P .exact fit F (λ s x y z u v w. absurd (omega arith)) (λ s x y z w. S .exact fit F s x y (omega arith) w) q h)
     at-start fit F q c h m o (no d) =
         let x : ¬ (c ≡ n - 1) = d in
-        subst (λ (z : ℕ). InsideCost fit tables full i j (tailIn p r q) c z) (sym (P .other (rowAt 0 q c) (λ s y z. x (omega arith))))
-        (S .exact fit F q c h (omega arith) o)
+        rw (P .other (rowAt 0 q c) (λ s y z. x (omega arith))) (S .exact fit F q c h (omega arith) o)
 
     pub rows-back : RowsFrom p r fits tables full i (n - 1) j rows
     rows-back = record {

@@ -1,3 +1,3 @@
--- Laws of these costs, by the tests that the code makes.
+-- Laws of the rows of a rule, by the tests that the code makes.
 pub mod Starts
 pub mod AllStarts

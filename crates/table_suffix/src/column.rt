@@ -1,4 +1,4 @@
-// The least costs of the places of a rule from one start on, for all its places: row q of 65 numbers has those of the places q.. .
+// The least costs of the places of a rule from one start: row q, of 65 numbers, has the costs of the places q.. .
 use packed::Packed;
 use table_cut::suffix::at_end;
 use table_cut::within::Part;
@@ -12,8 +12,8 @@ ghost use Rattle.table_cut.specs.Within.{Proper};
 ghost use Rattle.table_layout.specs.Layout.{rowsSize};
 ghost use Rattle.table_suffix.specs.Within.{ColumnPut};
 
-// Writes the costs over a part, from a to j inside i to j, into the rows that begin at `at`, those of the later starts being written. The
-// word tells which places of rule r hold a terminal that fits the byte at a.
+// Writes the costs over a part, from a to j inside i to j, into the rows that begin at `at`. The costs from the later starts are already
+// written. The word says which places of rule r have a terminal that fits the byte at a.
 pub fn put_column(
     p: &Packed,
     r: usize,

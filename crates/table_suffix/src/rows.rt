@@ -1,4 +1,4 @@
-// The least costs of the places of a rule by the fit table: from one start on, and from all starts of a span.
+// The least costs of the places of a rule by the fit table: from one start, and from all starts of a span.
 use super::column::put_column;
 use packed::Packed;
 use packed_fit::FitTable;
@@ -17,7 +17,7 @@ ghost use Rattle.table_suffix.specs.Rows.{WordAt, StartPut, RowsPut};
 // The rows of one rule.
 pub type Rows = [u16; ROWS_SIZE];
 
-// Which places of rule r fit position a, as a word: none behind the last position of the span.
+// Which places of rule r fit position a, as a word. After the last position of the span none fits.
 fn word_at(fits: &FitTable, r: usize, a: usize, j: usize) -> u32
     requires { ⌜ (r < maxRules) × (j < side) ⌝ }
     ensures { λ v. ⌜ WordAt (now (fits .entry)) r a j v ⌝ }
@@ -28,7 +28,8 @@ fn word_at(fits: &FitTable, r: usize, a: usize, j: usize) -> u32
     0
 }
 
-// Writes the costs over a part, from a to j inside i to j, into the rows that begin at `at`, those of the later starts being written.
+// Writes the costs over a part, from a to j inside i to j, into the rows that begin at `at`. The costs from the later starts are already
+// written.
 pub fn put_start(
     p: &Packed,
     r: usize,
@@ -56,7 +57,7 @@ pub fn put_start(
     );
 }
 
-// Writes the costs from all starts, from j down to i, each by looking at all ends.
+// Writes the costs from all starts, from j down to i, and reads all ends for each.
 pub fn put_rows(
     p: &Packed,
     r: usize,

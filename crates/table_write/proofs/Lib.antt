@@ -1,2 +1,2 @@
--- Laws of what is written.
+-- Laws of what is written into the tables.
 pub mod Written

@@ -1,28 +1,27 @@
--- The tables written number by number. Assumes nothing.
+-- The tables are written number by number. Assumes nothing.
 use Prim.Native.Nat.{ℕ, suc, _+_, _*_, _≤_, _<_, min}
 use mathlib.Core.List.{List}
-use mathlib.Core.Path.{_≡_, refl, sym, ap, _∙_}
+use mathlib.Core.Logic.{dite}
+use mathlib.Core.Path.{_≡_, refl, sym, _∙_}
 use native.Mathlib.Decide.{ℕ-discrete, decLt}
 use native.Mathlib.Omega.{arith}
-use lib.ListN.{length, set, getD, replicate, length-set, getD-replicate}
+use lib.ListN.{length, set, getD, length-set}
 use lib.Seq.{getD-set-same, getD-set-other}
 use Rattle.sizes.specs.Sizes.{tooMany, maxRules, side, cells}
 use Rattle.table_layout.specs.Layout.{bareAt, bareIn, tablesSize, costIn, fullIn, rowsSize}
 use Rattle.table_layout.proofs.Entries.{cost-read, cost-none, full-read, full-none}
 use Rattle.table_layout.proofs.Bares.{bare-behind, bare-inside, bare-apart}
-use Rattle.table_write.specs.Writes.{placeAt, Nothing, LeastBefore, LeastPut, BaresPut}
+use Rattle.table_write.specs.Writes.{placeAt, LeastBefore, LeastPut, BaresPut}
 
 -- ---- the least table
 
--- a cost is one number
+-- a cost stays if its number stays
 pub cost-same : (tables₀ tables : List ℕ) (k a b : ℕ)
     → (k < 32 → getD tables (cells * k + side * a + b) 0 ≡ getD tables₀ (cells * k + side * a + b) 0)
     → costIn tables k a b ≡ costIn tables₀ k a b
-cost-same tables₀ tables k a b f = go (decLt k 32)
-  where
-    go : Dec (k < 32) → costIn tables k a b ≡ costIn tables₀ k a b
-    go (yes h) = sym (cost-read tables k a b h) ∙ f h ∙ cost-read tables₀ k a b h
-    go (no h) = let l : 32 ≤ k = omega arith in sym (cost-none tables k a b l) ∙ cost-none tables₀ k a b l
+cost-same tables₀ tables k a b f =
+    dite (decLt k 32) (λ h. sym (cost-read tables k a b h) ∙ f h ∙ cost-read tables₀ k a b h)
+    (λ h. sym (cost-none tables k a b (omega arith)) ∙ cost-none tables₀ k a b (omega arith))
 
 module _ (full : List ℕ) (i j : ℕ) where
   pub least-start : (tables : List ℕ) → length tables ≡ tablesSize → LeastBefore full i j 0 tables tables
@@ -53,16 +52,13 @@ module _ (full : List ℕ) (i j : ℕ) where
     }
 
   pub least-end : {m : ℕ} {tables₀ tables : List ℕ} → 32 ≤ m → LeastBefore full i j m tables₀ tables → LeastPut full i j tables₀ tables
-  least-end {m} {tables₀} {tables} x S = record {
+  least-end {tables = tables} x S = record {
     long = S .long;
-    here = λ k. go k (decLt k 32);
+    here = λ k.
+        dite (decLt k 32) (λ h. S .here k (omega arith)) (λ h. sym (cost-none tables k i j (omega arith)) ∙ full-none full k (omega arith));
     other = S .other;
     rest = S .rest;
   }
-    where
-      go : (k : ℕ) → Dec (k < 32) → costIn tables k i j ≡ fullIn full k
-      go k (yes h) = S .here k (omega arith)
-      go k (no h) = let l : 32 ≤ k = omega arith in sym (cost-none tables k i j l) ∙ full-none full k l
 
 -- ---- the costs without a child over the whole span
 
@@ -82,11 +78,7 @@ module _ (i j : ℕ) (rows : List ℕ) where
     written : (r : ℕ) → r < m + 1 → Dec (r ≡ m) → bareIn put i j r ≡ min (suc (getD rows (placeAt r 0 i) 0)) tooMany
     written r x (yes d) =
         let n : placeAt m 0 i ≡ rowsSize * m + i = omega arith in
-        let t : getD rows (placeAt m 0 i) 0 ≡ w = ap (λ (u : ℕ). getD rows u 0) n ∙ sym f in
-        let s : getD put (bareAt i j m) 0 ≡ v =
-        ap (λ (u : ℕ). getD put u 0) (sym e) ∙ getD-set-same tables at v 0 (omega (arith, S .long, bare-inside i j m h l (omega arith)))
-        in
-        rw d (omega arith)
+        rw (d, ← e, getD-set-same tables at v 0 (omega (arith, S .long, bare-inside i j m h l (omega arith))), n, ← f) g
     written r x (no d) =
         let c : ¬ (r ≡ m) = d in
         others (bareAt i j r) (bare-apart i j r i j m h l (omega arith) h l (omega arith) (λ y. c (y .2))) ∙ S .here r (omega arith)
@@ -103,15 +95,3 @@ module _ (i j : ℕ) (rows : List ℕ) where
   pub bares-end : {m rules : ℕ} {tables₀ tables : List ℕ} → m ≤ rules → rules ≤ m → BaresPut m i j rows tables₀ tables
       → BaresPut rules i j rows tables₀ tables
   bares-end {m} {rules} x y S = let e : m ≡ rules = omega arith in rw e at S
-
--- ---- no numbers
-
-pub nothing-put : (n : ℕ) → n ≡ 32 → Nothing (replicate n tooMany)
-nothing-put n e = record { none = λ k. go k (decLt k 32) }
-  where
-    go : (k : ℕ) → Dec (k < 32) → fullIn (replicate n tooMany) k ≡ tooMany
-    go k (yes h) = sym (full-read (replicate n tooMany) k h) ∙ getD-replicate n k tooMany 0 (omega arith)
-    go k (no h) = sym (full-none (replicate n tooMany) k (omega arith))
-
-pub nothing-start : Nothing (replicate 32 tooMany)
-nothing-start = nothing-put 32 refl

@@ -1,5 +1,4 @@
-// What is written into the tables: the numbers of one span into the least table, and the costs of rules without a child over the whole of
-// one span.
+// What is written into the tables for one span: its numbers, and the costs of rules without a child over the whole span.
 use numbers::wide;
 use table_layout::bare::bare_at;
 use table_layout::layout::Full;
@@ -14,12 +13,12 @@ ghost use Rattle.sizes.specs.Sizes.{maxRules, side};
 ghost use Rattle.table_layout.specs.Layout.{tablesSize};
 ghost use Rattle.table_write.specs.Writes.{Nothing, LeastPut, BaresPut};
 
-// The rows of all rules, rule by rule: the least costs of the places of each from one place on and from each start, up to one end.
+// The rows of all rules, rule by rule: the least costs of its places from each place on, from each start up to one end.
 pub const ALL_ROWS: usize = ROWS_SIZE * sizes::MAX_RULES;
 
 pub type AllRows = [u16; ALL_ROWS];
 
-// The numbers of a span over which no nonterminal stands.
+// The numbers of a span that no nonterminal covers.
 pub fn nothing() -> Full
     ensures { λ full. ⌜ Nothing full ⌝ }
 {
@@ -38,8 +37,7 @@ pub fn put_least(full: &Full, i: usize, j: usize, tables: &mut Tables)
     }
 }
 
-// Writes what each rule costs over the span from i to j without a child over the whole of it, one more than its places as the rows have
-// them.
+// Writes what each rule costs over the span from i to j without a child over the whole span: one more than its places cost.
 pub fn put_bares(rules: usize, i: usize, j: usize, rows: &AllRows, tables: &mut Tables)
     requires { ⌜ (rules ≤ maxRules) × (i < j) × (j < side) × (length (now tables) ≡ tablesSize) ⌝ }
     ensures { λ _. ⌜ BaresPut rules i j (now (rows .entry)) (now (tables .entry)) (now (tables .exit)) ⌝ }

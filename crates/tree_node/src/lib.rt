@@ -1,4 +1,4 @@
-// One node of a derivation: the numbers by which it is sought, the masks for it and below it, and its two numbers.
+// One node of a derivation: the numbers that locate it, the masks for it and below it, and the writing of its two numbers.
 ghost use mathlib.Core.Path.{_≡_};
 ghost use Prim.Native.Nat.{_<_, _≤_};
 ghost use lib.ListN.{length};
@@ -7,14 +7,14 @@ ghost use Rattle.sets.specs.Set.{insert};
 ghost use Rattle.theory_enumeration.specs.Rows.{SameSpan};
 ghost use Rattle.tree_node.specs.Numbers.{NodePut};
 
-// The span of a node, from i to j, and the nonterminals that may not stand over the whole of it.
+// The span of a node, from i to j, and the nonterminals that no node over the whole of it may have.
 pub struct Span {
     pub i: usize,
     pub j: usize,
     pub mask: u32,
 }
 
-// The trees of a whole input: of the start symbol over n bytes, with the rules below a number.
+// The trees of a whole input: those of the start symbol over n bytes, with rules whose numbers are below `rules`.
 pub struct Root {
     pub rules: usize,
     pub start: usize,
@@ -34,7 +34,7 @@ pub struct Tail {
     pub a: usize,
 }
 
-// The node of k from a to b that stands at place q of rule r.
+// The node of k from a to b, at place q of rule r.
 pub struct Child {
     pub r: usize,
     pub q: usize,
@@ -43,7 +43,7 @@ pub struct Child {
     pub b: usize,
 }
 
-// The mask with the nonterminal k in it.
+// The mask with the nonterminal k added.
 pub fn own_set(mask: u32, k: usize) -> u32
     ensures { λ own. ⌜ (k < nonterminals → own ≡ insert k mask) ⌝ }
 {
@@ -54,7 +54,7 @@ pub fn own_set(mask: u32, k: usize) -> u32
     }
 }
 
-// Of the mask over `cover` bytes, what matters for a child over c bytes: all of it over as many, else nothing.
+// The part of the mask over `cover` bytes that applies to a child over c bytes: all of it if c is `cover`, else nothing.
 pub fn child_set(cover: usize, mask: u32, c: usize) -> u32
     ensures { λ own. ⌜ SameSpan cover mask c own ⌝ }
 {

@@ -1,5 +1,5 @@
--- `check_length::lengths_of` meets its contract. The loop's invariant: the numbers passed have their rules' lengths.
--- The measure is what is left of the 128 rules. Assumes nothing.
+-- `check_length::lengths_of` meets its contract. The loop's invariant: the lengths of the rules passed are written.
+-- The measure is the number of rules left. Assumes nothing.
 use Prim.Native.Nat.{_+_, _≤_, _-_}
 use native.Mathlib.Omega.{arith}
 use mathlib.Core.List.{map}
@@ -42,5 +42,8 @@ returns c =
 
 pub lengths-of-spec : {M : Type 1} → statement M
 lengths-of-spec = tie.close (tie.spec
-    Inv-loop μ-loop (λ c. search needs) (λ c. omega arith) (λ c. omega arith) (λ c κs. omega arith) (λ c. omega arith) (λ c. omega arith)
+    Inv-loop μ-loop (λ c. search needs)
+    -- l[r] = length_of(g.rules[r])
+    (λ c. omega arith) (λ c. omega arith) (λ c κs. omega arith) (λ c. omega arith) (λ c. omega arith)
+    -- a turn, and the end
     (λ c. omega arith) (λ c. omega arith) loop-again returns)

@@ -1,4 +1,4 @@
--- `checker::check` meets its contract: a check that fails refuses, and else the chart is filled and the offered derivation is judged.
+-- `checker::check` meets its contract: a check that fails refuses; otherwise the chart is filled and the offered row is checked.
 -- Assumes nothing.
 use native.Mathlib.Omega.{arith}
 use Rattle.fill_input.proofs.Judging.{judged-ready}

@@ -1,6 +1,6 @@
--- `checker::compare_offered` meets its contract: 12 where a row is no derivation. Assumes nothing.
+-- `checker::compare_offered` meets its contract: refusal 12 if a row is no derivation. Assumes nothing.
 use native.Mathlib.Omega.{arith}
-use Rattle.checker.proofs.Answers.{both-ready, build-first, build-second, build-same, build-different}
+use Rattle.checker.proofs.Answers.{both-ready, build-first, build-second, build-says}
 use Rattle.checker.proofs.compare_offered.Statement.{statement}
 use Rattle.checker.proofs.compare_offered.Tie as tie
 
@@ -13,4 +13,4 @@ same-rules-requires c κs =
 pub compare-offered-spec : {M : Type 1} → statement M
 compare-offered-spec = tie.close (tie.spec
     (λ c κs. omega arith) (λ c. search build-first) (λ c κs. omega arith) (λ c. search build-second) same-rules-requires
-    (λ c. search build-same) (λ c. search build-different))
+    (λ c. search build-says) (λ c. search build-says))

@@ -1,4 +1,4 @@
--- `checker::measure_offered` meets its contract: 12 where the row is no derivation. Assumes nothing.
+-- `checker::measure_offered` meets its contract: refusal 12 if the row is no derivation. Assumes nothing.
 use native.Mathlib.Omega.{arith}
 use Rattle.checker.proofs.Answers.{offered-short, length-yes, length-no}
 use Rattle.checker.proofs.measure_offered.Statement.{statement}

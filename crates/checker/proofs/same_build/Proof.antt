@@ -1,4 +1,4 @@
--- `checker::same_build` meets its contract: a check that fails refuses, and else the chart is filled and the offered derivations are
+-- `checker::same_build` meets its contract: a check that fails refuses; otherwise the chart is filled and the offered rows are
 -- compared. Assumes nothing.
 use native.Mathlib.Omega.{arith}
 use Rattle.fill_input.proofs.Judging.{judged-ready}

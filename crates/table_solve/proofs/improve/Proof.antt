@@ -7,6 +7,10 @@ use Rattle.table_solve.proofs.improve.Tie as tie
 
 pub improve-spec : {M : Type 1} → statement M
 improve-spec = tie.close (tie.spec
-    (λ c κs. search needs) (λ c κs. search needs) (λ c κs. search needs) (λ c. omega arith) (λ c. omega arith) (λ c. omega arith)
-    (λ c. omega arith) (λ c. search (needs, improved-lower)) (λ c. search (needs, improved-same)) (λ c. search (needs, improved-not))
+    -- the calls of `left`, `wanted` and `rule_over`
+    (λ c κs. search needs) (λ c κs. search needs) (λ c κs. search needs)
+    -- v < full[k], and full[k] = v
+    (λ c. omega arith) (λ c. omega arith) (λ c. omega arith) (λ c. omega arith)
+    -- the returns
+    (λ c. search (needs, improved-lower)) (λ c. search (needs, improved-same)) (λ c. search (needs, improved-not))
     (λ c. search (needs, improved-hole)))

@@ -1,4 +1,4 @@
--- `table_solve::pass` meets its contract. The loop's invariant: the same of the rules passed. The measure is what is left of the rules.
+-- `table_solve::pass` meets its contract. The loop's invariant: the contract for the rules passed. The measure is the number of rules left.
 -- Assumes nothing.
 use Prim.Native.Nat.{_-_, _≤_}
 use mathlib.Core.Logic.{⊎-elim}
@@ -10,7 +10,8 @@ use Rattle.table_solve.proofs.pass.Statement.{statement}
 use Rattle.table_solve.proofs.pass.Tie as tie
 
 abbrev Inv-loop : tie.InvT-loop
-Inv-loop p rules cell mask tables i j full₀ changed₀ r₀ full changed r = (r ≤ rules) × PassSolved p r cell mask tables i j full₀ full changed
+Inv-loop p rules cell mask tables i j full₀ changed₀ r₀ full changed r =
+    (r ≤ rules) × PassSolved p r cell mask tables i j full₀ full changed
 
 abbrev μ-loop : tie.MeasureT-loop
 μ-loop p rules cell mask tables i j full₀ changed₀ r₀ full changed r = rules - r

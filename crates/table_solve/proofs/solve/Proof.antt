@@ -1,5 +1,5 @@
--- `table_solve::solve` meets its contract. The loop's invariant: each number is reached. The measure is the sum of the numbers, which falls with
--- each pass that changes something. Assumes nothing.
+-- `table_solve::solve` meets its contract. The loop's invariant: each number is reached. The measure is the sum of the numbers: a pass
+-- that changes something lowers it. Assumes nothing.
 use borrow.Author.Needs.{needs}
 use Rattle.table_solve.specs.Solve.{total, Numbers, AllReached}
 use Rattle.table_solve.proofs.Passing.{numbers-none, reached-none, solved-nothing, reached-step, reached-less, solved-last}

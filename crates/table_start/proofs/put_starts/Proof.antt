@@ -1,5 +1,5 @@
--- `table_start::put_starts` meets its contract. The loop's invariant: the costs of the rules passed are written. The measure is what
--- is left of them. Assumes nothing.
+-- `table_start::put_starts` meets its contract. The loop's invariant: the costs of the rules passed are written. The measure is the
+-- number of rules left. Assumes nothing.
 use Prim.Native.Nat.{_-_, _≤_}
 use native.Mathlib.Omega.{arith}
 use borrow.Author.Needs.{needs}

@@ -1,5 +1,5 @@
--- `table_start::put_suffixes` meets its contract. The loop's invariant: the costs of the rules passed are right. The measure is what
--- is left of them. Assumes nothing.
+-- `table_start::put_suffixes` meets its contract. The loop's invariant: the costs of the rules passed are right. The measure is the
+-- number of rules left. Assumes nothing.
 use Prim.Native.Nat.{_-_, _≤_}
 use mathlib.Core.Logic.{⊎-elim}
 use native.Mathlib.Omega.{arith}

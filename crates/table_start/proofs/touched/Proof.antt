@@ -1,5 +1,5 @@
--- `table_start::touched` meets its contract. The loop's invariant: the places passed hold no nonterminal of the set. The measure is
--- what is left of them. Assumes nothing.
+-- `table_start::touched` meets its contract. The loop's invariant: the places passed have no nonterminal of the cell. The measure is
+-- the number of places left. Assumes nothing.
 use Prim.Native.Nat.{_-_, _≤_}
 use mathlib.Core.Bool.{true≢false}
 use mathlib.Core.Logic.{⊎-elim}

@@ -1,5 +1,5 @@
--- `table_write::put_bares` meets its contract. The loop's invariant: the costs of the rules passed are written. The measure is what
--- is left of them. Assumes nothing.
+-- `table_write::put_bares` meets its contract. The loop's invariant: the costs of the rules passed are written. The measure is the
+-- number of rules left. Assumes nothing.
 use Prim.Native.Nat.{_-_, _≤_}
 use native.Mathlib.Omega.{arith}
 use borrow.Author.Needs.{needs}
@@ -16,6 +16,9 @@ abbrev μ-loop : tie.MeasureT-loop
 
 pub put-bares-spec : {M : Type 1} → statement M
 put-bares-spec = tie.close (tie.spec
-    Inv-loop μ-loop (λ c. search (needs, bares-start)) (λ c. omega arith) (λ c. omega arith) (λ c. omega arith) (λ c. omega arith)
-    (λ c κs. search needs) (λ c κs. search needs) (λ c κs. search needs) (λ c. omega arith) (λ c. omega arith) (λ c. omega arith)
-    (λ c. omega arith) (λ c. search (needs, bares-step)) (λ c. search (needs, bares-end)))
+    Inv-loop μ-loop (λ c. search (needs, bares-start))
+    -- tables[bare_at(i, j, r)] = one_more(wide(rows[ROWS_SIZE * r + i]))
+    (λ c. omega arith) (λ c. omega arith) (λ c. omega arith) (λ c. omega arith) (λ c κs. search needs) (λ c κs. search needs)
+    (λ c κs. search needs) (λ c. omega arith) (λ c. omega arith)
+    -- a turn, and the end
+    (λ c. omega arith) (λ c. omega arith) (λ c. search (needs, bares-step)) (λ c. search (needs, bares-end)))

@@ -1,5 +1,5 @@
 -- `table_write::put_least` meets its contract. The loop's invariant: the numbers of the nonterminals passed are written. The measure
--- is what is left of them. Assumes nothing.
+-- is the number of nonterminals left. Assumes nothing.
 use Prim.Native.Nat.{_-_, _≤_}
 use native.Mathlib.Omega.{arith}
 use borrow.Author.Needs.{needs}
@@ -16,6 +16,9 @@ abbrev μ-loop : tie.MeasureT-loop
 
 pub put-least-spec : {M : Type 1} → statement M
 put-least-spec = tie.close (tie.spec
-    Inv-loop μ-loop (λ c. search (needs, least-start)) (λ c. omega arith) (λ c. omega arith) (λ c. omega arith) (λ c. omega arith)
-    (λ c. omega arith) (λ c. omega arith) (λ c. omega arith) (λ c. omega arith) (λ c. omega arith) (λ c. omega arith)
-    (λ c. search (needs, least-step)) (λ c. search (needs, least-end)))
+    Inv-loop μ-loop (λ c. search (needs, least-start))
+    -- tables[sizes::CELLS * k + sizes::SIDE * i + j] = full[k]
+    (λ c. omega arith) (λ c. omega arith) (λ c. omega arith) (λ c. omega arith) (λ c. omega arith) (λ c. omega arith) (λ c. omega arith)
+    (λ c. omega arith)
+    -- a turn, and the end
+    (λ c. omega arith) (λ c. omega arith) (λ c. search (needs, least-step)) (λ c. search (needs, least-end)))

@@ -8,5 +8,9 @@ use Rattle.tree_node.proofs.put_node.Tie as tie
 
 pub put-node-spec : {M : Type 1} → statement M
 put-node-spec = tie.close (tie.spec
-    (λ c. omega arith) (λ c. omega arith) (λ c. omega arith) (λ c. omega arith) (λ c. omega arith) (λ c. omega arith) (λ c. omega arith)
-    (λ c. omega arith) (λ c. simp length-set (omega arith)) (λ c. search needs) (λ c. node-put _ (omega arith)))
+    -- out[2 * at] = c as u16
+    (λ c. omega arith) (λ c. omega arith) (λ c. omega arith) (λ c. omega arith)
+    -- out[2 * at + 1] = r as u16
+    (λ c. omega arith) (λ c. omega arith) (λ c. omega arith) (λ c. omega arith) (λ c. simp length-set (omega arith))
+    -- the end
+    (λ c. search needs) (λ c. node-put _ (omega arith)))

@@ -1,4 +1,4 @@
--- The proof of the cycle of calls {node, row}. With l nodes left and p places left the measure of `node` is 10 * l, and that of `row`
+-- The proof of the cycle of calls {node, row}. With l nodes and p places left, the measure of `node` is 10 * l. The measure of `row` is
 -- 10 * l + p + 1. Assumes nothing.
 use Prim.Native.Nat.{ℕ, _+_, _*_, _-_, _<_}
 use native.Mathlib.Omega.{arith}
@@ -55,54 +55,35 @@ node-calls t = (
 abbrev row-calls : ℕ → row-lts.Claims
 row-calls t = (look-reads.Asked, look-reads.Learnt, row-below t, row.Post, node-below t, node.Post)
 
-node-with-requires : (t : ℕ) → node-lts.Need-with-requires (node-calls t) (node-at t) node.Post
-node-with-requires t c κs = c .before .rule-at .ensures .found (omega arith) .used
-
-node-row-requires : (t : ℕ) → node-lts.Need-row-requires (node-calls t) (node-at t) node.Post
-node-row-requires t c κs =
-    let o = c .before .before .rule-at .ensures .found (omega arith) in
-    let i = o .inside in
-    let l = o .low in
-    omega arith
-
-row-add-row : (t : ℕ) → row-lts.Need-add-row (row-calls t) (row-at t) row.Post
-row-add-row t c = let b = byte-room (c .before .before .look .ensures) (c .enum-told3 .given .1) in omega arith
-
-row-add-row-2 : (t : ℕ) → row-lts.Need-add-row-2 (row-calls t) (row-at t) row.Post
-row-add-row-2 t c = let b = byte-room (c .before .before .look .ensures) (c .enum-told3 .given .1) in omega arith
-
-row-row-requires : (t : ℕ) → row-lts.Need-row-requires (row-calls t) (row-at t) row.Post
-row-row-requires t c κs = let b = byte-room (c .before .before .look .ensures) (c .enum-told3 .given .1) in omega arith
-
-row-add-node : (t : ℕ) → row-lts.Need-add-node (row-calls t) (row-at t) row.Post
-row-add-node t c = let b = node-room (c .before .before .before .look .ensures) (c .before .step .given .1) in omega arith
-
-row-node-requires : (t : ℕ) → row-lts.Need-node-requires (row-calls t) (row-at t) row.Post
-row-node-requires t c κs = let b = node-room (c .before .before .before .look .ensures) (c .before .step .given .1) in omega arith
-
-row-add-row-3 : (t : ℕ) → row-lts.Need-add-row-3 (row-calls t) (row-at t) row.Post
-row-add-row-3 t c =
-    let b = node-room (c .before .before .before .before .before .look .ensures) (c .before .before .before .step .given .1) in
-    omega arith
-
-row-add-row-4 : (t : ℕ) → row-lts.Need-add-row-4 (row-calls t) (row-at t) row.Post
-row-add-row-4 t c =
-    let b = node-room (c .before .before .before .before .before .look .ensures) (c .before .before .before .step .given .1) in
-    omega arith
-
-row-row-requires-2 : (t : ℕ) → row-lts.Need-row-requires-2 (row-calls t) (row-at t) row.Post
-row-row-requires-2 t c κs =
-    let b = node-room (c .before .before .before .before .before .look .ensures) (c .before .before .before .step .given .1) in
-    let d = walk-room (c .before .node .ensures) (c .if1 .left) in
-    omega arith
-
 pub +node+row-spec : {M : Type 1} → statement M
-+node+row-spec = close μ-node μ-row (λ t. node-lts.spec (node-calls t)
-    (node-at t) node.Post (λ c. omega arith) (λ c κs. omega arith) (λ c κs. omega arith) (λ c. search node-none) (node-with-requires t)
-    (λ c. omega arith) (node-row-requires t)
++node+row-spec = close μ-node μ-row
+    (λ t. node-lts.spec (node-calls t) (node-at t) node.Post
+    -- to - from, the calls of `child_set` and `rule_at`, and the return of TOO_MANY
+    (λ c. omega arith) (λ c κs. omega arith) (λ c κs. omega arith) (λ c. search node-none)
+    -- the calls of `with` and `row`, and the return
+    (λ c κs. c .before .rule-at .ensures .found (omega arith) .used) (λ c. omega arith)
+    (λ c κs. let o = c .before .before .rule-at .ensures .found (omega arith) in omega (arith, o .inside, o .low))
     (λ c. search node-some))
-    λ t. row-lts.spec
-    (row-calls t) (row-at t) row.Post (λ c κs. omega arith) (λ c. omega arith) (λ c. omega arith) (λ c. omega arith) (row-add-row t)
-    (row-add-row-2 t) (row-row-requires t) (λ c. omega arith) (row-add-node t) (row-node-requires t) (λ c. search row-node-none)
-    (row-add-row-3 t) (row-add-row-4 t) (row-row-requires-2 t) (λ c. search row-none) (λ c. search row-end) (λ c. search row-byte)
-    (λ c. search row-node-some)
+    (λ t. row-lts.spec (row-calls t) (row-at t) row.Post
+    -- the call of `look`, and the variants of its answer
+    (λ c κs. omega arith) (λ c. omega arith) (λ c. omega arith) (λ c. omega arith)
+    -- Step::Byte: the call of `row`
+    (λ c. let b = byte-room (rw (c .enum-told3 .given .1) at (c .before .before .look .ensures)) in omega arith)
+    (λ c. let b = byte-room (rw (c .enum-told3 .given .1) at (c .before .before .look .ensures)) in omega arith)
+    (λ c κs. let b = byte-room (rw (c .enum-told3 .given .1) at (c .before .before .look .ensures)) in omega arith)
+    -- Step::Node: the call of `node`, and the return of TOO_MANY
+    (λ c. omega arith)
+    (λ c. let b = node-room (rw (c .before .step .given .1) at (c .before .before .before .look .ensures)) in omega arith)
+    (λ c κs. let b = node-room (rw (c .before .step .given .1) at (c .before .before .before .look .ensures)) in omega arith)
+    (λ c. search row-node-none)
+    -- Step::Node: the call of `row`
+    (λ c. let node = c .before .before .before in
+    omega (arith, node-room (rw (node .step .given .1) at (node .before .before .look .ensures))))
+    (λ c. let node = c .before .before .before in
+    omega (arith, node-room (rw (node .step .given .1) at (node .before .before .look .ensures))))
+    (λ c κs.
+    let node = c .before .before .before in
+    let b = node-room (rw (node .step .given .1) at (node .before .before .look .ensures)) in
+    omega (arith, walk-room (c .before .node .ensures) (c .if1 .left)))
+    -- the returns
+    (λ c. search row-none) (λ c. search row-end) (λ c. search row-byte) (λ c. search row-node-some))

@@ -6,6 +6,10 @@ use Rattle.check_walk.proofs.walk.look.Tie as tie
 
 pub look-spec : {M : Type 1} → statement M
 look-spec = tie.close (tie.spec
-    (λ c κs. omega arith) (λ c. search look-end) (λ c. search look-not-end) (λ c κs. omega arith) (λ c. omega arith) (λ c κs. omega arith)
-    (λ c. omega arith) (λ c κs. omega arith) (λ c. search look-node) (λ c. search look-far) (λ c. search look-late) (λ c κs. omega arith)
-    (λ c. search look-byte) (λ c. search look-misfit) (λ c. search look-short))
+    -- past the last place
+    (λ c κs. omega arith) (λ c. search look-end) (λ c. search look-not-end)
+    -- a nonterminal
+    (λ c κs. omega arith) (λ c. omega arith) (λ c κs. omega arith) (λ c. omega arith) (λ c κs. omega arith) (λ c. search look-node)
+    (λ c. search look-far) (λ c. search look-late)
+    -- a terminal
+    (λ c κs. omega arith) (λ c. search look-byte) (λ c. search look-misfit) (λ c. search look-short))

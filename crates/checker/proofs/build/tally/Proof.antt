@@ -23,6 +23,9 @@ loop-again c = (
 
 pub tally-spec : {M : Type 1} → statement M
 tally-spec = tie.close (tie.spec
-    Inv-loop μ-loop (λ c. (omega arith, refl, counted-start _)) (λ c κs. omega arith) (λ c. omega arith) (λ c. omega arith)
-    (λ c. omega (arith, c .before .before .loop .inv .2 .few (c .used .result))) (λ c. omega arith) (λ c. omega arith) (λ c. omega arith)
-    (λ c. omega arith) loop-again (λ c. search counted-done))
+    Inv-loop μ-loop (λ c. (omega arith, refl, counted-start _))
+    -- the call of `used`, and t[r] = t[r] + 1
+    (λ c κs. omega arith) (λ c. omega arith) (λ c. omega arith)
+    (λ c. omega (arith, c .before .before .loop .inv .2 .few (c .used .result))) (λ c. omega arith) (λ c. omega arith)
+    -- a turn, and the end
+    (λ c. omega arith) (λ c. omega arith) loop-again (λ c. search counted-done))

@@ -1,4 +1,4 @@
--- `table_all::ends::put_end` meets its contract. The loop's invariant: the spans from the starts passed are done. The measure is the start.
+-- `table_all::ends::put_end` meets its contract. The loop's invariant: the spans from the starts passed are done. The measure is i.
 -- Assumes nothing.
 use Prim.Native.Nat.{_≤_}
 use native.Mathlib.Omega.{arith}
@@ -15,14 +15,16 @@ Inv-loop p rules fits chart empty nothing reach j tables₀ rows₀ live₀ i₀
 abbrev μ-loop : tie.MeasureT-loop
 μ-loop p rules fits chart empty nothing reach j tables₀ rows₀ live₀ i₀ tables rows live i = i
 
--- the span is proper, and nothing covers the whole of it
-span : tie.Need-put-span-requires Inv-loop μ-loop
-span c κs =
-    let none = c .before .before .before .before .before .before .before .before .before .before .before .pre .2 in
-    (omega arith, omega arith, omega arith, none, omega arith, omega arith, omega arith)
+-- what `put_span` requires: the span is proper, and by `nothing` no nonterminal covers it
+span-proper : tie.Need-put-span-requires Inv-loop μ-loop
+span-proper c κs =
+    let entry = c .before .before .before .before .before .before .before .before .before .before .before in
+    (omega arith, omega arith, omega arith, entry .pre .2, omega arith, omega arith, omega arith)
 
 pub put-end-spec : {M : Type 1} → statement M
 put-end-spec = tie.close (tie.spec
-    Inv-loop μ-loop (λ c κs. search needs) (λ c. search (needs, end-start)) (λ c. omega arith) (λ c. omega arith) (λ c. omega arith)
-    (λ c. omega arith) (λ c. omega arith) (λ c. omega arith) (λ c. omega arith) span (λ c. omega arith)
-    (λ c. search (needs, end-back)) (λ c. search (needs, end-put)))
+    Inv-loop μ-loop (λ c κs. search needs) (λ c. search (needs, end-start))
+    -- i -= 1, chart[sizes::SIDE * i + j] and reach[i]
+    (λ c. omega arith) (λ c. omega arith) (λ c. omega arith) (λ c. omega arith) (λ c. omega arith) (λ c. omega arith) (λ c. omega arith)
+    -- the call of `put_span`, a turn, and the end
+    span-proper (λ c. omega arith) (λ c. search (needs, end-back)) (λ c. search (needs, end-put)))

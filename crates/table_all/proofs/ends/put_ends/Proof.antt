@@ -1,5 +1,5 @@
--- `table_all::ends::put_ends` meets its contract. The loop's invariant: the spans of the ends passed are done. The measure is what is left
--- of the ends. Assumes nothing.
+-- `table_all::ends::put_ends` meets its contract. The loop's invariant: the spans of the ends passed are done. The measure is the number
+-- of ends left. Assumes nothing.
 use Prim.Native.Nat.{_+_, _-_, _≤_}
 use native.Mathlib.Omega.{arith}
 use borrow.Author.Needs.{needs}

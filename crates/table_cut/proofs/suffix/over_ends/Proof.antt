@@ -1,5 +1,5 @@
--- `table_cut::suffix::over_ends` meets its contract. The loop's invariant: the least over the ends passed. The measure is what is
--- left of them. Assumes nothing.
+-- `table_cut::suffix::over_ends` meets its contract. The loop's invariant: `best` is the least over the ends passed. The measure is
+-- the number of ends left. Assumes nothing.
 use Prim.Native.Nat.{_-_, _≤_}
 use native.Mathlib.Omega.{arith}
 use borrow.Author.Needs.{needs}
@@ -18,7 +18,11 @@ abbrev μ-loop : tie.MeasureT-loop
 
 pub over-ends-spec : {M : Type 1} → statement M
 over-ends-spec = tie.close (tie.spec
-    Inv-loop μ-loop (λ c κs. search needs) (λ c. search (needs, ends-start)) (λ c κs. search needs) (λ c. omega arith) (λ c. omega arith)
-    (λ c. omega arith) (λ c κs. search needs) (λ c κs. search needs) (λ c. omega arith) (λ c. omega arith) (λ c. search (needs, ends-step))
+    Inv-loop μ-loop (λ c κs. search needs) (λ c. search (needs, ends-start))
+    -- lower(best, sum(cost(tables, k, a, c), rests[at + c]))
+    (λ c κs. search needs) (λ c. omega arith) (λ c. omega arith) (λ c. omega arith) (λ c κs. search needs) (λ c κs. search needs)
+    -- a turn
+    (λ c. omega arith) (λ c. omega arith) (λ c. search (needs, ends-step))
+    -- lower(best, capped(last, rests[at + b]))
     (λ c. omega arith) (λ c. omega arith) (λ c. omega arith) (λ c κs. search needs) (λ c κs. search needs)
     (λ c. search (needs, ends-last)))

@@ -1,4 +1,4 @@
--- `table_live::mark::stands` meets its contract. The loop's invariant: the places behind q cost too many. The measure is the place.
+-- `table_live::mark::stands` meets its contract. The loop's invariant: the places after q cost too much. The measure is q.
 -- Assumes nothing.
 use Prim.Native.Nat.{_≤_}
 use mathlib.Core.Bool.{true≢false}
@@ -18,6 +18,9 @@ abbrev μ-loop : tie.MeasureT-loop
 
 pub stands-spec : {M : Type 1} → statement M
 stands-spec = tie.close (tie.spec
-    Inv-loop μ-loop (λ c κs. search needs) (λ c. (search (needs, count-le), search (needs, above-start))) (λ c. omega arith)
-    (λ c. omega arith) (λ c. omega arith) (λ c. omega arith) (λ c. omega arith) (λ c. search needs) (λ c e. absurd (true≢false e))
+    Inv-loop μ-loop (λ c κs. search needs) (λ c. (search (needs, count-le), search (needs, above-start)))
+    -- rows[ROWS_SIZE * r + sizes::SIDE * q + i] < TOO_MANY
+    (λ c. omega arith) (λ c. omega arith) (λ c. omega arith) (λ c. omega arith) (λ c. omega arith) (λ c. search needs)
+    (λ c e. absurd (true≢false e))
+    -- a turn, and the end
     (λ c. omega arith) (λ c. omega arith) (λ c. (search needs, search (needs, above-back))) (λ c. search (needs, above-all)))

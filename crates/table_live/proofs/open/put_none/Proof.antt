@@ -1,5 +1,5 @@
--- `table_live::open::put_none` meets its contract. The loop's invariant: the places passed have too many. The measure is what is left of them.
--- Assumes nothing.
+-- `table_live::open::put_none` meets its contract. The loop's invariant: the places passed have 513. The measure is the number of
+-- places left. Assumes nothing.
 use Prim.Native.Nat.{_+_, _-_, _≤_}
 use mathlib.Core.Path.{_≡_}
 use native.Mathlib.Omega.{arith}
@@ -22,5 +22,8 @@ abbrev μ-loop : tie.MeasureT-loop
 pub put-none-spec : {M : Type 1} → statement M
 put-none-spec = tie.close (tie.spec
     Inv-loop μ-loop (λ c κs. search needs) (λ c. (search (needs, count-le), search needs, search needs, search (needs, none-start)))
-    (λ c. omega arith) (λ c. omega arith) (λ c. omega arith) (λ c. omega arith) (λ c. omega arith) (λ c. search needs) (λ c. omega arith)
-    (λ c. omega arith) (λ c. (search needs, search needs, search needs, search (needs, none-step))) (λ c. search (needs, none-end)))
+    -- rows[ROWS_SIZE * r + sizes::SIDE * q + i] = TOO_MANY
+    (λ c. omega arith) (λ c. omega arith) (λ c. omega arith) (λ c. omega arith) (λ c. omega arith) (λ c. search needs)
+    -- a turn, and the end
+    (λ c. omega arith) (λ c. omega arith) (λ c. (search needs, search needs, search needs, search (needs, none-step)))
+    (λ c. search (needs, none-end)))

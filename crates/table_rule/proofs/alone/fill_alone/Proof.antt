@@ -1,5 +1,5 @@
--- `table_rule::alone::fill_alone` meets its contract. The loop's invariant: the numbers of the rules passed are right. The measure is what
--- is left of them. Assumes nothing.
+-- `table_rule::alone::fill_alone` meets its contract. The loop's invariant: the `alone` costs of the rules passed are right. The measure is
+-- the number of rules left. Assumes nothing.
 use Prim.Native.Nat.{_-_, _≤_}
 use native.Mathlib.Omega.{arith}
 use borrow.Author.Needs.{needs}

@@ -1,5 +1,5 @@
--- `table_rule::alone::put_alone` meets its contract. The loop's invariant: the numbers of the places passed are written. The measure is
--- what is left of them. Assumes nothing.
+-- `table_rule::alone::put_alone` meets its contract. The loop's invariant: the `alone` costs of the places passed are written. The measure
+-- is the number of places left. Assumes nothing.
 use Prim.Native.Nat.{_-_, _≤_}
 use native.Mathlib.Omega.{arith}
 use borrow.Author.Needs.{needs}
@@ -17,6 +17,8 @@ abbrev μ-loop : tie.MeasureT-loop
 
 pub put-alone-spec : {M : Type 1} → statement M
 put-alone-spec = tie.close (tie.spec
-    Inv-loop μ-loop (λ c κs. search needs) (λ c. search (needs, alone-start)) (λ c κs. search needs) (λ c. omega arith) (λ c. omega arith)
-    (λ c. omega arith) (λ c. omega arith) (λ c. omega arith) (λ c. omega arith) (λ c. omega arith) (λ c. search (needs, alone-step))
-    (λ c. search (needs, alone-end)))
+    Inv-loop μ-loop (λ c κs. search needs) (λ c. search (needs, alone-start))
+    -- tables[ALONES + sizes::MAX_PLACES * r + q] = alone_at(..)
+    (λ c κs. search needs) (λ c. omega arith) (λ c. omega arith) (λ c. omega arith) (λ c. omega arith) (λ c. omega arith)
+    -- a turn, and the end
+    (λ c. omega arith) (λ c. omega arith) (λ c. search (needs, alone-step)) (λ c. search (needs, alone-end)))

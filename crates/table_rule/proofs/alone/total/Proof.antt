@@ -1,5 +1,5 @@
--- `table_rule::alone::total` meets its contract. The loop's invariant: the sum of the places passed. The measure is what is left of them.
--- Assumes nothing.
+-- `table_rule::alone::total` meets its contract. The loop's invariant: `sum` is the cost of the places passed. The measure is the number of
+-- places left. Assumes nothing.
 use Prim.Native.Nat.{_*_, _-_, _≤_}
 use native.Mathlib.Omega.{arith}
 use borrow.Author.Needs.{needs}

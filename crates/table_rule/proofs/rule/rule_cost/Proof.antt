@@ -1,5 +1,5 @@
--- `table_rule::rule::rule_cost` meets its contract. The loop's invariant: the least through the places passed. The measure is what is left
--- of them. Assumes nothing.
+-- `table_rule::rule::rule_cost` meets its contract. The loop's invariant: `best` is the least for the places passed. The measure is the
+-- number of places left. Assumes nothing.
 use Prim.Native.Nat.{_-_, _≤_}
 use native.Mathlib.Omega.{arith}
 use borrow.Author.Needs.{needs}
@@ -16,6 +16,10 @@ abbrev μ-loop : tie.MeasureT-loop
 
 pub rule-cost-spec : {M : Type 1} → statement M
 rule-cost-spec = tie.close (tie.spec
-    Inv-loop μ-loop (λ c κs. search needs) (λ c. search (needs, through-start)) (λ c. omega arith) (λ c. omega arith) (λ c. omega arith)
-    (λ c. omega arith) (λ c. omega arith) (λ c κs. search needs) (λ c κs. search needs) (λ c. omega arith) (λ c. omega arith)
-    (λ c. search (needs, through-step)) (λ c. search (needs, through-end)))
+    Inv-loop μ-loop (λ c κs. search needs) (λ c. search (needs, through-start))
+    -- tables[ALONES + sizes::MAX_PLACES * r + q]
+    (λ c. omega arith) (λ c. omega arith) (λ c. omega arith) (λ c. omega arith) (λ c. omega arith)
+    -- the calls of `through` and `lower`
+    (λ c κs. search needs) (λ c κs. search needs)
+    -- a turn, and the end
+    (λ c. omega arith) (λ c. omega arith) (λ c. search (needs, through-step)) (λ c. search (needs, through-end)))

@@ -1,5 +1,5 @@
--- `table_suffix::column::put_column` meets its contract. The loop's invariant: the costs of the places from q on are written. The measure is q.
--- Assumes nothing.
+-- `table_suffix::column::put_column` meets its contract. The loop's invariant: the costs of the places from q on are written. The measure
+-- is q. Assumes nothing.
 use Prim.Native.Nat.{_+_, _≤_}
 use mathlib.Core.Path.{_≡_}
 use native.Mathlib.Omega.{arith}
@@ -30,8 +30,13 @@ loop-again c = (
 
 pub put-column-spec : {M : Type 1} → statement M
 put-column-spec = tie.close (tie.spec
-    Inv-loop μ-loop (λ c κs. search needs) (λ c κs. search needs) (λ c. omega arith) (λ c. omega arith) (λ c. omega arith)
-    (λ c. omega arith) (λ c. omega arith) (λ c. search (needs, column-start)) (λ c. omega arith) (λ c κs. search needs) (λ c. omega arith)
-    (λ c. omega arith) (λ c. omega arith) (λ c κs. search needs) (λ c. omega arith) (λ c. omega arith) (λ c. omega arith)
-    (λ c. omega arith) (λ c. omega arith) (λ c. omega arith) loop-again (λ c. simp length-set at (c .before .loop .inv .1))
-    (λ c. search (needs, column-end)))
+    Inv-loop μ-loop (λ c κs. search needs)
+    -- rows[at + sizes::SIDE * count + a] = at_end(a, part.j)
+    (λ c κs. search needs) (λ c. omega arith) (λ c. omega arith) (λ c. omega arith) (λ c. omega arith) (λ c. omega arith)
+    (λ c. search (needs, column-start))
+    -- q -= 1, and the call of `suffix_at`
+    (λ c. omega arith) (λ c κs. search needs) (λ c. omega arith) (λ c. omega arith) (λ c. omega arith) (λ c κs. search needs)
+    -- rows[at + sizes::SIDE * q + a]
+    (λ c. omega arith) (λ c. omega arith) (λ c. omega arith) (λ c. omega arith) (λ c. omega arith)
+    -- a turn, and the end
+    (λ c. omega arith) loop-again (λ c. simp length-set at (c .before .loop .inv .1)) (λ c. search (needs, column-end)))

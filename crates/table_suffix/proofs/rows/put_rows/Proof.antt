@@ -1,5 +1,5 @@
--- `table_suffix::rows::put_rows` meets its contract. The loop's invariant: the costs from the starts passed are written. The measure is the
--- start. Assumes nothing.
+-- `table_suffix::rows::put_rows` meets its contract. The loop's invariant: the costs from the starts passed are written. The measure is a.
+-- Assumes nothing.
 use Prim.Native.Nat.{_+_, _≤_}
 use native.Mathlib.Omega.{arith}
 use borrow.Author.Needs.{needs}
