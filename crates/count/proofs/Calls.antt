@@ -1,4 +1,4 @@
--- What count answers, from the checks and what is answered over the filled chart. Assumes nothing.
+-- What `count` answers, from the checks and from the answer over the filled chart. Assumes nothing.
 use Prim.Native.Nat.{ℕ, _≤_}
 use mathlib.Core.List.{List}
 use mathlib.Core.Path.{_≡_, ap₂, _∙_}
@@ -31,7 +31,7 @@ module _ (g : Grammar) (w chart : List ℕ) (j : Judged) (judging : Judging g (l
   count-refused r h = call-refused g w chart _ j judging r h
 
   module _ (is : j ≡ Passed) (p chart' : List ℕ) (filling : Filling g p w chart chart') where
-    -- what answering over the filled chart asks
+    -- what the function over the filled chart needs
     pub filled-ready : {fits : List ℕ} → Told p w fits
         → (length w ≤ maxInput) × (cells ≤ length chart') × Told p w fits × ChartTrue p (bytesOf w) chart' (length w)
     filled-ready told =

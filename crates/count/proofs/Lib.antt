@@ -1,3 +1,3 @@
--- Laws of count.
+-- Laws of `count`.
 pub mod Made
 pub mod Calls

@@ -26,7 +26,7 @@ use Rattle.count_made.specs.Answer.{countOr, countTree, countFilled}
 use Rattle.count_made.specs.Made.{CountedOn, CountedMade}
 use Rattle.count_made.proofs.Handed.{handed-first}
 
--- ---- over tables that are made
+-- ---- once the tables are made
 
 counted-some : (l : List (List ℕ)) → 0 < length l → (a : Answer Figure) → a ≡ answered (figure (length l)) → a ≡ countTree l
 unfolding countOr

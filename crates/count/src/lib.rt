@@ -28,7 +28,7 @@ ghost use Rattle.answers.specs.Answers.{countedOf};
 ghost use Rattle.count_made.specs.Answer.{countTree, countFilled};
 ghost use Rattle.count_made.specs.Made.{CountedMade};
 
-// Counts the derivations over tables that are made, or refuses with 13. The buffer is this function's own.
+// Counts the derivations, once the tables are made, or refuses with 13. The buffer is this function's own.
 fn count_made(p: &Packed, fits: &FitTable, chart: &[u32], tables: &Tables, root: Root) -> Counted
     requires { ⌜ (root .rules ≤ maxRules) × (root .n < side) × (cells ≤ length (now chart)) ⌝ }
     ensures { λ a. ⌜ CountedMade (now (p .entry)) (root .rules) (now (fits .entry)) (now (chart .entry)) (now (tables .entry))
@@ -44,7 +44,7 @@ fn count_made(p: &Packed, fits: &FitTable, chart: &[u32], tables: &Tables, root:
     }
 }
 
-// Counts the derivations, where the chart is filled, the fit table made and trees exist. The tables are this function's own.
+// Counts the derivations, if the chart is filled, the fit table is made and trees exist. The tables are this function's own.
 fn count_tree(p: &Packed, start: usize, input: &[u8], fits: &FitTable, chart: &[u32]) -> Counted
     requires { ⌜ (length (now input) ≤ maxInput) × (cells ≤ length (now chart))
         × Told (now p) (now input) (now fits) × ChartTrue (now p) (bytesOf (now input)) (now chart) (length (now input)) ⌝ }
@@ -56,7 +56,7 @@ fn count_tree(p: &Packed, start: usize, input: &[u8], fits: &FitTable, chart: &[
     count_made(p, fits, chart, &tables, Root { rules, start, n })
 }
 
-// Counts the derivations, where the chart is filled and the fit table made.
+// Counts the derivations, if the chart is filled and the fit table is made.
 fn count_filled(p: &Packed, start: usize, input: &[u8], fits: &FitTable, chart: &[u32]) -> Counted
     requires { ⌜ (length (now input) ≤ maxInput) × (cells ≤ length (now chart))
         × Told (now p) (now input) (now fits) × ChartTrue (now p) (bytesOf (now input)) (now chart) (length (now input)) ⌝ }

@@ -10,7 +10,7 @@ use Rattle.results.proofs.Answers.{answered-apart}
 use Rattle.first_made.specs.Written.{enumerationOf}
 use Rattle.count_made.specs.Made.{Stands}
 
--- m nodes were handed out: the first element is at the front of the buffer, and the rest stayed
+-- m nodes were handed out: the first element is at the front of the buffer, and the rest is kept
 pub record Handed (l : List (List ℕ)) (m : ℕ) (out₀ out : List ℕ) : Type 0 where
   pub stands : Stands l 0 out
   pub nodes : m ≡ length (getD l 0 []) / 2

@@ -1,4 +1,4 @@
--- Counting by advances: the element that stands in the buffer, by number, and what is said when none is left or 4,096 are passed.
+-- Counting by advances: the number of the element in the buffer, and the answer when none is left or 4,096 are passed.
 -- Assumes nothing.
 use Prim.Native.Nat.{ℕ, suc, _+_, _≤_, _<_}
 use mathlib.Core.List.{List, []}
@@ -18,33 +18,32 @@ use Rattle.results.specs.Enumerate.{figure}
 use Rattle.results.proofs.Demand3.Figures.{figure-counted, figure-more}
 use Rattle.results.proofs.Demand3.Listed.{L-rising}
 use Rattle.results.proofs.Demand3.Rows.{at-member, after-next, after-last}
-use Rattle.next_made.specs.Advanced.{StartsWith, Following, Advanced, RootNext}
+use Rattle.next_made.specs.Advanced.{StartsWith, Advanced, RootNext}
 use Rattle.count_made.specs.Made.{Stands, CountedOn}
 
 -- ---- one advance
 
 module _ (l : List (List ℕ)) (rising : Rising l) (i : ℕ) (there : i < length l) (buf : List ℕ) (m : ℕ)
     (A : Advanced l (getD l i []) buf m) where
-  -- no nodes: element i is the last one
+  -- if no node is written, element i is the last one
   pub last-element : m ≡ 0 → length l ≡ i + 1
   last-element h = dite (decLt (suc i) (length l))
       (λ k. absurd (Option·none-ne-some _ (sym (A .none-left h) ∙ after-next l rising i k)))
       (λ k. omega arith)
 
-  -- some: the one after it stands
+  -- else the buffer holds the element after it
   pub next-element : (m ≡ 0 → ⊥) → Stands l (i + 1) buf
-  next-element h = go (A .next (omega arith))
-    where
-      go : Following l (getD l i []) buf m → Stands l (i + 1) buf
-      go F = dite (decLt (suc i) (length l))
-          (λ k. let e : suc i ≡ i + 1 = omega arith in
-          let is = Option·some-injective _ _ (sym (F .after) ∙ after-next l rising i k) in record {
-            there = omega arith;
-            here = subst (λ (x : ℕ). StartsWith buf (getD l x [])) e (subst (StartsWith buf) is (F .here));
-          })
-          (λ k. let all : suc i ≡ length l = omega arith in absurd (Option·none-ne-some _ (sym (after-last l rising i all) ∙ F .after)))
+  next-element h =
+      let F = A .next (omega arith) in
+      dite (decLt (suc i) (length l))
+      (λ k. let e : suc i ≡ i + 1 = omega arith in
+      let is = Option·some-injective _ _ (sym (F .after) ∙ after-next l rising i k) in record {
+        there = omega arith;
+        here = subst (λ (x : ℕ). StartsWith buf (getD l x [])) e (subst (StartsWith buf) is (F .here));
+      })
+      (λ k. let all : suc i ≡ length l = omega arith in absurd (Option·none-ne-some _ (sym (after-last l rising i all) ∙ F .after)))
 
--- ---- what is said
+-- ---- the answer
 
 said-exactly : (l i : ℕ) → l ≡ i + 1 → i < most → answered (counted (i + 1)) ≡ answered (figure l)
 said-exactly l i e h = rw e (sym (ap answered (figure-counted (i + 1) (omega arith))))

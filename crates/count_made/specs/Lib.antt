@@ -1,3 +1,3 @@
--- What count gives, and what its parts do once the tables are made.
+-- What `count` answers, and what its parts do once the tables are made.
 pub mod Answer
 pub mod Made

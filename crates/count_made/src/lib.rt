@@ -12,7 +12,7 @@ ghost use Rattle.sizes.specs.Sizes.{maxRules, side, cells, outputSize};
 ghost use Rattle.answers.specs.Answers.{countedOf};
 ghost use Rattle.count_made.specs.Made.{CountedOn};
 
-// Counts the derivations, where the first one stands at the front of the buffer.
+// Counts the derivations, if the first one is at the front of the buffer.
 pub fn count_on(
     p: &Packed,
     fits: &FitTable,

@@ -1,4 +1,4 @@
--- What first answers, from the checks and what is answered over the filled chart. Assumes nothing.
+-- What `first` answers, from the checks and from the answer over the filled chart. Assumes nothing.
 use Prim.Native.Nat.{ℕ, _≤_}
 use mathlib.Core.List.{List}
 use mathlib.Core.Path.{_≡_, sym, _∙_}
@@ -25,7 +25,7 @@ use Rattle.first_made.specs.Written.{enumerationOf}
 use Rattle.first.specs.Answer.{firstFilled}
 use Rattle.first.proofs.Chart.{Filling, filled-chart}
 
--- what answering over the filled chart asks
+-- what the function over the filled chart needs
 pub filled-ready : (g : Grammar) (p w fits chart chart' : List ℕ) (k : ℕ) (j : Judged) → JudgingOutput g (length w) (length chart) k j
     → j ≡ Passed → Filling g p w chart chart' × Told p w fits
     → (length w ≤ maxInput) × (cells ≤ length chart') × (outputSize ≤ k) × Told p w fits × ChartTrue p (bytesOf w) chart' (length w)

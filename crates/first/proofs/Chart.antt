@@ -1,4 +1,4 @@
--- The facts on a chart that the tables ask for, from what fills it. Assumes nothing.
+-- The facts about a chart that the tables need, from the function that fills it. Assumes nothing.
 use Prim.Native.Nat.{ℕ, _≤_}
 use mathlib.Core.Bool.{true≢false}
 use mathlib.Core.List.{List}

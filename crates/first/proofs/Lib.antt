@@ -1,4 +1,4 @@
--- Laws of first.
+-- Laws of `first`.
 pub mod Chart
 pub mod Root
 pub mod Handing

@@ -1,4 +1,4 @@
--- What is handed out at the root, by the list L of the packed grammar, where it is empty or the chart is complete. Assumes nothing.
+-- What is handed out at the root, by the list L of the packed grammar, if L is empty or the chart is complete. Assumes nothing.
 use Prim.Native.Nat.{ℕ}
 use mathlib.Core.Bool.{Bool, true, false}
 use mathlib.Core.List.{List, []}
@@ -18,7 +18,7 @@ use Rattle.first_made.proofs.Root.{empty-incomplete}
 use Rattle.first.specs.Answer.{firstFilled}
 
 module _ (p w : List ℕ) (s : ℕ) (chart out : List ℕ) where
-  -- another answer where L is empty
+  -- another answer if L is empty
   pub first-empty : (a : Answer Handing) → L (cfgIn s p) w ≡ []
       → enumerationOf a chart out ≡ handingOut (headOf (L (cfgIn s p) w)) a chart out
   unfolding handingOut headOf
@@ -31,7 +31,7 @@ module _ (p w : List ℕ) (s : ℕ) (chart out : List ℕ) where
       let absent : has s (cell chart 0 (length w)) ≡ false = sym e ∙ h in
       rw absent (first-empty (answered nothing) (empty-incomplete p w s chart cells absent))
 
-  -- where the chart is complete
+  -- if the chart is complete
   pub first-complete : (b : Bool) → b ≡ has s (cell chart 0 (length w)) → b ≡ true → (x : Enumeration)
       → x ≡ firstTree (cfgIn s p) w chart out → x ≡ firstFilled (cfgIn s p) w chart out
   unfolding complete cfgIn

@@ -1,4 +1,4 @@
--- What first gives over a chart that is filled. Assumes nothing.
+-- What `first` answers over a filled chart. Assumes nothing.
 use Prim.Native.Nat.{ℕ}
 use mathlib.Core.Bool.{cond}
 use mathlib.Core.List.{List}
@@ -9,6 +9,6 @@ use Rattle.chart.specs.Column.{complete}
 use Rattle.results.specs.Answer.{refused, answered, nothing}
 use Rattle.results.specs.Enumerate.{Enumeration, headOf, handingOut}
 
--- first over a chart that is filled: the first of L; without one refusal 13 where the chart is complete, else "no reading"
+-- `first` over a filled chart: the first of L; if L is empty, refusal 13 if the chart is complete, else "no reading"
 abbrev pub firstFilled : Cfg → List ℕ → List ℕ → List ℕ → Enumeration
 firstFilled G w chart out = handingOut (headOf (L G w)) (cond (complete G (length w) chart) (refused 13) (answered nothing)) chart out

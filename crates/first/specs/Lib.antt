@@ -1,3 +1,3 @@
--- What first gives, and what its parts do once the tables are made.
+-- What `first` answers, and what its parts do once the tables are made.
 pub mod Answer
 pub mod Made

@@ -8,7 +8,7 @@ use Rattle.first_made.specs.Written.{enumerationOf, firstTree}
 use Rattle.packed.specs.Packed.{cfgIn}
 use Rattle.results.specs.Answer.{Answer, Handing}
 
--- the answer and the output left are those of the first derivation of any input of n bytes that the tables are made for
+-- the answer and the output are those of the first derivation of any input of n bytes for which the tables are made
 pub record FirstMade (p : List ℕ) (rules : ℕ) (fits chart tables : List ℕ) (s n : ℕ) (out₀ out : List ℕ) (a : Answer Handing)
     : Type 0 where
   pub exact : (w : List ℕ) → n ≡ length w → InputGiven p rules fits chart tables w

@@ -22,7 +22,7 @@ ghost use Rattle.first.specs.Answer.{firstFilled};
 
 pub mod made;
 
-// The first derivation, where the chart is filled, the fit table made and trees exist. The tables are this function's own.
+// The first derivation, if the chart is filled, the fit table is made and trees exist. The tables are this function's own.
 fn first_tree(
     p: &Packed,
     start: usize,
@@ -42,7 +42,7 @@ fn first_tree(
     made::first_made(p, fits, chart, &tables, Root { rules, start, n }, out)
 }
 
-// The first derivation, where the chart is filled and the fit table made.
+// The first derivation, if the chart is filled and the fit table is made.
 fn first_filled(
     p: &Packed,
     start: usize,

@@ -1,4 +1,4 @@
-// First over tables that are made.
+// The first derivation, once the tables are made.
 use answers::Handed;
 use answers::Refusal;
 use first_made::exists;
@@ -13,7 +13,7 @@ ghost use Rattle.sizes.specs.Sizes.{cells, outputSize, maxRules, side};
 ghost use Rattle.answers.specs.Answers.{handingOf};
 ghost use Rattle.first.specs.Made.{FirstMade};
 
-// The first derivation, where trees exist: handed out, or refused with 13.
+// The first derivation, if trees exist: it is handed out, or refused with 13.
 pub fn first_made(
     p: &Packed,
     fits: &FitTable,

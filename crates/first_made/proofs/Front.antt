@@ -8,7 +8,7 @@ use native.Mathlib.Omega.{arith}
 use lib.ListN.{length, getD, drop, length-append, length-drop, List·getD-append}
 use lib.Seq.{getD-append-add, getD-drop, ext-getD}
 
--- e in front, and behind it what was found
+-- e in front, and the former numbers after it
 pub front-put : (e out out' : List ℕ) → length out' ≡ length out → length e ≤ length out
     → ((x : ℕ) → x < length e → getD out' x 0 ≡ getD e x 0) → ((x : ℕ) → length e ≤ x → getD out' x 0 ≡ getD out x 0)
     → out' ≡ e ++ drop (length e) out

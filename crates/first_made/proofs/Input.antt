@@ -1,4 +1,4 @@
--- The bytes of one input, told by a test: trees over these are trees over the input's bytes, so that tables that are right for the test are
+-- The bytes of one input, given by a test: trees over these are trees over the input's bytes, so tables that are right for the test are
 -- right for the input. Assumes nothing.
 use Prim.Native.Nat.{ℕ}
 use mathlib.Core.Bool.{Bool, _&&_, and-eq-true-iff}
@@ -17,7 +17,7 @@ use Rattle.table_layout.specs.Exact.{PastLast, ChartTrue, ExactTables}
 use Rattle.table_span.specs.Sofar.{Standing}
 use Rattle.table_all.specs.Spans.{Tabulated}
 
--- ---- forests over bytes that may stand in fewer places
+-- ---- forests over bytes at fewer positions
 
 module _ {bytes bytes' : ℕ → ℕ → Type 0} (to : (a m : ℕ) → bytes a m → bytes' a m) where
   reads-more : {a b : ℕ} {u : List ℕ} → Reads bytes b a u → Reads bytes' b a u
@@ -30,7 +30,7 @@ module _ {bytes bytes' : ℕ → ℕ → Type 0} (to : (a m : ℕ) → bytes a m
 -- ---- one input
 
 module _ (w : List ℕ) where
-  -- whether the byte m stands at position a
+  -- whether the byte at position a is m
   abbrev stands : ℕ → ℕ → Bool
   stands a m = ltb a (length w) && eqb m (getD w a 0)
 

@@ -1,5 +1,5 @@
--- The list L of the packed grammar: empty where the chart is not complete, and what is handed out where a tree has few enough nodes, the
--- first tree. Assumes nothing.
+-- The list L of the packed grammar: it is empty if the chart is not complete; if a tree has few enough nodes, the first tree is handed
+-- out. Assumes nothing.
 use Prim.Native.Nat.{ℕ, _*_, _/_}
 use mathlib.Core.Bool.{false}
 use mathlib.Core.List.{List, [], _++_}
@@ -31,7 +31,7 @@ module _ (p w : List ℕ) (s : ℕ) where
   unfolding cfgIn
   start = refl
 
-  -- no derivation where the chart is not complete
+  -- there is no derivation if the chart is not complete
   pub empty-incomplete : (chart : List ℕ) → ChartTrue p (bytesOf w) chart (length w) → has s (cell chart 0 (length w)) ≡ false
       → L (cfgIn s p) w ≡ []
   empty-incomplete chart cells absent =

@@ -1,11 +1,11 @@
--- Writing the first derivation once the tables are made, and that the tables made are right for the input. Assumes nothing.
-use Prim.Native.Nat.{ℕ, _+_, _*_, _-_, _≤_, _<_}
+-- Writing the first derivation once the tables are made, and that the tables are right for the input. Assumes nothing.
+use Prim.Native.Nat.{ℕ, _+_, _*_, _-_, _≤_}
 use mathlib.Core.Bool.{false}
 use mathlib.Core.List.{List, []}
-use mathlib.Core.Path.{_≡_, ap, _∙_}
+use mathlib.Core.Path.{_≡_}
 use native.Mathlib.Omega.{arith}
 use lib.Dec.{leb}
-use lib.ListN.{length, getD}
+use lib.ListN.{length}
 use borrow.Author.Tests.{leb-false}
 use Rattle.sizes.specs.Sizes.{maxRules, maxNodes, outputSize, maxInput}
 use Rattle.sets.specs.Set.{empty}
@@ -28,17 +28,13 @@ use Rattle.first_made.proofs.Front.{front-put}
 use Rattle.first_made.proofs.Input.{tabulated-input}
 use Rattle.first_made.proofs.Root.{first-handed, same, start}
 
--- v is the cost, read and widened
-pub exists-told : (u v x : ℕ) → u ≡ v → v ≡ x → leb u maxNodes ≡ leb x maxNodes
-exists-told u v x e f = ap (λ (z : ℕ). leb z maxNodes) (e ∙ f)
-
 module _ (p : List ℕ) (rules : ℕ) (fits chart tables : List ℕ) (s n : ℕ) where
   -- the numbers of the tables are the least ones for an input of n bytes
   pub least-at : (w : List ℕ) → n ≡ length w → InputGiven p rules fits chart tables w
       → Least (TreeOver (Packing p) (bytesOf w) s 0 n) (costIn tables s 0 n)
   least-at w to given = given .exact .least s 0 n (omega arith) (omega arith)
 
-  -- so where the start symbol's number is too large, there is no derivation
+  -- so if the start symbol's number is too large, there is no derivation
   pub empty-larger : (w : List ℕ) → n ≡ length w → InputGiven p rules fits chart tables w → leb (costIn tables s 0 n) maxNodes ≡ false
       → L (cfgIn s p) w ≡ []
   empty-larger w to given e =
@@ -57,13 +53,8 @@ module _ (p : List ℕ) (rules : ℕ) (fits chart tables : List ℕ) (s n : ℕ)
       go w to F =
           let size = F .size in
           first-handed p w s chart out₀ (n - 0) n (F .code) out m (omega arith) to (F .first) size
-          (front-put (F .code) out₀ out (N .kept .long) (omega (arith, N .kept .few)) front (λ x l. N .kept .after x (omega arith)))
-        where
-          front : (x : ℕ) → x < length (F .code) → getD out x 0 ≡ getD (F .code) x 0
-          front x l =
-              let size = F .size in
-              let e : x ≡ 2 * 0 + x = omega arith in
-              ap (λ (y : ℕ). getD out y 0) e ∙ F .here x (omega arith)
+          (front-put (F .code) out₀ out (N .kept .long) (omega (arith, N .kept .few))
+          (λ x l. let z : 2 * 0 + x ≡ x = omega arith in rw z at (F .here x (omega arith))) (λ x l. N .kept .after x (omega arith)))
 
 -- ---- the tables of an input are right for it
 

@@ -21,8 +21,8 @@ enumerationOf a chart out = record { answer = a; chart = chart; output = out }
 abbrev pub firstTree : Cfg → List ℕ → List ℕ → List ℕ → Enumeration
 firstTree G w chart out = handingOut (headOf (L G w)) (refused 13) chart out
 
--- the output left, with the answer of m nodes, is that of the first derivation of any input of n bytes that the tables are made for, if the
--- least number of nodes says that there is one
+-- if the least number of nodes says that there is a derivation, the output and the answer of m nodes are those of the first derivation of
+-- any input of n bytes for which the tables are made
 pub record FirstWritten (p : List ℕ) (rules : ℕ) (fits chart tables : List ℕ) (s n : ℕ) (out₀ out : List ℕ) (m : ℕ) : Type 0 where
   pub exact : costIn tables s 0 n ≤ maxNodes → (w : List ℕ) → n ≡ length w → InputGiven p rules fits chart tables w
       → enumerationOf (answered (handed m)) chart out ≡ firstTree (cfgIn s p) w chart out₀

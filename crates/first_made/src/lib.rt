@@ -1,4 +1,4 @@
-// The tables of an input, and over tables that are made: whether there is a derivation, and the first one.
+// The tables of an input and, once they are made, whether there is a derivation, and the first one.
 use numbers::wide;
 use packed::Packed;
 use packed_fit::FitTable;
@@ -20,7 +20,7 @@ ghost use Rattle.table_layout.specs.Exact.{ChartTrue};
 ghost use Rattle.table_layout.specs.Layout.{costIn, tablesSize};
 ghost use Rattle.first_made.specs.Written.{FirstWritten};
 
-// Makes the tables of the input, for which the chart is filled and the fit table made. Answers one past the last number that has a rule.
+// Makes the tables of the input, whose chart is filled and whose fit table is made. The result is the number after the last rule.
 pub fn build(p: &Packed, input: &[u8], fits: &FitTable, chart: &[u32], tables: &mut Tables) -> usize
     requires { ⌜ (length (now input) ≤ maxInput) × (cells ≤ length (now chart)) × (length (now tables) ≡ tablesSize)
         × Told (now p) (now input) (now fits) × ChartTrue (now p) (bytesOf (now input)) (now chart) (length (now input)) ⌝ }
@@ -40,7 +40,7 @@ pub fn exists(tables: &Tables, start: usize, n: usize) -> bool
     wide(cost(tables, start, 0, n)) <= sizes::MAX_NODES
 }
 
-// Writes the first derivation to the front of the output, and answers how many nodes it has.
+// Writes the first derivation to the front of the output. The result is the number of its nodes.
 pub fn write_first(
     p: &Packed,
     fits: &FitTable,

@@ -1,4 +1,4 @@
--- What next answers, from the checks, from whether what is offered is a derivation, and from what is answered over the filled chart.
+-- What `next` answers, from the checks, from whether the offered row is a derivation, and from the answer over the filled chart.
 -- Assumes nothing.
 use Prim.Native.Nat.{ℕ}
 use mathlib.Core.Bool.{Bool, true, false, not}
@@ -26,7 +26,7 @@ use Rattle.first.proofs.Chart.{Filling}
 use Rattle.next_made.specs.Made.{nextTree}
 use Rattle.next.specs.Answer.{nextFilled}
 
--- ---- whether what is offered is a derivation
+-- ---- whether the offered row is a derivation
 
 module _ (p w : List ℕ) (s : ℕ) (offered chart out : List ℕ) (b : Bool) (told : b ≡ listed offered (L (cfgIn s p) w)) where
   pub is-listed : b ≡ true → listed offered (L (cfgIn s p) w) ≡ true

@@ -1,4 +1,4 @@
--- What next hands out over the tables of an input. Assumes nothing.
+-- What `next` hands out with the tables of an input. Assumes nothing.
 use Prim.Native.Nat.{ℕ, _≤_}
 use mathlib.Core.Bool.{true}
 use mathlib.Core.List.{List}

@@ -1,3 +1,3 @@
--- Laws of next.
+-- Laws of `next`.
 pub mod Handing
 pub mod Calls

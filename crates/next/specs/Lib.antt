@@ -1,2 +1,2 @@
--- What next gives.
+-- What `next` answers.
 pub mod Answer

@@ -1,4 +1,4 @@
-// The derivation (reading) after one that is offered.
+// The derivation (reading) after an offered one.
 use answers::Handed;
 use answers::Refusal;
 use check_walk::derivation::is_derivation;
@@ -28,7 +28,7 @@ ghost use Rattle.table_layout.specs.Exact.{ChartTrue};
 ghost use Rattle.next_made.specs.Made.{nextTree};
 ghost use Rattle.next.specs.Answer.{nextFilled};
 
-// The derivation after the offered one, where the chart is filled and the fit table made. The tables are this function's own.
+// The derivation after the offered one, if the chart is filled and the fit table is made. The tables are this function's own.
 fn next_tree(
     p: &Packed,
     start: usize,
@@ -58,7 +58,7 @@ fn next_tree(
     )
 }
 
-// The derivation after what is offered, or refusal 12, where the chart is filled.
+// The derivation after the offered row, or refusal 12 if that is no derivation. The chart is filled.
 fn next_filled(
     p: &Packed,
     start: usize,

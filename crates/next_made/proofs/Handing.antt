@@ -1,4 +1,4 @@
--- What next hands out once the tables are made, by the tests that the code makes. Assumes nothing.
+-- What `next` hands out once the tables are made, by the tests that the code makes. Assumes nothing.
 use Prim.Native.Nat.{ℕ, _*_, _/_, _≤_}
 use mathlib.Core.List.{List, _++_, List·Memᴰ}
 use mathlib.Core.Path.{_≡_, ap, _∙_}
@@ -38,7 +38,7 @@ module _ (l : List (List ℕ)) (d chart out : List ℕ) where
           rw (F .after, put)
           (ap (λ (x : ℕ). enumerationOf (answered (handed x)) chart (F .numbers ++ drop (length (F .numbers)) out)) half)
 
--- ---- over tables that are made
+-- ---- once the tables are made
 
 module _ (p : List ℕ) (rules : ℕ) (fits chart tables : List ℕ) (s n : ℕ) (offered out fresh buf₀ buf : List ℕ) (m : ℕ)
     (C : Copied (length offered) offered fresh buf₀) (R : RootNext p rules fits chart tables s n buf₀ buf m) where

@@ -1,3 +1,3 @@
--- The derivation after one, and what next hands out, once the tables are made.
+-- The derivation after a given one, and what `next` hands out, once the tables are made.
 pub mod Advanced
 pub mod Made

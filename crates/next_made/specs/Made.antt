@@ -1,4 +1,4 @@
--- What next hands out once the tables are made. Assumes nothing.
+-- What `next` hands out once the tables are made. Assumes nothing.
 use Prim.Native.Nat.{ℕ}
 use mathlib.Core.List.{List, List·Memᴰ}
 use mathlib.Core.Path.{_≡_}
@@ -11,11 +11,11 @@ use Rattle.results.specs.Answer.{Answer, Handing, answered, nothing}
 use Rattle.results.specs.Enumerate.{Enumeration, afterIn, handingOut}
 use Rattle.first_made.specs.Written.{enumerationOf}
 
--- next of a derivation: the one after it in L, or "none"
+-- `next` of a derivation: the one after it in L, or "none"
 abbrev pub nextTree : Cfg → List ℕ → List ℕ → List ℕ → List ℕ → Enumeration
 nextTree G w offered chart out = handingOut (afterIn offered (L G w)) (answered nothing) chart out
 
--- the answer and the output left are those of next for any input of n bytes that the tables are made for, if what is offered is one of its
+-- the answer and the output are those of `next` for any input of n bytes for which the tables are made, if the offered row is one of its
 -- derivations
 pub record NextMade (p : List ℕ) (rules : ℕ) (fits chart tables : List ℕ) (s n : ℕ) (offered out₀ out : List ℕ) (a : Answer Handing)
     : Type 0 where

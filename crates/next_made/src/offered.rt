@@ -1,4 +1,4 @@
-// Next over tables that are made: the derivation after an offered one, handed out.
+// The derivation after an offered one is handed out, once the tables are made.
 use super::successor::advance_root;
 use super::successor::copy;
 use answers::Handed;
@@ -12,8 +12,8 @@ ghost use Rattle.answers.specs.Answers.{handingOf};
 ghost use Rattle.sizes.specs.Sizes.{maxRules, side, cells, outputSize};
 ghost use Rattle.next_made.specs.Made.{NextMade};
 
-// The derivation after the offered one, over tables that are made. The buffer is this function's own: the output is written only with what
-// comes after.
+// The derivation after the offered one, once the tables are made. The buffer is this function's own: the output is written only if there is
+// such a derivation.
 pub fn next_made(
     p: &Packed,
     fits: &FitTable,

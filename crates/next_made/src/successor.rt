@@ -1,4 +1,4 @@
-// The derivation after the one that stands in a buffer, over tables that are made, and numbers copied from one front to another.
+// The derivation after the one in a buffer, once the tables are made, and numbers copied from one front to another.
 use packed::Packed;
 use packed_fit::FitTable;
 use table_layout::layout::Tables;
@@ -10,7 +10,7 @@ ghost use lib.ListN.{length};
 ghost use Rattle.sizes.specs.Sizes.{maxRules, side, cells, outputSize};
 ghost use Rattle.next_made.specs.Advanced.{Copied, RootNext};
 
-// Copies the first n numbers.
+// Copies the first n numbers of `from` to the front of `to`.
 pub fn copy(from: &[u16], n: usize, to: &mut [u16])
     requires { ⌜ (n ≤ length (now from)) × (n ≤ length (now to)) ⌝ }
     ensures { λ _. ⌜ Copied n (now (from .entry)) (now (to .entry)) (now (to .exit)) ⌝ }
@@ -22,8 +22,8 @@ pub fn copy(from: &[u16], n: usize, to: &mut [u16])
     }
 }
 
-// Writes the derivation after the one that stands at the front of the buffer. The result is the number of its nodes, 0 if there is none:
-// then the buffer is as found.
+// Writes the derivation after the one at the front of the buffer. The result is the number of its nodes; if there is none, it is 0 and the
+// buffer is unchanged.
 pub fn advance_root(
     p: &Packed,
     fits: &FitTable,

@@ -77,7 +77,7 @@ module _ {tables full : List ℕ} {k i a from j : ℕ} {rows : List ℕ} {at bud
   pub ends-none : EndsTooCostly tables full k i a from j rows at budget from
   ends-none = record { beyond = λ c l m n. absurd (omega arith) }
 
-  -- v is the cost up to b, n that with the places behind
+  -- v is the cost of the child up to b, n the cost of the child and the places after it
   module _ {b v n : ℕ} (e : v ≡ within i j (fullIn full) (costIn tables) k a b) (f : n ≡ v + getD rows (at + b) 0) where
     pub ends-more : budget < n → EndsTooCostly tables full k i a from j rows at budget b
         → EndsTooCostly tables full k i a from j rows at budget (b + 1)

@@ -23,7 +23,7 @@ module _ {p : List ℕ} {r q : ℕ} {tables full rows : List ℕ} {i a j budget 
     look-short n l = no-byte (omega arith) (sym f ∙ n) l
 
     module _ {k b : ℕ} (y : t ≡ true) (g : k ≡ valueIn p r q) (C : EndChosen tables full k i a a j rows (side * (q + 1)) budget b) where
-      -- n is the cost of the places behind
+      -- n is the cost of the places after the node
       pub look-node : {n : ℕ} → b ≤ j → n ≡ getD rows (side * (q + 1) + b) 0
           → Looked p r q tables full rows i a j budget (Node k b (budget - n))
       look-node l d = at-node (omega arith) (sym f ∙ y) g C l (ap (λ (x : ℕ). budget - x) d)

@@ -1,4 +1,4 @@
-// Where a child ends: at the first position, from one on, up to which it costs, together with the places behind it, at most the budget.
+// Where a child ends: at the first position for which the child and the places after it cost at most the budget together.
 use numbers::wide;
 use table_cut::within::Part;
 use table_layout::layout::Full;
@@ -13,7 +13,7 @@ ghost use Rattle.theory_costs.specs.Cut.{within};
 ghost use Rattle.table_layout.specs.Layout.{costIn, fullIn, rowsSize};
 ghost use Rattle.tree_choose.specs.Chosen.{EndChosen};
 
-// The cost of the nonterminal k from a to b inside a span from i to j: `full` over the whole of it, else what the least table says.
+// The cost of the nonterminal k from a to b inside a span from i to j: from `full` over the whole span, else from the tables.
 fn piece(tables: &Tables, full: &Full, k: usize, i: usize, a: usize, j: usize, b: usize) -> u16
     requires { ⌜ (i ≤ a) × (a ≤ b) × (b ≤ j) × (j < side) ⌝ }
     ensures { λ v. ⌜ v ≡ within i j (fullIn (now (full .entry))) (costIn (now (tables .entry))) k a b ⌝ }
@@ -34,8 +34,8 @@ fn sum(a: u16, b: u16) -> usize
     wide(a) + wide(b)
 }
 
-// The smallest end of the part, from its `from` on, such that the nonterminal k up to it and the places behind it cost at most the budget
-// together; j + 1 if there is none up to j. The costs of those places stand in `rows` from `at` on.
+// The smallest end of the part, from its `from` on, such that the nonterminal k up to it and the places after it cost at most the budget
+// together; j + 1 if there is none up to j. The costs of those places are in `rows` from `at` on.
 pub fn choose_end(
     tables: &Tables,
     full: &Full,

@@ -11,15 +11,15 @@ ghost use Prim.Native.Nat.{_<_, _≤_};
 ghost use Rattle.sizes.specs.Sizes.{maxRules, maxPlaces, side};
 ghost use Rattle.tree_choose.specs.Looked.{Looked};
 
-// What comes next in a row: nothing, its end, a byte, or a node of a nonterminal up to an end, with its share of the budget.
+// What comes next in a row: nothing, its end, a byte, or a node of the nonterminal k up to b with its share of the budget.
 pub enum Step {
     No,
     End,
     Byte,
-    Node(usize, usize, usize),
+    Node { k: usize, b: usize, share: usize },
 }
 
-// What comes next at the beginning of the tail, up to j inside i to j; `rows` has the costs of the places of its rule.
+// What comes next at the first place of the tail, which ends at j, in a node from i to j; `rows` has the costs of the rule's places.
 pub fn look(
     p: &Packed,
     tables: &Tables,
@@ -43,7 +43,8 @@ pub fn look(
         let part = Part { i, a, from: a, j };
         let b = choose_end(tables, full, k, part, rows, sizes::SIDE * (q + 1), budget);
         if b <= j {
-            return Step::Node(k, b, budget - wide(rows[sizes::SIDE * (q + 1) + b]));
+            let share = budget - wide(rows[sizes::SIDE * (q + 1) + b]);
+            return Step::Node { k, b, share };
         }
         return Step::No;
     }

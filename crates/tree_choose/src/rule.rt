@@ -1,4 +1,4 @@
-// Which rule a node has: the first from a number on that costs at most the budget.
+// Which rule a node has: the first one, from a given number on, that costs at most the budget.
 use numbers::wide;
 use packed::Packed;
 use table_layout::layout::Full;

@@ -1,4 +1,4 @@
--- What is given of an input, where a node is opened: its costs over the span, and those of a rule and of the places of a rule.
+-- What is given of an input when a node is opened: the costs over its span, those of a rule, and those of a rule's places.
 -- Assumes nothing.
 use Prim.Native.Nat.{ℕ, _-_, _≤_, _<_}
 use mathlib.Core.List.{List}
@@ -35,7 +35,7 @@ node-used p w {k = k} X l =
     let (h, e, m, s) = of-in 0 p r k o in
     omega arith
 
--- a number that has a rule is not past the last one that has
+-- a number that has a rule is below `rules`
 pub rule-before : (p : List ℕ) (rules : ℕ) → PastLast p rules → (s : ℕ) → s < maxRules → leftIn p s < nonterminals → s < rules
 rule-before p rules past s u d = dite (decLt s rules) (λ q. q) (λ e. let z = past s (omega arith) u in absurd (omega arith))
 

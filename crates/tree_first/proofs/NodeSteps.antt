@@ -40,7 +40,7 @@ module _ {p : List ℕ} {rules : ℕ} {fits chart tables : List ℕ} {k i j mask
     dearer : Dearer (Packing p) (fitsAt w) i j (fullIn full) (costIn tables) k budget r
     dearer s m o = passed-dearer G h known (O .chosen room .early) s (omega arith) m o
 
-    -- so a rule is chosen
+    -- so some rule is chosen
     chosen-exists : maxRules ≤ r → ⊥
     chosen-exists m =
         let (s, o, f) = rule-exists mask (under h small O G known room mask (e used)) X l (omega arith) in

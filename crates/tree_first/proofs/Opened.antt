@@ -1,4 +1,4 @@
--- What is known of an input where a node is opened within a budget: the costs over its span, and below the rule that is chosen.
+-- What is known of an input when a node is opened within a budget: the costs over its span, and those below the chosen rule.
 -- Assumes nothing.
 use Prim.Native.Nat.{ℕ, _-_, _≤_, _<_}
 use mathlib.Core.List.{List}
@@ -20,7 +20,7 @@ use Rattle.table_suffix.specs.Within.{tailIn, rowAt}
 use Rattle.tree_first.specs.Descend.{InputGiven, BelowGiven, NodeOpened}
 use Rattle.tree_first.proofs.Given.{span-solved, rule-lowest, rows-right}
 
--- the places of a rule, all of them, as the rule of the grammar has them
+-- all places of a rule are those of the grammar's rule
 pub places-of : (p : List ℕ) (r k : ℕ) (o : Of (Packing p) r k) → tailIn p r 0 ≡ o .the .places
 places-of p r k o = places-start p r ∙ sym (of-in 0 p r k o .3)
 
@@ -30,7 +30,7 @@ module _ {p : List ℕ} {rules : ℕ} {fits chart tables : List ℕ} {from k i j
   solved : SpanCosts (Packing p) w (fitsAt w) own i j (fullIn full) (costIn tables)
   solved = span-solved G h known (O .solved room)
 
-  -- under the mask above the node, with its nonterminal put in
+  -- the same under the mask above the node, with the node's nonterminal added
   pub under : (mask : ℕ) → own ≡ insert k mask → SpanCosts (Packing p) w (fitsAt w) (insert k mask) i j (fullIn full) (costIn tables)
   under mask e = subst (λ (z : ℕ). SpanCosts (Packing p) w (fitsAt w) z i j (fullIn full) (costIn tables)) e solved
 
@@ -44,7 +44,7 @@ module _ {p : List ℕ} {rules : ℕ} {fits chart tables : List ℕ} {from k i j
     pub below : BelowGiven p rules fits chart tables full rows r i j own w
     below = record { given = G; solved = solved; costs = rows-right G h known (O .costs (omega arith)) }
 
-    -- the places of the rule chosen cost no more than what its node leaves
+    -- the places of the chosen rule cost no more than what its node leaves of the budget
     pub row-within : getD rows (rowAt 0 0 i) 0 ≤ budget - 1
     row-within =
         let A = O .chosen room .fits (omega arith) in

@@ -10,12 +10,12 @@ use Rattle.table_solve.specs.Solve.{Solved}
 use Rattle.tree_choose.specs.Chosen.{RuleChosen}
 use Rattle.tree_first.specs.Descend.{MaybeSolved, NodeOpened}
 
--- costs of which the first is more than any cost are not made
+-- a row of numbers larger than any cost is not made yet
 pub maybe-unmade : {p : List ℕ} {rules cell mask : ℕ} {tables : List ℕ} {i j : ℕ}
     → MaybeSolved p rules cell mask tables i j (replicate 32 65535)
 maybe-unmade = record { made = λ l. absurd (omega (arith, getD-replicate {A = ℕ} 32 0 65535 0 (omega arith))) }
 
--- others are
+-- a row whose first number is a cost is made
 pub maybe-made : {p : List ℕ} {rules cell mask : ℕ} {tables : List ℕ} {i j n : ℕ} {full : List ℕ}
     → MaybeSolved p rules cell mask tables i j full → n ≡ getD full 0 0 → n ≤ tooMany → Solved p rules cell mask tables i j full
 maybe-made M e l = M .made (omega arith)

@@ -42,14 +42,14 @@ module _ (p : List ℕ) (r q : ℕ) (c : q < placeCount p r) where
 module _ {p : List ℕ} {rules : ℕ} {fits chart tables full rows : List ℕ} {r i j mask : ℕ} (q a budget : ℕ) (h : i ≤ a) (l : a ≤ j)
     (room : budget ≤ maxNodes) where
   module _ {w : List ℕ} (B : BelowGiven p rules fits chart tables full rows r i j mask w) where
-    -- the least cost of the places from q on, as another list
+    -- the least cost of the places from q on, written as another list
     cost-of : {places : List Symbol} → tailIn p r q ≡ places → q ≤ placeCount p r
         → LeastCut (fitsAt w) (within i j (fullIn full) (costIn tables)) places a j (getD rows (rowAt 0 q a) 0)
     cost-of e c =
         subst (λ (s : List Symbol). LeastCut (fitsAt w) (within i j (fullIn full) (costIn tables)) s a j (getD rows (rowAt 0 q a) 0)) e
         (B .costs q a c h l)
 
-    -- the least costs of the places behind q, from each start on
+    -- the least costs of the places after q, for each start
     pub rests : q < placeCount p r → Rests (fitsAt w) (within i j (fullIn full) (costIn tables)) (tailIn p r (q + 1)) a j
         (λ (c : ℕ). getD rows (side * (q + 1) + c) 0)
     rests c x m n =
@@ -57,7 +57,7 @@ module _ {p : List ℕ} {rules : ℕ} {fits chart tables full rows : List ℕ} {
         subst (λ (z : ℕ). LeastCut (fitsAt w) (within i j (fullIn full) (costIn tables)) (tailIn p r (q + 1)) x j (getD rows z 0)) e
         (B .costs (q + 1) x (omega arith) (omega arith) n)
 
-    -- where nothing comes next, the least cost is not within the budget
+    -- if nothing comes next, the least cost is more than the budget
     none-within : Looked p r q tables full rows i a j budget No → getD rows (rowAt 0 q a) 0 ≤ budget → ⊥
     none-within (no-byte c n m) v =
         let (x, _) = terminal-fits (cost-of (tail-terminal p r q c n) (omega arith)) v (omega arith) in
@@ -69,46 +69,39 @@ module _ {p : List ℕ} {rules : ℕ} {fits chart tables full rows : List ℕ} {
 
   -- ---- nothing, and the end
 
-  pub row-none : {at : ℕ} {s : Step} {out : List ℕ} → Looked p r q tables full rows i a j budget s → s ≡ No
+  pub row-none : {at : ℕ} {out : List ℕ} → Looked p r q tables full rows i a j budget No
       → RowFirst p rules fits chart tables full rows r q a i j mask budget at out out 0
-  row-none L e = record {
-    kept = kept-none;
-    exact = λ w B c v. absurd (none-within B (subst (Looked p r q tables full rows i a j budget) e L) v);
-  }
+  row-none L = record { kept = kept-none; exact = λ w B c v. absurd (none-within B L v) }
 
-  pub row-end : {at : ℕ} {s : Step} {out : List ℕ} → Looked p r q tables full rows i a j budget s → s ≡ End
+  pub row-end : {at : ℕ} {out : List ℕ} → Looked p r q tables full rows i a j budget End
       → RowFirst p rules fits chart tables full rows r q a i j mask budget at out out 0
-  row-end {at} {out = out} L e =
-      record { kept = kept-none; exact = λ w B c v. go w B c v (subst (Looked p r q tables full rows i a j budget) e L) }
-    where
-      go : (w : List ℕ) → BelowGiven p rules fits chart tables full rows r i j mask w → q ≤ placeCount p r → getD rows (rowAt 0 q a) 0 ≤ budget
-          → Looked p r q tables full rows i a j budget End → FirstAt (Row (Packing p) w (j - i) mask (tailIn p r q) a j budget) out at 0
-      go w B c v (at-end m) =
-          let d : tailIn p r q ≡ [] = places-end p r q m in
-          subst (λ (s : List Symbol). FirstAt (Row (Packing p) w (j - i) mask s a j budget) out at 0) (sym d)
-          (first-none (end-step (B .solved) budget (end-reached (cost-of B d c) v (omega arith))))
+  row-end {at} {out} (at-end m) = record {
+    kept = kept-none;
+    exact = λ w B c v.
+        let d : tailIn p r q ≡ [] = places-end p r q m in
+        subst (λ (s : List Symbol). FirstAt (Row (Packing p) w (j - i) mask s a j budget) out at 0) (sym d)
+        (first-none (end-step (B .solved) budget (end-reached (cost-of B d c) v (omega arith))));
+  }
 
   -- ---- a byte
 
-  pub row-byte : {at : ℕ} {s : Step} {out₀ out : List ℕ} {n : ℕ} → Looked p r q tables full rows i a j budget s → s ≡ Byte
+  pub row-byte : {at : ℕ} {out₀ out : List ℕ} {n : ℕ} → Looked p r q tables full rows i a j budget Byte
       → RowFirst p rules fits chart tables full rows r (q + 1) (a + 1) i j mask budget at out₀ out n
       → RowFirst p rules fits chart tables full rows r q a i j mask budget at out₀ out n
-  row-byte {at} {out = out} {n = n} L e R =
-      record { kept = R .kept; exact = λ w B c v. go w B v (subst (Looked p r q tables full rows i a j budget) e L) }
-    where
-      go : (w : List ℕ) → BelowGiven p rules fits chart tables full rows r i j mask w → getD rows (rowAt 0 q a) 0 ≤ budget
-          → Looked p r q tables full rows i a j budget Byte → FirstAt (Row (Packing p) w (j - i) mask (tailIn p r q) a j budget) out at n
-      go w B v (at-byte c t m) =
-          let d = tail-terminal p r q c t in
-          let C = cost-of B d (omega arith) in
-          let s : a + 1 ≡ suc a = omega arith in
-          let (x, f) = terminal-fits C v (omega arith) in
-          let u : getD rows (rowAt 0 (q + 1) (a + 1)) 0 ≤ budget = terminal-rest C v (omega arith) s
-          (B .costs (q + 1) (a + 1) (omega arith) (omega arith) (omega arith)) in
-          subst (λ (z : List Symbol). FirstAt (Row (Packing p) w (j - i) mask z a j budget) out at n) (sym d)
-          (first-same (λ y M. leaf-step (B .solved) s x f M) (R .exact w B (omega arith) u))
+  row-byte {at} {out = out} {n = n} (at-byte c t m) R = record {
+    kept = R .kept;
+    exact = λ w B _ v.
+        let d = tail-terminal p r q c t in
+        let C = cost-of B d (omega arith) in
+        let s : a + 1 ≡ suc a = omega arith in
+        let (x, f) = terminal-fits C v (omega arith) in
+        let u : getD rows (rowAt 0 (q + 1) (a + 1)) 0 ≤ budget = terminal-rest C v (omega arith) s
+        (B .costs (q + 1) (a + 1) (omega arith) (omega arith) (omega arith)) in
+        subst (λ (z : List Symbol). FirstAt (Row (Packing p) w (j - i) mask z a j budget) out at n) (sym d)
+        (first-same (λ y M. leaf-step (B .solved) s x f M) (R .exact w B (omega arith) u));
+  }
 
-  -- ---- a node and the places behind it
+  -- ---- a node and the places after it
 
   module _ {k b share own m n at : ℕ} {out₀ out₁ out : List ℕ} (s : SameSpan (j - i) mask (b - a) own)
       (N : NodeFirst p rules fits chart tables k a b own share at out₀ out₁ m)
@@ -130,36 +123,24 @@ module _ {p : List ℕ} {rules : ℕ} {fits chart tables full rows : List ℕ} {
         (λ z α β. C .early .beyond z α β (omega arith)) s
         (subst (λ (z : ℕ). Min (Tree (Packing p) w (b - a) own k a b z) u) e M) size Q)
 
-    pub row-node : {t : Step} → Looked p r q tables full rows i a j budget t → t ≡ Node k b share
+    pub row-node : Looked p r q tables full rows i a j budget (Node k b share)
         → RowFirst p rules fits chart tables full rows r q a i j mask budget at out₀ out (m + n)
-    row-node L e = record {
-      kept = kept-join (small (subst (Looked p r q tables full rows i a j budget) e L)) (N .kept) (R .kept);
-      exact = λ w B c v. go w B (subst (Looked p r q tables full rows i a j budget) e L);
+    row-node (at-node c t g C x f) = record {
+      kept = kept-join (omega arith) (N .kept) (R .kept);
+      exact = λ w B _ _.
+          subst (λ (z : List Symbol). FirstAt (Row (Packing p) w (j - i) mask z a j budget) out at (m + n))
+          (sym (tail-nonterminal p r q c t g)) (node-and-row w B c C x f);
     }
-      where
-        small : Looked p r q tables full rows i a j budget (Node k b share) → share ≤ budget
-        small (at-node c t g C x f) = omega arith
 
-        go : (w : List ℕ) → BelowGiven p rules fits chart tables full rows r i j mask w
-            → Looked p r q tables full rows i a j budget (Node k b share)
-            → FirstAt (Row (Packing p) w (j - i) mask (tailIn p r q) a j budget) out at (m + n)
-        go w B (at-node c t g C x f) =
-            subst (λ (z : List Symbol). FirstAt (Row (Packing p) w (j - i) mask z a j budget) out at (m + n))
-            (sym (tail-nonterminal p r q c t g)) (node-and-row w B c C x f)
+module _ {p : List ℕ} {r q : ℕ} {tables full rows : List ℕ} {i a j budget : ℕ} where
+  -- what comes next, once the step is known
+  pub looked-as : {s t : Step} → Looked p r q tables full rows i a j budget s → s ≡ t → Looked p r q tables full rows i a j budget t
+  looked-as L e = subst (Looked p r q tables full rows i a j budget) e L
 
--- ---- where the row stands next
+  -- the place and the position that come next are within their limits
+  pub byte-room : Looked p r q tables full rows i a j budget Byte → (q < maxPlaces) × (a < j)
+  byte-room (at-byte c t m) = (omega (arith, count-le p r), m)
 
-pub byte-room : {p : List ℕ} {r q : ℕ} {tables full rows : List ℕ} {i a j budget : ℕ} {s : Step}
-    → Looked p r q tables full rows i a j budget s → s ≡ Byte → (q < maxPlaces) × (a < j)
-byte-room {p} {r} {q} {tables} {full} {rows} {i} {a} {j} {budget} L e = go (subst (Looked p r q tables full rows i a j budget) e L)
-  where
-    go : Looked p r q tables full rows i a j budget Byte → (q < maxPlaces) × (a < j)
-    go (at-byte c t m) = (omega (arith, count-le p r), m)
-
-pub node-room : {p : List ℕ} {r q : ℕ} {tables full rows : List ℕ} {i a j budget k b share : ℕ} {s : Step}
-    → Looked p r q tables full rows i a j budget s → s ≡ Node k b share → (q < maxPlaces) × (a ≤ b) × (b ≤ j) × (share ≤ budget)
-node-room {p} {r} {q} {tables} {full} {rows} {i} {a} {j} {budget} {k} {b} {share} L e =
-    go (subst (Looked p r q tables full rows i a j budget) e L)
-  where
-    go : Looked p r q tables full rows i a j budget (Node k b share) → (q < maxPlaces) × (a ≤ b) × (b ≤ j) × (share ≤ budget)
-    go (at-node c t g C x f) = (omega (arith, count-le p r), C .start, x, omega arith)
+  pub node-room : {k b share : ℕ} → Looked p r q tables full rows i a j budget (Node k b share)
+      → (q < maxPlaces) × (a ≤ b) × (b ≤ j) × (share ≤ budget)
+  node-room (at-node c t g C x f) = (omega (arith, count-le p r), C .start, x, omega arith)

@@ -1,4 +1,4 @@
--- What the first derivation below a node is, with the tables made: which numbers it writes, and what it keeps. Assumes nothing.
+-- What the first derivation below a node is, once the tables are made: which numbers are written, and which are kept. Assumes nothing.
 use Prim.Native.Nat.{ℕ, _+_, _*_, _-_, _≤_, _<_}
 use mathlib.Core.List.{List}
 use mathlib.Core.Path.{_≡_}
@@ -19,7 +19,7 @@ use Rattle.table_suffix.specs.Rows.{RowsPut}
 use Rattle.table_solve.specs.Solve.{Solved}
 use Rattle.tree_choose.specs.Chosen.{RuleChosen}
 
--- what is given of the input w: the number behind its last rule, its fit table, its chart and its tables
+-- what is given of the input w: the number after the last rule, its fit table, its chart and its tables
 pub record InputGiven (p : List ℕ) (rules : ℕ) (fits chart tables w : List ℕ) : Type 0 where
   pub past : PastLast p rules
   pub told : FitTold (fitsAt w) p fits (length w)
@@ -33,15 +33,15 @@ pub record FirstAt (P : Forest → Type 0) (out : List ℕ) (at n : ℕ) : Type 
   pub size : length code ≡ 2 * n
   pub here : (y : ℕ) → y < 2 * n → getD out (2 * at + y) 0 ≡ getD code y 0
 
--- what writing n nodes from node `at` on keeps: all other numbers, and the budget
+-- writing n nodes from node `at` on keeps all other numbers, and n is within the budget
 pub record Kept (budget at n : ℕ) (out₀ out : List ℕ) : Type 0 where
   pub long : length out ≡ length out₀
   pub few : n ≤ budget
   pub before : (x : ℕ) → x < 2 * at → getD out x 0 ≡ getD out₀ x 0
   pub after : (x : ℕ) → 2 * (at + n) ≤ x → getD out x 0 ≡ getD out₀ x 0
 
--- the n nodes written from node `at` on are the first tree of the nonterminal k over the span from i to j within the budget, in which no
--- nonterminal of the mask stands over the whole span, if there is such a tree
+-- if k has a tree over the span from i to j within the budget, in which no node over the whole span has a nonterminal of the mask, then the
+-- n nodes written from node `at` on are the first such tree
 pub record NodeFirst (p : List ℕ) (rules : ℕ) (fits chart tables : List ℕ) (k i j mask budget at : ℕ) (out₀ out : List ℕ) (n : ℕ)
     : Type 0 where
   pub kept : Kept budget at n out₀ out
@@ -49,26 +49,26 @@ pub record NodeFirst (p : List ℕ) (rules : ℕ) (fits chart tables : List ℕ)
       → Least (FreeTree (Packing p) (bytesOf w) mask (j - i) k i j) x → x ≤ budget
       → FirstAt (Tree (Packing p) w (j - i) mask k i j budget) out at n
 
--- what is known below a node of rule r over the span from i to j: the costs over it under the mask, and those of the rule's places
+-- what is known below a node of rule r over the span from i to j: the costs over the span under the mask, and those of the rule's places
 pub record BelowGiven (p : List ℕ) (rules : ℕ) (fits chart tables full rows : List ℕ) (r i j mask : ℕ) (w : List ℕ) : Type 0 where
   pub given : InputGiven p rules fits chart tables w
   pub solved : SpanCosts (Packing p) w (fitsAt w) mask i j (fullIn full) (costIn tables)
   pub costs : (q c : ℕ) → q ≤ placeCount p r → i ≤ c → c ≤ j
       → InsideCost (fitsAt w) tables full i j (tailIn p r q) c (getD rows (rowAt 0 q c) 0)
 
--- the n nodes written from node `at` on are the first row of the places of rule r from q on, from a to j inside a span from i to j, if
--- their least cost is within the budget
+-- if the places of rule r from q on cost at most the budget from a to j, inside a span from i to j, then the n nodes written from node `at`
+-- on are their first row
 pub record RowFirst (p : List ℕ) (rules : ℕ) (fits chart tables full rows : List ℕ) (r q a i j mask budget at : ℕ) (out₀ out : List ℕ)
     (n : ℕ) : Type 0 where
   pub kept : Kept budget at n out₀ out
   pub exact : (w : List ℕ) → BelowGiven p rules fits chart tables full rows r i j mask w → q ≤ placeCount p r
       → getD rows (rowAt 0 q a) 0 ≤ budget → FirstAt (Row (Packing p) w (j - i) mask (tailIn p r q) a j budget) out at n
 
--- the costs over the span from i to j under the mask are right, or not made: then the first number is more than any cost
+-- the costs over the span from i to j under the mask are right, or they are not made and the first number is more than any cost
 pub record MaybeSolved (p : List ℕ) (rules cell mask : ℕ) (tables : List ℕ) (i j : ℕ) (full : List ℕ) : Type 0 where
   pub made : getD full 0 0 ≤ tooMany → Solved p rules cell mask tables i j full
 
--- what is made for a node within a budget: the costs over its span, its rule, the first from `from` on, and the costs of its places
+-- what is made for a node within a budget: the costs over its span, its rule (the first one from `from` on), and the costs of its places
 pub record NodeOpened (p : List ℕ) (rules : ℕ) (fits chart tables : List ℕ) (from k i j own budget : ℕ) (full rows : List ℕ) (r : ℕ)
     : Type 0 where
   pub room : r < maxRules → 0 < budget

@@ -1,4 +1,4 @@
-// The first derivation below a node, written from the left: a node calls the row of its rule's places, which calls the nodes below it.
+// The first derivation below a node, written from the left: `node` calls `row` for its rule's places, `row` calls `node` for each child.
 use super::open;
 use packed::Packed;
 use packed_fit::FitTable;
@@ -15,8 +15,8 @@ ghost use lib.ListN.{length};
 ghost use Rattle.sizes.specs.Sizes.{maxRules, maxPlaces, side, cells, maxNodes, outputSize};
 ghost use Rattle.tree_first.specs.Descend.{NodeFirst, RowFirst};
 
-// Writes the first tree of the nonterminal k over the span within the budget, in which no nonterminal of the mask stands over the whole
-// span. The result is the number of its nodes.
+// Writes the first tree of the nonterminal k over the span within the budget. No node of it over the whole span has a nonterminal of the
+// mask. The result is the number of its nodes.
 pub fn node(
     p: &Packed,
     rules: usize,
@@ -75,7 +75,7 @@ pub fn node(
         )
 }
 
-// Writes the first row of the tail, from a to j inside i to j, within the budget. The result is its number of nodes.
+// Writes the first row of the tail up to j within the budget, in a node from i to j. The result is the number of its nodes.
 pub fn row(
     p: &Packed,
     rules: usize,
@@ -119,7 +119,7 @@ pub fn row(
                 at,
             )
         }
-        Step::Node(k, b, share) => {
+        Step::Node { k, b, share } => {
             let mask = tree_node::child_set(j - i, mask, b - a);
             let m = node(
                 p,

@@ -1,3 +1,3 @@
-// The first derivation (document 01: first reading) below a node, every choice decided by the tables.
+// The first derivation (document 01: first reading) below a node; the tables decide every choice.
 pub mod first;
 pub mod open;

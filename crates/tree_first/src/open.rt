@@ -18,10 +18,10 @@ ghost use Rattle.chart.specs.Cell.{cell};
 ghost use Rattle.table_solve.specs.Solve.{Solved};
 ghost use Rattle.tree_first.specs.Descend.{MaybeSolved, NodeOpened};
 
-// Stands in front of costs that are not made: no cost is as large.
+// The first number of costs that are not made yet: no cost is as large.
 pub const UNMADE: u16 = 65535;
 
-// Makes the costs over the span under its mask, if they are not made.
+// Makes the costs over the span under its mask, unless they are already made.
 pub fn make_costs(
     p: &Packed,
     rules: usize,
@@ -51,8 +51,8 @@ pub fn make_costs(
     }
 }
 
-// Makes the costs over the span under its mask, if they are not made, and those of the places of the first rule of k from `from` on that
-// they allow within the budget. The result is that rule, no rule if there is none.
+// Chooses the first rule of k from `from` on that costs at most the budget over the span. Makes the costs over the span under its mask,
+// unless they are already made, and those of the rule's places. The result is the rule, or no rule if there is none.
 pub fn open_node(
     p: &Packed,
     rules: usize,

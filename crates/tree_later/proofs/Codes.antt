@@ -1,56 +1,24 @@
--- Codes that stand in a buffer, one behind the other, and what is kept where a part of the buffer is written. Assumes nothing.
+-- Codes in a buffer, what is kept when a part of the buffer is written, and what comes after a code. Assumes nothing.
 use Prim.Native.Nat.{ℕ, _+_, _*_, _-_, _≤_, _<_}
-use mathlib.Core.List.{List, [], _∷_, _++_}
-use mathlib.Core.Path.{_≡_, sym, ap, _∙_}
-use native.Mathlib.Decide.{ℕ-discrete, decLt}
+use mathlib.Core.List.{List, [], _∷_}
+use mathlib.Core.Logic.{dite}
+use mathlib.Core.Path.{_≡_, ap, _∙_}
+use native.Mathlib.Decide.{decLt}
 use native.Mathlib.Omega.{arith}
-use lib.ListN.{length, getD, length-append, List·getD-append}
-use lib.Seq.{getD-append-add}
+use lib.ListN.{length, getD}
 use Rattle.cfg.specs.Grammar.{Cfg, nonterminal}
 use Rattle.cfg.specs.Tree.{Forest, nodes, code, Fits, fits-node}
 use Rattle.theory_listing.proofs.Unique.{length-code}
 use Rattle.theory_enumeration.specs.Rows.{Tree}
 use Rattle.theory_enumeration.specs.Order.{Min, After, Last}
 use Rattle.tree_size.specs.Standing.{StandsAt}
-use Rattle.tree_node.specs.Numbers.{NodePut}
-use Rattle.tree_first.specs.Descend.{FirstAt, Kept}
+use Rattle.tree_first.specs.Descend.{Kept}
 use Rattle.tree_later.specs.Beyond.{AfterAt, NextAt}
 
--- ---- what stands
-
--- e of m nodes stands, f is behind it, and what was before f is kept
-pub stands-join : (buf₀ buf : List ℕ) (at m : ℕ) (e f : List ℕ) → length e ≡ 2 * m → StandsAt buf₀ at e → StandsAt buf (at + m) f
-    → ((x : ℕ) → x < 2 * (at + m) → getD buf x 0 ≡ getD buf₀ x 0) → StandsAt buf at (e ++ f)
-stands-join buf₀ buf at m e f l S T K y h = go (decLt y (2 * m))
-  where
-    go : Dec (y < 2 * m) → getD buf (2 * at + y) 0 ≡ getD (e ++ f) y 0
-    go (yes u) = K (2 * at + y) (omega arith) ∙ S y (omega arith) ∙ sym (List·getD-append e f 0 y (omega arith))
-    go (no u) =
-        let d : 2 * at + y ≡ 2 * (at + m) + (y - 2 * m) = omega arith in
-        let g : length e + (y - 2 * m) ≡ y = omega arith in
-        ap (λ (x : ℕ). getD buf x 0) d ∙ T (y - 2 * m) (omega (arith, length-append e f)) ∙ sym (getD-append-add e f (y - 2 * m) 0)
-        ∙ ap (λ (x : ℕ). getD (e ++ f) x 0) g
-
--- in a buffer of the same numbers
+-- the same code in a buffer with the same numbers
 pub stands-same : (buf₀ buf : List ℕ) (at : ℕ) (e : List ℕ) → ((x : ℕ) → getD buf x 0 ≡ getD buf₀ x 0) → StandsAt buf₀ at e
     → StandsAt buf at e
 stands-same buf₀ buf at e K S y h = K (2 * at + y) ∙ S y h
-
--- the first code of a set, and the numbers of a node
-pub first-stands : {P : Forest → Type 0} {buf : List ℕ} {at n : ℕ} (F : FirstAt P buf at n) → StandsAt buf at (F .code)
-first-stands F y h = F .here y (omega (arith, F .size))
-
-pub put-stands : {c r at : ℕ} {buf₀ buf : List ℕ} → NodePut c r at buf₀ buf → StandsAt buf at (c ∷ r ∷ [])
-put-stands {c} {r} {at} {buf = buf} P y h = go (ℕ-discrete y 0)
-  where
-    go : Dec (y ≡ 0) → getD buf (2 * at + y) 0 ≡ getD (c ∷ r ∷ []) y 0
-    go (yes e) =
-        let f : 2 * at + y ≡ 2 * at = omega arith in
-        ap (λ (x : ℕ). getD buf x 0) f ∙ P .cover ∙ ap (λ (x : ℕ). getD (c ∷ r ∷ []) x 0) (sym e)
-    go (no n) =
-        let z : ¬ (y ≡ 0) = n in
-        let e : y ≡ 1 = omega arith in
-        ap (λ (x : ℕ). getD buf (2 * at + x) 0) e ∙ P .rule ∙ ap (λ (x : ℕ). getD (c ∷ r ∷ []) x 0) (sym e)
 
 -- ---- trees are not empty
 
@@ -59,7 +27,7 @@ pub tree-nonempty : {G : Cfg} {k : ℕ} {x : Forest} → Fits G (nonterminal k �
 unfolding nodes
 tree-nonempty (fits-node o b f) = omega arith
 
--- so has the first one of a set of trees
+-- the first tree of a set has a node
 pub first-nonempty : {G : Cfg} {w : List ℕ} {cover mask k a b budget m : ℕ} {e : List ℕ} → Min (Tree G w cover mask k a b budget) e
     → length e ≡ 2 * m → 0 < m
 first-nonempty {e = e} M size =
@@ -69,15 +37,11 @@ first-nonempty {e = e} M size =
 
 -- ---- what is kept
 
--- where no node is written, every number is as found
+-- if no node is written, every number is kept
 pub kept-same : {budget at n : ℕ} {buf₀ buf : List ℕ} → n ≡ 0 → Kept budget at n buf₀ buf → (x : ℕ) → getD buf x 0 ≡ getD buf₀ x 0
-kept-same {at = at} {buf₀ = buf₀} {buf = buf} e K x = go (decLt x (2 * at))
-  where
-    go : Dec (x < 2 * at) → getD buf x 0 ≡ getD buf₀ x 0
-    go (yes h) = K .before x h
-    go (no h) = K .after x (omega arith)
+kept-same {at = at} e K x = dite (decLt x (2 * at)) (λ h. K .before x h) (λ h. K .after x (omega arith))
 
--- n nodes are written behind s others
+-- n nodes are written after s others
 pub kept-behind : {budget at s n : ℕ} {buf₀ buf : List ℕ} → s ≤ budget → Kept (budget - s) (at + s) n buf₀ buf
     → Kept budget at (s + n) buf₀ buf
 kept-behind l K = record {
@@ -87,7 +51,7 @@ kept-behind l K = record {
   after = λ x h. K .after x (omega arith);
 }
 
--- no node is written, then n
+-- no node is written, and then n nodes are
 pub kept-then : {share budget at₀ at m n : ℕ} {buf₀ buf₁ buf : List ℕ} → m ≡ 0 → Kept share at₀ m buf₀ buf₁ → Kept budget at n buf₁ buf
     → Kept budget at n buf₀ buf
 kept-then e K L = record {

@@ -1,4 +1,4 @@
--- The frame of a node: not made, made, and what it says of an input when it is made. Assumes nothing.
+-- The frame of a node: before it is made, after it is made, and what it then says of an input. Assumes nothing.
 use Prim.Native.Nat.{ℕ, _≤_}
 use mathlib.Core.List.{List}
 use mathlib.Core.Path.{_≡_}
@@ -9,7 +9,7 @@ use Rattle.chart.specs.Cell.{cell}
 use Rattle.table_layout.specs.Layout.{rowsSize}
 use Rattle.table_suffix.specs.Rows.{RowsPut}
 use Rattle.table_solve.specs.Solve.{Solved}
-use Rattle.tree_first.specs.Descend.{InputGiven, BelowGiven, MaybeSolved}
+use Rattle.tree_first.specs.Descend.{InputGiven, BelowGiven}
 use Rattle.tree_first.proofs.Given.{span-solved, rows-right}
 use Rattle.tree_later.specs.Beyond.{CostsMade, Frame}
 
@@ -36,9 +36,6 @@ module _ {p : List ℕ} {rules : ℕ} {fits chart tables : List ℕ} {r i j mask
 
     pub made-frame : CostsMade p rules fits chart tables r i j mask full rows → Frame p rules fits chart tables r i j mask full rows
     made-frame M = record { long = M .long; room = M .room; solved = λ _. M .solved; costs = λ _. M .costs }
-
-    pub frame-maybe : Frame p rules fits chart tables r i j mask full rows → MaybeSolved p rules (cell chart i j) mask tables i j full
-    frame-maybe F = record { made = F .solved }
 
     pub made-below : {w : List ℕ} → InputGiven p rules fits chart tables w → i ≤ j → j ≤ length w
         → CostsMade p rules fits chart tables r i j mask full rows → BelowGiven p rules fits chart tables full rows r i j mask w

@@ -1,7 +1,7 @@
 -- A later rule at a node, with premises as the code gives them. Assumes nothing.
 use Prim.Native.Nat.{ℕ, _+_, _-_, _≤_, _<_}
 use mathlib.Core.List.{List, [], _∷_}
-use mathlib.Core.Logic.{_≢_}
+use mathlib.Core.Logic.{_≢_, dite}
 use mathlib.Core.Path.{_≡_, refl, sym, ap, subst, _∙_}
 use native.Mathlib.Decide.{ℕ-discrete}
 use native.Mathlib.Omega.{arith}
@@ -24,11 +24,11 @@ use Rattle.table_layout.specs.Exact.{Packing}
 use Rattle.table_suffix.specs.Within.{tailIn}
 use Rattle.tree_node.specs.Numbers.{NodePut}
 use Rattle.tree_first.specs.Descend.{InputGiven, RowFirst, NodeOpened}
-use Rattle.tree_first.proofs.Codes.{kept-none, kept-open}
+use Rattle.tree_first.proofs.Codes.{kept-none, kept-open, stands-join, first-stands, put-stands}
 use Rattle.tree_first.proofs.Given.{passed-dearer, rule-before}
 use Rattle.tree_first.proofs.Opened.{places-of, under, chosen-of, below, row-within}
 use Rattle.tree_later.specs.Beyond.{NoRules, LaterRule}
-use Rattle.tree_later.proofs.Codes.{stands-join, first-stands, put-stands, next-none, next-some}
+use Rattle.tree_later.proofs.Codes.{next-none, next-some}
 
 -- ---- no later rule
 
@@ -36,11 +36,9 @@ pub none-yet : (p : List ℕ) (from k : ℕ) → NoRules p from from k
 none-yet p from k s u v e = absurd (omega arith)
 
 pub none-more : (p : List ℕ) {from q k l : ℕ} → NoRules p from q k → l ≡ leftIn p q → l ≢ k → NoRules p from (q + 1) k
-none-more p {from} {q} {k} N e d s u v = go (ℕ-discrete s q)
-  where
-    go : Dec (s ≡ q) → leftIn p s ≢ k
-    go (yes x) = λ f. d (e ∙ sym (ap (leftIn p) x) ∙ f)
-    go (no x) = let z : ¬ (s ≡ q) = x in N s u (omega arith)
+none-more p {q = q} N e d s u v = dite (ℕ-discrete s q)
+    (λ x f. d (e ∙ sym (ap (leftIn p) x) ∙ f))
+    (λ x. let z : ¬ (s ≡ q) = x in N s u (omega arith))
 
 pub none-all : (p : List ℕ) {from q m k : ℕ} → NoRules p from q k → m ≤ q → NoRules p from m k
 none-all p N l s u v = N s u (omega arith)
@@ -64,8 +62,8 @@ later-absent {p} {rules} {fits} {chart} {tables} {r} {k} {i} {j} {budget = budge
 
 module _ {p : List ℕ} {rules : ℕ} {fits chart tables : List ℕ} {r k i j own budget : ℕ} {full rows : List ℕ} {s : ℕ}
     (h : i ≤ j) (small : budget ≤ maxNodes) (O : NodeOpened p rules fits chart tables (r + 1) k i j own budget full rows s) where
-  module _ {w : List ℕ} (G : InputGiven p rules fits chart tables w) (known : j ≤ length w) {mask : ℕ} (e : own ≡ insert k mask) {t f : Forest}
-      {o : Of (Packing p) r k} (x : OpenedNode (Packing p) w (j - i) mask k i j budget o t f)
+  module _ {w : List ℕ} (G : InputGiven p rules fits chart tables w) (known : j ≤ length w) {mask : ℕ} (e : own ≡ insert k mask)
+      {t f : Forest} {o : Of (Packing p) r k} (x : OpenedNode (Packing p) w (j - i) mask k i j budget o t f)
       (last : Last (Row (Packing p) w (j - i) own (o .the .places) i j (budget - 1)) (code f)) where
     costs : SpanCosts (Packing p) w (fitsAt w) (insert k mask) i j (fullIn full) (costIn tables)
     costs = under h small O G known (x .room) mask e

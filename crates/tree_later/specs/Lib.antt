@@ -1,2 +1,2 @@
--- What comes beyond the derivation that stands.
+-- What comes after the derivation in a buffer: a later rule.
 pub mod Beyond

@@ -1,4 +1,4 @@
-// The frame of a node: the costs over its span, and those of the places of its rule. CostsMade only where they are needed.
+// The frame of a node: the costs over its span, and those of the places of its rule. A frame is made only when it is needed.
 use numbers::wide;
 use packed::Packed;
 use packed_fit::FitTable;
@@ -14,7 +14,7 @@ ghost use lib.ListN.{length};
 ghost use Rattle.sizes.specs.Sizes.{maxRules, maxPlaces, side, cells};
 ghost use Rattle.tree_later.specs.Beyond.{Frame, CostsMade, RestMade};
 
-// Makes it, if it is not made.
+// Makes the frame, unless it is already made.
 pub fn make(
     p: &Packed,
     rules: usize,
@@ -37,7 +37,7 @@ pub fn make(
     }
 }
 
-// Makes it, if it is not made. The result is the least cost of the places behind the child.
+// Makes the frame, unless it is already made. The result is the least cost of the places after the child.
 pub fn rest_of(
     p: &Packed,
     rules: usize,

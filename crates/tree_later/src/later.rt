@@ -30,8 +30,8 @@ fn no_rule(p: &Packed, rules: usize, from: usize, k: usize) -> bool
     true
 }
 
-// Writes the first tree of k over the span whose rule is beyond r, under a mask that has k. The result is the number of its nodes, 0 if
-// there is none within the budget. The costs are made only where k has a later rule.
+// Writes the first tree of k over the span with a rule after r, under a mask that has k. The result is the number of its nodes, 0 if
+// there is none within the budget. The costs are made only if k has a later rule.
 pub fn later_rule(
     p: &Packed,
     rules: usize,

@@ -1,4 +1,4 @@
-// What comes beyond the derivation that stands in a buffer, where what is below is last: a later rule. The frame of a node, which holds its
-// costs, is made where it is needed.
+// The derivation after the one in a buffer, if the row below the node is the last one: a later rule. The frame of a node holds its costs,
+// and is made only when it is needed.
 pub mod frame;
 pub mod later;

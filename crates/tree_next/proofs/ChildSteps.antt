@@ -16,18 +16,18 @@ use Rattle.tree_size.specs.Standing.{StandsAt}
 use Rattle.table_layout.specs.Exact.{Packing}
 use Rattle.table_suffix.specs.Within.{tailIn}
 use Rattle.tree_first.specs.Descend.{InputGiven, RowFirst}
-use Rattle.tree_first.proofs.Codes.{kept-none, kept-join}
+use Rattle.tree_first.proofs.Codes.{kept-none, kept-join, stands-join, first-stands}
 use Rattle.tree_later.specs.Beyond.{RestMade, NextAt}
 use Rattle.tree_widen.specs.Wider.{Moved}
 use Rattle.tree_widen.proofs.WiderNodes.{all-rests, rest-first}
 use Rattle.tree_next.specs.Advance.{NodeNext, ChildNext}
-use Rattle.tree_later.proofs.Codes.{stands-join, first-stands, kept-then, next-some}
+use Rattle.tree_later.proofs.Codes.{kept-then, next-some}
 use Rattle.tree_later.proofs.Frames.{made-frame, made-below}
 
 module _ {p : List ℕ} {rules : ℕ} {fits chart tables full rows : List ℕ} {r q k a b i j mask budget at : ℕ} (h : i ≤ a) (l : a ≤ b)
     (m : b ≤ j) where
   module _ {rest : ℕ} (M : RestMade p rules fits chart tables r i j mask q b full rows rest) where
-    -- the places behind the node that stands are within the budget
+    -- the places after the node in the buffer are within the budget, so this case does not arise
     pub child-dear : {buf : List ℕ} → budget < rest
         → ChildNext p rules fits chart tables r q k a b i j mask budget at buf full rows buf 0
     child-dear d = record {
@@ -42,7 +42,7 @@ module _ {p : List ℕ} {rules : ℕ} {fits chart tables full rows : List ℕ} {
 
     module _ {own n : ℕ} {buf₀ buf₁ : List ℕ} (d : rest ≤ budget) (S : SameSpan (j - i) mask (b - a) own)
         (N : NodeNext p rules fits chart tables k a b own (budget - rest) at buf₀ buf₁ n) where
-      -- what comes after the node that stands, within what the least rest leaves
+      -- what comes after the node in the buffer, within what the least rest leaves
       child-next : {w : List ℕ} {f x y : Forest} → InputGiven p rules fits chart tables w → j ≤ length w → q < placeCount p r
           → OpenedRow (Packing p) w (j - i) mask k (tailIn p r (q + 1)) a j budget f b x y → StandsAt buf₀ at (code x)
           → NextAt (Tree (Packing p) w (b - a) own k a b (budget - getD rows (side * (q + 1) + b) 0)) (code x) buf₁ at n

@@ -21,15 +21,15 @@ use Rattle.tree_size.proofs.Stands.{stands-first, stands-behind}
 use Rattle.table_layout.specs.Exact.{Packing}
 use Rattle.table_suffix.specs.Within.{tailIn}
 use Rattle.tree_first.specs.Descend.{InputGiven, Kept}
-use Rattle.tree_first.proofs.Codes.{kept-none}
+use Rattle.tree_first.proofs.Codes.{kept-none, stands-join}
 use Rattle.tree_first.proofs.Opened.{places-of}
 use Rattle.tree_read.specs.Looked.{RuleRead}
 use Rattle.tree_read.specs.Reached.{Ends}
 use Rattle.tree_next.specs.Advance.{NodeNext, LastNext, Turned, RowNext}
 use Rattle.tree_later.specs.Beyond.{AfterAt, NextAt, LaterRule}
-use Rattle.tree_later.proofs.Codes.{tree-nonempty, stands-join, stands-same, kept-same, kept-behind, kept-then, next-some}
+use Rattle.tree_later.proofs.Codes.{tree-nonempty, stands-same, kept-same, kept-behind, kept-then, next-some}
 
--- the second number of a tree that stands in a buffer
+-- the second number of a tree in a buffer
 second : {G : Cfg} {w : List ℕ} {cover mask k i j budget : ℕ} {t : Forest} (buf : List ℕ) (at : ℕ) → Tree G w cover mask k i j budget t
     → StandsAt buf at (code t) → getD buf (2 * at + 1) 0 ≡ getD (code t) 1 0
 second {t = t} buf at T S = S 1 (omega (arith, length-code t, tree-nonempty (T .fit)))
@@ -52,9 +52,9 @@ module _ (p : List ℕ) {r k i j own budget n : ℕ} (at : ℕ) {buf₀ buf₁ w
         (stands-first buf₀ at ((j - i) ∷ r ∷ []) (code f) (subst (StandsAt buf₀ at) (x .coded) S)) (B .here) (K .before);
   }
 
--- ---- where the last node of the row below is last
+-- ---- if the last node of the row below does not move
 
--- the row below the tree that stands, and what comes after it
+-- the row below the tree in the buffer, and what comes after it
 below-next : {p : List ℕ} {rules : ℕ} {fits chart tables : List ℕ} {r k i j own budget : ℕ} (at : ℕ) {n : ℕ}
     {full rows buf₀ buf₁ w : List ℕ} {mask : ℕ} {t f : Forest} (o : Of (Packing p) r k)
     → RowNext p rules fits chart tables r 0 i i j own (budget - 1) (at + 1) buf₀ full rows buf₁ n
@@ -79,16 +79,15 @@ module _ {p : List ℕ} {rules : ℕ} {fits chart tables : List ℕ} {r k i j ow
 
   pub turned-later : {buf : List ℕ} {v : ℕ} → n ≤ 0 → LaterRule p rules fits chart tables r k i j own budget at buf₁ buf v
       → Turned p rules fits chart tables r k i j own budget at buf₀ buf v
-  turned-later l L = record {
-    kept = kept-then none (N .kept) (L .kept);
-    exact = λ w G known mask e t f o x S E.
-        L .exact w G known mask e t f o x
-        (subst (λ (z : List Symbol). Last (Row (Packing p) w (j - i) own z i j (budget - 1)) (code f)) (places-of p r k o)
-        (below-next at o N G known e x S E .none none));
-  }
-    where
-      none : n ≡ 0
-      none = omega arith
+  turned-later l L =
+      let none : n ≡ 0 = omega arith in
+      record {
+        kept = kept-then none (N .kept) (L .kept);
+        exact = λ w G known mask e t f o x S E.
+            L .exact w G known mask e t f o x
+            (subst (λ (z : List Symbol). Last (Row (Packing p) w (j - i) own z i j (budget - 1)) (code f)) (places-of p r k o)
+            (below-next at o N G known e x S E .none none));
+      }
 
 -- ---- a node
 
@@ -105,7 +104,7 @@ module _ {p : List ℕ} {rules : ℕ} {fits chart tables : List ℕ} {k i j mask
 
   module _ {own : ℕ} (u : k < 32 → own ≡ insert k mask) (m : r < maxRules) {buf₁ : List ℕ} {n : ℕ}
       (N : LastNext p rules fits chart tables r i j own (budget - 1) (at + 1) buf₀ buf₁ n) where
-    -- the tree that stands, opened, and the row below it
+    -- the tree in the buffer, opened, and the row below it
     module _ {w : List ℕ} (known : j ≤ length w) {t : Forest} (T : Tree (Packing p) w (j - i) mask k i j budget t)
         (S : StandsAt buf₀ at (code t)) where
       rule-here : r ≡ getD (code t) 1 0
@@ -140,13 +139,12 @@ module _ {p : List ℕ} {rules : ℕ} {fits chart tables : List ℕ} {k i j mask
 
     pub node-turned : {buf : List ℕ} {v : ℕ} → n ≤ 0 → Turned p rules fits chart tables r k i j own budget at buf₁ buf v
         → NodeNext p rules fits chart tables k i j mask budget at buf₀ buf v
-    node-turned l L = record {
-      kept = kept-then none (N .kept) (L .kept);
-      exact = λ w G known t T S.
-          L .exact w G known mask (set-own known T S) t (opened known T S .0) (of known T S) (opened known T S .1)
-          (stands-same buf₀ buf₁ at (code t) (kept-same none (N .kept)) S)
-          (N .none none w G known (opened known T S .0) (below-row known T S) (below-stands known T S));
-    }
-      where
-        none : n ≡ 0
-        none = omega arith
+    node-turned l L =
+        let none : n ≡ 0 = omega arith in
+        record {
+          kept = kept-then none (N .kept) (L .kept);
+          exact = λ w G known t T S.
+              L .exact w G known mask (set-own known T S) t (opened known T S .0) (of known T S) (opened known T S .1)
+              (stands-same buf₀ buf₁ at (code t) (kept-same none (N .kept)) S)
+              (N .none none w G known (opened known T S .0) (below-row known T S) (below-stands known T S));
+        }

@@ -1,5 +1,5 @@
--- What the advance gives, with the tables made: the numbers of the derivation after the one that stands, or that there is none. What is
--- promised of the input is promised where the tables are right for it and a forest of the set stands in the buffer. Assumes nothing.
+-- What the advance gives, once the tables are made: the numbers of the derivation after the one in the buffer, or that there is none. The
+-- promises on an input hold if the tables are right for it and the buffer holds a forest of the set. Assumes nothing.
 use Prim.Native.Nat.{ℕ, _+_, _-_, _≤_, _<_}
 use mathlib.Core.List.{List, _∷_}
 use mathlib.Core.Path.{_≡_}
@@ -19,7 +19,7 @@ use Rattle.tree_later.specs.Beyond.{Frame}
 use Rattle.tree_read.specs.Reached.{Ends}
 pub use Rattle.tree_later.specs.Beyond.{AfterAt, NextAt}
 
--- the tree of k over the span from i to j after the one that stands at node `at`
+-- the tree of k over the span from i to j after the one at node `at`
 pub record NodeNext (p : List ℕ) (rules : ℕ) (fits chart tables : List ℕ) (k i j mask budget at : ℕ) (buf₀ buf : List ℕ) (n : ℕ)
     : Type 0 where
   pub kept : Kept budget at n buf₀ buf
@@ -27,7 +27,7 @@ pub record NodeNext (p : List ℕ) (rules : ℕ) (fits chart tables : List ℕ) 
       → Tree (Packing p) w (j - i) mask k i j budget t → StandsAt buf₀ at (code t)
       → NextAt (Tree (Packing p) w (j - i) mask k i j budget) (code t) buf at n
 
--- the row of the places of rule r over the span from i to j, if its last node moves
+-- the row of the places of rule r over the span from i to j after the one at node `at`, if its last node moves
 pub record LastNext (p : List ℕ) (rules : ℕ) (fits chart tables : List ℕ) (r i j mask budget at : ℕ) (buf₀ buf : List ℕ) (n : ℕ)
     : Type 0 where
   pub kept : Kept budget at n buf₀ buf
@@ -38,7 +38,7 @@ pub record LastNext (p : List ℕ) (rules : ℕ) (fits chart tables : List ℕ) 
       → Row (Packing p) w (j - i) mask (tailIn p r 0) i j budget f → StandsAt buf₀ at (code f)
       → AfterAt (Row (Packing p) w (j - i) mask (tailIn p r 0) i j budget) (code f) buf at n
 
--- the tree of k over the span from i to j after the one of rule r that stands at node `at`, where the last node of the row below it is last
+-- the tree of k over the span from i to j after the one of rule r at node `at`, if the last node of the row below it does not move
 pub record Turned (p : List ℕ) (rules : ℕ) (fits chart tables : List ℕ) (r k i j own budget at : ℕ) (buf₀ buf : List ℕ) (n : ℕ)
     : Type 0 where
   pub kept : Kept budget at n buf₀ buf
@@ -46,8 +46,8 @@ pub record Turned (p : List ℕ) (rules : ℕ) (fits chart tables : List ℕ) (r
       → (o : Of (Packing p) r k) → OpenedNode (Packing p) w (j - i) mask k i j budget o t f → StandsAt buf₀ at (code t)
       → Ends p w (j - i) own r j 0 i (budget - 1) f → NextAt (Tree (Packing p) w (j - i) mask k i j budget) (code t) buf at n
 
--- the row of the places of rule r from q on, from a to j inside a span from i to j, after the one that stands at node `at`, whose last node
--- is last
+-- the row of the places of rule r from q on, from a to j inside a span from i to j, after the one at node `at`, whose last node does not
+-- move
 pub record RowNext (p : List ℕ) (rules : ℕ) (fits chart tables : List ℕ) (r q a i j mask budget at : ℕ) (buf₀ full rows buf : List ℕ)
     (n : ℕ) : Type 0 where
   pub kept : Kept budget at n buf₀ buf
@@ -56,7 +56,7 @@ pub record RowNext (p : List ℕ) (rules : ℕ) (fits chart tables : List ℕ) (
       → Row (Packing p) w (j - i) mask (tailIn p r q) a j budget f → StandsAt buf₀ at (code f)
       → Ends p w (j - i) mask r j q a budget f → NextAt (Row (Packing p) w (j - i) mask (tailIn p r q) a j budget) (code f) buf at n
 
--- the same where a node of k up to b stands at place q, and the places behind it are last
+-- the same if place q has a node of k up to b, and the places after it have their last row
 pub record ChildNext (p : List ℕ) (rules : ℕ) (fits chart tables : List ℕ) (r q k a b i j mask budget at : ℕ) (buf₀ full rows buf : List ℕ)
     (n : ℕ) : Type 0 where
   pub kept : Kept budget at n buf₀ buf

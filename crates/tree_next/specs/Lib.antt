@@ -1,2 +1,2 @@
--- The derivation after the one that stands in a buffer.
+-- The derivation after the one in a buffer.
 pub mod Advance

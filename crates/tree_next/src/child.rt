@@ -1,4 +1,4 @@
-// The row after the one that stands, where the places behind its first node are last: that node moves, or its end.
+// The row after the one in the buffer, if the places after its first node have their last row: that node moves, or its end.
 use super::next::node;
 use packed::Packed;
 use packed_fit::FitTable;
@@ -17,8 +17,8 @@ ghost use Rattle.sizes.specs.Sizes.{maxRules, maxPlaces, side, cells, maxNodes,
 ghost use Rattle.tree_later.specs.Beyond.{Frame};
 ghost use Rattle.tree_next.specs.Advance.{ChildNext};
 
-// Writes the row of the places of the child's rule from its place on, from a to the end of the span, after the one that stands at node
-// `at`, where the places behind the child are last.
+// Writes the row of the places from the child's place on, from a to the end of the span, after the one at node `at`, if the places after
+// the child have their last row.
 pub fn child(
     p: &Packed,
     rules: usize,

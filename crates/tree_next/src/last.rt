@@ -1,4 +1,4 @@
-// The row after the one that stands, where its last node moves: nothing behind that node moves, and no costs are asked for.
+// The row after the one in the buffer, if its last node moves: nothing after that node moves, and no costs are needed.
 use super::next::node;
 use packed::Packed;
 use packed_fit::FitTable;
@@ -13,8 +13,8 @@ ghost use lib.ListN.{length};
 ghost use Rattle.sizes.specs.Sizes.{maxRules, side, cells, maxNodes, outputSize};
 ghost use Rattle.tree_next.specs.Advance.{LastNext};
 
-// Writes the row of the places of rule r over the span after the one that stands at node `at`, if its last node moves. The result is the
-// number of its nodes; 0 if there is no such node or it is last.
+// Writes the row of the places of rule r over the span after the one at node `at`, if its last node moves. The result is the number of
+// its nodes; 0 if there is no such node or no tree comes after it.
 pub fn last(
     p: &Packed,
     rules: usize,
@@ -36,7 +36,13 @@ pub fn last(
     let there = reach(p, r, 0, buf, at, i, j, budget);
     match there {
         Found::Nowhere => 0,
-        Found::There(k, a, b, to, share) => {
+        Found::There {
+            k,
+            a,
+            b,
+            at: to,
+            budget: share,
+        } => {
             let mask = child_set(j - i, mask, b - a);
             let n = node(
                 p,

@@ -1,4 +1,4 @@
-// The derivation after the one that stands in a buffer (document 01: next reading), with the tables made.
+// The derivation after the one in a buffer (document 01: next reading), once the tables are made.
 mod child;
 mod last;
 pub mod next;

@@ -1,5 +1,5 @@
-// The tree after the one that stands, in place: the last node of the row below it moves first, which needs no frame, then what is before
-// that node, then its rule. Nothing is written until the successor is certain.
+// The tree after the one in the buffer, in place. The last node of the row below it moves first, which needs no frame; then what is before
+// that node moves, and then the rule. Nothing is written until the successor is certain.
 use super::last::last;
 use super::turned::turned;
 use packed::Packed;
@@ -14,8 +14,8 @@ ghost use lib.ListN.{length};
 ghost use Rattle.sizes.specs.Sizes.{maxRules, side, cells, maxNodes, outputSize};
 ghost use Rattle.tree_next.specs.Advance.{NodeNext};
 
-// Writes the tree of k over the span after the one that stands at node `at`. The result is the number of its nodes, 0 if there is none:
-// then the buffer is as found.
+// Writes the tree of k over the span after the one at node `at`. The result is the number of its nodes; if there is none, it is 0 and the
+// buffer is unchanged.
 pub fn node(
     p: &Packed,
     rules: usize,

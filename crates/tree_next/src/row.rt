@@ -1,5 +1,5 @@
-// The row after the one that stands, in place, where its last node is last: its later places move first, then its first node, then that
-// node's end.
+// The row after the one in the buffer, in place, if its last node does not move: its later places move first, then its first node, then
+// that node's end.
 use super::child::child;
 use packed::Packed;
 use packed_fit::FitTable;
@@ -18,7 +18,7 @@ ghost use Rattle.sizes.specs.Sizes.{maxRules, maxPlaces, side, cells, maxNodes,
 ghost use Rattle.tree_later.specs.Beyond.{Frame};
 ghost use Rattle.tree_next.specs.Advance.{RowNext};
 
-// Writes the row of the tail, from a to j inside a span from i to j, after the one that stands at node `at`, whose last node is last.
+// Writes the row of the tail, from a to j inside a span from i to j, after the one at node `at`, whose last node does not move.
 pub fn row(
     p: &Packed,
     rules: usize,
@@ -63,8 +63,8 @@ pub fn row(
                 at,
             )
         }
-        Step::Final(_, _) => 0,
-        Step::Node(k, b, s) => {
+        Step::Final { k: _, b: _ } => 0,
+        Step::Node { k, b, size } => {
             let n = row(
                 p,
                 rules,
@@ -75,12 +75,12 @@ pub fn row(
                 rows,
                 Tail { r, q: q + 1, a: b },
                 span,
-                budget - s,
+                budget - size,
                 buf,
-                at + s,
+                at + size,
             );
             if n > 0 {
-                return s + n;
+                return size + n;
             }
             child(
                 p,

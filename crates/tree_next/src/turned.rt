@@ -1,5 +1,5 @@
-// The tree after the one that stands, where the last node of the row below it is last: another node of the row moves, or its rule. The
-// frame of the node is this function's own.
+// The tree after the one in the buffer, if the last node of the row below it does not move: another node of the row moves, or the rule
+// changes. The frame of the node is this function's own.
 use super::row::row;
 use packed::Packed;
 use packed_fit::FitTable;
@@ -15,8 +15,8 @@ ghost use lib.ListN.{length};
 ghost use Rattle.sizes.specs.Sizes.{maxRules, side, cells, maxNodes, outputSize};
 ghost use Rattle.tree_next.specs.Advance.{Turned};
 
-// Writes the tree of k over the span, under a mask that has k, after the one of rule r that stands at node `at`. The result is the number
-// of its nodes, 0 if there is none.
+// Writes the tree of k over the span, under a mask that has k, after the one of rule r at node `at`. The result is the number of its
+// nodes, 0 if there is none.
 pub fn turned(
     p: &Packed,
     rules: usize,

@@ -1,8 +1,9 @@
--- Places that hold only terminals: a row of them has no nodes and as many bytes, so what comes after a node before them, up to where it
--- ends, comes after the row. Assumes nothing.
+-- Places with only terminals: a row of them has no nodes and one byte each. If they follow a node, then what comes after the node, with the
+-- same end, comes after the row. Assumes nothing.
 use Prim.Native.Nat.{ℕ, zero, suc, _+_, _-_, _≤_, _<_}
 use mathlib.Core.Bool.{Bool, true, false, true≢false}
 use mathlib.Core.List.{List, [], _∷_, _++_, append-nil}
+use mathlib.Core.Logic.{dite}
 use mathlib.Core.Path.{_≡_, refl, sym, ap, subst, _∙_}
 use native.Mathlib.Decide.{ℕ-discrete}
 use native.Mathlib.Omega.{arith}
@@ -28,11 +29,9 @@ leaves-none p r from q h l = absurd (omega arith)
 
 pub leaves-more : (p : List ℕ) (r : ℕ) {from q : ℕ} {b : Bool} → LeavesIn p r from q → b ≡ isNonterminalIn p r q → b ≡ false
     → LeavesIn p r from (q + 1)
-leaves-more p r {from} {q} L e f s h l = go (ℕ-discrete s q)
-  where
-    go : Dec (s ≡ q) → isNonterminalIn p r s ≡ false
-    go (yes x) = ap (isNonterminalIn p r) x ∙ sym e ∙ f
-    go (no x) = let z : ¬ (s ≡ q) = x in L s h (omega arith)
+leaves-more p r {q = q} L e f s h l = dite (ℕ-discrete s q)
+    (λ x. ap (isNonterminalIn p r) x ∙ sym e ∙ f)
+    (λ x. let z : ¬ (s ≡ q) = x in L s h (omega arith))
 
 pub leaves-not : (p : List ℕ) (r : ℕ) {from q m : ℕ} {b : Bool} → b ≡ isNonterminalIn p r q → b ≡ true → from ≤ q → q < m
     → LeavesIn p r from m → ⊥
@@ -43,7 +42,7 @@ leaves-all p r L h s u v = L s u (omega arith)
 
 -- ---- a row of such places
 
--- the forests of the places have no nodes, and n bytes
+-- every forest of the places has no nodes and n bytes
 abbrev pub NoNodes : Cfg → List Symbol → ℕ → Type 0
 NoNodes G places n = (f : Forest) → Fits G places f → (code f ≡ []) × (length (yield f) ≡ n)
 
@@ -69,11 +68,11 @@ leaves-behind p r q L = leaves-fit p r (placeCount p r - q) q (λ s u v. L s u (
 
 module _ {G : Cfg} {w : List ℕ} {cover mask k : ℕ} {places : List Symbol} {a j budget b : ℕ} {f x y : Forest} {m : ℕ} (known : j ≤ length w)
     (N : NoNodes G places m) (o : OpenedRow G w cover mask k places a j budget f b x y) where
-  -- a row of the places: where it begins, and its code
+  -- a row of the places has no code, and its start is known
   leaves-row : {c share : ℕ} {t : Forest} → Row G w cover mask places c j share t → (code t ≡ []) × (j - c ≡ m)
   leaves-row {c} {t = t} R = let (e, n) = N t (R .fit) in (e, omega (arith, row-length G w known R))
 
-  -- it is the first one there is
+  -- it is the first row of the places
   leaves-first : {c share : ℕ} → c ≡ b → Min (Row G w cover mask places c j share) []
   leaves-first {c} {share} e =
       let d = leaves-row (o .others) .0 in
@@ -132,7 +131,7 @@ module _ {G : Cfg} {w : List ℕ} {cover mask k : ℕ} {places : List Symbol} {a
       (subst (λ (z : ℕ). After (Tree G w cover mask k a z budget) (code x) e) at-end A)
       (sym (ap length (A .found .coded)) ∙ length-code t) (leaves-first (sym at-end))))
 
-  -- it is last
+  -- the node is last
   pub leaves-end : Last (Tree G w cover mask k a b budget) (code x)
       → Last (Row G w cover mask (nonterminal k ∷ places) a j budget) (code f)
   leaves-end A =

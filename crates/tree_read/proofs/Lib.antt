@@ -1,4 +1,4 @@
--- Laws of what stands in a buffer, by the tests that the code makes.
+-- Laws of what a buffer holds, by the tests that the code makes.
 pub mod Leaves
 pub mod Reading
 pub mod Places

@@ -1,4 +1,4 @@
--- Rows of the places of a rule as those of another list; and where nothing right stands in the buffer, no row stands. Assumes nothing.
+-- Rows of the places of a rule as rows of another list; if the buffer holds nothing that fits, no row is there. Assumes nothing.
 use Prim.Native.Nat.{ℕ, _+_, _≤_}
 use mathlib.Core.List.{List}
 use mathlib.Core.Path.{_≡_, refl, sym, subst}
@@ -19,7 +19,7 @@ use Rattle.tree_later.specs.Beyond.{AfterAt, NextAt}
 use Rattle.tree_later.proofs.Codes.{tree-nonempty}
 use Rattle.tree_read.proofs.Reading.{opened-here, size-here}
 
--- the rows of the places from q on, as those of another list
+-- the rows of the places from q on, as rows of another list
 module _ (p : List ℕ) (r q : ℕ) {w : List ℕ} {cover mask a j budget : ℕ} {places : List Symbol} (d : tailIn p r q ≡ places) where
   pub row-as : {f : Forest} → Row (Packing p) w cover mask (tailIn p r q) a j budget f → Row (Packing p) w cover mask places a j budget f
   row-as {f} R = subst (λ (s : List Symbol). Row (Packing p) w cover mask s a j budget f) d R
@@ -34,7 +34,7 @@ module _ (p : List ℕ) (r q : ℕ) {w : List ℕ} {cover mask a j budget : ℕ}
   after-as {c} {buf} {at} {n} N =
       subst (λ (s : List Symbol). AfterAt (Row (Packing p) w cover mask s a j budget) c buf at n) (sym d) N
 
--- where nothing stands that is right, no row stands
+-- if the buffer holds nothing that fits, no row is there
 module _ {p : List ℕ} {r q a j budget at : ℕ} {buf : List ℕ} (l : a ≤ j) (room : at + budget ≤ maxNodes) where
   pub none-stands : {w : List ℕ} {cover mask : ℕ} {f : Forest} → BufferLooked p r q buf at a j budget No → j ≤ length w
       → Row (Packing p) w cover mask (tailIn p r q) a j budget f → StandsAt buf at (code f) → ⊥

@@ -1,4 +1,4 @@
--- What stands at a place and at a node, by the tests that the code makes, and what a row that stands there says of it. Assumes nothing.
+-- What the buffer holds at a place and at a node, by the tests that the code makes, and what a row there says of it. Assumes nothing.
 use Prim.Native.Nat.{ℕ, _+_, _*_, _-_, _≤_, _<_}
 use mathlib.Core.Bool.{Bool, true, false}
 use mathlib.Core.List.{List, _∷_, _++_}
@@ -22,7 +22,8 @@ use Rattle.table_suffix.specs.Within.{tailIn}
 use Rattle.tree_later.proofs.Codes.{tree-nonempty}
 use Rattle.tree_read.specs.declared.look.Step.{Step}
 use Rattle.tree_read.specs.declared.look.Step.the-variants.{No, End, Byte, Final, Node}
-use Rattle.tree_read.specs.Looked.{LeavesIn, LeavesFound, BufferLooked, at-end, at-byte, no-byte, at-last, at-node, no-room, no-end, no-node}
+use Rattle.tree_read.specs.Looked.{LeavesIn, LeavesFound, BufferLooked, at-end, at-byte, no-byte, at-last, at-node}
+use Rattle.tree_read.specs.Looked.{no-room, no-end, no-node}
 
 -- ---- the tests
 
@@ -59,34 +60,36 @@ module _ {p : List ℕ} {r q : ℕ} {buf : List ℕ} {at a j budget m : ℕ} (e 
     pub look-large : {s : ℕ} → t ≡ true → Sized p buf at s → budget < s → BufferLooked p r q buf at a j budget No
     look-large y Z l = no-node (omega arith) (sym f ∙ y) Z l
 
--- where the row stands next
-module _ {p : List ℕ} {r q : ℕ} {buf : List ℕ} {at a j budget : ℕ} {s : Step} (L : BufferLooked p r q buf at a j budget s) where
-  pub byte-room : s ≡ Byte → (q < maxPlaces) × (a < j)
-  byte-room e = go (subst (BufferLooked p r q buf at a j budget) e L)
-    where
-      go : BufferLooked p r q buf at a j budget Byte → (q < maxPlaces) × (a < j)
-      go (at-byte c t m) = (omega (arith, count-le p r), m)
+module _ {p : List ℕ} {r q : ℕ} {buf : List ℕ} {at a j budget : ℕ} where
+  -- what the buffer holds, once the step is known
+  pub looked-as : {s t : Step} → BufferLooked p r q buf at a j budget s → s ≡ t → BufferLooked p r q buf at a j budget t
+  looked-as L e = subst (BufferLooked p r q buf at a j budget) e L
 
-  pub node-room : {k b n : ℕ} → s ≡ Node k b n → (q < maxPlaces) × (a ≤ b) × (b ≤ j) × (n ≤ budget) × (at + n ≤ maxNodes)
-  node-room {k} {b} {n} e = go (subst (BufferLooked p r q buf at a j budget) e L)
-    where
-      go : BufferLooked p r q buf at a j budget (Node k b n) → (q < maxPlaces) × (a ≤ b) × (b ≤ j) × (n ≤ budget) × (at + n ≤ maxNodes)
-      go (at-node c t g d N Z x y) = (omega (arith, count-le p r), omega arith, x, y, omega (arith, Z .small))
+  -- the place and the position that come next are within their limits
+  pub byte-room : BufferLooked p r q buf at a j budget Byte → (q < maxPlaces) × (a < j)
+  byte-room (at-byte c t m) = (omega (arith, count-le p r), m)
 
--- ---- what stands
+  pub node-room : {k b n : ℕ} → BufferLooked p r q buf at a j budget (Node k b n)
+      → (q < maxPlaces) × (a ≤ b) × (b ≤ j) × (n ≤ budget) × (at + n ≤ maxNodes)
+  node-room (at-node c t g d N Z x y) = (omega (arith, count-le p r), omega arith, x, y, omega (arith, Z .small))
+
+-- ---- a row in the buffer
 
 module _ {G : Cfg} {w : List ℕ} {cover mask k : ℕ} {places : List Symbol} {a j budget : ℕ} {f : Forest} (buf : List ℕ) (at : ℕ)
     (S : StandsAt buf at (code f)) where
-  -- the first number of a node that stands there says where it ends
+  -- the first number in the buffer is that of the row's code, and says where its first node ends
+  pub first-number : {b : ℕ} {x y : Forest} → OpenedRow G w cover mask k places a j budget f b x y
+      → getD buf (2 * at) 0 ≡ getD (code f) 0 0
+  first-number o =
+      let n = o .counted in
+      let z : 2 * at ≡ 2 * at + 0 = omega arith in
+      ap (λ (v : ℕ). getD buf v 0) z ∙ S 0 (omega (arith, length-code f, tree-nonempty (o .child .fit)))
+
   pub opened-here : {b : ℕ} → j ≤ length w → a ≤ j → Row G w cover mask (nonterminal k ∷ places) a j budget f → b ≡ a + getD buf (2 * at) 0
       → (x y : Forest) × OpenedRow G w cover mask k places a j budget f b x y
   opened-here {b} known l R e =
       let (x, y, o) = row-opened known l (a + getD (code f) 0 0) R refl in
-      let n = o .counted in
-      let z : 2 * at ≡ 2 * at + 0 = omega arith in
-      let d : getD buf (2 * at) 0 ≡ getD (code f) 0 0 = ap (λ (v : ℕ). getD buf v 0) z
-      ∙ S 0 (omega (arith, length-code f, tree-nonempty (o .child .fit))) in
-      row-opened known l b R (e ∙ ap (λ (v : ℕ). a + v) d)
+      row-opened known l b R (e ∙ ap (λ (v : ℕ). a + v) (first-number o))
 
   module _ {b : ℕ} {x y : Forest} (o : OpenedRow G w cover mask k places a j budget f b x y) where
     pub both-stand : StandsAt buf at (code x ++ code y)
@@ -95,14 +98,14 @@ module _ {G : Cfg} {w : List ℕ} {cover mask k : ℕ} {places : List Symbol} {a
     pub child-here : StandsAt buf at (code x)
     child-here = stands-first buf at (code x) (code y) both-stand
 
--- the nodes counted are those of the tree
+-- the number of nodes that was counted is that of the tree
 pub size-here : {p w : List ℕ} {cover mask k : ℕ} {places : List Symbol} {a j budget at s b : ℕ} {buf : List ℕ} {f x y : Forest}
     → Sized p buf at s → StandsAt buf at (code f) → OpenedRow (Packing p) w cover mask k places a j budget f b x y → at + budget ≤ maxNodes
     → s ≡ nodes x
 size-here {k = k} {at = at} {buf = buf} {x = x} Z S o room =
     Z .exact k x (o .child .fit) (child-here buf at S o) (omega (arith, o .child .small))
 
--- a node of k up to b with s nodes, the first of a row that stands, and the row behind it
+-- the first node of a row in the buffer, a node of k up to b with s nodes, and the row after it
 pub record Passed (p w : List ℕ) (cover mask r q k a j budget b s : ℕ) (buf : List ℕ) (at : ℕ) (f : Forest) : Type 0 where
   pub first : Forest
   pub rest : Forest
@@ -112,7 +115,7 @@ pub record Passed (p w : List ℕ) (cover mask r q k a j budget b s : ℕ) (buf 
   pub row : Row (Packing p) w cover mask (tailIn p r (q + 1)) b j (budget - s) rest
   pub stands : StandsAt buf (at + s) (code rest)
 
--- such a node, where so many nodes stand there and the row is opened
+-- such a node, from its size and from the row's first node
 abbrev pub passed-here : {p w : List ℕ} {cover set r q k a j budget b s at : ℕ} {buf : List ℕ} {f x y : Forest} → j ≤ length w
     → Sized p buf at s → StandsAt buf at (code f) → OpenedRow (Packing p) w cover set k (tailIn p r (q + 1)) a j budget f b x y
     → at + budget ≤ maxNodes → Passed p w cover set r q k a j budget b s buf at f

@@ -1,5 +1,5 @@
--- The last node of a row that stands in a buffer: the one with only terminals behind it. Nothing behind it moves, so what comes after it
--- comes after the row; and that it is last is what remains to be known where it does not move. Assumes nothing.
+-- The last node of a row in a buffer: the one with only terminals after it. Nothing after it moves, so what comes after the node comes
+-- after the row. If the node does not move, it remains known that it is the last one. Assumes nothing.
 use Prim.Native.Nat.{ℕ, _+_, _*_, _-_, _≤_, _<_}
 use mathlib.Core.Bool.{true, false}
 use mathlib.Core.List.{List}
@@ -18,7 +18,7 @@ use Rattle.tree_read.specs.declared.reach.Found.{Found}
 use Rattle.tree_read.specs.declared.reach.Found.the-variants.{Nowhere, There}
 use Rattle.tree_read.specs.Looked.{LeavesIn}
 
--- the row f of the places of rule r from q on, from a to j, has no last node, or that node is last
+-- the row f of the places of rule r from q on, from a to j, has no last node, or no tree comes after that node
 pub data Ends (p w : List ℕ) (cover mask r j : ℕ) : ℕ → ℕ → ℕ → Forest → Type 0 where
   ends-none : {q a budget : ℕ} {f : Forest} → placeCount p r ≤ q → Ends p w cover mask r j q a budget f
   ends-leaf : {q a budget : ℕ} {f : Forest} (g : Forest) → isNonterminalIn p r q ≡ false
@@ -31,8 +31,7 @@ pub data Ends (p w : List ℕ) (cover mask r j : ℕ) : ℕ → ℕ → ℕ → 
   ends-last : {q a budget : ℕ} {f : Forest} → isNonterminalIn p r q ≡ true → LeavesIn p r (q + 1) (placeCount p r)
       → Last (Row (Packing p) w cover mask (tailIn p r q) a j budget) (code f) → Ends p w cover mask r j q a budget f
 
--- the last node of f is a node of k from c to b that stands at node `to`; what comes after it, the numbers before it being kept, comes
--- after f
+-- the last node of f is a node of k from c to b, stored at node `to`; what comes after it, with the same numbers before it, comes after f
 pub record LastNode (p w : List ℕ) (cover mask r q a j budget : ℕ) (f : Forest) (buf : List ℕ) (at k c b to share : ℕ) : Type 0 where
   pub tree : Forest
   pub child : Tree (Packing p) w cover mask k c b share tree
@@ -42,7 +41,7 @@ pub record LastNode (p w : List ℕ) (cover mask r q a j budget : ℕ) (f : Fore
       → AfterAt (Tree (Packing p) w cover mask k c b share) (code tree) buf₁ to n
       → AfterAt (Row (Packing p) w cover mask (tailIn p r q) a j budget) (code f) buf₁ at (to - at + n)
 
--- where the last node of the row stands that stands at node `at`, and what is left of the budget there
+-- where the last node of the row at node `at` is stored, and what is left of the budget for it
 pub data LastReached (p : List ℕ) (r q : ℕ) (buf : List ℕ) (at a j budget : ℕ) : Found → Type 0 where
   nowhere : ((w : List ℕ) (cover mask : ℕ) (f : Forest) → j ≤ length w → Row (Packing p) w cover mask (tailIn p r q) a j budget f
       → StandsAt buf at (code f) → Ends p w cover mask r j q a budget f) → LastReached p r q buf at a j budget Nowhere

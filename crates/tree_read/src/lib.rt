@@ -1,3 +1,3 @@
-// What stands in a buffer of a derivation: what comes at a place of a rule, and the last node of a row.
+// Reading a derivation in a buffer: what comes at a place of a rule, and the last node of a row.
 pub mod look;
 pub mod reach;

@@ -1,4 +1,4 @@
-// What stands in the buffer, read without going down: at a place of a rule, and the rule of a node.
+// What the buffer holds at a place of a rule, and the rule of a node, read without going down.
 use numbers::wide;
 use packed::Packed;
 ghost use Prim.Native.Nat.{_+_, _<_, _≤_};
@@ -6,17 +6,17 @@ ghost use lib.ListN.{length};
 ghost use Rattle.sizes.specs.Sizes.{maxRules, maxPlaces, side, maxNodes, outputSize};
 ghost use Rattle.tree_read.specs.Looked.{BufferLooked, LeavesFound, RuleRead};
 
-// What stands in a row: nothing that is right, its end, a byte, a node of a nonterminal up to an end with only terminals behind it, or one
-// at another place, with the nodes of its tree.
+// What comes next in a row: nothing that fits, its end, a byte, a node of k up to b with only terminals after it, or a node at another
+// place, whose tree has `size` nodes.
 pub enum Step {
     No,
     End,
     Byte,
-    Final(usize, usize),
-    Node(usize, usize, usize),
+    Final { k: usize, b: usize },
+    Node { k: usize, b: usize, size: usize },
 }
 
-// Whether only terminals stand at the places of rule r from `from` on and below m: then no node stands there.
+// Whether the places of rule r from `from` on and below m have only terminals, and so no nodes.
 fn only_terminals(p: &Packed, r: usize, from: usize, m: usize) -> bool
     requires { ⌜ (r < maxRules) × (m ≤ maxPlaces) ⌝ }
     ensures { λ b. ⌜ LeavesFound (now (p .entry)) r from m b ⌝ }
@@ -31,7 +31,7 @@ fn only_terminals(p: &Packed, r: usize, from: usize, m: usize) -> bool
     true
 }
 
-// What stands at place q of rule r, from a on and up to j at most, at node `at`.
+// What the buffer holds at node `at` for place q of rule r, from a up to at most j.
 pub fn look(
     p: &Packed,
     r: usize,
@@ -59,18 +59,22 @@ pub fn look(
         }
         let k = packed::value(p, r, q);
         if only_terminals(p, r, q + 1, m) {
-            return Step::Final(k, a + c);
+            return Step::Final { k, b: a + c };
         }
         let s = tree_size::size(p, buf, at);
         if s <= budget {
-            return Step::Node(k, a + c, s);
+            return Step::Node {
+                k,
+                b: a + c,
+                size: s,
+            };
         }
         return Step::No;
     }
     if a < j { Step::Byte } else { Step::No }
 }
 
-// The rule of node `at`; no rule if there is none there, or the budget has no node.
+// The rule of node `at`; no rule if the node has none, or if the budget is 0.
 pub fn rule_at(buf: &[u16], at: usize, budget: usize) -> usize
     requires { ⌜ (at + budget ≤ maxNodes) × (outputSize ≤ length (now buf)) ⌝ }
     ensures { λ r. ⌜ RuleRead (now (buf .entry)) at budget r ⌝ }

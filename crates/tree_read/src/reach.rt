@@ -1,5 +1,5 @@
-// The last node of the row that stands: the one with only terminals behind it. Its end stays, and it has all the nodes that those before it
-// leave, so that no costs are asked for.
+// The last node of a row in a buffer: the one with only terminals after it. Its end stays the same, and its budget is all that the nodes
+// before it leave, so no costs are needed.
 use super::look::Step;
 use super::look::look;
 use packed::Packed;
@@ -8,13 +8,19 @@ ghost use lib.ListN.{length};
 ghost use Rattle.sizes.specs.Sizes.{maxRules, maxPlaces, side, maxNodes, outputSize};
 ghost use Rattle.tree_read.specs.Reached.{LastReached};
 
-// No such node, or one of a nonterminal from a start to an end, at a node of the buffer, with a budget.
+// The last node of a row: there is none, or it is of the nonterminal k from a to b, is stored at node `at`, and has a budget.
 pub enum Found {
     Nowhere,
-    There(usize, usize, usize, usize, usize),
+    There {
+        k: usize,
+        a: usize,
+        b: usize,
+        at: usize,
+        budget: usize,
+    },
 }
 
-// The last node of the row of the places of rule r from q on, from a to j, that stands at node `at`.
+// The last node of the row at node `at`, for the places of rule r from q on, from a to j.
 pub fn reach(
     p: &Packed,
     r: usize,
@@ -33,7 +39,13 @@ pub fn reach(
         Step::No => Found::Nowhere,
         Step::End => Found::Nowhere,
         Step::Byte => reach(p, r, q + 1, buf, at, a + 1, j, budget),
-        Step::Final(k, b) => Found::There(k, a, b, at, budget),
-        Step::Node(k, b, s) => reach(p, r, q + 1, buf, at + s, b, j, budget - s),
+        Step::Final { k, b } => Found::There {
+            k,
+            a,
+            b,
+            at,
+            budget,
+        },
+        Step::Node { k: _, b, size } => reach(p, r, q + 1, buf, at + size, b, j, budget - size),
     }
 }

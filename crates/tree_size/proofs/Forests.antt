@@ -1,4 +1,4 @@
--- Two forests one behind the other, as one. Assumes nothing.
+-- Two forests, one after the other, as one forest. Assumes nothing.
 use Prim.Native.Nat.{ℕ, _+_}
 use mathlib.Core.List.{List, [], _∷_, _++_, append-assoc}
 use mathlib.Core.Path.{_≡_, refl, sym, ap, _∙_}
@@ -8,7 +8,7 @@ use Rattle.cfg.specs.Grammar.{Cfg, Symbol}
 use Rattle.cfg.specs.Tree.{Forest, end, leaf, node, yield, nodes, code, Fits, fits-end, fits-leaf, fits-node}
 use Rattle.tree_size.specs.Standing.{childrenOf}
 
--- the row of the siblings of both
+-- the row of all siblings of both forests
 unfoldable pub append : Forest → Forest → Forest
 append end g = g
 append (leaf m f) g = leaf m (append f g)

@@ -1,4 +1,4 @@
--- What stands in a buffer, taken apart. Assumes nothing.
+-- A code in a buffer, taken apart. Assumes nothing.
 use Prim.Native.Nat.{ℕ, _+_, _*_}
 use mathlib.Core.List.{List, [], _∷_, _++_}
 use mathlib.Core.Path.{_≡_, ap, _∙_}
@@ -11,14 +11,7 @@ module _ (buf : List ℕ) (at : ℕ) where
   pub stands-rule : (c r : ℕ) (e : List ℕ) → StandsAt buf at (c ∷ r ∷ e) → getD buf (2 * at + 1) 0 ≡ r
   stands-rule c r e s = s 1 (omega arith)
 
-  pub stands-behind : (c r : ℕ) (e : List ℕ) → StandsAt buf at (c ∷ r ∷ e) → StandsAt buf (at + 1) e
-  stands-behind c r e s y h =
-      let d : 2 * (at + 1) + y ≡ 2 * at + (2 + y) = omega arith in
-      let f : 2 + y ≡ length (c ∷ r ∷ []) + y = omega arith in
-      ap (λ (x : ℕ). getD buf x 0) d ∙ s (2 + y) (omega arith) ∙ ap (λ (x : ℕ). getD (c ∷ r ∷ e) x 0) f
-      ∙ getD-append-add (c ∷ r ∷ []) e y 0
-
-  -- the first of two lists of numbers, and the second behind it
+  -- the first of two lists of numbers, and the second after it
   pub stands-first : (e f : List ℕ) → StandsAt buf at (e ++ f) → StandsAt buf at e
   stands-first e f s y h = s y (omega (arith, length-append e f)) ∙ List·getD-append e f 0 y h
 
@@ -26,3 +19,6 @@ module _ (buf : List ℕ) (at : ℕ) where
   stands-second e f n l s y h =
       let d : 2 * (at + n) + y ≡ 2 * at + (length e + y) = omega arith in
       ap (λ (x : ℕ). getD buf x 0) d ∙ s (length e + y) (omega (arith, length-append e f)) ∙ getD-append-add e f y 0
+
+  pub stands-behind : (c r : ℕ) (e : List ℕ) → StandsAt buf at (c ∷ r ∷ e) → StandsAt buf (at + 1) e
+  stands-behind c r e s = stands-second (c ∷ r ∷ []) e 1 (omega arith) s

@@ -1,5 +1,4 @@
--- The walk over the nodes of a tree that stands in a buffer: what is left of the tree is a row of trees, one for each child to come.
--- Assumes nothing.
+-- The walk over the nodes of a tree in a buffer: the rest of the tree is a row of trees, one for each child to come. Assumes nothing.
 use Prim.Native.Nat.{ℕ, suc, _+_, _*_, _-_, _≤_, _<_}
 use mathlib.Core.List.{List, [], _∷_, _++_}
 use mathlib.Core.Path.{_≡_, refl, sym, ap, subst, _∙_}
@@ -14,7 +13,7 @@ use Rattle.tree_size.specs.Standing.{childOf, childrenOf, childrenIn, St
 use Rattle.tree_size.proofs.Stands.{stands-rule, stands-behind}
 use Rattle.tree_size.proofs.Forests.{append, append-fits, append-nodes, append-code, children-append}
 
--- a forest of `left` nodes stands at `at`, and fits places of which `todo` are nonterminals
+-- a forest of `left` nodes is stored at `at`, and fits places of which `todo` are nonterminals
 pub record Row (p buf : List ℕ) (at todo left : ℕ) : Type 0 where
   pub places : List Symbol
   pub forest : Forest
@@ -23,7 +22,7 @@ pub record Row (p buf : List ℕ) (at todo left : ℕ) : Type 0 where
   pub stands : StandsAt buf at (code forest)
   pub size : nodes forest ≡ left
 
--- the rule r of the node at `at` is one of the grammar's, and behind the node stands a row that has its children in front
+-- the rule r of the node at `at` is one of the grammar's, and after the node comes a row that begins with its children
 pub record Behind (p buf : List ℕ) (at r todo left : ℕ) : Type 0 where
   pub low : r < maxRules
   pub rest : ℕ
@@ -38,7 +37,7 @@ no-nodes p (fits-leaf t f) e = no-nodes p f (omega arith)
 no-nodes p (fits-node o b f) e = absurd (omega arith)
 
 module _ (p buf : List ℕ) (at r todo : ℕ) (here : r ≡ getD buf (2 * at + 1) 0) where
-  -- at a node, whose children come before its siblings
+  -- at a node: its children come before its siblings
   behind-node : {k s : ℕ} {places : List Symbol} {below rest : Forest} (o : Of (cfgIn 0 p) s k)
       → Fits (cfgIn 0 p) (o .the .places) below → Fits (cfgIn 0 p) places rest → 1 + childrenOf places ≡ todo
       → StandsAt buf at (code (node s below rest)) → Behind p buf at r todo (nodes (node s below rest))
@@ -63,7 +62,7 @@ module _ (p buf : List ℕ) (at r todo : ℕ) (here : r ≡ getD buf (2 * at + 1
         };
       }
 
-  -- the leaves in front have no numbers
+  -- the leaves before the first node have no numbers
   behind : {places : List Symbol} {f : Forest} → 0 < todo → childrenOf places ≡ todo → Fits (cfgIn 0 p) places f → StandsAt buf at (code f)
       → Behind p buf at r todo (nodes f)
   unfolding childrenOf childOf code nodes
@@ -71,7 +70,7 @@ module _ (p buf : List ℕ) (at r todo : ℕ) (here : r ≡ getD buf (2 * at + 1
   behind h e (fits-leaf m f) t = behind h (omega arith) f t
   behind h e (fits-node o b f) t = behind-node o b f e t
 
--- of any tree that stands at `at` all but the first n nodes are left, as a row for `todo` nonterminals
+-- all but the first n nodes of any tree at `at` are left, as a row for `todo` nonterminals
 pub record Walked (p buf : List ℕ) (at n todo : ℕ) : Type 0 where
   pub left : (k : ℕ) (x : Forest) → Fits (cfgIn 0 p) (nonterminal k ∷ []) x → StandsAt buf at (code x)
       → (m : ℕ) × (nodes x ≡ n + m) × Row p buf (at + n) todo m
@@ -96,7 +95,7 @@ module _ {p buf : List ℕ} {at : ℕ} where
   }
 
   module _ {n todo : ℕ} (more : 0 < todo) (W : Walked p buf at n todo) where
-    -- the next node of a tree that stands there
+    -- the next node of a tree at `at`
     next : {r : ℕ} → r ≡ getD buf (2 * (at + n) + 1) 0 → (k : ℕ) (x : Forest) → Fits (cfgIn 0 p) (nonterminal k ∷ []) x
         → StandsAt buf at (code x) → (m : ℕ) × (nodes x ≡ n + m) × Behind p buf (at + n) r todo m
     next {r} e k x f t =
@@ -117,7 +116,7 @@ module _ {p buf : List ℕ} {at : ℕ} where
           );
     }
 
-    -- no tree of the grammar stands there, or it is not within the buffer
+    -- no tree of the grammar is stored at `at`, or it is not within the buffer
     pub sized-full : at + n ≤ maxNodes → maxNodes ≤ at + n → Sized p buf at n
     sized-full h l = record {
       small = h;

@@ -1,2 +1,2 @@
--- Trees that stand in a buffer of numbers.
+-- Trees in a buffer of numbers.
 pub mod Standing

@@ -1,4 +1,4 @@
--- Where a forest stands in a buffer of numbers, by its code, and how many nodes a tree has that stands there. Assumes nothing.
+-- Forests stored by their code in a buffer of numbers, and how many nodes a tree there has. Assumes nothing.
 use Prim.Native.Nat.{ℕ, _+_, _*_, _≤_, _<_}
 use mathlib.Core.List.{List, [], _∷_}
 use mathlib.Core.Path.{_≡_}
@@ -8,17 +8,17 @@ use Rattle.cfg.specs.Grammar.{Symbol, nonterminal, terminal}
 use Rattle.cfg.specs.Tree.{Forest, nodes, code, Fits}
 use Rattle.packed.specs.Packed.{placesIn, cfgIn}
 
--- the nodes directly below a node for one of its rule's symbols: one for a nonterminal, none for a terminal
+-- the number of children that a node has for one symbol of its rule: one for a nonterminal, none for a terminal
 unfoldable pub childOf : Symbol → ℕ
 childOf (nonterminal k) = 1
 childOf (terminal t) = 0
 
--- the nonterminals among the symbols
+-- the number of nonterminals among the symbols
 unfoldable pub childrenOf : List Symbol → ℕ
 childrenOf [] = 0
 childrenOf (s ∷ places) = childOf s + childrenOf places
 
--- the nonterminals among the places of rule r
+-- the number of nonterminals among the places of rule r
 abbrev pub childrenIn : List ℕ → ℕ → ℕ
 childrenIn p r = childrenOf (placesIn p r)
 
@@ -26,7 +26,7 @@ childrenIn p r = childrenOf (placesIn p r)
 abbrev pub StandsAt : List ℕ → ℕ → List ℕ → Type 0
 StandsAt buf at e = (y : ℕ) → y < length e → getD buf (2 * at + y) 0 ≡ getD e y 0
 
--- n nodes from node `at` on are within a buffer for 512, and are the nodes of any tree of the grammar that stands at `at` and is within it
+-- n nodes from node `at` on are within a buffer for 512, and any tree of the grammar that is stored at `at` within it has n nodes
 pub record Sized (p buf : List ℕ) (at n : ℕ) : Type 0 where
   pub small : at + n ≤ maxNodes
   pub exact : (k : ℕ) (x : Forest) → Fits (cfgIn 0 p) (nonterminal k ∷ []) x → StandsAt buf at (code x) → at + nodes x ≤ maxNodes

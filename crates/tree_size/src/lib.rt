@@ -1,5 +1,5 @@
-// Where a subtree ends in a buffer that holds the code of a forest: for each node how many bytes it covers, then its rule, in preorder.
-// Counts the children that are still to come, and reads no input.
+// Where a subtree ends in a buffer with the code of a forest: for each node, in preorder, the number of bytes that it covers and its rule.
+// The code counts the children that are still to come, and reads no input.
 use numbers::wide;
 use packed::Packed;
 ghost use mathlib.Core.Path.{_≡_};
@@ -9,7 +9,7 @@ ghost use Rattle.sizes.specs.Sizes.{maxNodes, outputSize, maxRules, maxPlaces};
 ghost use Rattle.packed.specs.Packed.{symbolIn};
 ghost use Rattle.tree_size.specs.Standing.{childOf, childrenIn, Sized};
 
-// 1 where place q of rule r holds a nonterminal, else 0.
+// 1 if place q of rule r holds a nonterminal, else 0.
 fn child(p: &Packed, r: usize, q: usize) -> usize
     requires { ⌜ (r < maxRules) × (q < maxPlaces) ⌝ }
     ensures { λ n. ⌜ (n ≡ childOf (symbolIn (now (p .entry)) r q)) × (n ≤ 1) ⌝ }
@@ -36,8 +36,8 @@ fn children(p: &Packed, r: usize) -> usize
     n
 }
 
-// How many nodes the tree has that stands at node `at` of the buffer. Where no tree of the grammar stands there, some number of nodes
-// within the buffer.
+// How many nodes the tree at node `at` of the buffer has. If no tree of the grammar is there, the result is some number of nodes within the
+// buffer.
 pub fn size(p: &Packed, buf: &[u16], at: usize) -> usize
     requires { ⌜ (outputSize ≤ length (now buf)) × (at ≤ maxNodes) ⌝ }
     ensures { λ n. ⌜ Sized (now (p .entry)) (now (buf .entry)) at n ⌝ }

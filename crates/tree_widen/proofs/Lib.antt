@@ -1,2 +1,2 @@
--- Laws of a wider node.
+-- Laws of a wider node and of what follows a node.
 pub mod WiderNodes

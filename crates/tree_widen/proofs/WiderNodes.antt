@@ -21,16 +21,16 @@ use Rattle.table_layout.specs.Exact.{Packing}
 use Rattle.table_suffix.specs.Within.{tailIn, rowAt}
 use Rattle.tree_choose.specs.Chosen.{EndChosen}
 use Rattle.tree_first.specs.Descend.{BelowGiven, FirstAt, NodeFirst, RowFirst}
-use Rattle.tree_first.proofs.Codes.{kept-none, kept-join}
+use Rattle.tree_first.proofs.Codes.{kept-none, kept-join, stands-join, first-stands}
 use Rattle.tree_first.proofs.RowSteps.{rests}
 use Rattle.tree_later.specs.Beyond.{AfterAt}
-use Rattle.tree_later.proofs.Codes.{stands-join, first-stands, first-nonempty, next-none, next-some}
+use Rattle.tree_later.proofs.Codes.{first-nonempty, next-none, next-some}
 use Rattle.tree_later.proofs.Frames.{made-below}
 use Rattle.tree_widen.specs.Wider.{Widened, Moved}
 
 module _ {p : List ℕ} {rules : ℕ} {fits chart tables full rows : List ℕ} {r i j mask : ℕ} {w : List ℕ}
     (B : BelowGiven p rules fits chart tables full rows r i j mask w) (q : ℕ) (c : q < placeCount p r) where
-  -- the least costs of the places behind place q, from each start on
+  -- the least costs of the places after place q, for each start
   pub all-rests : {a : ℕ} → i ≤ a → a ≤ j → Rests (fitsAt w) (within i j (fullIn full) (costIn tables)) (tailIn p r (q + 1)) a j
       (λ (x : ℕ). getD rows (side * (q + 1) + x) 0)
   all-rests {a} h l = rests q a 0 h l (omega arith) B c
@@ -77,8 +77,8 @@ module _ {p : List ℕ} {rules : ℕ} {fits chart tables full rows : List ℕ} {
           let u = C .start in
           rest-first B q c R (omega (arith, N .kept .few))
 
-    wider-after : {w : List ℕ} {f x y : Forest} {own : ℕ} (B : BelowGiven p rules fits chart tables full rows r i j mask w) (c : q < placeCount p r)
-        → OpenedRow (Packing p) w (j - i) mask k (tailIn p r (q + 1)) a j budget f b x y
+    wider-after : {w : List ℕ} {f x y : Forest} {own : ℕ} (B : BelowGiven p rules fits chart tables full rows r i j mask w)
+        (c : q < placeCount p r) → OpenedRow (Packing p) w (j - i) mask k (tailIn p r (q + 1)) a j budget f b x y
         → Last (Row (Packing p) w (j - i) mask (tailIn p r (q + 1)) b j (budget - nodes x)) (code y) → SameSpan (j - i) mask (b - a) own
         → Last (Tree (Packing p) w (b - a) own k a b (budget - getD rows (side * (q + 1) + b) 0)) (code x)
         → AfterAt (Row (Packing p) w (j - i) mask (nonterminal k ∷ tailIn p r (q + 1)) a j budget) (code f) buf at (n + s)
@@ -104,7 +104,7 @@ module _ {p : List ℕ} {rules : ℕ} {fits chart tables full rows : List ℕ} {
           next-some (omega (arith, first-nonempty (F .first) (F .size))) (wider-after B c o last t child);
     }
 
--- ---- which of the two, where the node has moved to n nodes
+-- ---- the rest after a node that has moved, or a wider node
 
 module _ {p : List ℕ} {rules : ℕ} {fits chart tables full rows : List ℕ} {r q k a b i j mask budget at n v : ℕ} {buf₀ buf : List ℕ} where
   pub moved-rest : 0 < n → RowFirst p rules fits chart tables full rows r (q + 1) b i j mask (budget - n) (at + n) buf₀ buf v

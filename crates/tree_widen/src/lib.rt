@@ -1,4 +1,4 @@
-// What comes beyond the derivation that stands in a buffer, where what is behind a node is last: the rest after one that has moved, or a
-// wider one.
+// The derivation after the one in a buffer, if the places after a node have their last row: the first row of those places after a node that
+// has moved, or a wider node.
 pub mod moved;
 mod widen;

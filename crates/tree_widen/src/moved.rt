@@ -1,4 +1,4 @@
-// What follows a first node that has moved, or has not.
+// What follows the first node of a row after that node has been moved on, if it could be.
 use super::widen::widen;
 use packed::Packed;
 use packed_fit::FitTable;
@@ -15,8 +15,8 @@ ghost use lib.ListN.{length};
 ghost use Rattle.sizes.specs.Sizes.{maxRules, maxPlaces, side, cells, maxNodes, outputSize};
 ghost use Rattle.tree_widen.specs.Wider.{Moved};
 
-// What follows the child, which has moved and has m nodes: the first row of the places behind it. Where m is 0 it is as found and last,
-// and a wider one is written.
+// Writes what follows the child, which has moved and has m nodes: the first row of the places after it. If m is 0, the child was already
+// the last one of its width, and a wider one is written.
 pub fn moved(
     p: &Packed,
     rules: usize,

@@ -1,4 +1,4 @@
-// The first row with a wider first node than the one that stands.
+// The first row with a wider first node than the one in the buffer.
 use numbers::wide;
 use packed::Packed;
 use packed_fit::FitTable;
@@ -18,7 +18,7 @@ ghost use lib.ListN.{length};
 ghost use Rattle.sizes.specs.Sizes.{maxRules, maxPlaces, side, cells, maxNodes, outputSize};
 ghost use Rattle.tree_widen.specs.Wider.{Widened};
 
-// Writes the first row of the places of the child's rule from its place on, from a to the end of the span, whose node of k ends beyond b.
+// Writes the first row of the places from the child's place on, from a to the end of the span, in which the node of k ends after b.
 // The result is the number of its nodes, 0 if there is none within the budget.
 pub fn widen(
     p: &Packed,

@@ -1,4 +1,4 @@
--- `count::count` meets its contract: a check that fails refuses, and else the chart is filled and the derivations are counted.
+-- `count::count` meets its contract: if a check fails, the call refuses; else the chart is filled and the derivations are counted.
 -- Assumes nothing.
 use native.Mathlib.Omega.{arith}
 use Rattle.fill_input.proofs.Judging.{judged-ready}
@@ -16,5 +16,5 @@ count-filled-requires c κs =
 pub count-spec : {M : Type 1} → statement M
 count-spec = tie.close (tie.spec
     (λ c κs. omega arith) (λ c. omega arith) (λ c. omega arith)
-    (λ c κs. judged-ready _ _ _ _ (c .before .before .before .before .judge .ensures) (c .before .before .enum-told .given .1))
+    (λ c κs. let passed = c .before .before in judged-ready _ _ _ _ (passed .before .before .judge .ensures) (passed .enum-told .given .1))
     (λ c κs. omega arith) count-filled-requires (λ c. search count-refused) (λ c. omega arith) (λ c. search count-answered))

@@ -1,4 +1,4 @@
--- `count::count_filled` meets its contract: 0 where the chart is not complete, and else what is counted over trees. Assumes nothing.
+-- `count::count_filled` meets its contract: 0 if the chart is not complete, else the count over trees. Assumes nothing.
 use native.Mathlib.Omega.{arith}
 use borrow.Author.Needs.{needs}
 use Rattle.count.proofs.Made.{count-none, count-complete}

@@ -1,4 +1,4 @@
--- `count::count_made` meets its contract: the first derivation stands in the buffer and is counted on from, or each tree is too large.
+-- `count::count_made` meets its contract: the buffer holds the first derivation and the count goes on from it, or each tree is too large.
 -- Assumes nothing.
 use native.Mathlib.Omega.{arith}
 use Rattle.count.proofs.Made.{made-counted, made-many}

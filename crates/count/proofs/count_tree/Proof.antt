@@ -1,4 +1,4 @@
--- `count::count_tree` meets its contract: the tables are made for the input, so what is counted with them are its derivations.
+-- `count::count_tree` meets its contract: the tables are made for the input, so the derivations counted with them are those of the input.
 -- Assumes nothing.
 use Prim.Native.Nat.{ℕ}
 use native.Mathlib.Omega.{arith}

@@ -1,5 +1,5 @@
--- `count_made::count_on` meets its contract. The loop's invariant: the derivation of number i stands in the buffer.
--- The measure is what is left of 4,096. Assumes nothing.
+-- `count_made::count_on` meets its contract. The loop's invariant: the buffer holds the derivation of number i.
+-- The measure is 4,096 - i. Assumes nothing.
 use Prim.Native.Nat.{_≤_, _-_}
 use native.Mathlib.Omega.{arith}
 use Rattle.sizes.specs.Sizes.{most}

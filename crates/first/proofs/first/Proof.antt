@@ -1,4 +1,4 @@
--- `first::first` meets its contract: a check that fails refuses, and else the chart is filled and the first derivation is handed out.
+-- `first::first` meets its contract: if a check fails, the call refuses; else the chart is filled and the first derivation is handed out.
 -- Assumes nothing.
 use native.Mathlib.Omega.{arith}
 use Rattle.fill_input.proofs.Judging.{output-ready}
@@ -16,6 +16,8 @@ first-filled-requires c κs =
 pub first-spec : {M : Type 1} → statement M
 first-spec = tie.close (tie.spec
     (λ c κs. omega arith) (λ c. omega arith) (λ c. omega arith)
-    (λ c κs. output-ready _ _ _ _ _ (c .before .before .before .before .judge-output .ensures) (c .before .before .enum-told .given .1) .0)
+    (λ c κs.
+    let passed = c .before .before in
+    output-ready _ _ _ _ _ (passed .before .before .judge-output .ensures) (passed .enum-told .given .1) .0)
     (λ c κs. omega arith) first-filled-requires (λ c. search first-refused) (λ c. omega arith) (λ c. omega arith)
     (λ c. search first-answered))

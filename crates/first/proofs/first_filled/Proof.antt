@@ -1,4 +1,4 @@
--- `first::first_filled` meets its contract: "no reading" where the chart is not complete, and else the first derivation or 13.
+-- `first::first_filled` meets its contract: "no reading" if the chart is not complete, else the first derivation or 13.
 -- Assumes nothing.
 use native.Mathlib.Omega.{arith}
 use borrow.Author.Needs.{needs}

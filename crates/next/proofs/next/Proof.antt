@@ -1,4 +1,4 @@
--- `next::next` meets its contract: a check that fails refuses, and else the chart is filled and what comes after is handed out.
+-- `next::next` meets its contract: if a check fails, the call refuses; else the chart is filled and the next derivation is handed out.
 -- Assumes nothing.
 use native.Mathlib.Omega.{arith}
 use Rattle.fill_input.proofs.Judging.{output-ready}
@@ -17,6 +17,8 @@ next-filled-requires c κs =
 pub next-spec : {M : Type 1} → statement M
 next-spec = tie.close (tie.spec
     (λ c κs. omega arith) (λ c. omega arith) (λ c. omega arith)
-    (λ c κs. output-ready _ _ _ _ _ (c .before .before .before .before .judge-output .ensures) (c .before .before .enum-told .given .1) .0)
+    (λ c κs.
+    let passed = c .before .before in
+    output-ready _ _ _ _ _ (passed .before .before .judge-output .ensures) (passed .enum-told .given .1) .0)
     (λ c κs. omega arith) next-filled-requires (λ c. search next-refused) (λ c. omega arith) (λ c. omega arith)
     (λ c. search next-answered))

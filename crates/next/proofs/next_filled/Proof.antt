@@ -1,4 +1,4 @@
--- `next::next_filled` meets its contract: 12 where what is offered is no derivation, and else what comes after it. Assumes nothing.
+-- `next::next_filled` meets its contract: 12 if the offered row is no derivation, else the derivation after it. Assumes nothing.
 use native.Mathlib.Omega.{arith}
 use borrow.Author.Needs.{needs}
 use Rattle.next.proofs.Calls.{is-listed, next-other, next-listed}

@@ -1,4 +1,4 @@
--- `next::next_tree` meets its contract: the tables are made for the input, so what they hand out comes after the offered derivation.
+-- `next::next_tree` meets its contract: the tables are made for the input, so the derivation found with them comes after the offered one.
 -- Assumes nothing.
 use Prim.Native.Nat.{ℕ}
 use native.Mathlib.Omega.{arith}

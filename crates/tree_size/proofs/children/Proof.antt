@@ -1,5 +1,5 @@
--- `tree_size::children` meets its contract. The loop's invariant: the nonterminals of the places passed. The measure is what is left of
--- them. Assumes nothing.
+-- `tree_size::children` meets its contract. The loop's invariant: n is the number of nonterminals at the places that were passed. The
+-- measure is the number of places left. Assumes nothing.
 use Prim.Native.Nat.{_-_, _≤_}
 use native.Mathlib.Omega.{arith}
 use borrow.Author.Needs.{needs}

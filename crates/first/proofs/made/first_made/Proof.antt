@@ -1,4 +1,5 @@
--- `first::made::first_made` meets its contract: handed out where the least number of nodes allows it, else 13. Assumes nothing.
+-- `first::made::first_made` meets its contract: the derivation is handed out if the least number of nodes allows it, else 13.
+-- Assumes nothing.
 use native.Mathlib.Omega.{arith}
 use Rattle.first.proofs.Handing.{made-handed, made-many}
 use Rattle.first.proofs.made.first_made.Statement.{statement}

@@ -1,5 +1,5 @@
--- `next_made::offered::next_made` meets its contract: the derivation after the offered one is written to the buffer and, if there is one, copied to
--- the output. Assumes nothing.
+-- `next_made::offered::next_made` meets its contract: the derivation after the offered one is written to the buffer and, if there is one,
+-- copied to the output. Assumes nothing.
 use native.Mathlib.Omega.{arith}
 use borrow.Author.Needs.{needs}
 use Rattle.next_made.proofs.Handing.{made-none, made-next}

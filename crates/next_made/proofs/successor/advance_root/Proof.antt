@@ -1,4 +1,4 @@
--- `next_made::successor::advance_root` meets its contract: the tree after the one that stands, at the root. Assumes nothing.
+-- `next_made::successor::advance_root` meets its contract: the tree after the one in the buffer, at the root. Assumes nothing.
 use native.Mathlib.Omega.{arith}
 use Rattle.next_made.proofs.Root.{root-next}
 use Rattle.next_made.proofs.successor.advance_root.Statement.{statement}

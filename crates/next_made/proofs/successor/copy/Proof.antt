@@ -1,5 +1,5 @@
--- `next_made::successor::copy` meets its contract. The loop's invariant: the numbers passed are copied, and the others as found.
--- The measure is what is left of them. Assumes nothing.
+-- `next_made::successor::copy` meets its contract. The loop's invariant: the first i numbers are copied, and the others are kept.
+-- The measure is n - i. Assumes nothing.
 use Prim.Native.Nat.{_≤_, _-_}
 use native.Mathlib.Omega.{arith}
 use Rattle.next_made.specs.Advanced.{Copied}

@@ -1,5 +1,5 @@
--- `tree_choose::ends::choose_end` meets its contract. The loop's invariant: up to each end passed the costs are more than the budget. The
--- measure is what is left of the ends. Assumes nothing.
+-- `tree_choose::ends::choose_end` meets its contract. The loop's invariant: each end that was passed costs more than the budget. The
+-- measure is the number of ends left. Assumes nothing.
 use Prim.Native.Nat.{_+_, _-_, _≤_}
 use native.Mathlib.Omega.{arith}
 use borrow.Author.Needs.{needs}
@@ -16,19 +16,21 @@ abbrev μ-loop : tie.MeasureT-loop
 μ-loop tables full k rows at budget i a from j b₀ b = j + 1 - b
 
 loop-again : tie.Need-loop-again Inv-loop μ-loop
-loop-again c = (
-  omega arith,
-  omega arith,
-  ends-more (c .before .before .before .piece .ensures) (c .before .sum .ensures) (omega arith)
-      (c .before .before .before .before .before .loop .inv .2),
-)
+loop-again c =
+    let after-piece = c .before .before .before in (
+      omega arith,
+      omega arith,
+      ends-more (after-piece .piece .ensures) (c .before .sum .ensures) (omega arith) (after-piece .before .before .loop .inv .2),
+    )
 
 returns : tie.Need-returns Inv-loop μ-loop
 returns c =
-    end-found (c .before .before .before .piece .ensures) (c .before .sum .ensures) (omega arith) (omega arith)
-    (c .before .before .before .before .before .loop .inv .2)
+    let after-piece = c .before .before .before in
+    end-found (after-piece .piece .ensures) (c .before .sum .ensures) (omega arith) (omega arith)
+    (after-piece .before .before .loop .inv .2)
 
 pub choose-end-spec : {M : Type 1} → statement M
 choose-end-spec = tie.close (tie.spec
     Inv-loop μ-loop (λ c. search (needs, ends-none)) (λ c κs. omega arith) (λ c. omega arith) (λ c. omega arith) (λ c. omega arith)
-    (λ c κs. omega arith) returns (λ c. omega arith) (λ c. omega arith) loop-again (λ c. search (needs, end-none)))
+    (λ c κs. omega arith) returns (λ c. omega arith) (λ c. omega arith)
+    loop-again (λ c. search (needs, end-none)))

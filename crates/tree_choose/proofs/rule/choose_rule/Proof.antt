@@ -1,5 +1,5 @@
--- `tree_choose::rule::choose_rule` meets its contract. The loop's invariant: the rules passed cost more than the budget or are of other
--- nonterminals. The measure is what is left of the rules. Assumes nothing.
+-- `tree_choose::rule::choose_rule` meets its contract. The loop's invariant: each rule that was passed costs more than the budget or is of
+-- another nonterminal. The measure is the number of rules left. Assumes nothing.
 use Prim.Native.Nat.{_-_}
 use native.Mathlib.Omega.{arith}
 use borrow.Author.Needs.{needs}
@@ -17,5 +17,5 @@ abbrev μ-loop : tie.MeasureT-loop
 pub choose-rule-spec : {M : Type 1} → statement M
 choose-rule-spec = tie.close (tie.spec
     Inv-loop μ-loop (λ c. search (needs, passed-none)) (λ c κs. omega arith) (λ c. search (needs, rule-found)) (λ c. omega arith)
-    (λ c. omega arith) (λ c. passed-more (c .before .within-budget .ensures) (c .if1 .left) (c .before .before .before .loop .inv))
+    (λ c. omega arith) (λ c. search (needs, passed-more))
     (λ c. search (needs, rule-none)))

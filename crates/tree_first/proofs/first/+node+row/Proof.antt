@@ -6,7 +6,7 @@ use borrow.Author.Needs.{needs}
 use borrow.Fn.Kinds.{In}
 use borrow.Fn.PlainCycle.{Measures, is, falls, and}
 use Rattle.tree_first.proofs.Opening.{maybe-unmade}
-use Rattle.tree_first.proofs.RowSteps.{row-none, row-end, row-byte, row-node, byte-room, node-room}
+use Rattle.tree_first.proofs.RowSteps.{row-none, row-end, row-byte, row-node, looked-as, byte-room, node-room}
 use Rattle.tree_first.proofs.NodeSteps.{node-none, node-some}
 use Rattle.tree_first.proofs.first.node.Reads as node
 use Rattle.tree_first.proofs.first.node.Kinds as node-kinds
@@ -28,21 +28,14 @@ abbrev μ-node : Measures 5 node-kinds.ps ℕ
 abbrev μ-row : Measures 7 row-kinds.ps ℕ
 μ-row κs a = 20 * a .1 .1 .1 .1 .1 .1 .1 .1 .1 .0 + (11 - a .1 .1 .1 .1 .1 .1 .1 .0 .q)
 
--- what `node` is given at the measure t, and what a call of it asks below t
+-- what `node` and `row` are given at the measure t
 abbrev node-at : ℕ → In 5 node-kinds.ps
 node-at t = and 5 node-kinds.ps (is 5 node-kinds.ps μ-node t) node.Pre
 
-abbrev node-below : ℕ → In 5 node-kinds.ps
-node-below t = and 5 node-kinds.ps (falls 5 node-kinds.ps _<_ μ-node t) node.Pre
-
--- what `row` is given at the measure t, and what a call of it asks below t
 abbrev row-at : ℕ → In 7 row-kinds.ps
 row-at t = and 7 row-kinds.ps (is 7 row-kinds.ps μ-row t) row.Pre
 
-abbrev row-below : ℕ → In 7 row-kinds.ps
-row-below t = and 7 row-kinds.ps (falls 7 row-kinds.ps _<_ μ-row t) row.Pre
-
--- what `node` calls, and what `row` calls
+-- the contracts of the functions that `node` and `row` call: of each other below the measure t
 abbrev node-calls : ℕ → node-lts.Claims
 node-calls t = (
   own-set-reads.Asked,
@@ -51,7 +44,7 @@ node-calls t = (
   open-node-reads.Learnt,
   put-node-reads.Asked,
   put-node-reads.Learnt,
-  row-below t,
+  and 7 row-kinds.ps (falls 7 row-kinds.ps _<_ μ-row t) row.Pre,
   row.Post,
 )
 
@@ -59,116 +52,119 @@ abbrev row-calls : ℕ → row-lts.Claims
 row-calls t = (
   look-reads.Asked,
   look-reads.Learnt,
-  row-below t,
+  and 7 row-kinds.ps (falls 7 row-kinds.ps _<_ μ-row t) row.Pre,
   row.Post,
   child-set-reads.Asked,
   child-set-reads.Learnt,
-  node-below t,
+  and 5 node-kinds.ps (falls 5 node-kinds.ps _<_ μ-node t) node.Pre,
   node.Post,
 )
 
-node-returns : (t : ℕ) → node-lts.Need-returns (node-calls t) (node-at t) node.Post
-node-returns t c =
-    node-none (omega arith) (omega arith) (c .before .before .before .before .own-set .ensures) (c .before .open-node .ensures)
-    (omega arith)
-
-node-put-node-requires : (t : ℕ) → node-lts.Need-put-node-requires (node-calls t) (node-at t) node.Post
-node-put-node-requires t c κs = let o = c .before .before .open-node .ensures .room (omega arith) in omega arith
-
-node-sub-budget : (t : ℕ) → node-lts.Need-sub-budget (node-calls t) (node-at t) node.Post
-node-sub-budget t c = omega (arith, c .before .before .before .before .before .open-node .ensures .room (omega arith))
+-- ---- node
 
 node-row-requires : (t : ℕ) → node-lts.Need-row-requires (node-calls t) (node-at t) node.Post
 node-row-requires t c κs =
-    let d = c .before .before .before .before .before in
-    let o = d .before .before .before .open-node .ensures .room (omega arith) in
-    let l = d .put-node .ensures .long in
+    let after-put = c .before .before .before .before .before in
+    let room = after-put .before .before .before .open-node .ensures .room (omega arith) in
+    let long = after-put .put-node .ensures .long in
     omega arith
 
 node-add-result : (t : ℕ) → node-lts.Need-add-result (node-calls t) (node-at t) node.Post
 node-add-result t c =
-    let d = c .before .before .before .before .before .before .before .before in
-    let x = d .before .before .before .before .before .before .before .before .before .pre in
+    let after-put = c .before .before .before .before .before .before .before .before in
+    let given = after-put .before .before .before .before .before .before .before .before .before .pre in
     omega (arith, c .before .before .row .ensures .kept .few)
 
 node-returns-2 : (t : ℕ) → node-lts.Need-returns-2 (node-calls t) (node-at t) node.Post
 node-returns-2 t c =
-    let d = c .before .before .before .before .before .before .before .before in
-    let e = d .before .before .before in
-    let x = e .before .before .before .before .before .before .pre in
-    let l = d .before .before .if1 .left in
-    node-some (omega arith) (omega arith) (e .before .before .before .own-set .ensures) (e .open-node .ensures) (omega arith)
-    (d .put-node .ensures) (c .before .before .row .ensures)
+    let after-put = c .before .before .before .before .before .before .before .before in
+    let after-open = after-put .before .before .before in
+    let given = after-open .before .before .before .before .before .before .pre in
+    let chosen = after-put .before .before .if1 .left in
+    node-some (omega arith) (omega arith) (after-open .before .before .before .own-set .ensures) (after-open .open-node .ensures)
+    (omega arith) (after-put .put-node .ensures) (c .before .before .row .ensures)
 
-row-row-requires : (t : ℕ) → row-lts.Need-row-requires (row-calls t) (row-at t) row.Post
-row-row-requires t c κs = let x = byte-room (c .before .before .before .look .ensures) (c .before .enum-told3 .given .1) in omega arith
-
-row-sub-child-set-2 : (t : ℕ) → row-lts.Need-sub-child-set-2 (row-calls t) (row-at t) row.Post
-row-sub-child-set-2 t c = let x = node-room (c .before .before .before .look .ensures) (c .before .step .given .1) in omega arith
+-- ---- row
 
 row-node-requires : (t : ℕ) → row-lts.Need-node-requires (row-calls t) (row-at t) row.Post
 row-node-requires t c κs =
-    let x = node-room (c .before .before .before .before .before .look .ensures) (c .before .before .before .step .given .1) in
+    let at-step = c .before .before .before in
+    let room = node-room (looked-as (at-step .before .before .look .ensures) (at-step .step .given .1)) in
     omega arith
 
 row-add-at : (t : ℕ) → row-lts.Need-add-at (row-calls t) (row-at t) row.Post
 row-add-at t c =
-    let d = c .before .before .before .before .before .before in
-    let x = node-room (d .before .before .look .ensures) (d .step .given .1) in
-    let y = c .before .before .node .ensures .kept .few in
-    omega arith
+    let at-step = c .before .before .before .before .before .before in
+    let room = node-room (looked-as (at-step .before .before .look .ensures) (at-step .step .given .1)) in
+    omega (arith, c .before .before .node .ensures .kept .few)
 
 row-sub-budget : (t : ℕ) → row-lts.Need-sub-budget (row-calls t) (row-at t) row.Post
 row-sub-budget t c =
-    let d = c .before .before .before .before .before .before in
-    let x = node-room (d .before .before .look .ensures) (d .step .given .1) in
-    let y = c .before .before .node .ensures .kept .few in
-    omega arith
+    let at-step = c .before .before .before .before .before .before in
+    let room = node-room (looked-as (at-step .before .before .look .ensures) (at-step .step .given .1)) in
+    omega (arith, c .before .before .node .ensures .kept .few)
 
 row-row-requires-2 : (t : ℕ) → row-lts.Need-row-requires-2 (row-calls t) (row-at t) row.Post
 row-row-requires-2 t c κs =
-    let d = c .before .before .before .before .before .before .before in
-    let x = node-room (d .before .before .look .ensures) (d .step .given .1) in
-    let y = c .before .before .before .node .ensures .kept .few in
-    let z = c .before .before .before .node .ensures .kept .long in
+    let after-node = c .before .before .before in
+    let at-step = after-node .before .before .before .before in
+    let room = node-room (looked-as (at-step .before .before .look .ensures) (at-step .step .given .1)) in
+    let few = after-node .node .ensures .kept .few in
+    let long = after-node .node .ensures .kept .long in
     omega arith
 
 row-add-result : (t : ℕ) → row-lts.Need-add-result (row-calls t) (row-at t) row.Post
 row-add-result t c =
-    let d = c .before .before .before .before .before .before .before .before .before .before in
-    let w = d .before .before .before .before .before .pre in
-    let x = node-room (d .before .before .look .ensures) (d .step .given .1) in
-    let y = c .before .before .before .before .before .before .node .ensures .kept .few in
-    let z = c .before .before .row2 .ensures .kept .few in
-    omega arith
-
-row-returns : (t : ℕ) → row-lts.Need-returns (row-calls t) (row-at t) row.Post
-row-returns t c = row-none _ _ _ (omega arith) (omega arith) (omega arith) (c .before .before .look .ensures) (c .enum-told .given .1)
-
-row-returns-2 : (t : ℕ) → row-lts.Need-returns-2 (row-calls t) (row-at t) row.Post
-row-returns-2 t c = row-end _ _ _ (omega arith) (omega arith) (omega arith) (c .before .before .look .ensures) (c .enum-told2 .given .1)
+    let after-node = c .before .before .before .before .before .before in
+    let at-step = after-node .before .before .before .before in
+    let given = at-step .before .before .before .before .before .pre in
+    let room = node-room (looked-as (at-step .before .before .look .ensures) (at-step .step .given .1)) in
+    omega (arith, after-node .node .ensures .kept .few, c .before .before .row2 .ensures .kept .few)
 
 row-returns-3 : (t : ℕ) → row-lts.Need-returns-3 (row-calls t) (row-at t) row.Post
 row-returns-3 t c =
-    let d = c .before .before .before .before in
-    row-byte _ _ _ (omega arith) (omega arith) (omega arith) (d .before .before .look .ensures) (d .enum-told3 .given .1)
-    (c .before .before .row .ensures)
+    let at-step = c .before .before .before .before in
+    row-byte _ _ _ (omega arith) (omega arith) (omega arith)
+    (looked-as (at-step .before .before .look .ensures) (at-step .enum-told3 .given .1)) (c .before .before .row .ensures)
 
 row-returns-4 : (t : ℕ) → row-lts.Need-returns-4 (row-calls t) (row-at t) row.Post
 row-returns-4 t c =
-    let e = c .before .before .before .before .before .before in
-    let d = e .before .before .before .before in
-    let x = d .before .before .before .before .before .pre in
-    row-node _ _ _ (omega arith) (omega arith) (omega arith) (e .before .before .child-set .ensures) (e .node .ensures)
-    (c .before .before .row2 .ensures) (d .before .before .look .ensures) (d .step .given .1)
+    let after-node = c .before .before .before .before .before .before in
+    let at-step = after-node .before .before .before .before in
+    let given = at-step .before .before .before .before .before .pre in
+    row-node _ _ _ (omega arith) (omega arith) (omega arith) (after-node .before .before .child-set .ensures) (after-node .node .ensures)
+    (c .before .before .row2 .ensures) (looked-as (at-step .before .before .look .ensures) (at-step .step .given .1))
 
 pub +node+row-spec : {M : Type 1} → statement M
-+node+row-spec = close μ-node μ-row (λ t. node-lts.spec (node-calls t)
-    (node-at t) node.Post (λ c κs. omega arith) (λ c κs. search (needs, maybe-unmade)) (node-returns t) (λ c. omega arith)
-    (node-put-node-requires t) (λ c. omega arith) (node-sub-budget t) (node-row-requires t) (node-add-result t) (λ c. omega arith)
-    (node-returns-2 t))
-    λ t. row-lts.spec
-    (row-calls t) (row-at t) row.Post (λ c κs. omega arith) (λ c. omega arith) (λ c. omega arith) (λ c. omega arith) (λ c. omega arith)
-    (λ c. omega arith) (row-row-requires t) (λ c. omega arith) (λ c. omega arith) (row-sub-child-set-2 t) (λ c κs. omega arith)
-    (row-node-requires t) (row-add-at t) (row-sub-budget t) (λ c. omega arith) (row-row-requires-2 t) (row-add-result t) (row-returns t)
-    (row-returns-2 t) (λ c. omega arith) (row-returns-3 t) (λ c. omega arith) (row-returns-4 t)
++node+row-spec = close μ-node μ-row
+    (λ t. node-lts.spec (node-calls t) (node-at t) node.Post
+    -- `own_set`, `open_node`, and no rule
+    (λ c κs. omega arith) (λ c κs. search (needs, maybe-unmade))
+    (λ c.
+    let after-open = c .before in
+    node-none (omega arith) (omega arith) (after-open .before .before .before .own-set .ensures) (after-open .open-node .ensures)
+    (omega arith))
+    -- `put_node`
+    (λ c. omega arith) (λ c κs. omega (arith, c .before .before .open-node .ensures .room (omega arith)))
+    -- `row`
+    (λ c. omega arith)
+    (λ c.
+    let after-put = c .before .before in
+    omega (arith, after-put .before .before .before .open-node .ensures .room (omega arith)))
+    (node-row-requires t)
+    -- the result
+    (node-add-result t) (λ c. omega arith) (node-returns-2 t))
+    λ t. row-lts.spec (row-calls t) (row-at t) row.Post
+    -- `look`, and `row` after a byte
+    (λ c κs. omega arith) (λ c. omega arith) (λ c. omega arith) (λ c. omega arith) (λ c. omega arith) (λ c. omega arith)
+    (λ c κs. omega (arith, byte-room (looked-as (c .before .before .before .look .ensures) (c .before .enum-told3 .given .1))))
+    -- `child_set` and `node`
+    (λ c. omega arith) (λ c. omega arith)
+    (λ c. omega (arith, node-room (looked-as (c .before .before .before .look .ensures) (c .before .step .given .1))))
+    (λ c κs. omega arith) (row-node-requires t)
+    -- `row` after the node
+    (row-add-at t) (row-sub-budget t) (λ c. omega arith) (row-row-requires-2 t) (row-add-result t)
+    -- the results: nothing, the end, a byte, a node
+    (λ c. row-none _ _ _ (omega arith) (omega arith) (omega arith) (looked-as (c .before .before .look .ensures) (c .enum-told .given .1)))
+    (λ c. row-end _ _ _ (omega arith) (omega arith) (omega arith) (looked-as (c .before .before .look .ensures) (c .enum-told2 .given .1)))
+    (λ c. omega arith) (row-returns-3 t) (λ c. omega arith) (row-returns-4 t)

@@ -1,4 +1,4 @@
--- `tree_later::later::no_rule` meets its contract. The loop's invariant: no rule below r is one of k.
+-- `tree_later::later::no_rule` meets its contract. The loop's invariant: no rule from `from` on and below r is of k.
 -- The measure is rules - r. Assumes nothing.
 use Prim.Native.Nat.{_-_}
 use mathlib.Core.Bool.{false≢true}

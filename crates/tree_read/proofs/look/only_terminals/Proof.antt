@@ -1,4 +1,4 @@
--- `tree_read::look::only_terminals` meets its contract. The loop's invariant: only terminals stand at the places below q.
+-- `tree_read::look::only_terminals` meets its contract. The loop's invariant: the places below q have only terminals.
 -- The measure is m - q. Assumes nothing.
 use Prim.Native.Nat.{_-_, _≤_}
 use mathlib.Core.Bool.{true≢false, false≢true}
