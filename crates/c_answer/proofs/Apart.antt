@@ -1,4 +1,4 @@
--- What the code and what is left tell the caller of a C function. Assumes nothing.
+-- What the caller of a C function knows from the code and what is left. Assumes nothing.
 use Prim.Native.Nat.{ℕ, zero, suc, _<_}
 use native.Mathlib.Omega.{arith}
 use mathlib.Core.Bool.{Bool, true, false}
@@ -8,7 +8,7 @@ use Rattle.c_answer.specs.Code.{codeOf, leftOf, verdictCode, lengthCode,
 use Rattle.c_answer.specs.Code.{loadCode, offsetLeft, CodeKnown}
 
 module _ {A B : Type 0} (code : A → ℕ) (left : A → B → B) (read : ℕ → B → A) where
-  -- what is answered has a code below those of refusals, and `read` gives it back from its code and what it left
+  -- the code of an answer is below those of refusals, and `read` gives the answer back from its code and what it left
   record Tells (a : A) (found : B) : Type 0 where
     pub small : code a < 256
     pub back : read (code a) (left a found) ≡ a

@@ -1,5 +1,5 @@
--- The numbers in which an answer is returned: its code, and what it leaves in a place that was lent, by what was found there. A code is 0
--- for no and none; 1 for yes, loaded, measured, handed out and counted; 2 for more; 256 and the number of a refusal. Assumes nothing.
+-- The code that a call returns for its answer, and what the answer leaves in a lent place, given what was found there. A code is 0 for no
+-- and none; 1 for yes, loaded, measured, handed out and counted; 2 for more; 256 plus the number of a refusal. Assumes nothing.
 use Prim.Native.Nat.{ℕ, _+_}
 use mathlib.Core.Bool.{Bool, true, false}
 use mathlib.Core.List.{List}
@@ -66,7 +66,7 @@ abbrev pub offsetLeft : LoadAnswer → ℕ → ℕ
 offsetLeft (refusedAt n at) found = at
 offsetLeft loaded found = found
 
--- what the code and what is left tell a caller: which answer it was, and that no code but 1 has written
+-- what a caller knows from the code and what is left: which answer it was, and that only a call with code 1 has written
 pub record CodeKnown {A B : Type 0} (code : A → ℕ) (left : A → B → B) : Type 0 where
   pub apart : (x y : Answer A) (found : B) → codeOf code x ≡ codeOf code y → leftOf left x found ≡ leftOf left y found → x ≡ y
   pub kept : (x : Answer A) (found : B) → (codeOf code x ≡ 1 → ⊥) → leftOf left x found ≡ found

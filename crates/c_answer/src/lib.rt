@@ -1,4 +1,4 @@
-// The codes in which the exported functions return their answers, and what each answer leaves in the place that was lent for it. A code is
+// The codes that the exported functions return for their answers, and what each answer leaves in the place that was lent for it. A code is
 // 0 for no and none; 1 for yes, loaded, measured, handed out and counted; 2 for more; 256 + n for refusal n.
 use answers::Counted;
 use answers::Handed;
@@ -15,6 +15,7 @@ ghost use Rattle.recognizer.specs.Recognizer.{stateIn};
 ghost use Rattle.c_answer.specs.Code.{codeOf, leftOf, verdictCode, rowLeft, lengthCode, tenthsLeft, handingCode, nodesLeft};
 ghost use Rattle.c_answer.specs.Code.{figureCode, figureLeft, loadCode, offsetLeft};
 
+// A refusal: 256 plus its number.
 pub fn of_refusal(r: Refusal) -> u32
     ensures { λ c. ⌜ c ≡ 256 + numberOf r ⌝ }
 {

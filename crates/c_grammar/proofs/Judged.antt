@@ -1,5 +1,5 @@
--- A row is judged whole: check 8 lets the grammar of a row through exactly if the row's own numbers are valid. And it lets the row of a
--- grammar through exactly if it lets the grammar through. Assumes nothing.
+-- Check 8 accepts the grammar of a row exactly if the row's own numbers are valid. It accepts the row of a grammar exactly if it accepts
+-- the grammar. Assumes nothing.
 use Prim.Native.Nat.{ℕ, zero, suc, _+_, _*_, _≤_, _<_}
 use native.Mathlib.Decide.{decLe, ℕ-discrete}
 use native.Mathlib.Omega.{arith}
@@ -30,7 +30,7 @@ byte-limit n =
     dite (decLe n 31) (λ a. le-leb (byteIn n) 31 (omega arith) ∙ sym (le-leb n 31 a))
     (λ a. lt-leb (byteIn n) 31 (omega arith) ∙ sym (lt-leb n 31 (omega arith)))
 
--- what is looked at only where a count is within its limit
+-- two tests need to agree only where the count is within its limit
 within : (a b x y : Bool) (n m : ℕ) → a ≡ b → (n ≤ m → x ≡ y) → (a && leb n m && x) ≡ (b && leb n m && y)
 within a b x y n m e f =
     dite (decLe n m) (λ k. λ i. e i && leb n m && f k i)
@@ -59,7 +59,7 @@ records-take read w zero m at h = refl
 records-take read w (suc n) zero at h = absurd (omega arith)
 records-take {A} read w (suc n) (suc m) at h = ap (λ (l : List A). read at ∷ l) (records-take read w n m (at + w) (omega arith))
 
--- the first n of m records, each of which is valid where its numbers are
+-- the first n of m records are valid exactly if their numbers are
 records-judged : {A : Type 0} (test : A → Bool) (read : ℕ → A) (valid : ℕ → Bool) → ((k : ℕ) → test (read k) ≡ valid k) → (w at n m : ℕ)
     → n ≤ m → all test (take n (recordsFrom read w at m)) ≡ each n (λ q. valid (at + w * q))
 records-judged test read valid same w at n m h =
@@ -103,7 +103,7 @@ judged-whole f =
 
 -- ---- a grammar that is written
 
--- a count and what is tried up to it
+-- cutting a count to 16 bits changes neither its test against a small limit nor the test of what it counts
 counts-kept : (a : Bool) (n m : ℕ) (x : ℕ → Bool) → m < 65535
     → (a && leb (saturated n) m && x (saturated n)) ≡ (a && leb n m && x n)
 counts-kept a n m x h = dite (decLe n 65535) small large
@@ -129,7 +129,7 @@ rules-kept-valid zero l = refl
 rules-kept-valid (suc n) [] = refl
 rules-kept-valid (suc n) (ρ ∷ l) = λ i. rule-kept-valid ρ i && rules-kept-valid n l i
 
--- what is written is let through exactly if the grammar is
+-- check 8 accepts what is written exactly if it accepts the grammar
 pub write-judged : (g : Grammar) → DeclaredGrammar g → validGrammar (grammarIn (flatOf g)) ≡ validGrammar g
 unfolding validGrammar
 write-judged g d =

@@ -1,4 +1,4 @@
--- The parts of a grammar as they are read: a symbol by its tag and its value, and a place, a rule and a grammar of what was read.
+-- The parts of a grammar as the code reads them: a symbol from its tag and its value, and a place, a rule and a grammar from their parts.
 -- Assumes nothing.
 use Prim.Native.Nat.{ℕ, _+_, _≤_, _<_}
 use native.Mathlib.Omega.{arith}
@@ -35,7 +35,7 @@ module _ (tag value v : ℕ) (e : v ≡ byteIn value) where
   unfolding rowSymbol
   symbol-large t h = rw (t, lt-leb value 255 h)
 
-  -- no tag
+  -- neither of the two tags
   pub symbol-other : (tag ≡ 0 → ⊥) → (tag ≡ 1 → ⊥) → Nonterminal 255 ≡ rowSymbol tag value
   unfolding rowSymbol
   symbol-other z o = rw (ne-eqb tag 0 z, ne-eqb tag 1 o)
@@ -45,7 +45,7 @@ pub read-place-of : (f : List ℕ) (at : ℕ) (s : Symbol) → s ≡ rowSymbol (
 unfolding rowPlace
 read-place-of f at s e = λ i. record { symbol = e i }
 
--- the length went through a local
+-- the code keeps the length in a local of 16 bits
 pub read-rule-of : (f : List ℕ) (at l k : ℕ) (z : ℤ) (p : List Place) → l ≡ byteIn (getD f at 0) → z ≡ signedIn (getD f (at + 1) 0)
     → SFits w16 z → k ≡ getD f (at + 2) 0 → p ≡ rowPlaces f (at + 3)
     → ruleWith l (toZ w16 (ofZ w16 z)) k p ≡ rowRule f at

@@ -1,4 +1,4 @@
--- Records of numbers one after the other: one more read, and one more written. Assumes nothing.
+-- Records of numbers one after the other: one more record read, and one more written. Assumes nothing.
 use Prim.Native.Nat.{ℕ, zero, suc, _+_, _*_, _≤_, _<_}
 use native.Mathlib.Numerals.{add-one}
 use native.Mathlib.Omega.{arith}
@@ -8,7 +8,7 @@ use lib.ListN.{length, getD, take, set, length-set}
 use lib.Seq.{take-all, take-suc-set}
 use Rattle.c_grammar.specs.Flat.{recordsFrom}
 
--- ---- one more store behind a prefix
+-- ---- one more store after a prefix
 
 module _ {A : Type 0} where
   -- k is one past the index of the store
@@ -41,20 +41,32 @@ module _ {A : Type 0} (read : ℕ → A) (w : ℕ) where
       ap (λ (j : ℕ). read j ∷ []) d
   records-more (suc n) at k e = ap (λ (x : List A). read at ∷ x) (records-more n (at + w) k (omega arith))
 
-  -- the array with one more record
-  pub records-step : (l : List A) (at n k : ℕ) (a : A) → k ≡ at + w * n → n < length l → take n l ≡ recordsFrom read w at n → a ≡ read k
-      → take (n + 1) (set l n a) ≡ recordsFrom read w at (n + 1)
-  records-step l at n k a e h t r =
-      put-one l n (n + 1) a refl h ∙ ap (λ (x : List A). x ++ (a ∷ [])) t
-      ∙ ap (λ (x : A). recordsFrom read w at n ++ (x ∷ [])) r ∙ sym (records-more n at k e)
-      ∙ ap (recordsFrom read w at) (sym (add-one n))
+  -- l has m elements, and the first n of them are records that were read
+  pub record Read (at m n : ℕ) (l : List A) : Type 0 where
+    pub low : n ≤ m
+    pub long : length l ≡ m
+    pub front : take n l ≡ recordsFrom read w at n
 
-  -- the whole array
-  pub records-done : (l : List A) (at n m : ℕ) → length l ≡ n → m ≤ n → n ≤ m → take m l ≡ recordsFrom read w at m
-      → l ≡ recordsFrom read w at n
-  records-done l at n m e h k t =
-      let d : m ≡ n = omega arith in
-      sym (take-all m l (omega arith)) ∙ t ∙ ap (recordsFrom read w at) d
+  module _ (at m : ℕ) (l : List A) where
+    pub read-start : length l ≡ m → Read at m 0 l
+    unfolding recordsFrom
+    read-start h = record { low = omega arith; long = h; front = refl }
+
+    -- one more record
+    pub read-step : (n k : ℕ) (a : A) → Read at m n l → n < m → a ≡ read k → k ≡ at + w * n → Read at m (n + 1) (set l n a)
+    read-step n k a R h r e = record {
+      low = omega arith;
+      long = length-set l n a ∙ R .long;
+      front =
+          put-one l n (n + 1) a refl (omega arith) ∙ (λ i. R .front i ++ (r i ∷ [])) ∙ sym (records-more n at k e)
+          ∙ ap (recordsFrom read w at) (sym (add-one n));
+    }
+
+    -- the whole array
+    pub read-done : (n : ℕ) → Read at m n l → m ≤ n → l ≡ recordsFrom read w at m
+    read-done n R h =
+        let d : n ≡ m = omega arith in
+        sym (take-all n l (omega arith)) ∙ R .front ∙ ap (recordsFrom read w at) d
 
 -- ---- one more record written
 
@@ -67,7 +79,7 @@ module _ {A : Type 0} (flat : A → List ℕ) where
       ap (λ (x : List ℕ). flat a ++ x) (flat-more l d q (omega arith))
       ∙ sym (append-assoc (flat a) (flatMap flat (take q l)) (flat (getD l q d)))
 
-  -- x and the first q records stand in front of y, and then one more
+  -- y is x and the first q records, and z has one record more
   pub flat-step : (l : List A) (d : A) (q : ℕ) (x y z : List ℕ) → q < length l → y ≡ x ++ flatMap flat (take q l)
       → z ≡ y ++ flat (getD l q d) → z ≡ x ++ flatMap flat (take (q + 1) l)
   flat-step l d q x y z h e f =

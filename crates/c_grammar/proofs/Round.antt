@@ -1,5 +1,5 @@
--- A grammar that is written to a flat row is read back, with counts of at most 65535. So one that a flat row holds whole is read back as
--- it was written. Assumes nothing.
+-- A grammar that is written to a flat row is read back with its counts cut to 65535. So a grammar that fits a flat row is read back as it
+-- was written. Assumes nothing.
 use Prim.Native.Nat.{ℕ, zero, suc, _+_, _*_, _<_}
 use native.Mathlib.Omega.{arith}
 use mathlib.Core.List.{List, [], _∷_, _++_, map, map-id, flatMap, append-assoc, append-nil}
@@ -34,7 +34,7 @@ symbol-round (Terminal m) t v e f h = rw (e, f, le-leb m 255 (omega arith))
 
 -- ---- records
 
--- the number at j, where the row goes on from the index at as l does
+-- the number at j of a row that goes on as l from the index `at`
 at-index : (f l : List ℕ) (at k j : ℕ) → j ≡ at + k → drop at f ≡ l → getD f j 0 ≡ getD l k 0
 at-index f l at k j e h =
     ap (λ (x : ℕ). getD f x 0) e ∙ sym (getD-drop at f k 0) ∙ ap (λ (x : List ℕ). getD x k 0) h
@@ -63,11 +63,11 @@ module _ {A : Type 0} (d : A) (flat : A → List ℕ) (keep : A → A) (read : �
 
 -- ---- places, rules, the grammar
 
--- with a count that a row holds
+-- the rule with a count that a row holds
 abbrev pub keptRule : Rule → Rule
 keptRule ρ = setPlaceCount ρ (saturated (ρ .count))
 
--- with counts that a row holds
+-- the grammar with counts that a row holds
 abbrev pub kept : Grammar → Grammar
 kept g = setCount (setRules g (map keptRule (g .rules))) (saturated (g .count))
 
@@ -94,7 +94,8 @@ module _ (f : List ℕ) where
       λ i. record { symbol = e i }
 
   places-back : (l : List Place) (at : ℕ) (rest : List ℕ) → length l ≡ maxPlaces
-      → ((q : ℕ) → q < maxPlaces → valueOf (getD l q zeroPlace .symbol) < 256) → drop at f ≡ flatMap flatPlace l ++ rest → rowPlaces f at ≡ l
+      → ((q : ℕ) → q < maxPlaces → valueOf (getD l q zeroPlace .symbol) < 256) → drop at f ≡ flatMap flatPlace l ++ rest
+      → rowPlaces f at ≡ l
   unfolding rowPlaces
   places-back l at rest n v h =
       records-back zeroPlace flatPlace (λ p. p) (rowPlace f) 2 f (λ p. valueOf (p .symbol) < 256) (λ p _. place-size p) place-back l at 8

@@ -1,4 +1,4 @@
--- Records written one after the other into a flat row, behind what stands there already. Assumes nothing.
+-- Records written one after the other into a flat row, after the numbers that it already has. Assumes nothing.
 use Prim.Native.Nat.{ℕ, _+_, _*_, _≤_, _<_}
 use native.Mathlib.Omega.{arith}
 use mathlib.Core.List.{List, [], _∷_, _++_, flatMap, append-assoc, append-nil}
@@ -17,34 +17,38 @@ use Rattle.numbers.specs.Numbers.{saturated, unsignedOf}
 use Rattle.c_grammar.specs.Flat.{flatPlace, flatRule, flatOf, flatSize, ruleNumbers}
 use Rattle.c_grammar.proofs.Records.{put-two, put-three, flat-step}
 
--- in f, what stands before b is as in f₀, and the first q elements of l follow, w numbers each
-pub record Written {A : Type 0} (flat : A → List ℕ) (w b : ℕ) (l : List A) (f₀ : List ℕ) (q : ℕ) (f : List ℕ) : Type 0 where
+-- in f, the numbers before b are those of f₀, and the first q of the m elements of l follow, w numbers each
+pub record Written {A : Type 0} (flat : A → List ℕ) (w b : ℕ) (l : List A) (m : ℕ) (f₀ : List ℕ) (q : ℕ) (f : List ℕ) : Type 0 where
+  pub size : length l ≡ m
+  pub low : q ≤ m
   pub long : length f ≡ flatSize
   pub front : take (b + w * q) f ≡ take b f₀ ++ flatMap flat (take q l)
 
-module _ {A : Type 0} (flat : A → List ℕ) (w b : ℕ) (l : List A) where
-  pub written-start : (f : List ℕ) → length f ≡ flatSize → Written flat w b l f 0 f
+module _ {A : Type 0} (flat : A → List ℕ) (w b : ℕ) (l : List A) (m : ℕ) where
+  pub written-start : (f : List ℕ) → length l ≡ m → length f ≡ flatSize → Written flat w b l m f 0 f
   unfolding flatMap
-  written-start f h =
+  written-start f n h =
       let e : b + w * 0 ≡ b = omega arith in
-      record { long = h; front = ap (λ (k : ℕ). take k f) e ∙ sym (append-nil (take b f)) }
+      record { size = n; low = omega arith; long = h; front = ap (λ (k : ℕ). take k f) e ∙ sym (append-nil (take b f)) }
 
-  pub written-step : (d : A) (q : ℕ) (f₀ f g : List ℕ) → q < length l → length g ≡ flatSize
-      → take (b + w * q + w) g ≡ take (b + w * q) f ++ flat (getD l q d) → Written flat w b l f₀ q f → Written flat w b l f₀ (q + 1) g
-  written-step d q f₀ f g h n e r =
+  pub written-step : (d : A) (q : ℕ) (f₀ f g : List ℕ) → Written flat w b l m f₀ q f → length g ≡ flatSize
+      → take (b + w * q + w) g ≡ take (b + w * q) f ++ flat (getD l q d) → q < m → Written flat w b l m f₀ (q + 1) g
+  written-step d q f₀ f g r n e h =
       let k : b + w * (q + 1) ≡ b + w * q + w = omega arith in
       record {
+        size = r .size;
+        low = omega arith;
         long = n;
         front =
             ap (λ (j : ℕ). take j g) k
-            ∙ flat-step flat l d q (take b f₀) (take (b + w * q) f) (take (b + w * q + w) g) h (r .front) e;
+            ∙ flat-step flat l d q (take b f₀) (take (b + w * q) f) (take (b + w * q + w) g) (omega arith) (r .front) e;
       }
 
   -- all of l is written
-  pub written-all : (q m : ℕ) (f₀ f : List ℕ) → q ≡ length l → m ≡ b + w * q → Written flat w b l f₀ q f
-      → take m f ≡ take b f₀ ++ flatMap flat l
-  written-all q m f₀ f e h r =
-      ap (λ (j : ℕ). take j f) h ∙ r .front ∙ ap (λ (x : List A). take b f₀ ++ flatMap flat x) (take-all q l (omega arith))
+  pub written-all : (q k : ℕ) (f₀ f : List ℕ) → m ≤ q → k ≡ b + w * q → Written flat w b l m f₀ q f
+      → take k f ≡ take b f₀ ++ flatMap flat l
+  written-all q k f₀ f h e r =
+      ap (λ (j : ℕ). take j f) e ∙ r .front ∙ ap (λ (x : List A). take b f₀ ++ flatMap flat x) (take-all q l (omega arith))
 
 -- ---- a place
 
@@ -56,33 +60,27 @@ place-done p at f t v h n et ev =
 
 -- ---- a rule
 
-module _ (ρ : Rule) (at : ℕ) (low : at + ruleNumbers ≤ flatSize) where
-  -- the whole rule
-  pub rule-done : (f₀ f : List ℕ) (u k q : ℕ) → length f₀ ≡ flatSize → length (ρ .places) ≡ maxPlaces → SFits w16 (ρ .length)
-      → q ≤ maxPlaces → maxPlaces ≤ q
-      → u ≡ unsignedOf (toZ w16 (ofZ w16 (ρ .length))) → k ≡ saturated (ρ .count)
-      → Written flatPlace 2 (at + 3) (ρ .places) (set (set (set f₀ at (ρ .left)) (at + 1) u) (at + 2) k) q f
-      → take (at + ruleNumbers) f ≡ take at f₀ ++ flatRule ρ
-  unfolding flatRule
-  rule-done f₀ f u k q n m s h j eu ek r =
-      let e : u ≡ unsignedOf (ρ .length) = eu ∙ ap unsignedOf (toZ-ofZ s) in
-      written-all flatPlace 2 (at + 3) (ρ .places) q (at + ruleNumbers) _ f (omega arith) (omega arith) r
-      ∙ ap (λ (x : List ℕ). x ++ flatMap flatPlace (ρ .places))
-      (put-three f₀ at (at + 1) (at + 2) (at + 3) (ρ .left) u k (omega arith) (omega arith) (omega arith) (omega arith)
-      ∙ λ i. take at f₀ ++ (ρ .left ∷ e i ∷ ek i ∷ []))
-      ∙ append-assoc (take at f₀) (ρ .left ∷ unsignedOf (ρ .length) ∷ saturated (ρ .count) ∷ []) (flatMap flatPlace (ρ .places))
+pub rule-done : (ρ : Rule) (at : ℕ) (f₀ f : List ℕ) (u k q : ℕ) → at + ruleNumbers ≤ flatSize → length f₀ ≡ flatSize
+    → SFits w16 (ρ .length) → maxPlaces ≤ q → u ≡ unsignedOf (toZ w16 (ofZ w16 (ρ .length))) → k ≡ saturated (ρ .count)
+    → Written flatPlace 2 (at + 3) (ρ .places) maxPlaces (set (set (set f₀ at (ρ .left)) (at + 1) u) (at + 2) k) q f
+    → take (at + ruleNumbers) f ≡ take at f₀ ++ flatRule ρ
+unfolding flatRule
+rule-done ρ at f₀ f u k q low n s h eu ek r =
+    let e : u ≡ unsignedOf (ρ .length) = eu ∙ ap unsignedOf (toZ-ofZ s) in
+    written-all flatPlace 2 (at + 3) (ρ .places) maxPlaces q (at + ruleNumbers) _ f h (omega arith) r
+    ∙ ap (λ (x : List ℕ). x ++ flatMap flatPlace (ρ .places))
+    (put-three f₀ at (at + 1) (at + 2) (at + 3) (ρ .left) u k (omega arith) (omega arith) (omega arith) (omega arith)
+    ∙ λ i. take at f₀ ++ (ρ .left ∷ e i ∷ ek i ∷ []))
+    ∙ append-assoc (take at f₀) (ρ .left ∷ unsignedOf (ρ .length) ∷ saturated (ρ .count) ∷ []) (flatMap flatPlace (ρ .places))
 
 -- ---- a grammar
 
-pub grammar-done : (g : Grammar) (f₀ f : List ℕ) (k r : ℕ) → length f₀ ≡ flatSize → length (g .rules) ≡ maxRules → r ≤ maxRules
-    → maxRules ≤ r
-    → k ≡ saturated (g .count)
-    → Written flatRule ruleNumbers 3 (g .rules) (set (set (set f₀ 0 (g .start)) 1 k) 2 (g .depth)) r f
-    → f ≡ flatOf g
+pub grammar-done : (g : Grammar) (f₀ f : List ℕ) (k r : ℕ) → length f₀ ≡ flatSize → maxRules ≤ r → k ≡ saturated (g .count)
+    → Written flatRule ruleNumbers 3 (g .rules) maxRules (set (set (set f₀ 0 (g .start)) 1 k) 2 (g .depth)) r f → f ≡ flatOf g
 unfolding flatOf
-grammar-done g f₀ f k r n m h j ek w =
+grammar-done g f₀ f k r n h ek w =
     sym (take-all flatSize f (omega (arith, w .long)))
-    ∙ written-all flatRule ruleNumbers 3 (g .rules) r flatSize _ f (omega arith) (omega arith) w
+    ∙ written-all flatRule ruleNumbers 3 (g .rules) maxRules r flatSize _ f h (omega arith) w
     ∙ ap (λ (x : List ℕ). x ++ flatMap flatRule (g .rules))
     (put-three f₀ 0 1 2 3 (g .start) k (g .depth) (omega arith) (omega arith) (omega arith) (omega arith)
     ∙ λ i. g .start ∷ ek i ∷ g .depth ∷ [])

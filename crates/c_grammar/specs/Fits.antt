@@ -1,5 +1,5 @@
--- What the declared types give of a grammar: 128 rules of 8 places, every field but the counts within the bits that a flat row has for it.
--- The counts may be any numbers. A grammar whose counts are of 16 bits too is one that a flat row holds whole. Assumes nothing.
+-- What the declared types say of a grammar: it has 128 rules of 8 places, and each field but the counts fits the bits that a flat row has
+-- for it. The counts may be any numbers. If they fit 16 bits too, a flat row holds the whole grammar. Assumes nothing.
 use Prim.Native.Nat.{ℕ, _<_}
 use mathlib.Core.Path.{_≡_}
 use lib.ListN.{length, getD}

@@ -1,8 +1,7 @@
--- A flat row is a row of numbers of 16 bits: the start symbol, the number of rules used, the nullable depth, and the numbers of each of 128
--- rules: the left side, the length (two's complement), the number of places used, and for each of 8 places a tag (0 a nonterminal, 1 a
--- terminal) and a value. The grammar of a row, and the row of a grammar. Each number of a row is judged whole: one that is too large for
--- its place is read as a value that check 8 refuses where it is used, and a count too large for a row is written as one that it refuses.
--- Assumes nothing.
+-- A flat row of 16-bit numbers: the grammar of a row, and the row of a grammar. A row has the start symbol, the number of rules used, the
+-- nullable depth, and 128 rules. A rule has its left side, its length (two's complement), the number of places used, and for each of 8
+-- places a tag (0 a nonterminal, 1 a terminal) and a value. All 16 bits of a number count: one that is too large for its place is read as
+-- a value that check 8 refuses where it is used. A count too large for a row is written as one that check 8 refuses. Assumes nothing.
 use Prim.Native.Nat.{ℕ, zero, suc, _+_, _*_}
 use mathlib.Core.Bool.{cond, _&&_}
 use mathlib.Core.List.{List, [], _∷_, flatMap}
@@ -18,7 +17,7 @@ use Rattle.grammar.specs.declared.Grammar.{Grammar}
 use Rattle.grammar.specs.Setters.{ruleWith, grammarWith}
 use Rattle.grammar.specs.Tagged.{tagOf, valueOf}
 
--- the numbers of a rule, and of a row
+-- how many numbers a rule has, and how many a row has
 abbrev pub ruleNumbers : ℕ
 ruleNumbers = 3 + 2 * maxPlaces
 

@@ -1,4 +1,4 @@
--- A declared grammar as a flat row of numbers of 16 bits.
+-- A declared grammar as a flat row of 16-bit numbers.
 pub mod Flat
 pub mod Valid
 pub mod Fits

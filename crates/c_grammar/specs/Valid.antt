@@ -1,5 +1,5 @@
--- Check 8, told of the numbers of a flat row, each whole, and of nothing else: start or a used nonterminal over 31, more than 128 rules,
--- more than 8 places, or a used place that is neither a nonterminal nor a terminal of one byte is refused. Assumes nothing.
+-- Check 8 in terms of a flat row's own numbers, all 16 bits of each. It refuses a start symbol or a used nonterminal over 31, more than
+-- 128 rules, more than 8 places, and a used place that is neither a nonterminal nor a terminal of one byte. Assumes nothing.
 use Prim.Native.Nat.{ℕ, zero, suc, _+_, _*_}
 use mathlib.Core.Bool.{Bool, true, _&&_, _||_}
 use mathlib.Core.List.{List}
@@ -8,7 +8,7 @@ use lib.ListN.{getD}
 use Rattle.sizes.specs.Sizes.{maxRules, maxPlaces}
 use Rattle.c_grammar.specs.Flat.{ruleNumbers}
 
--- the test holds of each number below n
+-- the test holds for each number below n
 unfoldable pub each : ℕ → (ℕ → Bool) → Bool
 each zero test = true
 each (suc n) test = each n test && test n
@@ -17,15 +17,15 @@ each (suc n) test = each n test && test n
 abbrev pub validTagged : ℕ → ℕ → Bool
 validTagged tag value = (eqb tag 0 && leb value 31) || (eqb tag 1 && leb value 255)
 
--- per place, from the index of its tag
+-- whether a place is valid, by the index of its tag
 unfoldable pub validPlaceAt : List ℕ → ℕ → Bool
 validPlaceAt f at = validTagged (getD f at 0) (getD f (at + 1) 0)
 
--- per rule, from the index of its left side: its left side, its count, and its used places
+-- whether a rule is valid, by the index of its left side: its left side, its count, and its used places
 unfoldable pub validRuleAt : List ℕ → ℕ → Bool
 validRuleAt f at =
     leb (getD f at 0) 31 && leb (getD f (at + 2) 0) maxPlaces && each (getD f (at + 2) 0) (λ q. validPlaceAt f (at + 3 + 2 * q))
 
--- per row: its start symbol, its count, and its used rules
+-- whether a row is valid: its start symbol, its count, and its used rules
 unfoldable pub validRow : List ℕ → Bool
 validRow f = leb (getD f 0 0) 31 && leb (getD f 1 0) maxRules && each (getD f 1 0) (λ r. validRuleAt f (3 + ruleNumbers * r))

@@ -1,5 +1,6 @@
-// A declared grammar as a flat row of numbers of 16 bits, which crosses to C and Rust: read, and written. Check 8 refuses the grammar of a
-// row exactly if it refuses the row, and the row of a grammar exactly if it refuses the grammar.
+// A declared grammar as a flat row of 16-bit numbers, the form in which it crosses to C and Rust: its size, reading it and writing it.
+// Check 8 refuses the grammar read from a row exactly if the row's own numbers are invalid. It refuses the row of a grammar exactly if it
+// refuses the grammar.
 pub mod read;
 pub mod symbol;
 pub mod write;
@@ -7,9 +8,10 @@ pub mod write;
 ghost use mathlib.Core.Path.{_≡_};
 ghost use Rattle.c_grammar.specs.Flat.{flatSize};
 
-// The numbers of a rule (its left side, its length, its count, and two for each place), and of a row.
+// How many numbers a rule has: its left side, its length, its count, and two for each place.
 pub const RULE_NUMBERS: usize = 3 + 2 * sizes::MAX_PLACES;
 
+// How many numbers a row has: the start symbol, the count, the nullable depth, and those of each rule.
 pub const FLAT_SIZE: usize = 3 + sizes::MAX_RULES * RULE_NUMBERS;
 
 pub type Flat = [u16; FLAT_SIZE];

@@ -1,4 +1,4 @@
-// A grammar, read from its row.
+// Reads a grammar from its row.
 use super::Flat;
 use super::RULE_NUMBERS;
 use super::symbol::symbol;

@@ -1,10 +1,10 @@
-// The symbol of two numbers of a flat row. Each number is judged whole: one that is too large for its place is read as a value that check 8
-// refuses.
+// The symbol that two numbers of a flat row mean. All 16 bits of a number count: one that is too large for its place is read as a value
+// that check 8 refuses.
 use grammar::Symbol;
 ghost use mathlib.Core.Path.{_≡_};
 ghost use Rattle.c_grammar.specs.Flat.{rowSymbol};
 
-// The symbol of a tag and a value. What is neither a nonterminal nor a terminal is the nonterminal 255.
+// The symbol of a tag and a value. Anything but a nonterminal or a terminal of one byte is read as nonterminal 255.
 pub fn symbol(tag: u16, value: u16) -> Symbol
     ensures { λ s. ⌜ s ≡ rowSymbol tag value ⌝ }
 {

@@ -1,4 +1,4 @@
-// A grammar, written as its row.
+// Writes a grammar as its row.
 use super::FLAT_SIZE;
 use super::Flat;
 use super::RULE_NUMBERS;
@@ -12,7 +12,7 @@ ghost use Prim.Native.Nat.{_+_, _≤_};
 ghost use lib.ListN.{length, take};
 ghost use Rattle.c_grammar.specs.Flat.{flatPlace, flatRule, flatOf, flatSize, ruleNumbers};
 
-// Writes the place behind the numbers before at.
+// Writes the two numbers of a place from index `at` on. The numbers before them stay as found.
 pub fn write_place(place: Place, at: usize, f: &mut Flat)
     requires { ⌜ (at + 2 ≤ flatSize) × (length (now f) ≡ flatSize) ⌝ }
     ensures { λ _. ⌜ take (at + 2) (now (f .exit)) ≡ take at (now (f .entry)) ++ flatPlace place ⌝ }
@@ -23,7 +23,7 @@ pub fn write_place(place: Place, at: usize, f: &mut Flat)
     f[at + 1] = tagged::value_of(s) as u16;
 }
 
-// Writes the rule behind the numbers before at.
+// Writes the numbers of a rule from index `at` on. The numbers before them stay as found.
 pub fn write_rule(rule: Rule, at: usize, f: &mut Flat)
     requires { ⌜ (at + ruleNumbers ≤ flatSize) × (length (now f) ≡ flatSize) ⌝ }
     ensures { λ _. ⌜ take (at + ruleNumbers) (now (f .exit)) ≡ take at (now (f .entry)) ++ flatRule rule ⌝ }

@@ -1,4 +1,4 @@
--- The count of a row: the used numbers are tried one after the other. Assumes nothing.
+-- The count of a row: the used numbers are tested one after the other. Assumes nothing.
 use Prim.Native.Nat.{ℕ, _+_, _≤_, _<_, min}
 use native.Mathlib.Decide.{decLe}
 use native.Mathlib.Omega.{arith}

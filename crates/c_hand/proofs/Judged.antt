@@ -1,4 +1,4 @@
--- A row is judged whole: check 14 fails on its state exactly if the row's own numbers are not valid. Assumes nothing.
+-- Check 14 refuses the state of a row exactly if the row's own numbers are invalid. Assumes nothing.
 use Prim.Native.Nat.{ℕ, _≤_}
 use native.Mathlib.Decide.{decLe}
 use native.Mathlib.Omega.{arith}

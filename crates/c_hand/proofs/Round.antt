@@ -1,4 +1,4 @@
--- A state that is written to a row is read back, with a count of at most 65535; check 14 judges the row as it judges the state.
+-- A state that is written to a row is read back with its count cut to 65535. Check 14 refuses the row exactly if it refuses the state.
 -- Assumes nothing.
 use Prim.Native.Nat.{ℕ, zero, suc, _<_}
 use native.Mathlib.Decide.{decLt}
@@ -70,7 +70,7 @@ module _ (s : State) (d : DeclaredState s) where
       let e : saturated (s .count) ≡ s .count = omega arith in
       read-kept ∙ ap (setTaken s) e
 
-  -- what is written is refused exactly if the state is
+  -- check 14 refuses what is written exactly if it refuses the state
   pub write-judged : stateCheck (stateOfRow (rowOf s)) .fails ≡ stateCheck s .fails
   write-judged = ap (λ (x : State). stateCheck x .fails) read-kept ∙ dite (decLt (s .count) 65536) small large
     where

@@ -1,7 +1,6 @@
--- A row of numbers of 16 bits: the 64 bytes of a state of the recognizer (document 01: the marks of a plate in hand), then the count of
--- those that have been taken. The state of a row, and the row of a state. Each number of a row is judged whole: a row with a used number
--- that is no byte is read as a state that check 14 refuses, and a count too large for a row is written as one that it refuses.
--- Assumes nothing.
+-- A row of 16-bit numbers: the 64 bytes of a state of the recognizer (document 01: the marks of a plate in hand), then the count of those
+-- that have been taken. The state of a row, and the row of a state. All 16 bits of a number count: a row with a used number that is no byte
+-- is read as a state that check 14 refuses. A count too large for a row is written as one that check 14 refuses. Assumes nothing.
 use Prim.Native.Nat.{ℕ, _+_}
 use mathlib.Core.Bool.{Bool, cond, _&&_}
 use mathlib.Core.List.{List, [], _∷_, _++_, map}
@@ -12,13 +11,13 @@ use Rattle.numbers.specs.Numbers.{byteIn, saturated}
 use Rattle.grammar.specs.Valid.{all}
 use Rattle.results.specs.Recognize.{State, stateWith}
 
--- the numbers of a row: the bytes, then the count
+-- how many numbers a row has: the bytes, then the count
 abbrev pub handSize : ℕ
 handSize = maxInput + 1
 
 -- ---- the state of a row
 
--- a number that a byte holds
+-- whether a number fits a byte
 abbrev pub isByte : ℕ → Bool
 isByte n = leb n 255
 
@@ -30,7 +29,7 @@ bytesIn h = take maxInput (map byteIn h)
 abbrev pub invalidCount : ℕ
 invalidCount = maxInput + 1
 
--- the count, but an invalid one where a used number is no byte
+-- the count, or an invalid count where a used number is no byte
 unfoldable pub handCount : List ℕ → ℕ
 handCount h = cond (all isByte (take (getD h maxInput 0) (take maxInput h))) (getD h maxInput 0) invalidCount
 
@@ -38,7 +37,7 @@ handCount h = cond (all isByte (take (getD h maxInput 0) (take maxInput h))) (ge
 unfoldable pub stateOfRow : List ℕ → State
 stateOfRow h = stateWith (bytesIn h) (handCount h)
 
--- what check 14 has to let through, told of the row's own numbers: at most 64 are used, and these are bytes
+-- what check 14 accepts, in terms of the row's own numbers: at most 64 are used, and these are bytes
 unfoldable pub validHand : List ℕ → Bool
 validHand h = leb (getD h maxInput 0) maxInput && all isByte (take (getD h maxInput 0) h)
 

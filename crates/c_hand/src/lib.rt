@@ -1,6 +1,6 @@
-// A state of the recognizer (document 01: the plate in hand) as a row of numbers of 16 bits, which crosses to C and Rust: the 64 bytes,
-// then the count. Check 14 refuses the state of a row exactly if it has to refuse the row, and the row of a state exactly if it has to
-// refuse the state.
+// A state of the recognizer (document 01: the plate in hand) as a row of 16-bit numbers, the form in which it crosses to C and Rust: the 64
+// bytes, then the count. Check 14 refuses the state read from a row exactly if the row's own numbers are invalid. It refuses the row of a
+// state exactly if it refuses the state.
 use recognizer::Recognizer;
 use sizes::MAX_INPUT;
 ghost use mathlib.Core.Path.{_≡_};
@@ -21,7 +21,7 @@ pub fn tied_size() -> usize
     HAND
 }
 
-// The row goes in by value, so that its length is known.
+// Reads the 64 bytes. The row is passed by value, so that its length is known.
 fn read_bytes(h: [u16; HAND]) -> [u8; MAX_INPUT]
     ensures { λ l. ⌜ l ≡ bytesIn h ⌝ }
 {
@@ -34,14 +34,14 @@ fn read_bytes(h: [u16; HAND]) -> [u8; MAX_INPUT]
     bytes
 }
 
-// How many of the 64 numbers a count says are used.
+// How many of the 64 numbers are used, by the count.
 fn used(n: usize) -> usize
     ensures { λ m. ⌜ m ≡ min n maxInput ⌝ }
 {
     if n < MAX_INPUT { n } else { MAX_INPUT }
 }
 
-// The count, but an invalid one where a used number is no byte.
+// Reads the count, or an invalid count if a used number is not a byte.
 fn read_count(h: &[u16; HAND]) -> usize
     ensures { λ n. ⌜ n ≡ handCount (now (h .entry)) ⌝ }
 {

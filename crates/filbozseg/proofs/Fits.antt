@@ -1,4 +1,4 @@
--- The grammar that loading gives fits a flat row whole, so it is read back from its row as it was written. Assumes nothing.
+-- A loaded grammar fits a flat row, so it is read back from its row as it was written. Assumes nothing.
 use Prim.Native.Nat.{ℕ, suc, _+_, _*_, _-_, _≤_, _<_}
 use native.Mathlib.Omega.{arith}
 use mathlib.Core.Bool.{Bool, true, false, cond}

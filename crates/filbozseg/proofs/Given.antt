@@ -13,16 +13,17 @@ use Rattle.c_grammar.proofs.Round.{read-write}
 use Rattle.grammar.specs.declared.Grammar.{Grammar}
 use Rattle.grammar.specs.View.{wholeOf}
 use Rattle.answers.specs.Answers.{outcomeOf}
-use Rattle.c_hand.specs.Hand.{rowOf}
+use Rattle.c_hand.specs.Hand.{rowOf, stateOfRow}
 use Rattle.load.specs.declared.Loaded.{Loaded}
 use Rattle.load.specs.Answer.{loadingOf}
-use Rattle.results.specs.Answer.{Figure}
-use Rattle.results.specs.Check.{Checking}
-use Rattle.results.specs.Enumerate.{Enumeration}
+use Rattle.results.specs.Answer.{Answer, Handing, Figure}
+use Rattle.results.specs.Check.{Checking, checkOf}
+use Rattle.results.specs.Enumerate.{Enumeration, firstOf, nextOf, countOf}
 use Rattle.results.specs.Load.{Loading, loadOf}
-use Rattle.results.specs.Recognize.{State, Recognition}
-use Rattle.c_answer.specs.Code.{codeOf, leftOf, verdictCode, rowLeft, lengthCode, tenthsLeft, handingCode, nodesLeft, figureCode, figureLeft}
-use Rattle.c_answer.specs.Code.{loadCode, offsetLeft}
+use Rattle.results.specs.Measure.{lengthOf, sameBuildOf}
+use Rattle.results.specs.Recognize.{State, Recognition, openOf, takeOf}
+use Rattle.c_answer.specs.Code.{codeOf, leftOf, verdictCode, rowLeft, lengthCode, tenthsLeft, handingCode, nodesLeft}
+use Rattle.c_answer.specs.Code.{figureCode, figureLeft, loadCode, offsetLeft}
 use Rattle.filbozseg.specs.Calls.{Loads, Opens, Takes, Checks, Measures, Hands, Counts}
 use Rattle.filbozseg.proofs.Fits.{load-fits}
 
@@ -51,31 +52,50 @@ module _ (book : List ℕ) (small : (i : ℕ) → getD book i 0 < 256) (l : Load
       → offset ≡ offsetLeft (outcomeOf (l .outcome)) found → Loads book found code row offset
   loads-of found code offset row e f k = rw (e, f, k) (row-loads found)
 
--- ---- the other calls: f is the call, on the grammar h, which was read as g, and v is what it gave
+-- ---- the other calls, on the grammar g that was read from the row f
 
-module _ {g h : Grammar} (read : g ≡ h) where
-  pub opens-of : (f : Grammar → Recognition) {v : Recognition} {code : ℕ} {row : List ℕ} → v ≡ f g → row ≡ rowOf (v .state)
-      → code ≡ codeOf verdictCode (v .answer) → Opens (f h) code row (v .chart)
-  opens-of f e w c = rw (← read, ← e) (record { returned = c; state = w; left = refl })
+abbrev checked : {A : Type 0} → Answer A → List ℕ → Checking A
+checked a chart = record { answer = a; chart = chart }
 
-  -- taking reads a state too, s as t
-  pub takes-of : {s t : State} → s ≡ t → (f : Grammar → State → Recognition) {v : Recognition} {code : ℕ} {found row : List ℕ} → v ≡ f g s
-      → row ≡ leftOf (rowLeft (v .state)) (v .answer) found → code ≡ codeOf verdictCode (v .answer)
-      → Takes (f h t) found code row (v .chart)
-  takes-of state f e w c = rw (← read, ← state, ← e) (record { returned = c; state = w; left = refl })
+abbrev recognized : Answer Bool → State → List ℕ → Recognition
+recognized a s chart = record { answer = a; state = s; chart = chart }
 
-  pub checks-of : (f : Grammar → Checking Bool) {v : Checking Bool} {code : ℕ} → v ≡ f g → code ≡ codeOf verdictCode (v .answer)
-      → Checks (f h) code (v .chart)
-  checks-of f e c = rw (← read, ← e) (record { returned = c; left = refl })
+abbrev enumerated : Answer Handing → List ℕ → List ℕ → Enumeration
+enumerated a chart out = record { answer = a; chart = chart; output = out }
 
-  pub measures-of : (f : Grammar → Checking ℤ) {v : Checking ℤ} {found tenths : ℤ} {code : ℕ} → v ≡ f g
-      → code ≡ codeOf lengthCode (v .answer) → tenths ≡ leftOf tenthsLeft (v .answer) found → Measures (f h) found code (v .chart) tenths
-  measures-of f e c t = rw (← read, ← e) (record { returned = c; left = refl; measured = t })
+module _ (f : List ℕ) (g : Grammar) (read : g ≡ grammarIn f) (chart₀ chart : List ℕ) (code : ℕ) where
+  module _ (a : Answer Bool) (returned : code ≡ codeOf verdictCode a) where
+    pub opens-of : (s : State) (row : List ℕ) → recognized a s chart ≡ openOf g chart₀ → row ≡ rowOf s
+        → Opens (openOf (grammarIn f) chart₀) code row chart
+    opens-of s row e w = rw (← read, ← e) (record { returned = returned; state = w; left = refl })
 
-  pub hands-of : (f : Grammar → Enumeration) {v : Enumeration} {found code nodes : ℕ} → v ≡ f g → code ≡ codeOf handingCode (v .answer)
-      → nodes ≡ leftOf nodesLeft (v .answer) found → Hands (f h) found code (v .chart) (v .output) nodes
-  hands-of f e c t = rw (← read, ← e) (record { returned = c; left = refl; written = refl; counted = t })
+    -- taking reads a state too
+    pub takes-of : (byte : ℕ) (found : List ℕ) (h s : State) (row : List ℕ) → h ≡ stateOfRow found
+        → recognized a s chart ≡ takeOf g h byte chart₀ → row ≡ leftOf (rowLeft s) a found
+        → Takes (takeOf (grammarIn f) (stateOfRow found) byte chart₀) found code row chart
+    takes-of byte found h s row state e w = rw (← read, ← state, ← e) (record { returned = returned; state = w; left = refl })
 
-  pub counts-of : (f : Grammar → Checking Figure) {v : Checking Figure} {found code figure : ℕ} → v ≡ f g
-      → code ≡ codeOf figureCode (v .answer) → figure ≡ leftOf figureLeft (v .answer) found → Counts (f h) found code (v .chart) figure
-  counts-of f e c t = rw (← read, ← e) (record { returned = c; left = refl; counted = t })
+    pub checks-of : (w d : List ℕ) → checked a chart ≡ checkOf g w d chart₀ → Checks (checkOf (grammarIn f) w d chart₀) code chart
+    checks-of w d e = rw (← read, ← e) (record { returned = returned; left = refl })
+
+    pub checks-build-of : (w d d′ : List ℕ) → checked a chart ≡ sameBuildOf g w d d′ chart₀
+        → Checks (sameBuildOf (grammarIn f) w d d′ chart₀) code chart
+    checks-build-of w d d′ e = rw (← read, ← e) (record { returned = returned; left = refl })
+
+  pub measures-of : (a : Answer ℤ) (w d : List ℕ) (found tenths : ℤ) → checked a chart ≡ lengthOf g w d chart₀ → code ≡ codeOf lengthCode a
+      → tenths ≡ leftOf tenthsLeft a found → Measures (lengthOf (grammarIn f) w d chart₀) found code chart tenths
+  measures-of a w d found tenths e c t = rw (← read, ← e) (record { returned = c; left = refl; measured = t })
+
+  pub counts-of : (a : Answer Figure) (w : List ℕ) (found figure : ℕ) → checked a chart ≡ countOf g w chart₀ → code ≡ codeOf figureCode a
+      → figure ≡ leftOf figureLeft a found → Counts (countOf (grammarIn f) w chart₀) found code chart figure
+  counts-of a w found figure e c t = rw (← read, ← e) (record { returned = c; left = refl; counted = t })
+
+  module _ (a : Answer Handing) (returned : code ≡ codeOf handingCode a) (found nodes : ℕ) (counted : nodes ≡ leftOf nodesLeft a found)
+      (w out₀ out : List ℕ) where
+    pub hands-first-of : enumerated a chart out ≡ firstOf g w chart₀ out₀
+        → Hands (firstOf (grammarIn f) w chart₀ out₀) found code chart out nodes
+    hands-first-of e = rw (← read, ← e) (record { returned = returned; left = refl; written = refl; counted = counted })
+
+    pub hands-next-of : (d : List ℕ) → enumerated a chart out ≡ nextOf g w d chart₀ out₀
+        → Hands (nextOf (grammarIn f) w d chart₀ out₀) found code chart out nodes
+    hands-next-of d e = rw (← read, ← e) (record { returned = returned; left = refl; written = refl; counted = counted })

@@ -1,5 +1,5 @@
--- What each exported function returns and leaves, in terms of the results of document 01. A grammar is a flat row (crate rows), a state of
--- the recognizer the row of a hand (crate hand). Assumes nothing.
+-- What each exported function returns and leaves, in terms of the results of document 01. A grammar is a flat row (crate c_grammar), and a
+-- state of the recognizer is a row too (crate c_hand). In each record `found` is what the lent place had before. Assumes nothing.
 use Prim.Native.Nat.{ℕ}
 use mathlib.Core.Bool.{Bool}
 use mathlib.Core.List.{List}
@@ -15,15 +15,14 @@ use Rattle.results.specs.Check.{Checking}
 use Rattle.results.specs.Enumerate.{Enumeration}
 use Rattle.results.specs.Load.{loadOf}
 use Rattle.results.specs.Recognize.{Recognition}
-use Rattle.c_answer.specs.Code.{codeOf, leftOf, verdictCode, rowLeft, lengthCode, tenthsLeft, handingCode, nodesLeft, figureCode, figureLeft}
-use Rattle.c_answer.specs.Code.{loadCode, offsetLeft}
+use Rattle.c_answer.specs.Code.{codeOf, leftOf, verdictCode, rowLeft, lengthCode, tenthsLeft, handingCode, nodesLeft}
+use Rattle.c_answer.specs.Code.{figureCode, figureLeft, loadCode, offsetLeft}
 
--- the nullable depth that stands in a row
+-- the nullable depth in a row
 abbrev pub depthIn : List ℕ → ℕ
 depthIn f = getD f 2 0
 
--- loading the book, a number being found where the offset goes: what is returned, the row left, the number left, and that the row is read
--- back as the grammar that was loaded
+-- loading a book: what is returned, the row left, the offset left, and that the row is read back as the grammar that was loaded
 pub record Loads (book : List ℕ) (found : ℕ) (code : ℕ) (row : List ℕ) (offset : ℕ) : Type 0 where
   pub returned : code ≡ loadCode (loadOf book (depthIn row) .answer)
   pub grammar : row ≡ flatOf (loadOf book (depthIn row) .grammar)
@@ -37,7 +36,7 @@ pub record Opens (r : Recognition) (code : ℕ) (row : List ℕ) (chart : List �
   pub state : row ≡ rowOf (r .state)
   pub left : chart ≡ r .chart
 
--- taking, the row being found where the state goes: what is returned, the row left and the chart left
+-- taking: what is returned, the row left and the chart left
 pub record Takes (r : Recognition) (found : List ℕ) (code : ℕ) (row : List ℕ) (chart : List ℕ) : Type 0 where
   pub returned : code ≡ codeOf verdictCode (r .answer)
   pub state : row ≡ leftOf (rowLeft (r .state)) (r .answer) found
@@ -48,20 +47,20 @@ pub record Checks (k : Checking Bool) (code : ℕ) (chart : List ℕ) : Type 0 w
   pub returned : code ≡ codeOf verdictCode (k .answer)
   pub left : chart ≡ k .chart
 
--- length, a number being found where the tenths go: what is returned, the chart left, and the number left
+-- length: what is returned, the chart left, and the number left
 pub record Measures (k : Checking ℤ) (found : ℤ) (code : ℕ) (chart : List ℕ) (tenths : ℤ) : Type 0 where
   pub returned : code ≡ codeOf lengthCode (k .answer)
   pub left : chart ≡ k .chart
   pub measured : tenths ≡ leftOf tenthsLeft (k .answer) found
 
--- first and next, a number being found where the nodes go: what is returned, the chart and the output left, and the number left
+-- first and next: what is returned, the chart and the output left, and the number left
 pub record Hands (x : Enumeration) (found : ℕ) (code : ℕ) (chart output : List ℕ) (nodes : ℕ) : Type 0 where
   pub returned : code ≡ codeOf handingCode (x .answer)
   pub left : chart ≡ x .chart
   pub written : output ≡ x .output
   pub counted : nodes ≡ leftOf nodesLeft (x .answer) found
 
--- count, a number being found where the figure goes: what is returned, the chart left, and the number left
+-- count: what is returned, the chart left, and the number left
 pub record Counts (k : Checking Figure) (found : ℕ) (code : ℕ) (chart : List ℕ) (figure : ℕ) : Type 0 where
   pub returned : code ≡ codeOf figureCode (k .answer)
   pub left : chart ≡ k .chart

@@ -4,8 +4,8 @@ ghost use Rattle.c_grammar.specs.Flat.{grammarIn};
 ghost use Rattle.results.specs.Enumerate.{firstOf, nextOf, countOf};
 ghost use Rattle.filbozseg.specs.Calls.{Hands, Counts};
 
-// The first derivation (reading) of the input, written to the front of the output, and how many nodes (parts) it has; where none is handed
-// out, the output and the number are as found.
+// Writes the first derivation (reading) of the input to the front of the output, and how many nodes (parts) it has. If none is handed out,
+// the output and the number stay as found.
 #[no_mangle]
 pub extern "C" fn filbozseg_first(
     grammar: &Flat,
@@ -22,8 +22,8 @@ pub extern "C" fn filbozseg_first(
     c_answer::of_handing(handed, nodes)
 }
 
-// The derivation after the offered one, written to the front of the output, and how many nodes it has; where none is handed out, the
-// output and the number are as found.
+// Writes the derivation after the offered one to the front of the output, and how many nodes it has. If none is handed out, the output and
+// the number stay as found.
 #[no_mangle]
 pub extern "C" fn filbozseg_next(
     grammar: &Flat,
@@ -47,7 +47,7 @@ pub extern "C" fn filbozseg_next(
     c_answer::of_handing(handed, nodes)
 }
 
-// How many derivations the input has; where there are more than 4,096, and where the call is refused, the number is as found.
+// How many derivations the input has. If there are more than 4,096, or the call is refused, the number stays as found.
 #[no_mangle]
 pub extern "C" fn filbozseg_count(
     grammar: &Flat,

@@ -1,6 +1,5 @@
-// The functions that C and Rust link. They take numbers, slices and arrays: a grammar is the flat row of crate flat, a state of the
-// recognizer the row of crate hand, and an answer is a number (crate encoding). A number that is lent is written only with an answer that
-// carries it.
+// The functions that C and Rust link. They take numbers, slices and arrays: a grammar is a flat row (crate c_grammar), a state of the
+// recognizer is a row (crate c_hand), and an answer is a number (crate c_answer). A lent number is written only if the answer has one.
 pub mod enumerate;
 
 use c_grammar::Flat;
@@ -11,7 +10,7 @@ ghost use Rattle.results.specs.Measure.{lengthOf, sameBuildOf};
 ghost use Rattle.results.specs.Recognize.{openOf, takeOf};
 ghost use Rattle.filbozseg.specs.Calls.{Loads, Opens, Takes, Checks, Measures};
 
-// Loads a book. The row left is its grammar, or one of no rules where the book is refused; the offset is written only then.
+// Loads a book and leaves the row of its grammar. A refused book leaves a grammar of no rules, and only then the offset is written.
 #[no_mangle]
 pub extern "C" fn filbozseg_load(book: &[u8], grammar: &mut Flat, offset: &mut usize) -> u32
     ensures { λ c. ⌜ Loads (now (book .entry)) (now (offset .entry)) c (now (grammar .exit)) (now (offset .exit)) ⌝ }
@@ -23,7 +22,7 @@ pub extern "C" fn filbozseg_load(book: &[u8], grammar: &mut Flat, offset: &mut u
     c_answer::of_loading(outcome, offset)
 }
 
-// Opens the recognizer: the state left is that of no bytes.
+// Opens the recognizer and leaves the state of no bytes.
 #[no_mangle]
 pub extern "C" fn filbozseg_open(
     grammar: &Flat,
@@ -41,7 +40,7 @@ pub extern "C" fn filbozseg_open(
     c_answer::of_verdict(accepted)
 }
 
-// Takes a byte. The state left is that with the byte, or, where the call is refused, the row found.
+// Takes a byte and leaves the state with the byte. A refused call leaves the row as found.
 #[no_mangle]
 pub extern "C" fn filbozseg_take(
     grammar: &Flat,
@@ -60,7 +59,7 @@ pub extern "C" fn filbozseg_take(
     c_answer::of_taking(accepted, next, hand)
 }
 
-// Whether the offered derivation is one (reading) of the input.
+// Whether the offered row is a derivation (reading) of the input.
 #[no_mangle]
 pub extern "C" fn filbozseg_check(
     grammar: &Flat,
@@ -75,7 +74,7 @@ pub extern "C" fn filbozseg_check(
     c_answer::of_verdict(checker::check(c_grammar::read::read(grammar), input, offered, chart))
 }
 
-// The length of an offered derivation, in tenths of a millimetre; where the call is refused, the number found.
+// The length of an offered derivation, in tenths of a millimetre. A refused call leaves the number as found.
 #[no_mangle]
 pub extern "C" fn filbozseg_length(
     grammar: &Flat,

@@ -10,13 +10,13 @@ ghost use Rattle.io.specs.Counts.{Counts};
 ghost use Rattle.text.specs.Front.{bookFront, plateFront};
 ghost use Rattle.print_write.specs.Listed.{Listed};
 
-// The bytes of a book that are read at most: no further one changes the text.
+// The most bytes of a book that are read: no further byte changes the text.
 const BOOK: usize = 8192;
 
-// The bytes of a plate that are read at most, likewise: one more than a plate may have.
+// The most bytes of a plate that are read, likewise: one more than a plate may have.
 const PLATE: usize = sizes::MAX_INPUT + 1;
 
-// Reads the front of the book. A file that can't be opened counts as empty, and one that can't be read to its end as what was read.
+// Reads the front of the book. A file that can't be opened counts as empty. Of one that can't be read to its end, what was read counts.
 fn read_book(book: &mut [u8]) -> usize
     requires { ⌜ length (now book) ≡ bookFront ⌝ }
     ensures { λ n. ⌜ Counts n (now (book .exit)) ⌝ }
@@ -38,7 +38,7 @@ fn read_plate(plate: &mut [u8]) -> usize
     io::read_full(libc::STDIN_FILENO, plate)
 }
 
-// Writes the text of book and plate. What the steps need is this function's own.
+// Writes the text of book and plate. The arrays that the steps need are locals of this function.
 fn list(book: &[u8], plate: &[u8]) -> Written
     ensures { λ r. ⌜ Listed (now (book .entry)) (now (plate .entry)) (r .bytes) (r .all) ⌝ }
 {

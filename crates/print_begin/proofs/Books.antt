@@ -1,4 +1,4 @@
--- What is printed first, by what loading the book gave. Assumes nothing.
+-- The first line that is due, by the result of loading the book. Assumes nothing.
 use Prim.Native.Nat.{ℕ, _<_}
 use mathlib.Core.Bool.{true}
 use mathlib.Core.List.{List}
@@ -31,7 +31,7 @@ refused-apart : {n at : ℕ} → refusedAt n at ≡ loaded → ⊥
 refused-apart e = clash cc
 
 module _ (book w : List ℕ) (b : Loaded) (load : loadingOf b ≡ loadOf book (b .grammar .depth)) where
-  -- the text by what loading gave
+  -- the text, by the result of loading
   text-loaded : loadedText (loadingOf b) w ≡ textOf book w
   text-loaded = ap (λ (x : Loading). loadedText x w) load ∙ text-depth book w (b .grammar .depth)
 

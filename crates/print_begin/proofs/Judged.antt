@@ -1,5 +1,4 @@
--- What is printed first of an input, by how the checks of a valid grammar are judged and what is printed over the filled chart.
--- Assumes nothing.
+-- The first line that is due for an input and a valid grammar: refusal 9, or what is due over the filled chart. Assumes nothing.
 use Prim.Native.Nat.{ℕ, suc, _≤_}
 use mathlib.Core.Bool.{true, true≢false, cond}
 use mathlib.Core.List.{List, [], _∷_, _++_, map}
@@ -103,7 +102,7 @@ empty-any g valid w short chart room =
 
 module _ (g : Grammar) (w chart : List ℕ) (j : Judged) (judging : Judging g (length w) (length chart) j) (is : j ≡ Passed)
     (p chart' : List ℕ) (filling : Filling g p w chart chart') where
-  -- what is asked over the filled chart
+  -- what is required of the filled chart
   pub judged-filled : (length w ≤ maxInput) × (cells ≤ length chart') × ChartTrue p (bytesOf w) chart' (length w)
   judged-filled = filled-chart g p w chart chart' (judged-ready g (length w) (length chart) j judging is) filling
 

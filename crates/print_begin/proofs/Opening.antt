@@ -1,4 +1,4 @@
--- What is printed first, by the tests that the code makes once the chart is filled. Assumes nothing.
+-- The first line that is due, by the tests that the code makes once the chart is filled. Assumes nothing.
 use Prim.Native.Nat.{ℕ, _≤_, _<_}
 use mathlib.Core.Bool.{Bool, true, false, not}
 use mathlib.Core.List.{List, [], _∷_, _++_, List·Memᴰ}

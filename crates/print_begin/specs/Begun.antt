@@ -1,4 +1,4 @@
--- What is printed first, as what is still to be printed then. Assumes nothing.
+-- What each function of the first step leaves: what is due, and the lines that are ahead then. Assumes nothing.
 use Prim.Native.Nat.{ℕ}
 use mathlib.Core.Bool.{cond}
 use mathlib.Core.List.{List, [], _∷_}

@@ -1,4 +1,4 @@
--- Which lines are still to be printed, by what is printed next and what the program holds. Assumes nothing.
+-- Which lines are still to be printed, given what is due and what the program holds. Assumes nothing.
 use Prim.Native.Nat.{ℕ, suc, _*_, _-_, _≤_, _<_}
 use mathlib.Core.List.{List, [], _∷_, _++_}
 use mathlib.Core.Path.{_≡_}
@@ -16,11 +16,11 @@ use Rattle.text.specs.Text.{linesFrom}
 use Rattle.print_begin.specs.declared.Due.{Due}
 use Rattle.print_begin.specs.declared.Due.the-variants.{Refusal, NoReading, Reading, Total, More, Nothing}
 
--- the lines of a list of derivations from the one of number i on, from 0: at most those of the first 4,096, then how many there are
+-- the lines of a list of derivations from number i on, counted from 0: at most those of the first 4,096, then how many there are
 abbrev pub linesAt : (ℕ → ℤ) → List (List ℕ) → ℕ → List (List ℕ)
 linesAt lengths l i = linesFrom lengths (suc i) (drop i (take most l)) ++ (readingsLine (figure (length l)) ∷ [])
 
--- what the program holds: derivation i of an input of n bytes stands in the buffer, of so many nodes, the rest is made for that input, and
+-- what the program holds: derivation i of an input of n bytes is in the buffer and has `nodes` nodes. The rest is made for that input, and
 -- the lines are those from that derivation on
 pub record Holds (lengths : ℕ → ℤ) (p fits chart tables : List ℕ) (s rules n i nodes : ℕ) (buf : List ℕ) (lines : List (List ℕ)) : Type 0
   where
@@ -50,7 +50,7 @@ DueSized (Total number) = number ≤ most
 DueSized More = Unit {0}
 DueSized Nothing = Unit {0}
 
--- the steps until nothing is due, at most
+-- the most steps until nothing is due
 abbrev pub stepsLeft : Due → ℕ
 stepsLeft (Refusal number) = 1
 stepsLeft NoReading = 1

@@ -1,3 +1,3 @@
--- What the listing program prints next, and what its first step does.
+-- What is due in the listing program, and what its first step does.
 pub mod Due
 pub mod Begun

@@ -1,4 +1,4 @@
-// What is printed first, from the bytes of the book and of the plate.
+// Finds the first line that is due, from the bytes of the book and of the plate.
 use super::Due;
 use answers::Outcome;
 use check_length::Lengths;
@@ -24,8 +24,8 @@ ghost use Rattle.table_layout.specs.Exact.{ChartTrue};
 ghost use Rattle.table_layout.specs.Layout.{tablesSize};
 ghost use Rattle.print_begin.specs.Begun.{TreeBegun, FilledBegun, InputBegun, BookBegun};
 
-// What is printed first where the chart is filled, the fit table made and trees exist: the tables are made, and the first derivation
-// stands in the buffer.
+// Finds the first line that is due if trees exist, once the chart is filled and the fit table is made. It makes the tables and writes the
+// first derivation into the buffer.
 fn begin_tree(
     p: &Packed,
     start: usize,
@@ -56,7 +56,7 @@ fn begin_tree(
     }
 }
 
-// What is printed first where the chart is filled and the fit table made.
+// Finds the first line that is due, once the chart is filled and the fit table is made.
 fn begin_filled(
     p: &Packed,
     start: usize,
@@ -79,7 +79,7 @@ fn begin_filled(
     }
 }
 
-// What is printed first of an input, for a grammar that is valid.
+// Finds the first line that is due for an input and a valid grammar.
 fn begin_input(
     g: Grammar,
     input: &[u8],
@@ -105,7 +105,7 @@ fn begin_input(
     }
 }
 
-// What is printed first, from the bytes of the book and of the plate: the book is judged first.
+// Finds the first line that is due, from the bytes of the book and of the plate. The book is checked before the plate.
 pub fn begin(
     book: &[u8],
     input: &[u8],

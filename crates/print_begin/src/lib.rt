@@ -1,14 +1,14 @@
-// The listing program up to its output, its first step: what is printed first.
+// The first step of the listing program: from the bytes of the book and of the plate to the first line that is due.
 
 pub mod begin;
 
-// What is printed next.
+// What is due: the line that is printed next.
 pub enum Due {
     // `REFUSED` and a number, the only line
     Refusal(usize),
     // `NO READING`, the only line
     NoReading,
-    // the derivation that stands in the buffer
+    // the line of the derivation that is in the buffer
     Reading {
         start: usize,
         rules: usize,

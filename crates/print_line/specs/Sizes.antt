@@ -2,14 +2,14 @@
 use Prim.Native.Nat.{ℕ, _+_}
 use Rattle.print_number.specs.Put.{lengthSize}
 
--- a buffer of so many bytes takes every line
+-- every line fits a buffer of this many bytes
 abbrev pub lineSize : ℕ
 lineSize = 8192
 
--- the bytes of a node at most: a space, five digits, a point, five digits
+-- the most bytes that a node has: a space, five digits, a point, five digits
 abbrev pub nodeSize : ℕ
 nodeSize = 12
 
--- the bytes of a line's end at most: a space, an equals sign, a space, a length, a newline
+-- the most bytes that the end of a line has: a space, an equals sign, a space, a length, a newline
 abbrev pub endSize : ℕ
 endSize = 3 + lengthSize + 1

@@ -1,4 +1,4 @@
-// The lines of fixed words, written into a buffer from its start. Each function answers where the line ends.
+// Writes the lines of fixed words to the front of a buffer. Each function returns the index after the line.
 use super::NEWLINE;
 use print_number::put_byte;
 use print_number::put_bytes;
@@ -11,7 +11,7 @@ ghost use Rattle.text.specs.Line.{refusedLine, noReadingLine, readingsLine};
 ghost use Rattle.print_number.specs.Put.{Put};
 ghost use Rattle.print_line.specs.Sizes.{lineSize};
 
-// A refusal and its number, which is a byte.
+// Writes the line of a refusal with its number, which is a byte.
 pub fn put_refused(n: usize, out: &mut [u8]) -> usize
     requires { ⌜ (n < 256) × (lineSize ≤ length (now out)) ⌝ }
     ensures { λ r. ⌜ Put (refusedLine n) 0 r (now (out .entry)) (now (out .exit)) ⌝ }
@@ -21,7 +21,7 @@ pub fn put_refused(n: usize, out: &mut [u8]) -> usize
     put_byte(NEWLINE, b, out)
 }
 
-// There is no derivation (reading).
+// Writes the line of an input that has no derivation (reading).
 pub fn put_no_reading(out: &mut [u8]) -> usize
     requires { ⌜ lineSize ≤ length (now out) ⌝ }
     ensures { λ r. ⌜ Put noReadingLine 0 r (now (out .entry)) (now (out .exit)) ⌝ }
@@ -29,7 +29,7 @@ pub fn put_no_reading(out: &mut [u8]) -> usize
     put_bytes(b"NO READING\n", 0, out)
 }
 
-// How many derivations there are.
+// Writes the line that says how many derivations there are.
 pub fn put_readings(n: usize, out: &mut [u8]) -> usize
     requires { ⌜ (n ≤ most) × (lineSize ≤ length (now out)) ⌝ }
     ensures { λ r. ⌜ Put (readingsLine (counted n)) 0 r (now (out .entry)) (now (out .exit)) ⌝ }
@@ -39,7 +39,7 @@ pub fn put_readings(n: usize, out: &mut [u8]) -> usize
     put_byte(NEWLINE, b, out)
 }
 
-// There are more than were listed.
+// Writes the line that says that there are more derivations than were listed.
 pub fn put_more(out: &mut [u8]) -> usize
     requires { ⌜ lineSize ≤ length (now out) ⌝ }
     ensures { λ r. ⌜ Put (readingsLine more) 0 r (now (out .entry)) (now (out .exit)) ⌝ }

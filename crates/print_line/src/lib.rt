@@ -5,10 +5,10 @@ pub mod line;
 ghost use mathlib.Core.Path.{_≡_};
 ghost use Rattle.print_line.specs.Sizes.{lineSize};
 
-// The byte behind each line.
+// The byte at the end of each line.
 pub const NEWLINE: u8 = 10;
 
-// A buffer of so many bytes takes every line.
+// Every line fits a buffer of this many bytes.
 pub const LINE: usize = 8192;
 
 pub fn tied_line() -> usize

@@ -1,4 +1,4 @@
-// The line of a derivation (reading), written into a buffer. Each function answers where what it wrote ends.
+// Writes the line of a derivation (reading) into a buffer. Each function returns the index after the last byte that it wrote.
 use super::NEWLINE;
 use print_number::put_byte;
 use print_number::put_bytes;
@@ -20,7 +20,7 @@ const POINT: u8 = 46;
 
 const COLON: u8 = 58;
 
-// A node (part): a space, the marks it covers, a point, its rule.
+// Writes a node (part): a space, how many marks it covers, a point, its rule.
 pub fn put_node(cover: u16, rule: u16, at: usize, out: &mut [u8]) -> usize
     requires { ⌜ at + nodeSize ≤ length (now out) ⌝ }
     ensures { λ r. ⌜ Put ((space ∷ decimal cover) ++ (point ∷ decimal rule)) at r (now (out .entry)) (now (out .exit)) ⌝ }
@@ -32,7 +32,7 @@ pub fn put_node(cover: u16, rule: u16, at: usize, out: &mut [u8]) -> usize
     put_decimal(rule as usize, c, out)
 }
 
-// The first m nodes of a derivation, two numbers each.
+// Writes the first m nodes of a derivation, which has two numbers for each.
 pub fn put_nodes(e: &[u16], m: usize, at: usize, out: &mut [u8]) -> usize
     requires { ⌜ (2 * m ≤ length (now e)) × (m ≤ maxNodes) × (at + nodeSize * m ≤ length (now out)) ⌝ }
     ensures { λ r. ⌜ Put (parts (take (2 * m) (now (e .entry)))) at r (now (out .entry)) (now (out .exit)) ⌝ }
@@ -47,7 +47,7 @@ pub fn put_nodes(e: &[u16], m: usize, at: usize, out: &mut [u8]) -> usize
     end
 }
 
-// What stands behind the nodes: an equals sign, the length in tenths, a newline.
+// Writes the end of the line, after the nodes: an equals sign, the length in tenths, a newline.
 fn put_end(tenths: i32, at: usize, out: &mut [u8]) -> usize
     requires { ⌜ (mag tenths ≤ maxTenths) × (at + endSize ≤ length (now out)) ⌝ }
     ensures { λ r. ⌜ Put (lengthEnd tenths) at r (now (out .entry)) (now (out .exit)) ⌝ }
@@ -57,7 +57,7 @@ fn put_end(tenths: i32, at: usize, out: &mut [u8]) -> usize
     put_byte(NEWLINE, b, out)
 }
 
-// The line of a derivation: its place in the list, a colon, its nodes, its length in tenths.
+// Writes the line of a derivation: its place in the list, a colon, its nodes, its length in tenths.
 pub fn put_line(place: usize, e: &[u16], m: usize, tenths: i32, out: &mut [u8]) -> usize
     requires { ⌜ (place ≤ most) × (2 * m ≤ length (now e)) × (m ≤ maxNodes) × (mag tenths ≤ maxTenths)
         × (lineSize ≤ length (now out)) ⌝ }

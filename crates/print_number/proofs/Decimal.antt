@@ -1,4 +1,4 @@
--- Laws of numbers in decimal: one digit below 10, else the digits of the tenth and the last one; how many digits there are.
+-- Numbers in decimal: below 10 one digit, else the digits of a tenth of the number and then the last digit; how many digits there are.
 -- Assumes nothing.
 use Prim.Native.Nat.{ℕ, zero, suc, _+_, _*_, _/_, _%_, _^_, _≤_, _<_}
 use native.Mathlib.Nat.{pow-suc}
@@ -23,7 +23,7 @@ by-more : (k n : ℕ) → 10 ≤ n → decimalBy (suc k) n ≡ decimalBy k (n / 
 unfolding decimalBy
 by-more k n h = rw (decimalBy, le-ltb n 10 h)
 
--- by any number of digits that suffices a number is the same
+-- any two bounds on the number of digits that suffice give the same digits
 by-any : (k j n : ℕ) → n < k → n < j → decimalBy k n ≡ decimalBy j n
 by-any zero j n h l = absurd (omega arith)
 by-any (suc k) zero n h l = absurd (omega arith)
@@ -47,7 +47,7 @@ decimal-more n h =
 length-one : (n : ℕ) → n < 10 → length (decimal n) ≡ 1
 length-one n h = ap length (decimal-one n h)
 
-pub length-more : (n : ℕ) → 10 ≤ n → length (decimal n) ≡ length (decimal (n / 10)) + 1
+length-more : (n : ℕ) → 10 ≤ n → length (decimal n) ≡ length (decimal (n / 10)) + 1
 length-more n h = ap length (decimal-more n h) ∙ length-append (decimal (n / 10)) (digit (n % 10) ∷ [])
 
 pub digits : (k n : ℕ) → n < 10 ^ suc k → length (decimal n) ≤ suc k
@@ -70,6 +70,10 @@ room-one n at m h l = omega (arith, length-one n h)
 
 pub room-more : (n at m : ℕ) → 10 ≤ n → at + length (decimal n) ≤ m → at + length (decimal (n / 10)) ≤ m
 room-more n at m h l = omega (arith, length-more n h)
+
+-- room for the last digit
+pub room-last : (n at mid m k : ℕ) → 10 ≤ n → at + length (decimal n) ≤ m → mid ≡ at + length (decimal (n / 10)) → k ≡ m → mid < k
+room-last n at mid m k h l e f = omega (arith, length-more n h)
 
 pub written-one : (n at end : ℕ) (o₁ o₂ : List ℕ) → n < 10 → Put (digit n ∷ []) at end o₁ o₂ → Put (decimal n) at end o₁ o₂
 written-one n at end o₁ o₂ h p = put-same (sym (decimal-one n h)) p

@@ -1,4 +1,4 @@
--- Signed numbers of 32 bits in decimal: the size of a negative one, taken apart from its sign. Assumes nothing.
+-- Signed numbers of 32 bits in decimal, by their sign and their size. Assumes nothing.
 use Prim.Native.Nat.{ℕ, suc, _+_, _≤_, _<_}
 use native.Mathlib.Nat.{zero-add}
 use native.Mathlib.Omega.{arith}
@@ -18,7 +18,7 @@ use Rattle.print_number.specs.Put.{Put, lengthSize, maxTenths}
 use Rattle.print_number.proofs.Writing.{put-append, put-same}
 use Rattle.print_number.proofs.Decimal.{digits}
 
--- a signed number as the machine has it, and its negative
+-- a signed number as the machine keeps it, and its negation
 abbrev kept : ℤ → ℤ
 kept z = toZ w32 (ofZ w32 z)
 
@@ -71,13 +71,15 @@ module _ (z : ℤ) (small : mag z ≤ maxTenths) (test : ltZ (kept z) (pos 0) �
   pub room-negated : (at mid m k : ℕ) → at + lengthSize ≤ m → k ≡ m → mid ≡ at + 1 → mid + length (decimal (natAbs (kept (negated z)))) ≤ k
   room-negated at mid m k h e d = omega (arith, digits-negated)
 
-  pub written-negative : (at mid end : ℕ) (o₁ o₂ o₃ : List ℕ) → Put (45 ∷ []) at mid o₁ o₂
-      → Put (decimal (natAbs (kept (negated z)))) mid end o₂ o₃ → Put (signedDecimal z) at end o₁ o₃ × (end ≤ at + lengthSize)
-  unfolding signedDecimal
-  written-negative at mid end o₁ o₂ o₃ p q = (
-    put-same (ap (λ (n : ℕ). 45 ∷ decimal n) size-negated ∙ ap signedDecimal (sym (is-negative z small test))) (put-append p q),
-    omega (arith, digits-negated, p .grown, q .grown),
-  )
+  module _ (at mid end : ℕ) (o₁ o₂ o₃ : List ℕ) (p : Put (45 ∷ []) at mid o₁ o₂)
+      (q : Put (decimal (natAbs (kept (negated z)))) mid end o₂ o₃) where
+    pub written-negative : Put (signedDecimal z) at end o₁ o₃
+    unfolding signedDecimal
+    written-negative =
+        put-same (ap (λ (n : ℕ). 45 ∷ decimal n) size-negated ∙ ap signedDecimal (sym (is-negative z small test))) (put-append p q)
+
+    pub negative-end : end ≤ at + lengthSize
+    negative-end = omega (arith, digits-negated)
 
 -- ---- a natural number
 
@@ -97,10 +99,10 @@ module _ (z : ℤ) (small : mag z ≤ maxTenths) (test : ltZ (kept z) (pos 0) �
   pub room-natural : (at m : ℕ) → at + lengthSize ≤ m → at + length (decimal (natAbs (kept z))) ≤ m
   room-natural at m h = omega (arith, digits-natural)
 
-  pub written-natural : (at end : ℕ) (o₁ o₂ : List ℕ) → Put (decimal (natAbs (kept z))) at end o₁ o₂
-      → Put (signedDecimal z) at end o₁ o₂ × (end ≤ at + lengthSize)
-  unfolding signedDecimal
-  written-natural at end o₁ o₂ p = (
-    put-same (ap decimal size-natural ∙ ap signedDecimal (sym (is-natural z small test))) p,
-    omega (arith, digits-natural, p .grown),
-  )
+  module _ (at end : ℕ) (o₁ o₂ : List ℕ) (p : Put (decimal (natAbs (kept z))) at end o₁ o₂) where
+    pub written-natural : Put (signedDecimal z) at end o₁ o₂
+    unfolding signedDecimal
+    written-natural = put-same (ap decimal size-natural ∙ ap signedDecimal (sym (is-natural z small test))) p
+
+    pub natural-end : end ≤ at + lengthSize
+    natural-end = omega (arith, digits-natural)

@@ -1,4 +1,4 @@
--- Bytes written into a buffer: nothing, one byte, one piece behind another. Assumes nothing.
+-- Bytes written into a buffer: nothing, one byte, one piece after another. Assumes nothing.
 use Prim.Native.Nat.{ℕ, _+_, _≤_, _<_}
 use native.Mathlib.Numerals.{add-one}
 use native.Mathlib.Omega.{arith}
@@ -15,7 +15,7 @@ pub put-one : (b at : ℕ) (o : List ℕ) → at < length o → Put (b ∷ []) a
 put-one b at o h =
     record { long = length-set o at b; grown = refl; front = ap (λ (k : ℕ). take k (set o at b)) (add-one at) ∙ take-suc-set o at b h }
 
--- one piece behind another
+-- one piece after another
 pub put-append : {x y : List ℕ} {at mid end : ℕ} {o₁ o₂ o₃ : List ℕ} → Put x at mid o₁ o₂ → Put y mid end o₂ o₃
     → Put (x ++ y) at end o₁ o₃
 put-append {x} {y} {at} {mid} {end} {o₁} p q =
@@ -30,15 +30,15 @@ put-same {at = at} {end} {o₁} {o₂} e p = subst (λ (l : List ℕ). Put l at 
 
 -- ---- bytes, one after the other
 
-module _ (s : List ℕ) (at : ℕ) (o₀ o : List ℕ) (i : ℕ) where
-  pub bytes-step : i < length s → at + i < length o → Put (take i s) at (at + i) o₀ o
-      → Put (take (i + 1) s) at (at + (i + 1)) o₀ (set o (at + i) (getD s i 0))
-  bytes-step h l p =
-      let e : at + i + 1 ≡ at + (i + 1) = omega arith in
-      subst (λ (k : ℕ). Put (take (i + 1) s) at k o₀ (set o (at + i) (getD s i 0))) e
-      (put-same (sym (take-suc s i 0 h) ∙ ap (λ (k : ℕ). take k s) (sym (add-one i))) (put-append p (put-one (getD s i 0) (at + i) o l)))
+module _ (s : List ℕ) (at : ℕ) (o₀ o : List ℕ) (i n : ℕ) (e : n ≡ length s) (p : Put (take i s) at (at + i) o₀ o) where
+  pub bytes-step : i < n → at + length s ≤ length o₀ → Put (take (i + 1) s) at (at + (i + 1)) o₀ (set o (at + i) (getD s i 0))
+  bytes-step h l =
+      let d : at + i + 1 ≡ at + (i + 1) = omega arith in
+      subst (λ (k : ℕ). Put (take (i + 1) s) at k o₀ (set o (at + i) (getD s i 0))) d
+      (put-same (sym (take-suc s i 0 (omega arith)) ∙ ap (λ (k : ℕ). take k s) (sym (add-one i)))
+      (put-append p (put-one (getD s i 0) (at + i) o (omega arith))))
 
-  pub bytes-done : (n : ℕ) → n ≡ length s → i ≤ n → n ≤ i → Put (take i s) at (at + i) o₀ o → Put s at (at + n) o₀ o
-  bytes-done n e h l p =
+  pub bytes-done : i ≤ n → n ≤ i → Put s at (at + n) o₀ o
+  bytes-done h l =
       let d : i ≡ n = omega arith in
       put-same (take-all i s (omega arith)) (subst (λ (k : ℕ). Put (take i s) at (at + k) o₀ o) d p)

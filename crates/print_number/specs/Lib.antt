@@ -1,2 +1,2 @@
--- What it is to write bytes into a buffer, and the sizes of lengths.
+-- What writing bytes into a buffer means, and the sizes of lengths.
 pub mod Put

@@ -1,4 +1,4 @@
-// Bytes and numbers, written into a lent buffer. Each function answers where what it wrote ends.
+// Writes bytes and numbers into a lent buffer. Each function returns the index after the last byte that it wrote.
 ghost use mathlib.Core.List.{[], _∷_};
 ghost use Prim.Native.Nat.{_+_, _<_, _≤_};
 ghost use lib.ListN.{length};
@@ -6,12 +6,12 @@ ghost use lib.Signed.{mag};
 ghost use Rattle.text.specs.Number.{decimal, signedDecimal};
 ghost use Rattle.print_number.specs.Put.{Put, lengthSize, maxTenths};
 
-// The byte of the digit 0, and that of the sign of a negative number.
+// The byte of the digit 0, and the byte of the minus sign.
 const ZERO: u8 = 48;
 
 const MINUS: u8 = 45;
 
-// A byte, and a row of bytes.
+// Writes a byte.
 pub fn put_byte(b: u8, at: usize, out: &mut [u8]) -> usize
     requires { ⌜ at < length (now out) ⌝ }
     ensures { λ r. ⌜ Put (b ∷ []) at r (now (out .entry)) (now (out .exit)) ⌝ }
@@ -20,6 +20,7 @@ pub fn put_byte(b: u8, at: usize, out: &mut [u8]) -> usize
     at + 1
 }
 
+// Writes a row of bytes.
 pub fn put_bytes(s: &[u8], at: usize, out: &mut [u8]) -> usize
     requires { ⌜ at + length (now s) ≤ length (now out) ⌝ }
     ensures { λ r. ⌜ Put (now (s .entry)) at r (now (out .entry)) (now (out .exit)) ⌝ }
@@ -33,7 +34,7 @@ pub fn put_bytes(s: &[u8], at: usize, out: &mut [u8]) -> usize
     at + n
 }
 
-// A number in decimal: the digits before the last, then the last.
+// Writes a number in decimal: the digits before the last one, then the last one.
 pub fn put_decimal(n: usize, at: usize, out: &mut [u8]) -> usize
     requires { ⌜ at + length (decimal n) ≤ length (now out) ⌝ }
     ensures { λ r. ⌜ Put (decimal n) at r (now (out .entry)) (now (out .exit)) ⌝ }
@@ -46,7 +47,7 @@ pub fn put_decimal(n: usize, at: usize, out: &mut [u8]) -> usize
     }
 }
 
-// A length in tenths, in decimal: a minus sign stands before a negative one.
+// Writes a length in tenths, in decimal, with a minus sign if it is negative.
 pub fn put_signed(z: i32, at: usize, out: &mut [u8]) -> usize
     requires { ⌜ (mag z ≤ maxTenths) × (at + lengthSize ≤ length (now out)) ⌝ }
     ensures { λ r. ⌜ Put (signedDecimal z) at r (now (out .entry)) (now (out .exit)) ⌝ }

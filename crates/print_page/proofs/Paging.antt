@@ -58,7 +58,7 @@ few-left (Total n) = omega arith
 few-left More = omega arith
 few-left Nothing = omega arith
 
--- lines of which one is known to be the first have a first one
+-- lines that are known not to be empty have a first one
 split : (x : List ℕ) (l lines : List (List ℕ)) → lines ≡ x ∷ l → lines ≡ headLine lines ∷ behind lines
 split x l lines e = subst (λ (y : List (List ℕ)). y ≡ headLine y ∷ behind y) (sym e) refl
 
@@ -76,7 +76,7 @@ module _ (lengths : ℕ → ℤ) (p fits chart tables : List ℕ) where
 
   -- ---- the page so far
 
-  -- at bytes of the output are the front of the text that was ahead of d₀, and d is due then
+  -- the first `at` bytes of the output are the front of the text that was ahead when d₀ was due, and d is due then
   pub record Filled (d₀ : Due) (buf₀ buf out₀ out : List ℕ) (at : ℕ) (d : Due) : Type 0 where
     pub long : length buf ≡ length buf₀
     pub out-long : length out ≡ length out₀

@@ -1,4 +1,4 @@
--- All pages, one after the other, are the text that was ahead, and they are no more than its steps. Assumes nothing.
+-- All pages, one after the other, are the text that was ahead, and there are no more of them than steps. Assumes nothing.
 use Prim.Native.Nat.{ℕ, suc, _+_, _≤_}
 use native.Mathlib.Omega.{arith}
 use mathlib.Core.List.{List, [], _∷_, _++_, flatten, append-assoc, append-nil}
@@ -41,7 +41,7 @@ module _ (lengths : ℕ → ℤ) (p fits chart tables : List ℕ) (d₀ : Due) (
             ∙ ap (λ (x : List ℕ). x ++ flatten (after .left)) (sym (flatten-snoc pages (take r out)));
       }
 
-  -- each page takes a step at least
+  -- each page takes at least one step
   pub pages-steps : {pages : List (List ℕ)} {d : Due} {buf : List ℕ} → DueSized d₀ → Pages lengths p fits chart tables d₀ buf₀ pages d buf
       → (length pages + stepsLeft d ≤ stepsLeft d₀) × DueSized d
   pages-steps sized empty = (omega arith, sized)
@@ -49,7 +49,7 @@ module _ (lengths : ℕ → ℤ) (p fits chart tables : List ℕ) (d₀ : Due) (
       let before = pages-steps sized R in
       (omega (arith, before .0, some-left d (before .1) some, P .fewer, length-append pages (take r out ∷ [])), P .sized)
 
-  -- where nothing is due then, the pages are the whole text
+  -- if nothing is due after them, the pages are the whole text
   pub pages-whole : (pages : List (List ℕ)) (buf : List ℕ) → Pages lengths p fits chart tables d₀ buf₀ pages Nothing buf
       → (lines : List (List ℕ)) → Ahead lengths p fits chart tables buf₀ d₀ lines → flatten pages ≡ flatten lines
   unfolding flatten
@@ -57,7 +57,7 @@ module _ (lengths : ℕ → ℤ) (p fits chart tables : List ℕ) (d₀ : Due) (
       let P = pages-front R lines a in
       sym (P .text ∙ ap (λ (x : List (List ℕ)). flatten pages ++ flatten x) (P .ahead) ∙ append-nil (flatten pages))
 
--- from the first page to the last, the pages are the text of book and plate, of which the fronts were read; and they are few
+-- the pages are the text of book and plate, although only their fronts were read, and there are few pages
 module _ (book w p : List ℕ) (lengths : List ℤ) (chart₀ chart fits tables buf₀ buf last : List ℕ) (d : Due)
     (B : BookBegun (take bookFront book) (take plateFront w) p lengths chart₀ chart fits tables buf₀ buf d) (pages : List (List ℕ))
     (R : Pages (lengthsIn lengths) p fits chart tables d buf pages Nothing last) where

@@ -10,11 +10,11 @@ use Rattle.print_begin.specs.declared.Due.{Due}
 use Rattle.print_begin.specs.declared.Due.the-variants.{Refusal, NoReading, Reading, Total, More, Nothing}
 use Rattle.print_begin.specs.Due.{Ahead, DueSized, stepsLeft}
 
--- the bytes of a page at most
+-- the most bytes that a page has
 abbrev pub pageSize : ℕ
 pageSize = 65536
 
--- a page with no more bytes than these takes any further line
+-- a page with at most this many bytes has room for any further line
 abbrev pub room : ℕ
 room = pageSize - lineSize
 
@@ -33,7 +33,7 @@ pub record Rest (lengths : ℕ → ℤ) (p fits chart tables buf : List ℕ) (d 
   pub ahead : Ahead lengths p fits chart tables buf d left
   pub text : flatten lines ≡ bytes ++ flatten left
 
--- r bytes of the output are the next page; where something is due then, a further line might not fit
+-- the first r bytes of the output are the next page; if something is due after it, a further line might not fit
 pub record Paged (lengths : ℕ → ℤ) (p fits chart tables : List ℕ) (d₀ : Due) (buf₀ buf out₀ out : List ℕ) (r : ℕ) (d : Due) : Type 0 where
   pub long : length buf ≡ length buf₀
   pub out-long : length out ≡ length out₀

@@ -13,13 +13,13 @@ ghost use Rattle.check_length.specs.Measure.{lengthsIn};
 ghost use Rattle.sizes.specs.Sizes.{maxRules, cells, outputSize};
 ghost use Rattle.print_page.specs.Page.{pageSize, isDone, Paged};
 
-// The bytes of a page.
+// The most bytes that a page has.
 pub const PAGE: usize = 65536;
 
-// A page with no more bytes than these takes any further line.
+// A page with at most this many bytes has room for any further line.
 const ROOM: usize = PAGE - print_line::LINE;
 
-// A page: how many bytes of the buffer it has, and what is printed after it.
+// A page: how many bytes of the buffer it has, and what is due after it.
 pub struct Page {
     pub bytes: usize,
     pub due: Due,

@@ -1,4 +1,4 @@
--- The lines that are ahead: one line of a derivation and those behind it, or the last line, by what the advance found. Assumes nothing.
+-- The lines that are ahead: the line of a derivation and the lines after it, or the last line, by what the advance found. Assumes nothing.
 use Prim.Native.Nat.{ℕ, suc, _+_, _*_, _≤_, _<_, min}
 use mathlib.Core.List.{List, [], _∷_, _++_}
 use mathlib.Core.Option.{Option·some-injective}
@@ -47,7 +47,7 @@ module _ (lengths : ℕ → ℤ) (l : List (List ℕ)) (i : ℕ) where
 
 -- ---- what comes after derivation i
 
--- the nodes of the derivation that stands then
+-- how many nodes the next derivation has
 next-size : (l : List (List ℕ)) → Rising l → (i : ℕ) → suc i < length l → (buf : List ℕ) (m : ℕ)
     → Advanced l (getD l i []) buf m → 0 < m → length (getD l (suc i) []) ≡ 2 * m
 next-size l rising i h buf m A k =

@@ -13,7 +13,7 @@ use Rattle.print_line.proofs.Bounds.{tenths-size}
 use Rattle.results.specs.Measure.{sum, rounded}
 use Rattle.text.specs.Line.{line}
 
--- a number that is small enough is kept by 32 bits
+-- what 32 bits keep of a number: a small one is kept as it is
 abbrev kept : ℤ → ℤ
 kept z = toZ w32 (ofZ w32 z)
 

@@ -1,5 +1,4 @@
--- One step, by what is due: the line that was written is the first one ahead, and what is due then has those behind it ahead.
--- Assumes nothing.
+-- One step, by what is due: the line that was written is the first one ahead, and the lines after it are ahead then. Assumes nothing.
 use Prim.Native.Nat.{ℕ, suc, _+_, _*_, _-_, _≤_, _<_}
 use mathlib.Core.List.{List, [], _∷_}
 use mathlib.Core.Path.{_≡_, refl, sym, ap, subst, _∙_}
@@ -28,9 +27,18 @@ module _ (d : Due) (sized : DueSized d) where
   pub refusal-small : (n : ℕ) → d ≡ Refusal n → n < 256
   refusal-small n e = subst DueSized e sized
 
-  pub reading-sized : (s rules n i nodes : ℕ) → d ≡ Reading s rules n i nodes
-      → (rules ≤ maxRules) × (n < side) × (i < most) × (nodes ≤ maxNodes)
-  reading-sized s rules n i nodes e = subst DueSized e sized
+  module _ (s rules n i nodes : ℕ) (e : d ≡ Reading s rules n i nodes) where
+    pub reading-rules : rules ≤ maxRules
+    reading-rules = subst DueSized e sized .0
+
+    pub reading-short : n < side
+    reading-short = subst DueSized e sized .1
+
+    pub reading-early : i < most
+    reading-early = subst DueSized e sized .2
+
+    pub reading-few : nodes ≤ maxNodes
+    reading-few = subst DueSized e sized .3
 
   pub total-small : (n : ℕ) → d ≡ Total n → n ≤ most
   total-small n e = subst DueSized e sized
@@ -96,7 +104,7 @@ module _ (lengths : ℕ → ℤ) (p fits chart tables : List ℕ) (d : Due) (buf
 
 -- ---- the line of a derivation
 
--- the numbers of the derivation that stands are the front of the buffer
+-- the numbers of the derivation in the buffer are its front
 begins-front : (buf e : List ℕ) (m : ℕ) → length e ≡ 2 * m → m ≤ maxNodes → outputSize ≤ length buf → StartsWith buf e
     → take (2 * m) buf ≡ e
 begins-front buf e m size few room B =
@@ -113,7 +121,7 @@ module _ (lengths : ℕ → ℤ) (p fits chart tables : List ℕ) (d : Due) (s r
       → lines ≡ lineIn lengths (i + 1) nodes buf₀ ∷ linesAt lengths (L (cfgIn s p) (H .input)) (i + 1)
   held-line lines H =
       let l = L (cfgIn s p) (H .input) in
-      let few = reading-sized d sized s rules n i nodes is .3 in
+      let few = reading-few d sized s rules n i nodes is in
       let e : getD l i [] ≡ take (2 * nodes) buf₀ = sym (begins-front buf₀ (getD l i []) nodes (H .size) few room (H .stands .here)) in
       H .ahead ∙ lines-next lengths l i (H .stands .there) (H .early)
       ∙ ap (λ (x : List ℕ). line (suc i) x (rounded (sum lengths x)) ∷ linesAt lengths l (suc i)) e

@@ -1,2 +1,2 @@
--- What each step of the listing program after the first does.
+-- What each step of the listing program after the first one does.
 pub mod Stepped

@@ -14,11 +14,11 @@ use Rattle.text.specs.Line.{line}
 use Rattle.print_begin.specs.declared.Due.{Due}
 use Rattle.print_begin.specs.Due.{linesAt, Ahead, DueSized, stepsLeft}
 
--- the line of the derivation of so many nodes at the front of the buffer
+-- the line of the derivation at the front of the buffer, which has `nodes` nodes
 abbrev pub lineIn : (ℕ → ℤ) → ℕ → ℕ → List ℕ → List ℕ
 lineIn lengths place nodes buf = line place (take (2 * nodes) buf) (rounded (sum lengths (take (2 * nodes) buf)))
 
--- the first of the lines, and those behind it
+-- the first of the lines, and the lines after it
 abbrev pub headLine : List (List ℕ) → List ℕ
 headLine [] = []
 headLine (x ∷ lines) = x
@@ -27,7 +27,7 @@ abbrev pub behind : List (List ℕ) → List (List ℕ)
 behind [] = []
 behind (x ∷ lines) = lines
 
--- after derivation i of an input that the tables are made for: the lines behind it are ahead
+-- what is due after derivation i of an input for which the tables are made: the lines after it are ahead
 pub record Followed (p : List ℕ) (rules : ℕ) (fits chart tables : List ℕ) (s n i : ℕ) (buf₀ buf : List ℕ) (d : Due) : Type 0 where
   pub long : length buf ≡ length buf₀
   pub sized : DueSized d
@@ -35,7 +35,7 @@ pub record Followed (p : List ℕ) (rules : ℕ) (fits chart tables : List ℕ) 
   pub ahead : (lengths : ℕ → ℤ) (w : List ℕ) → n ≡ length w → InputGiven p rules fits chart tables w → Stands (L (cfgIn s p) w) i buf₀
       → Ahead lengths p fits chart tables buf d (linesAt lengths (L (cfgIn s p) w) (i + 1))
 
--- the first of the lines ahead is written, r bytes, and those behind it are ahead then
+-- the first of the lines ahead is written, in r bytes, and the lines after it are ahead then
 pub record Stepped (lengths : ℕ → ℤ) (p fits chart tables : List ℕ) (d₀ : Due) (buf₀ buf out₀ out : List ℕ) (r : ℕ) (d : Due) : Type 0
   where
     pub long : length buf ≡ length buf₀

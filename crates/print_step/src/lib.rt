@@ -1,2 +1,2 @@
-// The listing program up to its output, after its first step.
+// The steps of the listing program after the first one.
 pub mod step;

@@ -1,4 +1,4 @@
-// One line after the other.
+// Writes one line after the other.
 use check_length::Lengths;
 use check_length::rounded;
 use check_length::total;
@@ -24,13 +24,13 @@ ghost use Rattle.sizes.specs.Sizes.{maxRules, maxNodes, side, cells, outputSize
 ghost use Rattle.print_begin.specs.Due.{DueSized};
 ghost use Rattle.print_step.specs.Stepped.{lineIn, Followed, Stepped};
 
-// The bytes of the line that was printed, and what is printed next.
+// How many bytes the written line has, and what is due then.
 pub struct Printed {
     pub bytes: usize,
     pub due: Due,
 }
 
-// The last line was printed.
+// After the last line nothing is due.
 fn last(bytes: usize) -> Printed
     ensures { λ r. ⌜ (r .bytes ≡ bytes) × (r .due ≡ Due.Nothing) ⌝ }
 {
@@ -40,7 +40,7 @@ fn last(bytes: usize) -> Printed
     }
 }
 
-// Writes the line of derivation i, which stands in the buffer.
+// Writes the line of derivation i, which is in the buffer.
 fn reading(lengths: &Lengths, buf: &[u16], i: usize, nodes: usize, out: &mut [u8]) -> usize
     requires { ⌜ (length (now lengths) ≡ maxRules) × (i < most) × (nodes ≤ maxNodes) × (outputSize ≤ length (now buf))
         × (lineSize ≤ length (now out)) ⌝ }
@@ -51,7 +51,7 @@ fn reading(lengths: &Lengths, buf: &[u16], i: usize, nodes: usize, out: &mut [u8
     put_line(i + 1, buf, nodes, z, out)
 }
 
-// What is printed after derivation i, which stands in the buffer: the one after it stands there then, if there is one.
+// Finds what is due after derivation i, which is in the buffer. If there is a next derivation, it is in the buffer then.
 fn following(
     p: &Packed,
     fits: &FitTable,
@@ -84,7 +84,7 @@ fn following(
     }
 }
 
-// Writes the line that is due.
+// Writes the line that is due, and finds what is due after it.
 pub fn step(
     due: Due,
     p: &Packed,

@@ -27,7 +27,7 @@ pub part-small : (r : ℕ) (out₀ out : List ℕ) → length out ≡ length out
 part-small r out₀ out e f = omega (arith, length-take r out)
 
 module _ (lengths : ℕ → ℤ) (p fits chart tables : List ℕ) (d₀ : Due) (buf₀ : List ℕ) where
-  -- so many bytes were handed to the write, d is due then, and at most so many pages are left
+  -- `bytes` bytes were handed to the write, d is due then, and at most `left` pages are left
   pub record Going (d : Due) (buf : List ℕ) (bytes left : ℕ) : Type 0 where
     pub pages : List (List ℕ)
     pub run : Pages lengths p fits chart tables d₀ buf₀ pages d buf
@@ -92,7 +92,7 @@ module _ (lengths : ℕ → ℤ) (p fits chart tables : List ℕ) (d₀ : Due) (
       };
     }
 
-    -- once the counter is down, too
+    -- nothing is due once the counter is down
     pub handed-down : left ≤ 0 → HandedAll lengths p fits chart tables d₀ buf₀ bytes true
     handed-down h = go (isDone d) refl
       where

@@ -12,11 +12,11 @@ use Rattle.print_begin.specs.declared.Due.the-variants.{Nothing}
 use Rattle.print_page.specs.Page.{pageSize}
 use Rattle.print_page.specs.Pages.{Pages}
 
--- the bytes of all pages at most
+-- the most bytes that all pages have
 abbrev pub maxText : ℕ
 maxText = pageSize * suc most
 
--- the bytes come in the text of book and plate after so many others
+-- the bytes come in the text of book and plate after the first `before` bytes
 pub record Next (book w : List ℕ) (before : ℕ) (bytes : List ℕ) : Type 0 where
   pub front : List ℕ
   pub rest : List ℕ

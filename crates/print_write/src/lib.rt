@@ -1,4 +1,4 @@
-// The pages of the listing go to standard output.
+// Writes the pages of the listing to standard output.
 use check_length::Lengths;
 use packed::Packed;
 use packed_fit::FitTable;
@@ -17,7 +17,7 @@ ghost use Rattle.sizes.specs.Sizes.{maxRules, cells, outputSize};
 ghost use Rattle.text.specs.Text.{textOf};
 ghost use Rattle.print_write.specs.Listed.{maxText, Next, HandedAll};
 
-// The pages at most: each has a line, and the last line follows those of the derivations.
+// The most pages that there are: each has at least one line, and the last line follows those of the derivations.
 const PAGES: usize = sizes::MOST + 1;
 
 // How many bytes were handed to the write, and whether it wrote all of them.
@@ -26,8 +26,8 @@ pub struct Written {
     pub all: bool,
 }
 
-// Hands bytes to the write: those that come in the text of book and plate after so many others, and no others, as the `requires` says.
-// Book and plate are there for that alone. Where the bytes can't be written, standard error says so.
+// Hands bytes to the write. The `requires` says that they are those of the text of book and plate after the first `before` bytes, and book
+// and plate are parameters only for that. If the bytes can't be written, standard error says so.
 fn write(book: &[u8], plate: &[u8], before: usize, bytes: &[u8]) -> Written
     requires { ⌜ (before ≤ maxText) × (length (now bytes) ≤ pageSize) × Next (now book) (now plate) before (now bytes) ⌝ }
     ensures { λ r. ⌜ r .bytes ≡ before + length (now (bytes .entry)) ⌝ }
@@ -42,7 +42,7 @@ fn write(book: &[u8], plate: &[u8], before: usize, bytes: &[u8]) -> Written
     }
 }
 
-// Writes page after page until nothing is due, or one can't be written.
+// Writes page after page until nothing is due, or until a page can't be written.
 pub fn write_pages(
     book: &[u8],
     plate: &[u8],

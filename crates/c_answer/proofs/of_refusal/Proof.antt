@@ -1,5 +1,5 @@
--- `c_answer::of_refusal` meets its contract: 256 and the number of the refusal. The search would do; the file is
--- there so that a wrong code is refused at this need. Assumes nothing.
+-- `c_answer::of_refusal` meets its contract: 256 plus the number of the refusal. Rattle proves it without this file, which is there so that
+-- a wrong code fails at this need. Assumes nothing.
 use native.Mathlib.Omega.{arith}
 use Rattle.c_answer.proofs.of_refusal.Statement.{statement}
 use Rattle.c_answer.proofs.of_refusal.Tie as tie

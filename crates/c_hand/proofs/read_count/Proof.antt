@@ -19,6 +19,8 @@ abbrev μ-loop : tie.MeasureT-loop
 
 pub read-count-spec : {M : Type 1} → statement M
 read-count-spec = tie.close (tie.spec
-    Inv-loop μ-loop (λ c. omega arith) (λ c κs. omega arith) (λ c κs. omega arith) (λ c. (omega arith, search count-first))
-    (λ c. omega arith) (λ c. omega arith) (λ c. search count-refused) (λ c. omega arith) (λ c. omega arith)
-    (λ c. (omega arith, search count-next)) (λ c. search count-passed))
+    -- the count, and how many numbers are used
+    Inv-loop μ-loop (λ c. omega arith) (λ c κs. omega arith) (λ c κs. omega arith)
+    -- a turn of the loop: the number is not a byte, or the next one is tested
+    (λ c. (omega arith, search count-first)) (λ c. omega arith) (λ c. omega arith) (λ c. search count-refused) (λ c. omega arith)
+    (λ c. omega arith) (λ c. (omega arith, search count-next)) (λ c. search count-passed))

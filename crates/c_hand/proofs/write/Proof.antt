@@ -32,5 +32,8 @@ returns c =
 
 pub write-spec : {M : Type 1} → statement M
 write-spec = tie.close (tie.spec
+    -- a turn of the loop: one byte is stored
     Inv-loop μ-loop (λ c. copied-start _ _ _ refl) (λ c. omega arith) (λ c. search needs) (λ c. omega arith) (λ c. omega arith)
-    (λ c. omega arith) (λ c. omega arith) loop-again (λ c κs. omega arith) (λ c. omega arith) returns)
+    (λ c. omega arith) (λ c. omega arith) loop-again
+    -- the count is stored
+    (λ c κs. omega arith) (λ c. omega arith) returns)

@@ -4,6 +4,7 @@ use Prim.Native.Nat.{ℕ}
 use native.Mathlib.Omega.{arith}
 use lib.IntN.{ℤ, pos}
 use lib.ListN.{length-replicate}
+use borrow.Author.Needs.{needs}
 use Rattle.sizes.specs.Sizes.{maxRules, cells, outputSize}
 use Rattle.table_layout.specs.Layout.{tablesSize}
 use Rattle.print_write.proofs.Going.{listed}
@@ -19,14 +20,13 @@ begin-requires c κs = (
 )
 
 write-pages-requires : tie.Need-write-pages-requires
-write-pages-requires c κs =
-    let begun = c .before .before .before .before .before .before .before .before .begin .ensures in (
-      begun .sized,
-      begun .rows,
-      omega (arith, begun .chart-long, length-replicate {A = ℕ} cells 0),
-      omega (arith, begun .long, length-replicate {A = ℕ} outputSize 0),
-      begun .ahead,
-    )
+write-pages-requires c κs = (
+  search needs,
+  search needs,
+  omega (arith, length-replicate {A = ℕ} cells 0),
+  omega (arith, length-replicate {A = ℕ} outputSize 0),
+  search needs,
+)
 
 pub list-spec : {M : Type 1} → statement M
 list-spec = tie.close (tie.spec

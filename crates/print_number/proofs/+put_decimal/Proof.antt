@@ -1,9 +1,9 @@
--- The proof of the cycle of calls {put_decimal}. The measure is the number. Assumes nothing.
+-- `print_number::put_decimal`, which calls itself, meets its contract. The measure is the number. Assumes nothing.
 use Prim.Native.Nat.{ℕ, _<_}
 use native.Mathlib.Omega.{arith}
 use borrow.Fn.Kinds.{In}
 use borrow.Fn.PlainCycle.{Measures, is, falls, and}
-use Rattle.print_number.proofs.Decimal.{length-more, room-one, room-more, written-one, written-more}
+use Rattle.print_number.proofs.Decimal.{room-one, room-more, room-last, written-one, written-more}
 use Rattle.print_number.proofs.+put_decimal.{statement}
 use Rattle.print_number.proofs.+put_decimal.Tie.{close}
 use Rattle.print_number.proofs.+put_decimal.Lts-put_decimal as put-decimal-lts
@@ -14,7 +14,7 @@ use Rattle.print_number.proofs.put_byte.Reads as put-byte-reads
 abbrev μ-put-decimal : Measures 1 put-decimal-kinds.ps ℕ
 μ-put-decimal κs a = a .0
 
--- what it is given at the measure t, and what a call of it asks below t
+-- what the function is given at the measure t, and what its call of itself asks below t
 abbrev put-decimal-at : ℕ → In 1 put-decimal-kinds.ps
 put-decimal-at t =
     and 1 put-decimal-kinds.ps (is 1 put-decimal-kinds.ps μ-put-decimal t) put-decimal.Pre
@@ -30,12 +30,8 @@ calls t = (put-byte-reads.Asked, put-byte-reads.Learnt, put-decimal-below t, put
 put-decimal-put-decimal-requires : (t : ℕ) → put-decimal-lts.Need-put-decimal-requires (calls t) (put-decimal-at t) put-decimal.Post
 put-decimal-put-decimal-requires t c κs = (omega arith, search room-more)
 
-put-decimal-put-byte-requires-2 : (t : ℕ) → put-decimal-lts.Need-put-byte-requires-2 (calls t) (put-decimal-at t) put-decimal.Post
-put-decimal-put-byte-requires-2 t c κs =
-    omega (arith, length-more (c .before .before .before .before .before .before .before .args .n) (omega arith))
-
 pub +put-decimal-spec : {M : Type 1} → statement M
 +put-decimal-spec = close μ-put-decimal λ t. put-decimal-lts.spec (calls t)
     (put-decimal-at t) put-decimal.Post (λ c. omega arith) (λ c. omega arith) (λ c κs. search room-one)
-    (put-decimal-put-decimal-requires t) (λ c. omega arith) (λ c. omega arith) (put-decimal-put-byte-requires-2 t) (λ c. omega arith)
+    (put-decimal-put-decimal-requires t) (λ c. omega arith) (λ c. omega arith) (λ c κs. search room-last) (λ c. omega arith)
     (λ c. search written-one) (λ c. omega arith) (λ c. search written-more)

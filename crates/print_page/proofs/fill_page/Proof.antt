@@ -1,5 +1,5 @@
--- `print_page::fill_page` meets its contract. The loop's invariant: the page so far is the front of the text that was ahead, and a further line
--- fits. The measure is the number of steps that are left. Assumes nothing.
+-- `print_page::fill_page` meets its contract. The loop's invariant: the page so far is the front of the text that was ahead, and a further
+-- line fits. The measure is the number of steps that are left. Assumes nothing.
 use Prim.Native.Nat.{_≤_}
 use native.Mathlib.Omega.{arith}
 use borrow.Author.Needs.{needs}
@@ -19,7 +19,12 @@ abbrev μ-loop : tie.MeasureT-loop
 
 pub fill-page-spec : {M : Type 1} → statement M
 fill-page-spec = tie.close (tie.spec
-    Inv-loop μ-loop (λ c. (search filled-none, omega arith)) (λ c κs. search needs) (λ c. omega arith) (λ c. omega arith)
-    (λ c. omega arith) (λ c κs. (search needs, omega arith, omega arith, omega arith, omega arith)) (λ c. omega arith)
+    Inv-loop μ-loop (λ c. (search filled-none, omega arith)) (λ c κs. search needs)
+    -- a turn of the loop: `step` on the rest of the buffer
+    (λ c. omega arith) (λ c. omega arith) (λ c. omega arith)
+    (λ c κs. (search needs, omega arith, omega arith, omega arith, omega arith)) (λ c. omega arith)
+    -- the page is full, or the loop goes on
     (λ c. omega arith) (λ c. omega arith) (λ c. search (filled-full, some-due)) (λ c. search (filled-less, some-due))
-    (λ c. (search (filled-step, some-due), omega arith)) (λ c. omega arith) (λ c. omega arith) (λ c. search (filled-done, none-due)))
+    (λ c. (search (filled-step, some-due), omega arith))
+    -- nothing is due
+    (λ c. omega arith) (λ c. omega arith) (λ c. search (filled-done, none-due)))

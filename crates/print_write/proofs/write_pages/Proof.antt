@@ -21,8 +21,12 @@ abbrev μ-loop : tie.MeasureT-loop
 
 pub write-pages-spec : {M : Type 1} → statement M
 write-pages-spec = tie.close (tie.spec
-    Inv-loop μ-loop (λ c. (search going-first, search needs)) (λ c κs. search needs) (λ c. omega arith)
-    (λ c κs. (search needs, omega arith, omega arith, omega arith, omega arith)) (λ c. omega arith) (λ c. search part-long)
-    (λ c κs. (omega arith, search part-small, search (going-next, some-due))) (λ c. omega arith) (λ c. search handed-failed)
-    (λ c. omega arith) (λ c. omega arith) (λ c. (search (going-page, some-due), omega arith)) (λ c. omega arith)
-    (λ c. search (handed-done, none-due)) (λ c. omega arith) (λ c. search handed-down))
+    Inv-loop μ-loop (λ c. (search going-first, search needs)) (λ c κs. search needs)
+    -- a turn of the loop: `fill_page`, `write`
+    (λ c. omega arith) (λ c κs. (search needs, omega arith, omega arith, omega arith, omega arith)) (λ c. omega arith)
+    (λ c. search part-long) (λ c κs. (omega arith, search part-small, search (going-next, some-due)))
+    -- the page could not be written, or the loop goes on
+    (λ c. omega arith) (λ c. search handed-failed) (λ c. omega arith) (λ c. omega arith)
+    (λ c. (search (going-page, some-due), omega arith))
+    -- nothing is due, or the counter is down
+    (λ c. omega arith) (λ c. search (handed-done, none-due)) (λ c. omega arith) (λ c. search handed-down))

@@ -6,6 +6,8 @@ use Rattle.c_grammar.proofs.read.read_rule.Tie as tie
 
 pub read-rule-spec : {M : Type 1} → statement M
 read-rule-spec = tie.close (tie.spec
+    -- the left side, the length and the count are read
     (λ c. omega arith) (λ c. omega arith) (λ c κs. omega arith) (λ c. omega arith) (λ c. omega arith) (λ c. omega arith)
-    (λ c κs. omega arith) (λ c. omega arith) (λ c. omega arith) (λ c. omega arith) (λ c κs. omega arith) (λ c. omega arith)
-    (λ c κs. omega arith) (λ c. search read-rule-of))
+    (λ c κs. omega arith) (λ c. omega arith) (λ c. omega arith) (λ c. omega arith) (λ c κs. omega arith)
+    -- `read_places` after them, and the rule
+    (λ c. omega arith) (λ c κs. omega arith) (λ c. search read-rule-of))

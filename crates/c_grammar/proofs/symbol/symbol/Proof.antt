@@ -1,4 +1,4 @@
--- `c_grammar::symbol::symbol` meets its contract, one case for each way out. Assumes nothing.
+-- `c_grammar::symbol::symbol` meets its contract, one case for each return. Assumes nothing.
 use native.Mathlib.Omega.{arith}
 use Rattle.c_grammar.proofs.Parts.{symbol-nonterminal, symbol-terminal, symbol-large, symbol-other}
 use Rattle.c_grammar.proofs.symbol.symbol.Statement.{statement}

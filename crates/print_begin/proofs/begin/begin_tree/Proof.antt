@@ -1,4 +1,4 @@
--- `print_begin::begin::begin_tree` meets its contract: the first derivation stands in the buffer, or each tree is too large. Assumes nothing.
+-- `print_begin::begin::begin_tree` meets its contract: the first derivation is in the buffer, or each tree is too large. Assumes nothing.
 use native.Mathlib.Omega.{arith}
 use borrow.Author.Needs.{needs}
 use Rattle.print_begin.proofs.Opening.{tree-refused, tree-begun}

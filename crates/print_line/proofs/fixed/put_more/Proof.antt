@@ -5,9 +5,6 @@ use Rattle.text.specs.Line.{readingsLine}
 use Rattle.print_line.proofs.fixed.put_more.Statement.{statement}
 use Rattle.print_line.proofs.fixed.put_more.Tie as tie
 
-returns : tie.Need-returns
-unfolding readingsLine
-returns c = search needs
-
 pub put-more-spec : {M : Type 1} → statement M
-put-more-spec = tie.close (tie.spec (λ c. omega arith) (λ c κs. omega arith) (λ c. omega arith) returns)
+unfolding readingsLine
+put-more-spec = tie.close (tie.spec (λ c. omega arith) (λ c κs. omega arith) (λ c. omega arith) (λ c. search needs))

@@ -5,9 +5,6 @@ use Rattle.text.specs.Line.{noReadingLine}
 use Rattle.print_line.proofs.fixed.put_no_reading.Statement.{statement}
 use Rattle.print_line.proofs.fixed.put_no_reading.Tie as tie
 
-returns : tie.Need-returns
-unfolding noReadingLine
-returns c = search needs
-
 pub put-no-reading-spec : {M : Type 1} → statement M
-put-no-reading-spec = tie.close (tie.spec (λ c. omega arith) (λ c κs. omega arith) (λ c. omega arith) returns)
+unfolding noReadingLine
+put-no-reading-spec = tie.close (tie.spec (λ c. omega arith) (λ c κs. omega arith) (λ c. omega arith) (λ c. search needs))

@@ -1,37 +1,20 @@
 -- `print_line::line::put_line` meets its contract. Assumes nothing.
-use Prim.Native.Nat.{_*_}
 use native.Mathlib.Omega.{arith}
-use lib.ListN.{take}
+use borrow.Author.Needs.{needs}
 use Rattle.print_number.proofs.Decimal.{digits-16}
-use Rattle.print_line.proofs.Lines.{through-size, line-done}
+use Rattle.print_line.proofs.Lines.{through-size, room-place, room-colon, room-nodes, line-done}
 use Rattle.print_line.proofs.line.put_line.Statement.{statement}
 use Rattle.print_line.proofs.line.put_line.Tie as tie
 
-put-byte-requires : tie.Need-put-byte-requires
-put-byte-requires c κs = omega (arith, digits-16 (c .before .before .before .before .before .before .before .args .place) (omega arith))
-
-put-nodes-requires : tie.Need-put-nodes-requires
-put-nodes-requires c κs =
-    let s = c .before .before .before .before .before .before .before .before .before .before .before in
-    (s .pre .1, s .pre .2, omega (arith, digits-16 (s .args .place) (omega arith)))
-
 put-end-requires : tie.Need-put-end-requires
 put-end-requires c κs =
-    let s = c .before .before .before .before .before .before .before .before .before .before .before .before .before .before .before in
-    (through-size (s .args .tenths) (s .pre .3), omega (arith, digits-16 (s .args .place) (omega arith)))
-
-returns : tie.Need-returns
-returns c =
-    let last = c .before .before in
-    let nodes = last .before .before .before .before in
-    let colon = nodes .before .before .before .before in
-    let place = colon .before .before .before .before in
-    let s = place .before .before .before .before in
-    let a = s .args in
-    line-done (a .place) (take (2 * a .m) (a .e .now)) (a .tenths) _ _ _ _ _ _ _ _ _ (s .pre .3) (place .put-decimal .ensures)
-    (colon .put-byte .ensures) (nodes .put-nodes .ensures .0) (last .put-end .ensures)
+    let after-nodes = c .before .before .before in
+    let after-colon = after-nodes .before .before .before .before in
+    let after-place = after-colon .before .before .before .before in
+    let place = after-place .before .before .before .before .args .place in
+    (search through-size, omega (arith, digits-16 place (omega arith)))
 
 pub put-line-spec : {M : Type 1} → statement M
 put-line-spec = tie.close (tie.spec
-    (λ c κs. omega (arith, digits-16 (c .before .before .before .args .place) (omega arith))) put-byte-requires put-nodes-requires
-    put-end-requires (λ c. omega arith) returns)
+    (λ c κs. search room-place) (λ c κs. search room-colon) (λ c κs. search (room-nodes, needs)) put-end-requires
+    (λ c. omega arith) (λ c. search line-done))

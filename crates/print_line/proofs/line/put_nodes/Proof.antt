@@ -1,5 +1,5 @@
--- `print_line::line::put_nodes` meets its contract. The loop's invariant: the nodes passed are written, in at most 12 bytes each. The measure is
--- what is left of them. Assumes nothing.
+-- `print_line::line::put_nodes` meets its contract. The loop's invariant: the nodes passed are written, in at most 12 bytes each.
+-- The measure is how many nodes are left. Assumes nothing.
 use Prim.Native.Nat.{_≤_, _+_, _*_, _-_}
 use native.Mathlib.Omega.{arith}
 use lib.ListN.{take}
@@ -21,21 +21,9 @@ loop-holds : tie.Need-loop-holds Inv-loop μ-loop
 unfolding parts
 loop-holds c = (omega arith, put-none _ _ _ (omega arith), omega arith)
 
-loop-again : tie.Need-loop-again Inv-loop μ-loop
-loop-again c =
-    let node = c .before .before in
-    let l = node .before .before .before .before .before in
-    let e = l .before .before .before .args .e .now in
-    (omega arith, nodes-step e (l .loop .i) _ _ _ _ _ _ (omega arith) (l .loop .inv .1) (node .put-node .ensures .0), omega arith)
-
-returns : tie.Need-returns Inv-loop μ-loop
-returns c =
-    let a = c .before .before .before .before .args in
-    let l = c .before .loop in
-    (nodes-done (a .e .now) (l .i) (a .m) _ _ _ _ (omega arith) (omega arith) (l .inv .1), omega arith)
-
 pub put-nodes-spec : {M : Type 1} → statement M
 put-nodes-spec = tie.close (tie.spec
+    -- a turn of the loop: `put_node` of the two numbers at 2 i and 2 i + 1
     Inv-loop μ-loop loop-holds (λ c. omega arith) (λ c. omega arith) (λ c. omega arith) (λ c. omega arith) (λ c. omega arith)
-    (λ c. omega arith) (λ c. omega arith) (λ c κs. omega arith) (λ c. omega arith) (λ c. omega arith) loop-again (λ c. omega arith)
-    returns)
+    (λ c. omega arith) (λ c. omega arith) (λ c κs. omega arith) (λ c. omega arith) (λ c. omega arith)
+    (λ c. (omega arith, search nodes-step, omega arith)) (λ c. omega arith) (λ c. (search nodes-done, omega arith)))

@@ -1,4 +1,4 @@
--- `print_step::step::following` meets its contract: the derivation after the one that stood, or the last line. Assumes nothing.
+-- `print_step::step::following` meets its contract: the next derivation is in the buffer, or the last line is due. Assumes nothing.
 use native.Mathlib.Omega.{arith}
 use Rattle.print_step.proofs.Lines.{followed-last, followed-more, followed-next}
 use Rattle.print_step.proofs.step.following.Statement.{statement}
