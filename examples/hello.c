@@ -18,10 +18,10 @@ static void print(size_t nodes)
     printf("\n");
 }
 
-/* Loads the first bytes of the book, and says what became of it. */
+/* Loads the first bytes of the book, and prints the result. */
 static void load(size_t bytes)
 {
-    size_t offset = 0; /* written with a refused book only */
+    size_t offset = 0; /* written only if the book is refused */
     switch (FILBOZSEG_REFUSED(filbozseg_load(book, bytes, grammar, &offset))) {
     case 0:
         printf("%zu bytes: loaded\n", bytes);
@@ -37,9 +37,9 @@ static void load(size_t bytes)
 int main(void)
 {
     uint16_t hand[FILBOZSEG_HAND];
-    size_t nodes = 0;     /* written with a reading handed out only */
-    size_t count = 0;     /* written with a counted input only */
-    int32_t tenths = 0;   /* written with a measured reading only */
+    size_t nodes = 0;     /* written only with a reading */
+    size_t count = 0;     /* written only with a count */
+    int32_t tenths = 0;   /* written only with a length */
     uint32_t code;
     printf("version %d.%d.%d\n", FILBOZSEG_VERSION_MAJOR, FILBOZSEG_VERSION_MINOR, FILBOZSEG_VERSION_PATCH);
     load(9);
@@ -52,7 +52,7 @@ int main(void)
     printf("reading: %u\n", filbozseg_check(grammar, plate, 1, reading, 2 * nodes, chart, FILBOZSEG_CELLS));
     printf("measured: %u\n", filbozseg_length(grammar, plate, 1, reading, 2 * nodes, chart, FILBOZSEG_CELLS, &tenths));
     printf("tenths: %d\n", (int)tenths);
-    memcpy(offered, reading, 2 * nodes * sizeof offered[0]); /* what is offered may not lie in the output */
+    memcpy(offered, reading, 2 * nodes * sizeof offered[0]); /* an offered reading must not overlap the output */
     printf("next: %u,", filbozseg_next(grammar, plate, 1, offered, 2 * nodes, chart, FILBOZSEG_CELLS,
                                        reading, FILBOZSEG_OUTPUT, &nodes));
     print(nodes);

@@ -1,8 +1,8 @@
 /*
- * How much stack each call needs, at its deepest: a full book, 64 bytes, and a derivation of 512 nodes nested 512 deep. Each call runs on a
- * stack of its own that was painted first; what it painted over is what it needed. It then runs again on a stack of just as many bytes as
- * the header's macro says, with a page below it that may not be touched. Exits 1 if a call answers wrongly or needs more than its macro
- * says (or is killed by touching that page). x86-64 Linux; `examples/run stack` builds and runs it.
+ * Measures how much stack each call needs at its deepest: with a full book, 64 bytes, and a derivation of 512 nodes nested 512 deep. Each
+ * call runs on a stack of its own that is painted first: the paint that is gone shows what the call used. Then the call runs again on a
+ * stack of exactly as many bytes as the header's macro says, with a protected page below it. Exits 1 if a call answers wrongly or needs
+ * more than its macro says; a call that touches the protected page is killed. For x86-64 Linux; `examples/run stack` builds and runs it.
  */
 #define _GNU_SOURCE
 #include <stdio.h>
@@ -53,7 +53,7 @@ static void first_in(const uint16_t *grammar)
     nodes = 0;
     code = filbozseg_first(grammar, plate, 64, chart, FILBOZSEG_CELLS, output, FILBOZSEG_OUTPUT, &nodes);
 }
-/* 512 nodes nested 512 deep: those of `nested`. */
+/* The derivation of `nested`: 512 nodes nested 512 deep. */
 static void first_deep(void)
 {
     first_in(deep);
@@ -61,12 +61,12 @@ static void first_deep(void)
         code = ~0u;
 }
 static void first_wide(void) { first_in(wide); }
-/* The last derivation, 512 nodes nested 512 deep: each of them is looked at for another. */
+/* The last derivation, 512 nodes nested 512 deep: the call looks for an alternative at each node. */
 static void next_deep(void)
 {
     code = filbozseg_next(deep, plate, 64, nested, 1024, chart, FILBOZSEG_CELLS, output, FILBOZSEG_OUTPUT, &nodes);
 }
-/* With a twin of rule 0: after the last derivation of the one at the root comes the first of the other, 512 deep again. */
+/* With a twin of rule 0: after the last derivation with rule 0 at the root comes the first with its twin, again 512 deep. */
 static void next_turn(void)
 {
     static uint16_t turn[FILBOZSEG_OUTPUT];
@@ -79,7 +79,7 @@ static void next_turn(void)
     if (code == 1 && (nodes != 512 || output[1] != 33 || memcmp(output + 2, nested + 2, sizeof nested - 4) != 0))
         code = ~0u;
 }
-/* The first of a full grammar is offered. */
+/* Offers the first derivation of a full grammar. */
 static void next_wide(void)
 {
     static uint16_t offered[FILBOZSEG_OUTPUT];
@@ -96,7 +96,7 @@ static void count_deep(void)
 }
 static void count_wide(void) { code = filbozseg_count(wide, plate, 64, chart, FILBOZSEG_CELLS, &nodes); }
 
-/* What is to be answered, and within how many bytes. The first is no call of the library: it shows that the measuring measures. */
+/* The expected answers, and the bytes allowed. The first is no call of the library: it shows that the measurement works. */
 static const struct {
     const char *name;
     void (*call)(void);
@@ -121,7 +121,7 @@ static const struct {
 };
 enum { CALLS = sizeof calls / sizeof calls[0] };
 
-/* Runs the call on a stack of so many bytes, with a page below it that may not be touched, and says how many bytes it used. */
+/* Runs the call on a stack of this many bytes, with a protected page below it. Returns how many bytes it used. */
 static size_t used(void (*call)(void), size_t room)
 {
     uint8_t *low = mmap(NULL, room + PAGE, PROT_READ | PROT_WRITE, MAP_PRIVATE | MAP_ANONYMOUS, -1, 0);
@@ -142,7 +142,7 @@ static size_t used(void (*call)(void), size_t room)
     return room - at;
 }
 
-/* Whether the call answers as it has to, within its bytes, on a large stack and on one of just these bytes. */
+/* Whether the call gives the expected answer within its bytes, on a large stack and on one of exactly these bytes. */
 static int within(int n)
 {
     size_t need = used(calls[n].call, LARGE), limit = calls[n].limit;
@@ -182,7 +182,7 @@ static int load_deep(void)
     return filbozseg_load(book, size, deep, &offset) == 1;
 }
 
-/* The deep book, which stands in `book`, with another rule 0 -> 1 behind its others. */
+/* Adds another rule 0 -> 1 at the end of the deep book, which is in `book`. */
 static int load_twin(void)
 {
     size--;

@@ -10,29 +10,30 @@
  * Every function returns a code:
  *     0          no; none
  *     1          yes; loaded; measured; handed out; counted
- *     2          more (from filbozseg_count alone)
+ *     2          more (only from filbozseg_count)
  *     256 + n    refusal n, 1 <= n <= 15: FILBOZSEG_REFUSED gives n, enum filbozseg_refusal has its name, and docs/REFERENCE.md says when
- *                it is given and what it leaves
- * and no other. None allocates, keeps anything between calls, or needs anything of a C library but memcpy and memset. Calls from several
- * threads at once are fine as long as what is lent for writing is lent to one of them alone.
+ *                a call is refused with it and what the call leaves
+ * and no other code. No function allocates or keeps anything between calls. Of the C library they need only memcpy and memset. Several
+ * threads may call them at once if what is lent for writing is lent to one call only.
  *
- * Arrays and slices. An array, as `grammar[FILBOZSEG_ROW]`, is a plain pointer to that many elements. A slice is a pointer and, after it,
- * its length, counted in elements. A slice may have any length, also 0: what a function needs it tests, and answers with a refusal. No
- * pointer may be NULL, also where the length is 0, and each is aligned as C aligns its type.
+ * Arrays and slices. An array such as `grammar[FILBOZSEG_ROW]` is a plain pointer to that many elements. A slice is a pointer, followed by
+ * its length in elements. A slice may have any length, even 0: a function checks the lengths that it needs, and answers with a refusal. No
+ * pointer may be NULL, even if the length is 0, and each must be aligned as C aligns its type.
  *
- * Overlap. What is lent for writing (each pointer that is not to const) may overlap nothing else that is lent to the same call, and nobody
+ * Overlap. What is lent for writing (every pointer to non-const) must not overlap anything else that is lent to the same call, and nobody
  * else may read or write it until the call returns. What is lent for reading may overlap.
  *
- * What is written. A lent number is written only with an answer that carries it: an offset with a refused book, the tenths with a measured
- * derivation, the nodes with one handed out, the count with a counted input; with any other answer it is left as found. What is left of a
- * row, a hand, a chart and an output stands at each call; cells from 4225 on are never touched. What a lent place holds before a call
- * decides nothing, except the hand and the chart at filbozseg_take.
+ * What is written. A lent number is written only with an answer that carries it: the offset with a refused book, the tenths with a
+ * measured derivation, the nodes with a derivation handed out, the count with a counted input. With any other answer it is left as found.
+ * Each call says below what it leaves in a row, a hand, a chart and an output. Cells from 4225 on are never touched. What a lent place
+ * holds before a call has no effect, except for the hand and the chart of filbozseg_take.
  *
  * Words: a grammar is a loaded book, an input a plate, a hand a plate in hand, a mark one of its bytes, a chart a sheet, a derivation a
  * reading, a node a part.
  *
- * Stack. Nothing proves how much stack a call needs. The macro named at each call has it in bytes, as measured on x86-64: at a full
- * grammar, 64 bytes and a derivation of 512 nodes nested 512 deep. examples/stack.c measures it again and holds each call to its macro.
+ * Stack. Nothing proves how much stack a call needs. The macro named at each call is a figure in bytes, measured on x86-64 for a full
+ * grammar, 64 bytes and a derivation of 512 nodes nested 512 deep. examples/stack.c measures it again and checks each call against its
+ * macro.
  */
 #ifndef FILBOZSEG_H
 #define FILBOZSEG_H
@@ -44,21 +45,21 @@
 extern "C" {
 #endif
 
-/* The version of this header, and of the library that it describes. */
+/* The version of this header and of the library that it describes. */
 #define FILBOZSEG_VERSION_MAJOR 0
 #define FILBOZSEG_VERSION_MINOR 1
 #define FILBOZSEG_VERSION_PATCH 0
 
-/* The numbers of a grammar's row, the numbers of a hand's row, the used cells of a chart, the most bytes that an input has, and the numbers
-   that an output has at least: two for each of the 512 nodes that a derivation has at most. */
+/* Sizes: the numbers in a grammar's row, the numbers in a hand's row, the used cells of a chart, the maximum number of bytes of an input,
+   and the minimum length of an output, which has two numbers for each of at most 512 nodes of a derivation. */
 #define FILBOZSEG_ROW 2435
 #define FILBOZSEG_HAND 65
 #define FILBOZSEG_CELLS 4225
 #define FILBOZSEG_BYTES 64
 #define FILBOZSEG_OUTPUT 1024
 
-/* How many bytes of stack a call needs, up to whole pages of 4 KiB. A thread with 256 KiB is enough for each of them but the last three,
-   whose tables lie on the stack: their macros are bounds, within the 2 MiB that a thread of Rust has by default. */
+/* How many bytes of stack a call needs, rounded up to pages of 4 KiB. A thread with 256 KiB is enough for all calls but the last three.
+   These three have their tables on the stack: their macros are bounds, within the 2 MiB that a Rust thread has by default. */
 #define FILBOZSEG_LOAD_STACK (16 * 1024)
 #define FILBOZSEG_OPEN_STACK (48 * 1024)
 #define FILBOZSEG_TAKE_STACK (48 * 1024)
@@ -69,7 +70,7 @@ extern "C" {
 #define FILBOZSEG_NEXT_STACK (1900 * 1024)
 #define FILBOZSEG_COUNT_STACK (1900 * 1024)
 
-/* The refusals, with their numbers. More may come: a switch over them has a default. */
+/* The refusals and their numbers. There may be more in a later version, so a switch over them needs a default. */
 enum filbozseg_refusal {
     FILBOZSEG_REFUSAL_UNEXPECTED_END = 1,         /* the book ends inside a command, or where a command is due */
     FILBOZSEG_REFUSAL_UNKNOWN_COMMAND = 2,        /* a byte of the book is no command */
@@ -88,7 +89,7 @@ enum filbozseg_refusal {
     FILBOZSEG_REFUSAL_RECOGNIZER_FULL = 15        /* the hand has 64 marks and takes no more */
 };
 
-/* The number of the refusal that a code says, or 0 if it says none. What is written for the code is evaluated once. */
+/* The number of the refusal that a code stands for, or 0 if it is no refusal. The argument is evaluated once. */
 #define FILBOZSEG_REFUSED(code) filbozseg_refused(code)
 static inline uint32_t filbozseg_refused(uint32_t code)
 {
@@ -96,64 +97,66 @@ static inline uint32_t filbozseg_refused(uint32_t code)
 }
 
 /*
- * The row of a grammar, numbers of 16 bits: the start symbol, the number of rules, the nullable depth, and then 19 numbers for each of 128
- * rules: the left side, the length in hundredths of a millimetre (two's complement), the number of places, and for each of 8 places a tag
- * (0 a nonterminal, 1 a terminal) and a value.
+ * The row of a grammar has numbers of 16 bits: the start symbol, the number of rules, the nullable depth, and then 19 numbers for each of
+ * 128 rules. These are the left side, the length in hundredths of a millimetre (two's complement), the number of places, and for each of 8
+ * places a tag (0 for a nonterminal, 1 for a terminal) and a value.
  *
- * A row may hold anything, and each number is judged whole, all 16 bits of it. Refusal 8: a start over 31; more than 128 rules; in a used
- * rule a left side over 31, or more than 8 places; in a used place a tag other than 0 and 1, a nonterminal over 31, or a terminal over
- * 255. A rule is used if its number is below the number of rules; a place of it is used if its number is below the rule's number of places.
- * The depth, the lengths, and all numbers of unused rules and unused places may be any.
+ * A row may hold anything, and all 16 bits of each number are checked. Refusal 8: a start over 31; more than 128 rules; in a used rule a
+ * left side over 31, or more than 8 places; in a used place a tag other than 0 and 1, a nonterminal over 31, or a terminal over 255. A
+ * rule is used if its number is below the number of rules. A place is used if its number is below its rule's number of places. The depth,
+ * the lengths, and all numbers of unused rules and unused places may have any value.
  *
- * The row of a hand, numbers of 16 bits: 64 marks, and then the count, hand[FILBOZSEG_BYTES]. It may hold anything too, and is judged
- * whole. Refusal 14: a count over 64, or a used mark over 255. A mark is used if its number is below the count; the others may be any.
+ * The row of a hand has numbers of 16 bits: 64 marks, and then the count, hand[FILBOZSEG_BYTES]. It may hold anything too, and all 16 bits
+ * of each number are checked. Refusal 14: a count over 64, or a used mark over 255. A mark is used if its number is below the count; other
+ * marks may have any value.
  */
 
 /*
- * Loads a book of any length. Returns 1 and leaves the row of its grammar, and the offset as found; or 256 + n, n from 1 to 7, and leaves
- * the row of the grammar of no rules, which is all zeros, and where the fault is at offset. All numbers of the row are written either way.
+ * Loads a book of any length. Returns 1, writes the row of its grammar, and leaves the offset as found. Or returns 256 + n, n from 1 to
+ * 7, writes the row of the grammar without rules, which is all zeros, and writes to offset where the fault is. Either way it writes all
+ * numbers of the row.
  * Stack: FILBOZSEG_LOAD_STACK.
  */
 uint32_t filbozseg_load(const uint8_t *book, size_t book_length, uint16_t grammar[FILBOZSEG_ROW], size_t *offset);
 
 /*
- * Opens the recognizer: leaves the hand of no marks, which is all zeros, clears the first 4225 cells of the chart and writes its first
- * column. Returns whether the empty input is complete. Refusals, in this order: 8 the grammar; 10 a chart of fewer than 4225 cells.
- * Refused, it leaves the hand of no marks too, and the chart as found.
+ * Opens the recognizer: writes the hand without marks, which is all zeros, clears the first 4225 cells of the chart and writes its first
+ * column. Returns whether the empty input is complete. Refusals, in this order: 8 the grammar; 10 a chart of fewer than 4225 cells. If
+ * refused, it still writes the hand without marks, and leaves the chart as found.
  * Stack: FILBOZSEG_OPEN_STACK.
  */
 uint32_t filbozseg_open(const uint16_t grammar[FILBOZSEG_ROW], uint16_t hand[FILBOZSEG_HAND], uint32_t *chart, size_t chart_length);
 
 /*
- * Takes a byte into the hand: leaves the hand with the new mark, zeros behind it, and a count of one more, and writes the column of the
- * mark. Returns whether the input so far is complete. Refusals, in this order: 8 the grammar; 14 the hand; 10 a chart of fewer than 4225
- * cells; 15 a hand of 64 marks. Refused, it leaves the hand, whatever it holds, and the chart as found.
+ * Takes a byte into the hand: writes the new mark, zeros after it, and a count of one more, and writes the mark's column of the chart.
+ * Returns whether the input so far is complete. Refusals, in this order: 8 the grammar; 14 the hand; 10 a chart of fewer than 4225 cells;
+ * 15 a hand of 64 marks. If refused, it leaves the hand, whatever it holds, and the chart as found.
  * Stack: FILBOZSEG_TAKE_STACK.
  */
 uint32_t filbozseg_take(const uint16_t grammar[FILBOZSEG_ROW], uint16_t hand[FILBOZSEG_HAND], uint8_t byte,
                         uint32_t *chart, size_t chart_length);
 
 /*
- * Returns whether the offered derivation is one of the input: for each node, in preorder, how many bytes it covers and the number of its
- * rule. Refusals, in this order: 8 the grammar; 9 an input of no bytes or of more than 64; 10 a chart of fewer than 4225 cells. Refused, it
- * leaves the chart as found, else filled for the input.
+ * Returns whether the offered row is a derivation of the input: for each node, in preorder, how many bytes it covers and the number of
+ * its rule. Refusals, in this order: 8 the grammar; 9 an input of no bytes or of more than 64; 10 a chart of fewer than 4225 cells. If
+ * refused, it leaves the chart as found; otherwise the chart is filled for the input.
  * Stack: FILBOZSEG_CHECK_STACK.
  */
 uint32_t filbozseg_check(const uint16_t grammar[FILBOZSEG_ROW], const uint8_t *input, size_t input_length,
                          const uint16_t *offered, size_t offered_length, uint32_t *chart, size_t chart_length);
 
 /*
- * Returns 1 and leaves the length of the offered derivation at tenths, in tenths of a millimetre, halves away from zero. Refusals, in this
- * order: 8, 9, 10 as at filbozseg_check; 12 the offered derivation is none of the input. Refused, it leaves the tenths as found, and the
- * chart as found (8, 9, 10) or filled for the input (12).
+ * Returns 1 and writes the length of the offered derivation to tenths, in tenths of a millimetre; halves are rounded away from zero.
+ * Refusals, in this order: 8, 9, 10 as for filbozseg_check; 12 the offered row is no derivation of the input. If refused, it leaves the
+ * tenths as found, and the chart as found (8, 9, 10) or filled for the input (12).
  * Stack: FILBOZSEG_LENGTH_STACK.
  */
 uint32_t filbozseg_length(const uint16_t grammar[FILBOZSEG_ROW], const uint8_t *input, size_t input_length,
                           const uint16_t *offered, size_t offered_length, uint32_t *chart, size_t chart_length, int32_t *tenths);
 
 /*
- * Returns whether two offered derivations of the input are the same build: whether the rules of their nodes that cover something agree,
- * each as often. Refusals and chart as at filbozseg_length; 12 where either is none.
+ * Returns whether two offered derivations of the input are the same build: whether their nodes that cover something use the same rules,
+ * each equally often. Refusals and chart as for filbozseg_length; 12 if either row is no derivation.
  * Stack: FILBOZSEG_SAME_BUILD_STACK.
  */
 uint32_t filbozseg_same_build(const uint16_t grammar[FILBOZSEG_ROW], const uint8_t *input, size_t input_length,
@@ -161,22 +164,22 @@ uint32_t filbozseg_same_build(const uint16_t grammar[FILBOZSEG_ROW], const uint8
                               uint32_t *chart, size_t chart_length);
 
 /*
- * Hands out the first derivation of the input, as filbozseg_check takes it: the smallest by the first number in which two differ. Returns 1
- * and leaves it in the first 2 * nodes numbers of the output, the others as found, and how many nodes it has, 1 to 512, at nodes; or 0 if
- * the input has none because it has no tree at all. Refusals, in this order: 8, 9, 10 as at filbozseg_check; 11 an output of fewer than
- * 1024 numbers; 13 the input has trees, but none of at most 512 nodes. With 0 and refused, it leaves output and nodes as found; refused
- * with 8 to 11, the chart too, else the chart is filled for the input.
+ * Hands out the first derivation of the input, as filbozseg_check takes it. Derivations are ordered by the first number in which they
+ * differ. Returns 1, writes the derivation to the first 2 * nodes numbers of the output, leaves the others as found, and writes its number
+ * of nodes, 1 to 512, to nodes. Or returns 0 if the input has no tree at all. Refusals, in this order: 8, 9, 10 as for filbozseg_check; 11
+ * an output of fewer than 1024 numbers; 13 the input has trees, but none of at most 512 nodes. If it returns 0 or is refused, it leaves
+ * output and nodes as found. If refused with 8 to 11, it leaves the chart as found too; otherwise the chart is filled for the input.
  * Stack: FILBOZSEG_FIRST_STACK.
  */
 uint32_t filbozseg_first(const uint16_t grammar[FILBOZSEG_ROW], const uint8_t *input, size_t input_length,
                          uint32_t *chart, size_t chart_length, uint16_t *output, size_t output_length, size_t *nodes);
 
 /*
- * Hands out the derivation of the input that follows the offered one in the order of filbozseg_first. Returns 1 and leaves it in the
- * output, and how many nodes it has at nodes, as filbozseg_first does; or 0 if the offered one is the last. Refusals, in this order: 8, 9,
- * 10, 11 as at filbozseg_first; 12 the offered row, which may have any length, is no derivation of the input. With 0 and refused, it leaves
- * output and nodes as found; refused with 8 to 11, the chart too, else the chart is filled for the input. The offered row may not overlap
- * the output, so that a derivation handed out is copied before it is offered; all of them, in their order:
+ * Hands out the derivation of the input that follows the offered one in the order of filbozseg_first. Returns 1 and writes output and
+ * nodes as filbozseg_first does; or returns 0 if the offered derivation is the last. Refusals, in this order: 8, 9, 10, 11 as for
+ * filbozseg_first; 12 the offered row, which may have any length, is no derivation of the input. If it returns 0 or is refused, it leaves
+ * output and nodes as found. If refused with 8 to 11, it leaves the chart as found too; otherwise the chart is filled for the input. The
+ * offered row must not overlap the output, so a derivation must be copied before it is offered. This finds all derivations, in order:
  *
  *     uint16_t output[FILBOZSEG_OUTPUT], offered[FILBOZSEG_OUTPUT];
  *     size_t nodes = 0;
@@ -193,9 +196,10 @@ uint32_t filbozseg_next(const uint16_t grammar[FILBOZSEG_ROW], const uint8_t *in
                         uint16_t *output, size_t output_length, size_t *nodes);
 
 /*
- * Counts the derivations of the input. Returns 1 and leaves their number, 0 to 4096, at count (0 if the input has no tree at all); or 2 if
- * there are more than 4096. Refusals, in this order: 8, 9, 10 as at filbozseg_check; 13 the input has trees, but none of at most 512 nodes.
- * With 2 and refused, it leaves the count as found; refused with 8 to 10, the chart too, else the chart is filled for the input.
+ * Counts the derivations of the input. Returns 1 and writes their number, 0 to 4096, to count (0 if the input has no tree at all); or
+ * returns 2 if there are more than 4096. Refusals, in this order: 8, 9, 10 as for filbozseg_check; 13 the input has trees, but none of at
+ * most 512 nodes. If it returns 2 or is refused, it leaves the count as found. If refused with 8 to 10, it leaves the chart as found too;
+ * otherwise the chart is filled for the input.
  * Stack: FILBOZSEG_COUNT_STACK.
  */
 uint32_t filbozseg_count(const uint16_t grammar[FILBOZSEG_ROW], const uint8_t *input, size_t input_length,

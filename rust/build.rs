@@ -1,9 +1,9 @@
-//! Links the static library that `rt staticlib filbozseg` writes: from the folder that FILBOZSEG_LIB_DIR names, or from
-//! ../target/staticlib beside this crate. Where it cannot be linked the build ends here, and the message says why.
+//! Links the static library that `rt staticlib filbozseg` writes. It takes the library from the folder that FILBOZSEG_LIB_DIR names, or
+//! from ../target/staticlib. If the library cannot be linked, the build ends here with a message that says why.
 use std::env;
 use std::path::{Path, PathBuf};
 
-/// Why the library cannot be linked for a target of such an architecture, operating system and width of pointers.
+/// Why the library cannot be linked for a target, given as its architecture, operating system and width of pointers.
 pub fn trouble(target: [&str; 3], archive: &Path) -> Option<String> {
     let [architecture, system, width] = target;
     if target != ["x86_64", "linux", "64"] {

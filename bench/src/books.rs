@@ -61,7 +61,7 @@ pub fn expressions() -> Vec<u8> {
         b'D' => Some(13),
         _ => None,
     };
-    // 1, 2 and 3 are kinds but in the rules of numbers, where they are digits.
+    // 1, 2 and 3 are kinds, except in the rules of numbers, where they are digits.
     let mut book = Book::new(0);
     for rule in text.split('|') {
         let (left, right) = rule.split_once(' ').unwrap();
@@ -87,8 +87,8 @@ pub fn expression() -> Vec<u8> {
         .collect()
 }
 
-/// 128 rules of 8 places over all 32 kinds and two marks, but for 4 empty rules. Three places in four hold one of the
-/// four nullable kinds, which have rules of 8 places as well.
+/// 128 rules of 8 places over all 32 kinds and two marks, except for 4 empty rules. Three places in four hold one of
+/// the four nullable kinds, which have rules of 8 places as well.
 pub fn dense() -> Vec<u8> {
     let mut random = Random::new(0xd);
     let mut book = Book::new(0);
@@ -118,7 +118,7 @@ fn random_places(random: &mut Random, kinds: usize, count: usize, rare: usize, m
         .collect()
 }
 
-/// Unit rules i → j over 32 kinds, as many as fit beside `more`, then 0 → A.
+/// Unit rules i → j over 32 kinds, as many as fit together with `more`, then 0 → A.
 pub fn unit_cycles(more: &[&[P]]) -> Vec<u8> {
     let mut book = Book::new(0);
     let units = 127 - more.len();
@@ -132,8 +132,8 @@ pub fn unit_cycles(more: &[&[P]]) -> Vec<u8> {
     book.rule(0, &[A]).bytes()
 }
 
-/// The complete unit graph: 11 kinds, a rule from each to each other one, and 0 → A last, 111 rules. A search that tries rules without
-/// exact costs takes seconds on it.
+/// The complete unit graph: 11 kinds, a rule from each to each other one, and 0 → A last, 111 rules. A search that
+/// tries rules without exact costs takes seconds on it.
 pub fn unit_graph() -> Vec<u8> {
     let mut book = Book::new(0);
     for i in 0..11 {
@@ -144,7 +144,7 @@ pub fn unit_graph() -> Vec<u8> {
     book.rule(0, &[A]).bytes()
 }
 
-/// Hidden left recursion: 0 → 1 0 A and others begin with what may be empty.
+/// Hidden left recursion: 0 → 1 0 A and other rules begin with a kind that may be empty.
 pub fn hidden() -> Vec<u8> {
     Book::new(0)
         .rule(0, &[N(1), N(0), A])
@@ -162,7 +162,7 @@ pub fn hidden() -> Vec<u8> {
         .bytes()
 }
 
-/// k → k+1 for k = 0..30 in this order, so that each pass finds one kind more; then the rules of 31.
+/// k → k+1 for k = 0..30 in this order, so that each pass finds one more kind; then the rules of 31.
 pub fn chain(last: &[&[P]]) -> Vec<u8> {
     let mut book = Book::new(0);
     (0..31).for_each(|k| {
@@ -174,8 +174,8 @@ pub fn chain(last: &[&[P]]) -> Vec<u8> {
     book.bytes()
 }
 
-/// The worst found by hand: a chain of 29 kinds, one found in each pass over each cell, in rules of 8 places; and 95
-/// rules of 8 places whose every search for a cut runs to its end and fails. 31 covers every stretch, 29 is only
+/// The worst case found by hand: a chain of 29 kinds, one found in each pass over each cell, in rules of 8 places;
+/// and 95 rules of 8 places whose every search for a cut runs to its end and fails. 31 covers every span, 29 is only
 /// empty, 30 has no rule.
 pub fn worst() -> Vec<u8> {
     let mut book = Book::new(0);
@@ -192,8 +192,8 @@ pub fn worst() -> Vec<u8> {
     book.rule(31, &[A, N(31)]).rule(31, &[A]).rule(31, &[]).rule(29, &[]).bytes()
 }
 
-/// Less work, but tests that a processor foresees badly: a chain of 25 kinds among 94 rules whose places hold kinds
-/// that are empty or not and cover all, some or no stretches, and marks, and end with a kind without rules.
+/// Less work, but conditions that a processor predicts badly: a chain of 25 kinds among 94 rules. Their places hold
+/// marks and kinds that are empty or not and cover all, some or no spans, and end with a kind without rules.
 pub fn worst_mixed() -> Vec<u8> {
     let mut random = Random::new(77);
     let mut rules: Vec<(u8, Vec<P>)> = Vec::new();
@@ -230,12 +230,13 @@ pub fn full() -> Vec<u8> {
     let mut book = Book::new(0);
     for r in 0..128 {
         let places = random_places(&mut random, 32, 8, 3, b"ABC");
-        book.measured((r % 32) as u8, random.next() as i16, &places);
+        book.measured((r % 32) as u8, random.draw() as i16, &places);
     }
     book.bytes()
 }
 
-/// The deepest reading: k → k+1 for k = 0..30, 31 → A 0, 31 → A; A × 16 has one, of 512 parts nested 512 deep.
+/// The deepest reading: k → k+1 for k = 0..30, 31 → A 0, 31 → A; A × 16 has one reading, of 512 parts nested 512
+/// deep.
 pub fn deepest() -> (Vec<u8>, Vec<u8>, Vec<u16>) {
     let book = chain(&[&[A, N(0)], &[A]]);
     let mut reading = Vec::new();
@@ -246,8 +247,8 @@ pub fn deepest() -> (Vec<u8>, Vec<u8>, Vec<u16>) {
     (book, vec![b'A'; 16], reading)
 }
 
-/// The drawer's bush of empty parts: 0 → A and seven of kind 1, 1 → eight of kind 2, 2 → eight of kind 3, 3 → nothing;
-/// A has one reading, of 512 parts.
+/// The drawer's bush of empty parts: 0 → A and seven of kind 1, 1 → eight of kind 2, 2 → eight of kind 3, 3 →
+/// nothing; A has one reading, of 512 parts.
 pub fn bush() -> (Vec<u8>, Vec<u8>, Vec<u16>) {
     let book = Book::new(0)
         .measured(0, 4625, &[A, N(1), N(1), N(1), N(1), N(1), N(1), N(1)])
@@ -266,12 +267,13 @@ pub fn bush() -> (Vec<u8>, Vec<u8>, Vec<u16>) {
     (book, vec![b'A'], reading)
 }
 
-/// The deepest with four marks a turn: 31 → A A A A 0, 31 → A A A A; A × 64 has one reading, of 512 parts nested 512 deep.
+/// The deepest reading with four marks per turn: 31 → A A A A 0, 31 → A A A A; A × 64 has one reading, of 512 parts
+/// nested 512 deep.
 pub fn deepest_of_64() -> Vec<u8> {
     chain(&[&[A, A, A, A, N(0)], &[A, A, A, A]])
 }
 
-/// The complete unit graph with its way out at the last kind, and 0 → 0 0: each mark has a chain of 11 units.
+/// The complete unit graph with its way out at the last kind, and 0 → 0 0: each mark has a chain of 11 unit rules.
 pub fn unit_graph_of_pairs() -> Vec<u8> {
     let mut book = Book::new(0);
     for i in 0..11 {
@@ -292,13 +294,13 @@ pub fn boundary(more: bool) -> Vec<u8> {
     book.bytes()
 }
 
-/// The deepest of 64 behind 95 rules of eight kinds, and its reading: the last of all, so that each of its 512 nodes is
-/// looked at for another cover and another rule.
+/// The deepest book of 64 marks after 95 rules of eight kinds, and its reading. It is the last of all, so each of its
+/// 512 nodes is searched for another cover and another rule.
 pub fn last_of_many() -> (Vec<u8>, Vec<u16>) {
     const WIDE: u16 = 95;
     let mut book = Book::new(0);
     for r in 0..WIDE as u8 {
-        let places: Vec<P> = (0..8).map(|q| N((7 * r + 5 * q) % 32)).collect();
+        let places: Vec<P> = (0..8).map(|q| N(r.wrapping_mul(7).wrapping_add(5 * q) % 32)).collect();
         book.rule(r % 32, &places);
     }
     (0..31).for_each(|k| {
@@ -309,15 +311,15 @@ pub fn last_of_many() -> (Vec<u8>, Vec<u16>) {
     (book.bytes(), (0..512).flat_map(node).collect())
 }
 
-/// One reading, each node of which is looked at for another rule in vain, the costs being made for it: k → k+1 (and an empty
-/// node behind it, if `behind`) for the kinds below the last, last → A 0, last → A, and behind these, up to 128 rules, rules
-/// of all of them whose first kind has no tree over the marks.
-pub fn later_in_vain(last: u8, behind: bool) -> Vec<u8> {
+/// One reading. Each of its nodes is searched for another rule in vain, and the costs are computed for that. The
+/// rules: k → k+1 (with an empty node after it, if `followed`) for the kinds below the last, last → A 0, last → A.
+/// After them, up to 128 rules, come rules of all these kinds whose first kind has no tree over the marks.
+pub fn later_in_vain(last: u8, followed: bool) -> Vec<u8> {
     const EMPTY: u8 = 30;
     const NEVER: u8 = 31;
     let mut book = Book::new(0);
     (0..last).for_each(|k| {
-        book.rule(k, &[N(k + 1), N(EMPTY)][..1 + usize::from(behind)]);
+        book.rule(k, &[N(k + 1), N(EMPTY)][..1 + usize::from(followed)]);
     });
     book.rule(last, &[A, N(0)]).rule(last, &[A]).rule(EMPTY, &[]).rule(NEVER, &[T(b'B')]);
     (last + 4..128).for_each(|r| {
@@ -326,8 +328,8 @@ pub fn later_in_vain(last: u8, behind: bool) -> Vec<u8> {
     book.bytes()
 }
 
-/// A wide rule for each kind: k → eight of k+1, 31 → nothing, and k → A for each k if `marks`. Every kind is nullable, by
-/// trees of more than 512 parts but for the last ones.
+/// A wide rule for each kind: k → eight of k+1, 31 → nothing, and k → A for each k if `marks`. Every kind is
+/// nullable, but only the last ones by trees of at most 512 parts.
 pub fn wide(marks: bool) -> Vec<u8> {
     let mut book = Book::new(0);
     (0..31).for_each(|k| {
@@ -340,18 +342,18 @@ pub fn wide(marks: bool) -> Vec<u8> {
     book.bytes()
 }
 
-/// The least tree of 2 runs through 1, which may not stand below 1 again; the other way is dear, so that the limit of 512
-/// parts lets seven of eight take it.
+/// The least tree of 2 goes through 1, which may not occur below 1 again. The other way is expensive: within the
+/// limit of 512 parts, seven of eight can take it.
 pub fn forbidden() -> Vec<u8> {
-    let mut dear = [N(4); 8];
-    dear[0] = A;
+    let mut expensive = [N(4); 8];
+    expensive[0] = A;
     Book::new(0)
         .rule(0, &[N(1); 8])
         .rule(1, &[N(2)])
         .rule(2, &[N(1)])
         .rule(2, &[N(3)])
         .rule(1, &[A])
-        .rule(3, &dear)
+        .rule(3, &expensive)
         .rule(4, &[N(5); 8])
         .rule(5, &[])
         .bytes()

@@ -1,6 +1,6 @@
-//! The calls that are timed, once over the proved library and once over the plain code, with the same arguments: a
-//! grammar is a flat row, which each call reads anew, and an answer is a number: 0 no; 1 yes, loaded, measured, handed
-//! out or counted; 2 more; 256 + n refusal n. The library's functions are those that the wrapper declares.
+//! The calls that are timed, once over the proved library and once over the plain code, with the same arguments. A
+//! grammar is a flat row, which each call reads anew. An answer is a code: 0 no; 1 yes, loaded, measured, handed out or
+//! counted; 2 more; or a refusal's code. The library's functions are those that the wrapper declares.
 
 use crate::plain::enumerator;
 use crate::plain::flat::{self, FLAT};
@@ -35,8 +35,8 @@ pub trait Reader {
 
 pub struct Proved;
 
-// SAFETY, of each call: the arrays and slices come from Rust references, so they are as long as the library is told,
-// and those that it writes overlap nothing.
+// SAFETY of each call: the arrays and slices come from Rust references, so they have the lengths that are passed, and
+// those that are written overlap nothing.
 impl Reader for Proved {
     fn load(book: &[u8], flat: &mut Flat, offset: &mut usize) -> u32 {
         unsafe { sys::filbozseg_load(book.as_ptr(), book.len(), flat, offset) }
@@ -89,12 +89,8 @@ impl Reader for Proved {
 
 pub struct Plain;
 
-fn refusal(r: Refusal) -> u32 {
-    256 + r as u32
-}
-
 fn code(answer: Result<bool, Refusal>) -> u32 {
-    answer.map_or_else(refusal, u32::from)
+    answer.map_or_else(Refusal::code, u32::from)
 }
 
 /// Writes the number of an answer that has one; `none` is the code of the answer that has none.
@@ -105,7 +101,7 @@ fn written(answer: Result<Option<usize>, Refusal>, none: u32, number: &mut usize
             1
         }
         Ok(None) => none,
-        Err(r) => refusal(r),
+        Err(refusal) => refusal.code(),
     }
 }
 
@@ -116,10 +112,10 @@ impl Reader for Plain {
                 flat::write(&g, flat);
                 1
             }
-            Err((r, at)) => {
+            Err((refusal, at)) => {
                 flat::write(&Grammar::ZERO, flat);
                 *offset = at;
-                refusal(r)
+                refusal.code()
             }
         }
     }
@@ -148,7 +144,7 @@ impl Reader for Plain {
                 *tenths = measured;
                 1
             }
-            Err(r) => refusal(r),
+            Err(refusal) => refusal.code(),
         }
     }
 

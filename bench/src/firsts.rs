@@ -1,4 +1,4 @@
-//! First: the call less its filling, on both sides.
+//! First: the time of the call minus that of its filling, on both sides.
 
 use crate::books;
 use crate::calls::{chart, Flat, Plain, Proved, Reader};
@@ -11,20 +11,20 @@ use crate::timing::{differences, pair, processor_time, shown};
 use crate::{check_both, heading, line, loaded, sink};
 use std::hint::black_box;
 
-/// An output to write to: what it holds is no reading.
+/// An output to write to. What it holds is no reading.
 pub fn output() -> Vec<u16> {
     vec![0xbeef; OUTPUT]
 }
 
-/// Both sides answer the same and leave the same output, number of nodes and chart; what is handed out is a reading.
+/// Both sides answer the same and leave the same output, number of nodes and chart. What is handed out is a reading.
 pub fn first_both(flat: &Flat, input: &[u8]) -> (u32, usize) {
     let (mut c, mut d, mut x, mut y) = (chart(), chart(), output(), output());
-    let (mut m, mut n) = (usize::MAX, usize::MAX); // left so where none is handed out
+    let (mut m, mut n) = (usize::MAX, usize::MAX); // stays so if none is handed out
     let code = Proved::first(flat, input, &mut c, &mut x, &mut m);
     assert_eq!(code, Plain::first(flat, input, &mut d, &mut y, &mut n));
     assert!(c == d && x == y && m == n, "the charts, outputs or nodes differ");
     if code == 1 {
-        assert!(x[2 * m..].iter().all(|&number| number == 0xbeef), "the output is written behind the reading");
+        assert!(x[2 * m..].iter().all(|&number| number == 0xbeef), "the output is written after the reading");
         assert_eq!(check_both(flat, input, &x[..2 * m]), 1);
     }
     (code, m)
@@ -77,8 +77,8 @@ pub fn firsts(sweep: usize) {
     }
 }
 
-/// The tables alone, in plain Rust: every rule looked at from every start up to every end ("before"), and rules and
-/// ends passed over.
+/// The tables alone, in plain Rust: with every rule tried from every start up to every end ("before"), and with rules
+/// and ends skipped.
 fn tables() {
     println!("\nTABLES alone, in plain Rust; wall clock, the least");
     println!("  {:50} {:>10} {:>10} {:>6}", "case", "before", "now", "times");
@@ -116,7 +116,7 @@ fn clear() {
     black_box(&mut [[[NONE; SIDE]; PLACES + 1]; RULES]);
 }
 
-/// Random full books whose inputs have trees: one call of each, the lesser of two runs.
+/// Random full books whose inputs have trees: one call of each, the shorter of two runs.
 fn sweep_first(count: usize) {
     let mut random = Random::new(7);
     let (mut proved, mut plain, mut most, mut seen) = (0.0, 0.0, 0.0f64, 0);

@@ -1,6 +1,6 @@
-//! The proved library beside the same algorithms in plain Rust, on the same inputs, in one run. Every case is first
-//! run on both sides and the results are held equal (codes, flat rows, offsets, hands, all words of the chart); only
-//! then is it timed.
+//! Compares the proved library with the same algorithms in plain Rust, on the same inputs, in one run. Every case is
+//! first run on both sides, and the results must be equal (codes, flat rows, offsets, hands, all words of the chart).
+//! Only then is it timed.
 
 mod calls;
 mod firsts;
@@ -13,6 +13,7 @@ use bench::{books, plain, random};
 use books::{A, P};
 use calls::{chart, hand, Flat, Hand, Plain, Proved, Reader};
 use plain::flat::FLAT;
+use plain::Refusal;
 use random::Random;
 use std::hint::black_box;
 use std::time::Instant;
@@ -114,7 +115,7 @@ fn loads() {
     let mut faulty = full.clone();
     faulty[2562] = 0x60;
     let (code, _, at) = load_both(&faulty);
-    assert_eq!((code, at), (256 + 2, 2562));
+    assert_eq!((code, at), (Refusal::UnknownCommand.code(), 2562));
     time_load("the same, unknown byte at 2,562", &faulty);
     time_load("empty chain of 32 kinds, one found in each pass", &books::chain(&[&[]]));
     time_load("10 00 50", &[0x10, 0, 0x50]);
@@ -228,8 +229,8 @@ fn overheads(list: &[Case]) {
         h[64] = 64;
         let mut k = h;
         let (mut x, mut y) = (chart(), chart());
-        assert_eq!(Proved::take(&c.flat, &mut h, 65, &mut x), 256 + 15);
-        assert_eq!(Plain::take(&c.flat, &mut k, 65, &mut y), 256 + 15);
+        assert_eq!(Proved::take(&c.flat, &mut h, 65, &mut x), Refusal::RecognizerFull.code());
+        assert_eq!(Plain::take(&c.flat, &mut k, 65, &mut y), Refusal::RecognizerFull.code());
         line(
             &format!("take refused 15: {}", c.name),
             pair(
@@ -237,8 +238,8 @@ fn overheads(list: &[Case]) {
                 || sink(Plain::take(black_box(&c.flat), &mut k, 65, &mut y)),
             ),
         );
-        assert_eq!(Proved::check(&c.flat, &[], &[], &mut x), 256 + 9);
-        assert_eq!(Plain::check(&c.flat, &[], &[], &mut y), 256 + 9);
+        assert_eq!(Proved::check(&c.flat, &[], &[], &mut x), Refusal::InputLength.code());
+        assert_eq!(Plain::check(&c.flat, &[], &[], &mut y), Refusal::InputLength.code());
         line(
             &format!("check refused 9: {}", c.name),
             pair(
@@ -333,8 +334,8 @@ fn checks() {
             3001,
         );
         let said = |(d, error): (f64, f64)| format!("{} ± {}", shown(d), shown(error));
-        let told = a.0 > 4.0 * a.1 && b.0 > 4.0 * b.1;
-        let ratio = if told { format!("{:.2}", a.0 / b.0) } else { "not told, the noise is too large".to_string() };
+        let known = a.0 > 4.0 * a.1 && b.0 > 4.0 * b.1;
+        let ratio = if known { format!("{:.2}", a.0 / b.0) } else { "unknown, the noise is too large".to_string() };
         println!("    filling aside: proved {}; plain {}; ratio {ratio}", said(a), said(b));
     }
 }
@@ -385,7 +386,7 @@ fn main() {
         .nth(1)
         .map_or(200, |n| n.parse().expect("usage: bench [BOOKS IN THE SWEEP [first|next|program|spans]]"));
     println!(
-        "The proved library (C functions of libfilbozseg.a) beside the same algorithms in plain Rust. Load average {}.",
+        "The proved library (C functions of libfilbozseg.a) compared with the same algorithms in plain Rust. Load average {}.",
         load_average()
     );
     println!("Times are wall clock, a call: the median over batches run in turn, then the least batch; ratio = proved / plain.");

@@ -9,10 +9,10 @@ use crate::timing::{differences, processor_time, shown, Time};
 use crate::{check_both, heading, line, loaded, sink};
 use std::hint::black_box;
 
-/// Both sides answer the same and leave the same output, number of nodes and chart; what is handed out is a reading.
+/// Both sides answer the same and leave the same output, number of nodes and chart. What is handed out is a reading.
 fn next_both(flat: &Flat, input: &[u8], offered: &[u16]) -> (u32, Vec<u16>) {
     let (mut c, mut d, mut x, mut y) = (chart(), chart(), output(), output());
-    let (mut m, mut n) = (usize::MAX, usize::MAX); // left so where none is handed out
+    let (mut m, mut n) = (usize::MAX, usize::MAX); // stays so if none is handed out
     let code = Proved::next(flat, input, offered, &mut c, &mut x, &mut m);
     assert_eq!(code, Plain::next(flat, input, offered, &mut d, &mut y, &mut n));
     assert!(c == d && x == y && m == n, "the charts, outputs or nodes differ");
@@ -20,13 +20,13 @@ fn next_both(flat: &Flat, input: &[u8], offered: &[u16]) -> (u32, Vec<u16>) {
         assert!(x == output() && m == usize::MAX, "the output is written without a reading");
         return (code, vec![]);
     }
-    assert!(x[2 * m..].iter().all(|&number| number == 0xbeef), "the output is written behind the reading");
+    assert!(x[2 * m..].iter().all(|&number| number == 0xbeef), "the output is written after the reading");
     x.truncate(2 * m);
     assert_eq!(check_both(flat, input, &x), 1);
     (code, x)
 }
 
-/// Both sides count the same and leave the same chart; none for more.
+/// Both sides count the same and leave the same chart. Returns None for more.
 fn count_both(flat: &Flat, input: &[u8]) -> Option<usize> {
     let (mut c, mut d, mut m, mut n) = (chart(), chart(), usize::MAX, usize::MAX);
     let code = Proved::count(flat, input, &mut c, &mut m);
@@ -43,7 +43,7 @@ fn of(time: Time, calls: usize) -> Time {
     Time { median: time.median / calls as f64, least: time.least / calls as f64 }
 }
 
-/// One advance: count less first, by the number of advances.
+/// One advance: the time of count minus that of first, divided by the number of advances.
 fn time_advance(name: &str, book: &[u8], input: &[u8]) {
     let flat = loaded(book);
     first_both(&flat, input);
@@ -75,7 +75,7 @@ fn time_count(name: &str, book: &[u8], input: &[u8]) {
     line(&format!("{name}, {} marks: {}", input.len(), said(count)), times);
 }
 
-/// One call of next less one of first: the check of the offered reading and its advance, less the way to the first.
+/// One call of next minus one of first: the check of the offered reading and its advance, minus the way to the first.
 fn time_next(name: &str, book: &[u8], input: &[u8], offered: &[u16]) {
     let flat = loaded(book);
     let (code, _) = next_both(&flat, input, offered);
@@ -92,7 +92,7 @@ fn time_next(name: &str, book: &[u8], input: &[u8], offered: &[u16]) {
     line(&format!("{name}, {} marks: {next}", input.len()), times);
 }
 
-/// A whole call of next, offered the first reading.
+/// A whole call of next that is offered the first reading.
 fn time_whole_next(name: &str, book: &[u8], input: &[u8]) {
     let flat = loaded(book);
     let (mut c, mut x, mut n) = (chart(), output(), 0);
@@ -137,7 +137,7 @@ pub fn nexts(sweep: usize) {
         &["Next less first, in processor time: less than nothing where the way to the first reading is longer."],
     );
     let (book, reading) = books::last_of_many();
-    time_next("deepest behind 95 wide rules", &book, &a, &reading);
+    time_next("deepest after 95 wide rules", &book, &a, &reading);
     let (book, input, reading) = books::deepest();
     time_next("deepest", &book, &input, &reading);
     let (book, input, reading) = books::bush();
@@ -160,7 +160,7 @@ pub fn nexts(sweep: usize) {
     }
 }
 
-/// Random full books whose inputs have readings: first, next of the first reading, and of each tenth book the count.
+/// Random full books whose inputs have readings: first, next of the first reading, and for each tenth book the count.
 fn sweep_next(count: usize) {
     let mut random = Random::new(7);
     let (mut sums, mut most, mut seen) = ([0.0; 6], [0.0f64; 3], 0);

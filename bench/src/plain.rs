@@ -1,6 +1,6 @@
-//! The algorithms of the proved library in plain Rust: references where the proved code passes structs by value,
-//! iterators and slices with their ordinary bounds checks, and nothing unsafe. What they compute, and in which order,
-//! is the same.
+//! The algorithms of the proved library in plain Rust. Where the proved code passes structs by value, this code uses
+//! references. It uses iterators and slices with their ordinary bounds checks, and nothing unsafe. It computes the same,
+//! in the same order.
 
 pub mod checker;
 pub mod enumerator;
@@ -12,6 +12,8 @@ pub mod packed;
 pub mod recognizer;
 pub mod spans;
 pub mod tables;
+
+pub use filbozseg::Refusal;
 
 pub const RULES: usize = 128;
 pub const PLACES: usize = 8;
@@ -38,26 +40,6 @@ pub struct Grammar {
     pub count: usize,
     pub depth: u8,
     pub rules: [Rule; RULES],
-}
-
-/// The refusals, with the numbers of document 01 (docs/REFERENCE.md).
-#[derive(Clone, Copy, Debug, PartialEq)]
-pub enum Refusal {
-    UnexpectedEnd = 1,
-    UnknownCommand = 2,
-    OutOfTurn = 3,
-    NonterminalTooLarge = 4,
-    TooManyRules = 5,
-    TooManyPlaces = 6,
-    FurtherByte = 7,
-    InvalidGrammar = 8,
-    InputLength = 9,
-    ChartTooShort = 10,
-    OutputTooShort = 11,
-    NotADerivation = 12,
-    OnlyLargerTrees = 13,
-    InvalidRecognizer = 14,
-    RecognizerFull = 15,
 }
 
 impl Rule {

@@ -29,8 +29,8 @@ impl Folder {
         Folder(path)
     }
 
-    /// Runs a program on the plate, reads what it prints to the end, and waits for it: the time on the wall, and the
-    /// processor's, in the program and in starting it.
+    /// Runs a program on the plate, reads all that it prints, and waits for it. Returns the wall-clock time and the
+    /// processor time, in the program and in starting it.
     fn run(&self, program: &Path, text: &mut Vec<u8>) -> [f64; 2] {
         text.clear();
         let plate = File::open(self.0.join("plate")).expect("a plate");
@@ -50,7 +50,7 @@ impl Drop for Folder {
     }
 }
 
-/// Both programs in turn, so many times each: the times on the wall and the processor's.
+/// Runs both programs in turn, this many times each. Returns the wall-clock times and the processor times.
 fn times(folder: &Folder, both: &[PathBuf; 2], rounds: usize) -> [(Time, Time); 2] {
     let (mut found, mut text): ([[Vec<f64>; 2]; 2], _) = Default::default();
     for round in 0..2 * rounds {
@@ -61,7 +61,7 @@ fn times(folder: &Folder, both: &[PathBuf; 2], rounds: usize) -> [(Time, Time); 
     found.map(|[proved, plain]| (time_of(proved), time_of(plain)))
 }
 
-/// Both print the same; then they are timed.
+/// Checks that both print the same, then times them.
 fn time_program(name: &str, book: Option<&[u8]>, marks: usize, rounds: usize, both: &[PathBuf; 2]) {
     let folder = Folder::with(book, &vec![b'A'; marks]);
     let (mut proved, mut plain) = (Vec::new(), Vec::new());

@@ -1,6 +1,7 @@
 //! The fill from end to end ("before") and the fill by spans as bits ("plain"), both in plain Rust with the packed
-//! grammar given, beside the proved fill: `check` of a row of no numbers, and `take` of the 64th mark. In processor
-//! time, in turn, the least of the rounds: that is told best on a machine that does other work too.
+//! grammar given, compared with the proved fill: `check` of an empty row, and `take` of the 64th mark. In processor
+//! time, in turn, the minimum over the rounds: that is the most reliable figure on a machine that does other work
+//! too.
 
 use crate::calls::{hand, Plain, Proved, Reader};
 use crate::plain::packed::Packed;
@@ -45,8 +46,8 @@ pub fn spans(list: &[Case]) {
     }
 }
 
-/// Of each, in seconds a call: the least over the rounds of a batch of about half a millisecond, or of one call. The
-/// rounds of the first side take about a second, and those of the other two in turn, at least nine each.
+/// The seconds per call of each: the minimum over the rounds of a batch of about half a millisecond, or of one call.
+/// The rounds of the first side take about a second, and so do those of the other two in turn, at least nine each.
 fn least(mut sides: [&mut dyn FnMut(); 3]) -> [f64; 3] {
     let once = sides.each_mut().map(|f| batch(*f, 1).min(batch(*f, 1)));
     let calls = once.map(|t| ((0.0005 / t.max(1e-9)) as usize).clamp(1, 1_000_000));

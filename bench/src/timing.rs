@@ -1,5 +1,5 @@
-//! Two closures timed side by side: batches in turn, of about half a millisecond each or of one call, and per side the
-//! median and the minimum over all batches of the time of one call.
+//! Two closures timed in turn, in batches of about half a millisecond or of one call: for each side, the median and
+//! the minimum over all batches of the time of one call.
 
 use std::time::Instant;
 
@@ -28,7 +28,7 @@ pub fn time_of(mut batches: Vec<f64>) -> Time {
     Time { median: batches[batches.len() / 2], least: batches[0] }
 }
 
-/// In seconds a call.
+/// In seconds per call.
 pub fn pair(mut a: impl FnMut(), mut b: impl FnMut()) -> (Time, Time) {
     let (m, n) = (calls_for(&mut a), calls_for(&mut b));
     let count = match batch(&mut a, 1) {
@@ -50,7 +50,7 @@ pub fn pair(mut a: impl FnMut(), mut b: impl FnMut()) -> (Time, Time) {
 }
 
 /// How much longer a call of a takes than one of b, in seconds: the median over rounds of one call of each, and the
-/// standard error of that median, told from the quartiles.
+/// standard error of that median, estimated from the quartiles.
 pub fn difference(mut a: impl FnMut(), mut b: impl FnMut(), rounds: usize) -> (f64, f64) {
     let mut d: Vec<f64> = (0..rounds).map(|_| batch(&mut a, 1) - batch(&mut b, 1)).collect();
     d.sort_by(f64::total_cmp);
@@ -66,8 +66,8 @@ extern "C" {
 /// The processor time of all processes that this one started and waited for, in seconds.
 pub fn of_children() -> f64 {
     let mut usage = [0; 18];
-    // SAFETY: -1 is for the children, and the usage is a struct of 18 numbers of 64 bits on x86-64 Linux: first the
-    // user's time and then the system's, each in seconds and microseconds.
+    // SAFETY: -1 means the children. The usage is a struct of 18 numbers of 64 bits on x86-64 Linux, beginning with
+    // the user time and then the system time, each in seconds and microseconds.
     assert_eq!(unsafe { getrusage(-1, &mut usage) }, 0);
     (usage[0] + usage[2]) as f64 + (usage[1] + usage[3]) as f64 * 1e-6
 }
@@ -75,7 +75,7 @@ pub fn of_children() -> f64 {
 /// The processor time of this thread, in seconds.
 pub fn processor_time() -> f64 {
     let mut time = [0; 2];
-    // SAFETY: clock 3 is that of the calling thread, and the time is a struct of two numbers of 64 bits on x86-64 Linux.
+    // SAFETY: clock 3 is that of the calling thread. The time is a struct of two numbers of 64 bits on x86-64 Linux.
     assert_eq!(unsafe { clock_gettime(3, &mut time) }, 0);
     time[0] as f64 + time[1] as f64 * 1e-9
 }
@@ -88,8 +88,9 @@ fn processor_batch(f: &mut impl FnMut(), calls: usize) -> f64 {
     (processor_time() - began) / calls as f64
 }
 
-/// How much longer a takes than b, and c than d, in seconds a call: the median over rounds of the difference, and the
-/// difference of the least. In processor time: a difference of wall clock times is lost in the noise of other work.
+/// How much longer a takes than b, and c than d, in seconds per call: the median over rounds of the difference, and
+/// the difference of the minima. In processor time, because a difference of wall-clock times is lost in the noise of
+/// other work.
 pub fn differences(mut a: impl FnMut(), mut b: impl FnMut(), mut c: impl FnMut(), mut d: impl FnMut()) -> (Time, Time) {
     let calls = calls_for(&mut a);
     let rounds = match batch(&mut a, 1) {
@@ -112,7 +113,7 @@ pub fn differences(mut a: impl FnMut(), mut b: impl FnMut(), mut c: impl FnMut()
     (less(&times[0], &times[1]), less(&times[2], &times[3]))
 }
 
-/// A time in the unit that suits it.
+/// A time, in a suitable unit.
 pub fn shown(seconds: f64) -> String {
     if seconds.abs() < 1e-6 {
         format!("{:.0} ns", seconds * 1e9)

@@ -1,4 +1,4 @@
-//! The bytes of a book: document 01's commands, read and written.
+//! The bytes of a book: reading and writing the commands of document 01.
 
 use crate::fault::Refusal;
 use crate::grammar::{Grammar, Rule, Symbol, KINDS, PLACES, RULES};
@@ -9,7 +9,8 @@ const KIND: u8 = 0x30;
 const MARK: u8 = 0x40;
 const END: u8 = 0x50;
 
-/// Reads a book from the left. The first fault counts; at one command the order is 2, 3, 1, then 4, then 5 or 6.
+/// Reads a book from the left. The first fault counts. At one command the faults are checked in the order 2, 3, 1,
+/// then 4, then 5 or 6.
 pub fn loaded(book: &[u8]) -> Result<Grammar, Refusal> {
     let mut grammar = Grammar { start: 0, rules: Vec::new() };
     let mut at = 0;
@@ -27,8 +28,8 @@ pub fn loaded(book: &[u8]) -> Result<Grammar, Refusal> {
     }
 }
 
-/// The operands of the command that stands at the offset; or that none stands there (1), that its byte is unknown (2), that it is out of
-/// turn (3), or that the book ends inside it (1).
+/// The operands of the command at the offset. Or the fault that there is no command (1), that its byte is unknown
+/// (2), that it is out of turn (3), or that the book ends inside it (1).
 fn operands(book: &[u8], at: usize, rule_open: bool) -> Result<&[u8], Refusal> {
     let ended = Refusal { number: 1, offset: book.len() };
     let command = *book.get(at).ok_or(ended)?;
@@ -45,8 +46,8 @@ fn operands(book: &[u8], at: usize, rule_open: bool) -> Result<&[u8], Refusal> {
     book.get(at + 1..at + 1 + count).ok_or(ended)
 }
 
-/// Adds to the grammar what a command in turn with all its operands says; or that its kind is over 31 (4), that its rule is the
-/// 129th (5), or that its place is the rule's ninth (6).
+/// Adds to the grammar what a command in turn with all its operands says. Or the fault that its kind is over 31 (4),
+/// that its rule is the 129th (5), or that its place is the rule's ninth (6).
 fn obey(grammar: &mut Grammar, command: u8, operands: &[u8]) -> Result<(), u8> {
     if command != MARK && operands[0] >= KINDS {
         return Err(4);

@@ -1,74 +1,74 @@
-//! What is said of a bad text and of bytes that do not load.
+//! The faults of a text, and of bytes that do not load.
 
 use std::fmt;
 
 /// The first fault of a text.
 #[derive(Clone, Debug, PartialEq, Eq)]
 pub struct Fault {
-    /// The line that it stands in, from 1.
+    /// Its line, from 1.
     pub line: usize,
     /// What is wrong there.
     pub reason: Reason,
 }
 
-/// What is wrong with a text, with the word that is wrong.
+/// What is wrong with a text, with the wrong word.
 #[derive(Clone, Debug, PartialEq, Eq)]
 pub enum Reason {
     /// The text has no statement at all.
     NoStart,
-    /// The first statement begins with another word than `start`.
+    /// The first statement begins with a word other than `start`.
     StartDue(String),
-    /// `start` stands a second time.
+    /// There is a second `start`.
     StartAgain,
-    /// No kind stands after `start`.
+    /// There is no kind after `start`.
     StartWithoutKind,
-    /// The start or a left side is no decimal number.
+    /// The start or a left side is not a decimal number.
     NotAKind(String),
     /// A kind is over 31.
     KindOver(String),
-    /// No `->` stands after the left side.
+    /// There is no `->` after the left side.
     ArrowDue,
-    /// Nothing stands between `->` and `:`.
+    /// There is nothing between `->` and `:`.
     PlacesDue,
-    /// `-`, which says that there is no place, has company.
-    DashBesidePlaces,
+    /// `-`, which means that there is no place, is not alone.
+    DashWithPlaces,
     /// A place is neither a kind nor a mark.
     NotAPlace(String),
     /// A mark is neither one printable character in quotes nor `=` with two hexadecimal digits.
     NotAMark(String),
-    /// The quote or the backslash stands in quotes.
+    /// The quote or the backslash is in quotes.
     NotInQuotes(String),
-    /// A ninth place.
+    /// There is a ninth place.
     NinthPlace,
-    /// No `:` with a word after it stands after the places.
+    /// The places are not followed by `:` and a word.
     LengthDue,
-    /// A length is no number of millimetres with at most two decimals.
+    /// A length is not a number of millimetres with at most two decimals.
     NotALength(String),
     /// A length is below -327.68 or above 327.67.
     LengthOver(String),
-    /// A word stands after the end of a statement.
+    /// A word follows the end of a statement.
     Further(String),
-    /// The 129th rule.
+    /// There is a 129th rule.
     TooManyRules,
 }
 
-/// Why bytes are no book: document 01's refusal.
+/// Why bytes are not a book: a refusal of document 01.
 #[derive(Clone, Copy, Debug, PartialEq, Eq)]
 pub struct Refusal {
     /// Its number, 1 to 7.
     pub number: u8,
-    /// Its offset: of the command; for 1 the number of bytes; for 7 the byte after the end.
+    /// Its offset: that of the command; for 1 the number of bytes; for 7 the byte after the end.
     pub offset: usize,
 }
 
 impl fmt::Display for Fault {
-    fn fmt(&self, f: &mut fmt::Formatter) -> fmt::Result {
+    fn fmt(&self, f: &mut fmt::Formatter<'_>) -> fmt::Result {
         write!(f, "line {}: {}", self.line, self.reason)
     }
 }
 
 impl fmt::Display for Reason {
-    fn fmt(&self, f: &mut fmt::Formatter) -> fmt::Result {
+    fn fmt(&self, f: &mut fmt::Formatter<'_>) -> fmt::Result {
         use Reason::*;
         if let Some(word) = self.word() {
             write!(f, "`{}`: ", shown(word))?;
@@ -82,10 +82,10 @@ impl fmt::Display for Reason {
             KindOver(_) => "a kind over 31",
             ArrowDue => "`->` is due after the left side",
             PlacesDue => "places are due after `->`, or `-` for no place",
-            DashBesidePlaces => "`-` says that there is no place, and stands alone",
+            DashWithPlaces => "`-` says that there is no place, and must be alone",
             NotAPlace(_) => "neither a kind (0 to 31) nor a mark ('A', or =41 for any byte)",
             NotAMark(_) => "not a mark: one printable ASCII character in quotes, or = and two hexadecimal digits",
-            NotInQuotes(_) => "quote and backslash are the marks =27 and =5C, and do not stand in quotes",
+            NotInQuotes(_) => "quote and backslash are the marks =27 and =5C, and cannot be in quotes",
             NinthPlace => "a ninth place",
             LengthDue => "`:` and a length in millimetres are due after the places",
             NotALength(_) => "not a length: millimetres, with at most two decimals",
@@ -97,7 +97,7 @@ impl fmt::Display for Reason {
 }
 
 impl Reason {
-    /// The word that is wrong, if it is one.
+    /// The wrong word, if there is one.
     fn word(&self) -> Option<&str> {
         use Reason::*;
         match self {
@@ -108,7 +108,7 @@ impl Reason {
     }
 }
 
-/// A word as it can be printed: what is not printable ASCII is escaped.
+/// A word as it is printed: anything but printable ASCII is escaped.
 fn shown(word: &str) -> String {
     let escaped = |c: char| match c {
         ' '..='~' => c.to_string(),
@@ -118,7 +118,7 @@ fn shown(word: &str) -> String {
 }
 
 impl fmt::Display for Refusal {
-    fn fmt(&self, f: &mut fmt::Formatter) -> fmt::Result {
+    fn fmt(&self, f: &mut fmt::Formatter<'_>) -> fmt::Result {
         let what = match self.number {
             1 => "the book ends inside a command, or where one is due",
             2 => "an unknown command",

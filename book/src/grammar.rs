@@ -1,4 +1,4 @@
-//! What a book says, and document 01's sizes.
+//! What a book says, and the sizes of document 01.
 
 /// How many kinds there are: 0 to 31.
 pub const KINDS: u8 = 32;
@@ -7,13 +7,13 @@ pub const RULES: usize = 128;
 /// The most places of a rule.
 pub const PLACES: usize = 8;
 
-/// What a place holds: document 01's kind or mark.
+/// What a place holds: in document 01 a kind or a mark.
 pub enum Symbol {
     Nonterminal(u8),
     Terminal(u8),
 }
 
-/// A rule; the length is in hundredths of a millimetre.
+/// A rule. Its length is in hundredths of a millimetre.
 pub struct Rule {
     pub left: u8,
     pub length: i16,

@@ -1,5 +1,5 @@
-//! Books as text: a book of document 01 as a text that people write and read, and back. Document 01 is the customer's scope;
-//! `docs/REFERENCE.md` says in our own words what it fixes.
+//! Books as text: converts a book of document 01 to a text that people can read and write, and back. Document 01 is the customer's
+//! scope; `docs/REFERENCE.md` says in our own words what it requires.
 //!
 //! ```
 //! let text = "
@@ -16,22 +16,22 @@
 //!
 //! # The text
 //!
-//! UTF-8, one statement a line; a line may be empty. Blanks (spaces and tabs) stand between the words of a line, as many as one likes,
-//! and may stand around them. `#` begins a comment that goes to the end of its line, except as the mark `'#'`. Lines end with a line
-//! feed, or with a carriage return and a line feed.
+//! The text is UTF-8, with one statement on each line; a line may be empty. The words of a line are separated by one or more blanks
+//! (spaces and tabs), and there may be blanks around them. `#` begins a comment that goes to the end of its line, except in the mark
+//! `'#'`. Lines end with a line feed, or with a carriage return and a line feed.
 //!
-//! - `start KIND` is the first statement, and stands only there.
-//! - `KIND -> PLACES : LENGTH` is a rule. Rules are numbered from 0 in their order; there are at most 128.
+//! - `start KIND` is the first statement, and occurs only there.
+//! - `KIND -> PLACES : LENGTH` is a rule. Rules are numbered from 0, in order; there are at most 128.
 //! - A kind is a decimal number from 0 to 31.
 //! - The places are 1 to 8 kinds and marks, or `-` alone for no place.
 //! - A mark is one byte: `'A'` for a printable ASCII character (the space is one), or `=41` for any byte, two hexadecimal digits.
-//!   Nothing is escaped within the quotes, so that the quote and the backslash have no place there: they are `=27` and `=5C`.
-//! - A length is in millimetres, from -327.68 to 327.67: a sign or none, digits, and with a point one or two digits more.
+//!   Nothing is escaped inside the quotes, so the quote and the backslash cannot be written there: they are `=27` and `=5C`.
+//! - A length is in millimetres, from -327.68 to 327.67: an optional sign, digits, and optionally a point with one or two digits.
 //!
-//! The first fault counts, line by line and from the left; a word is judged before it is found to be one too many.
+//! The first fault counts, line by line and from the left. A word is checked before it is found to be one too many.
 //!
-//! [`to_text`] writes each statement on a line of its own with single spaces, lengths with two decimals, no comment, and a mark in
-//! quotes wherever it may stand there. It loses nothing: what it writes, [`to_bytes`] turns into the bytes that it came from.
+//! [`to_text`] writes each statement on a line of its own, with single spaces, lengths with two decimals, no comments, and a mark in
+//! quotes wherever that is possible. It loses nothing: [`to_bytes`] turns what it writes into the original bytes.
 
 mod bytes;
 mod fault;
@@ -42,12 +42,12 @@ mod write;
 
 pub use fault::{Fault, Reason, Refusal};
 
-/// The bytes of the book that the text writes; they load. A bad text is refused with the line and the reason of its first fault.
+/// The bytes of the book that the text describes; they load. A bad text is refused with the line and the reason of its first fault.
 pub fn to_bytes(text: &str) -> Result<Vec<u8>, Fault> {
     Ok(bytes::written(&parse::parsed(text)?))
 }
 
-/// The text of a book. Bytes that do not load are refused as document 01 says, with the number and the offset of their first fault.
+/// The text of a book. Bytes that do not load are refused as in document 01, with the number and the offset of their first fault.
 pub fn to_text(book: &[u8]) -> Result<String, Refusal> {
     Ok(write::text(&bytes::loaded(book)?))
 }

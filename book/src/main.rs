@@ -1,5 +1,6 @@
-//! `book write FILE` prints the bytes of the book whose text is in the file; `book read FILE` prints the text of the book in the file.
-//! What is wrong goes to standard error, and nothing is then printed: the exit status is 1 for a bad file, 2 for a wrong command line.
+//! `book write FILE` prints the bytes of the book whose text is in the file. `book read FILE` prints the text of the
+//! book in the file. In case of an error it prints only a message on standard error, and exits with status 1 for a
+//! bad file, 2 for a wrong command line.
 
 use std::ffi::OsString;
 use std::io::Write;
@@ -27,7 +28,7 @@ fn main() -> ExitCode {
     }
 }
 
-/// Turns what the file holds and prints it, or says what is wrong.
+/// Converts the contents of the file and prints the result, or returns what is wrong.
 fn turned(file: &Path, turn: fn(Vec<u8>) -> Result<Vec<u8>, String>) -> Result<(), String> {
     let name = file.display();
     let held = std::fs::read(file).map_err(|error| format!("{name}: {error}"))?;

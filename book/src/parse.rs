@@ -1,4 +1,4 @@
-//! From a text to what its book says, or the first fault.
+//! Parses a text, or finds its first fault.
 
 use crate::fault::{Fault, Reason};
 use crate::grammar::{Grammar, Rule, Symbol, PLACES, RULES};
@@ -7,7 +7,7 @@ use crate::words::{kind, length, place, words};
 /// The word that begins the first statement.
 const START: &str = "start";
 
-/// What the text says. A text without a statement is at fault in its last line.
+/// What the text says. If a text has no statement, its fault is in its last line.
 pub fn parsed(text: &str) -> Result<Grammar, Fault> {
     let mut grammar = None;
     let mut last = 1;
@@ -18,7 +18,7 @@ pub fn parsed(text: &str) -> Result<Grammar, Fault> {
     grammar.ok_or(Fault { line: last, reason: Reason::NoStart })
 }
 
-/// Adds what the words of a line say; there is no grammar before the start kind.
+/// Adds what the words of a line say. There is no grammar before the start kind.
 fn statement(grammar: &mut Option<Grammar>, words: &[&str]) -> Result<(), Reason> {
     match (grammar, words) {
         (_, []) => Ok(()),
@@ -62,7 +62,7 @@ fn places(words: &[&str]) -> Result<Vec<Symbol>, Reason> {
     let mut places = Vec::new();
     for word in words {
         if *word == "-" {
-            return Err(Reason::DashBesidePlaces);
+            return Err(Reason::DashWithPlaces);
         }
         let place = place(word)?;
         if places.len() == PLACES {
@@ -82,7 +82,7 @@ fn add(grammar: &mut Grammar, rule: Rule) -> Result<(), Reason> {
     Ok(())
 }
 
-/// No word stands after a statement.
+/// No word may follow a statement.
 fn nothing_more(words: &[&str]) -> Result<(), Reason> {
     match words {
         [] => Ok(()),

@@ -3,8 +3,8 @@
 use crate::fault::Reason;
 use crate::grammar::{Symbol, KINDS};
 
-/// The words of a line without its comment. A word ends before a blank or `#`; where it begins with a quote, the character after that quote
-/// belongs to it, whatever it is: so `' '` and `'#'` are words.
+/// The words of a line without its comment. A word ends before a blank or `#`. If it begins with a quote, the next character belongs to
+/// it, whatever it is: so `' '` and `'#'` are words.
 pub fn words(line: &str) -> Vec<&str> {
     let mut words = Vec::new();
     let mut rest = line.trim_start_matches(is_blank);
@@ -68,7 +68,7 @@ pub fn length(word: &str) -> Result<i16, Reason> {
     i16::try_from(signed).map_err(|_| Reason::LengthOver(word.to_string()))
 }
 
-/// The number that the digits write; one that is out of every range here if they are too many.
+/// The number that the digits write. If there are too many digits, a number that is out of every range here.
 fn number(digits: &str) -> i64 {
     i64::from(digits.parse::<u32>().unwrap_or(u32::MAX))
 }

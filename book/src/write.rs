@@ -17,7 +17,8 @@ fn line(rule: &Rule) -> String {
     format!("{} -> {} : {}\n", rule.left, places.join(" "), millimetres(rule.length))
 }
 
-/// A place: a kind in decimal; a mark in quotes if it is printable ASCII other than the quote and the backslash, else in hexadecimal.
+/// A place: a kind in decimal; a mark in quotes if it is printable ASCII other than the quote and the backslash, otherwise in
+/// hexadecimal.
 fn place(symbol: &Symbol) -> String {
     match *symbol {
         Symbol::Nonterminal(kind) => kind.to_string(),

@@ -1,6 +1,6 @@
-//! Bytes that do not load: refused with the number and the offset that document 01 gives.
+//! Bytes that do not load are refused with the number and the offset of document 01.
 
-#[allow(dead_code)] // not all of it is called from here
+#[allow(dead_code)] // not all of it is used here
 mod drafts;
 
 use book::{to_bytes, to_text, Refusal};
@@ -58,7 +58,7 @@ fn refusals_are_printed() {
     assert_eq!(printed.collect::<Vec<_>>(), due);
 }
 
-/// Damaged books, and commands at random: judged as the lister judges them. What loads returns.
+/// Damaged books, and random commands, are judged as the lister judges them. Those that load are returned.
 #[test]
 fn damaged_books_are_judged_as_the_lister_judges_them() {
     let mut came_up = [0; 8];

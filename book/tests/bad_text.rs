@@ -1,4 +1,4 @@
-//! Bad texts, each refused with its line and its reason.
+//! Each bad text is refused with its line and its reason.
 
 use book::{to_bytes, Fault, Reason};
 
@@ -7,7 +7,7 @@ fn rule(words: &str) -> String {
     format!("start 0\n{words}\n0 -> - : 0.00\n")
 }
 
-/// The text is refused in that line for that reason, which is printed so.
+/// The text is refused in this line for this reason, which is printed like this.
 fn refused(text: &str, line: usize, reason: Reason, printed: &str) {
     let fault = Fault { line, reason };
     assert_eq!(to_bytes(text), Err(fault.clone()), "{text:?}");
@@ -72,8 +72,8 @@ fn bad_places() {
         refused(&rule(words), 2, Reason::PlacesDue, "places are due after `->`, or `-` for no place");
     }
     for words in ["0 -> - 1 : 0", "0 -> 1 - : 0", "0 -> - - : 0"] {
-        let printed = "`-` says that there is no place, and stands alone";
-        refused(&rule(words), 2, Reason::DashBesidePlaces, printed);
+        let printed = "`-` says that there is no place, and must be alone";
+        refused(&rule(words), 2, Reason::DashWithPlaces, printed);
     }
     for word in ["A", "-1", "1.0", "->", "46.00", "0x41", "1:", "x'A'", "\u{e9}"] {
         let shown = if word == "\u{e9}" { "\\u{e9}" } else { word };
@@ -88,7 +88,7 @@ fn bad_marks() {
     let words = ["'", "''", "''''", "'A", "'AB'", "'A'B", "'A''B'", "'\u{e9}'", "'\t'", "'\u{7f}'", "'# 1", "'  '"];
     let more = ["=", "=4", "=041", "=4G", "=+4", "=\u{e9}", "='A'", "==41", "'\\'x", "'\\n'"];
     for word in words.into_iter().chain(more) {
-        // the character after the first quote belongs to the word, a later blank or # ends it
+        // the character after the first quote belongs to the word; a later blank or # ends it
         let due = match word {
             "'" => "' :",
             "'# 1" => "'#",
@@ -101,7 +101,7 @@ fn bad_marks() {
     let printed = "`'AB'`: not a mark: one printable ASCII character in quotes, or = and two hexadecimal digits";
     refused(&rule("0 -> 'AB' : 0"), 2, with(Reason::NotAMark, "'AB'"), printed);
     for word in ["'''", "'\\'"] {
-        let printed = format!("`{word}`: quote and backslash are the marks =27 and =5C, and do not stand in quotes");
+        let printed = format!("`{word}`: quote and backslash are the marks =27 and =5C, and cannot be in quotes");
         refused(&rule(&format!("0 -> 1 {word} : 0")), 2, with(Reason::NotInQuotes, word), &printed);
     }
 }
@@ -111,7 +111,7 @@ fn a_ninth_place() {
     for words in ["0 -> 1 1 1 1 1 1 1 1 1 : 0", "0 -> 1 1 1 1 1 1 1 1 'A' 1 1 :", "0 -> 1 1 1 1 1 1 1 1 =41"] {
         refused(&rule(words), 2, Reason::NinthPlace, "a ninth place");
     }
-    // a word is judged before it is found to be one too many
+    // a word is checked before it is found to be one too many
     refused(&rule("0 -> 1 1 1 1 1 1 1 1 32 : 0"), 2, with(Reason::KindOver, "32"), "`32`: a kind over 31");
 }
 
@@ -140,7 +140,7 @@ fn the_129th_rule() {
     let full = format!("start 0\n#\n{}", "0 -> - : 0\n".repeat(128));
     assert_eq!(to_bytes(&full).map(|bytes| bytes.len()), Ok(2 + 4 * 128 + 1));
     refused(&format!("{full}\n0 -> - : 0\nx"), 132, Reason::TooManyRules, "the 129th rule");
-    // a word is judged before the rule is found to be one too many
+    // a word is checked before the rule is found to be one too many
     refused(&format!("{full}32 -> - : 0\n"), 131, with(Reason::KindOver, "32"), "`32`: a kind over 31");
     refused(
         &format!("{full}0 -> -\n"),

@@ -1,4 +1,4 @@
-//! The program on its command line.
+//! The program on the command line.
 
 use std::path::PathBuf;
 use std::process::{Command, Output};
@@ -7,21 +7,21 @@ fn run(arguments: &[&str]) -> Output {
     Command::new(env!("CARGO_BIN_EXE_book")).args(arguments).output().expect("the program runs")
 }
 
-/// A file of this run that holds these bytes.
+/// A file of this run with these bytes.
 fn file(name: &str, held: &[u8]) -> PathBuf {
     let file = PathBuf::from(env!("CARGO_TARGET_TMPDIR")).join(name);
     std::fs::write(&file, held).expect("the file is written");
     file
 }
 
-/// What the program prints, without a fault.
+/// What the program prints, without an error.
 fn printed(verb: &str, name: &str, held: &[u8]) -> Vec<u8> {
     let output = run(&[verb, file(name, held).to_str().expect("UTF-8")]);
     assert_eq!((output.status.code(), &output.stderr[..]), (Some(0), &b""[..]));
     output.stdout
 }
 
-/// What the program says of a bad file after its name; it prints nothing.
+/// The program's message about a bad file, after the file's name. It prints nothing else.
 fn said(verb: &str, name: &str, held: &[u8]) -> String {
     let file = file(name, held);
     let output = run(&[verb, file.to_str().expect("UTF-8")]);

@@ -1,4 +1,4 @@
-//! Texts and books turned into one another: nothing is lost, and a text may be spelt in many ways.
+//! Texts and books converted into each other: nothing is lost, and a text may be spelt in many ways.
 
 mod drafts;
 
@@ -8,7 +8,7 @@ use outside_tests::books::{book, full_book, Draft, Rng, Sym};
 use outside_tests::lister::grammar::load;
 use std::collections::BTreeSet;
 
-/// Book, text, and the same book again.
+/// From a book to its text and back to the same book.
 fn returns(bytes: &[u8]) -> String {
     let text = to_text(bytes).unwrap_or_else(|refusal| panic!("{bytes:02X?}: {refusal}"));
     assert_eq!(to_bytes(&text).as_deref(), Ok(bytes), "{text}");
@@ -37,14 +37,14 @@ fn random_books_return() {
             }
         }
     }
-    // What has to have come up.
+    // What must have come up.
     assert_eq!([starts.len(), lefts.len(), kinds.len(), marks.len()], [32, 32, 32, 256]);
     assert!((0..=8).all(|count| places.contains(&count)));
     assert!([0, 1, 127, 128].iter().all(|count| rules.contains(count)) && rules.len() > 100);
     assert!(negative > 10_000);
 }
 
-/// The books that the lister and the proved library are compared on, as far as they load.
+/// The books with which the lister and the proved library are compared, as far as they load.
 #[test]
 fn the_random_books_of_the_comparison_return() {
     let books = (0..1300).map(book).chain((0..40).map(full_book)).map(|book| book.bytes);
@@ -73,7 +73,8 @@ fn every_length_and_every_mark_returns() {
     assert!(text.contains("0 -> =00 =80 : 0.00\n") && text.contains("0 -> =7F =FF : 0.00\n"));
 }
 
-/// The same book in other spellings: blanks, comments, empty lines, line ends, zeros, signs, decimals, marks in hexadecimal.
+/// The same book in other spellings: blanks, comments, empty lines, line ends, zeros, signs, decimals, marks in
+/// hexadecimal.
 #[test]
 fn random_spellings_are_read() {
     for seed in 0..2000 {

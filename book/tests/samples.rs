@@ -1,10 +1,10 @@
-//! The sample books of `samples/`: their texts, and their listings beside what the lister says.
+//! The sample books of `samples/`: checks their texts, and compares their listings with the lister.
 
 use book::{to_bytes, to_text};
 use outside_tests::lister::{grammar, listed, trees};
 use std::path::PathBuf;
 
-/// Each sample with how many parts its first reading has and how many readings there are.
+/// Each sample, with the number of parts of its first reading and the number of its readings.
 const SAMPLES: &[(&str, usize, usize)] =
     &[("T", 3, 2), ("pairs", 5, 2), ("bush", 512, 1), ("expressions", 19, 1), ("ambiguous", 7, 5)];
 
@@ -18,7 +18,7 @@ fn folder() -> PathBuf {
     PathBuf::from(concat!(env!("CARGO_MANIFEST_DIR"), "/../samples"))
 }
 
-/// What a file of the folder holds.
+/// The contents of a file of the folder.
 fn held(name: &str, kind: &str) -> Vec<u8> {
     let file = folder().join(format!("{name}.{kind}"));
     std::fs::read(&file).unwrap_or_else(|error| panic!("{}: {error}", file.display()))
@@ -28,7 +28,7 @@ fn text(name: &str) -> String {
     String::from_utf8(held(name, "txt")).expect("UTF-8")
 }
 
-/// The listing program's lines for a book and a plate that has readings, at most 4,096, from the lister's list of them.
+/// The listing program's lines for a book and a plate with 1 to 4,096 readings, from the lister's list.
 fn listing(book: &[u8], plate: &[u8]) -> String {
     let grammar = grammar::load(book).expect("the book loads");
     let (list, _) = listed(&grammar, plate);
@@ -72,7 +72,7 @@ fn book_t_is_document_01s() {
     assert_eq!(held("T", "listing"), b"1: 1.0 0.1 1.2 = 463\n2: 1.0 1.2 0.1 = 463\nREADINGS 2\n");
 }
 
-/// Rules and parts of the drawer's bush and of the pairs, by document 01.
+/// Rules and parts of the drawer's bush and of the pairs, from document 01.
 #[test]
 fn the_drawers_books_are_document_01s() {
     let places = |name: &str| -> Vec<(u8, Vec<grammar::Symbol>)> {
@@ -86,7 +86,7 @@ fn the_drawers_books_are_document_01s() {
     assert_eq!(places("bush"), [(0, trunk), (1, vec![kind(2); 8]), (2, vec![kind(3); 8]), (3, vec![])]);
 }
 
-/// Every file of the folder belongs to a sample that is tried here.
+/// Every file of the folder belongs to a sample that is tested here.
 #[test]
 fn no_sample_is_left_out() {
     let mut found: Vec<String> = std::fs::read_dir(folder())

@@ -1,4 +1,4 @@
-//! Readings as pictures in text: an indented tree, for each node its rule, the marks that it covers, and its rule's length.
+//! Draws readings as indented trees: for each node its rule, the marks that it covers, and the length of its rule.
 use filbozseg::{length, load, Error, Grammar, Node, Reading, CELLS};
 use std::fmt::Write;
 
@@ -14,8 +14,8 @@ fn millimetres(hundredths: i16) -> String {
     format!("{sign}{}.{:02} mm", size / 100, size % 100)
 }
 
-/// The line of a node, two blanks to the right for each node above it.
-fn line(grammar: &Grammar, plate: &[u8], node: Node) -> String {
+/// The line of a node, indented by two spaces for each node above it.
+fn line(grammar: &Grammar, plate: &[u8], node: Node<'_>) -> String {
     let rule = grammar.rule(node.rule()).expect("a rule of the grammar");
     let marks = match node.marks() {
         marks if marks.is_empty() => format!("nothing at {}", marks.start),
@@ -25,7 +25,7 @@ fn line(grammar: &Grammar, plate: &[u8], node: Node) -> String {
     format!("{tree:28} {marks:16} {:>8}", millimetres(rule.length()))
 }
 
-/// The picture of a reading: its line as document 01 prints it, and then a line for each node.
+/// The picture of a reading: its line as document 01 prints it, then a line for each node.
 pub fn picture(grammar: &Grammar, plate: &[u8], reading: &Reading) -> Result<String, Error> {
     let tenths = length(grammar, plate, reading.numbers(), &mut vec![0; CELLS])?;
     let mut text = format!("{reading} = {tenths}\n");
@@ -41,7 +41,7 @@ pub fn pictures() -> Result<String, Error> {
     grammar.readings(PLATE).map(|reading| picture(&grammar, PLATE, &reading?)).collect()
 }
 
-#[allow(dead_code)] // a test takes the pictures without it
+#[allow(dead_code)] // a test includes this file and does not call `main`
 fn main() -> Result<(), Error> {
     print!("{}", pictures()?);
     Ok(())

@@ -3,12 +3,12 @@
 use crate::refusal::{answer, done};
 use crate::{sys, Grammar, LoadError, Refusal, NO_NUMBER, ROW};
 
-// What a lent place holds before the library writes it. It is no result, so that a place left unwritten passes for none: no book has such
-// an offset, and no derivation such a length.
+// What a lent place holds before the library writes it. No book has such an offset and no derivation such a length, so a place that the
+// library fails to write is never mistaken for a result.
 const NO_OFFSET: usize = usize::MAX;
 const NO_TENTHS: i32 = i32::MIN;
 
-/// Loads a book, of any length.
+/// Loads a book of any length.
 ///
 /// ```
 /// use filbozseg::load;
@@ -23,7 +23,7 @@ const NO_TENTHS: i32 = i32::MIN;
 pub fn load(book: &[u8]) -> Result<Grammar, LoadError> {
     let mut grammar = Grammar { row: Box::new([NO_NUMBER; ROW]) };
     let mut offset = NO_OFFSET;
-    // SAFETY: the pointers are those of live values of these lengths, and the two that are written belong to this call alone.
+    // SAFETY: the pointers point to live values of these lengths, and only this call uses the two that are written.
     let code = unsafe { sys::filbozseg_load(book.as_ptr(), book.len(), &mut *grammar.row, &mut offset) };
     match done(code) {
         Ok(()) => Ok(grammar),
@@ -31,8 +31,8 @@ pub fn load(book: &[u8]) -> Result<Grammar, LoadError> {
     }
 }
 
-/// Whether the offered derivation is one of the input: for each node, in preorder, how many bytes it covers and the number of its rule. The
-/// chart is filled for the input.
+/// Whether the offered row is a derivation of the input: for each node, in preorder, how many bytes it covers and the number of its rule.
+/// The chart is filled for the input.
 ///
 /// ```
 /// # fn main() -> Result<(), filbozseg::Error> {
@@ -48,7 +48,7 @@ pub fn load(book: &[u8]) -> Result<Grammar, LoadError> {
 ///
 /// Refusals 8, 9 and 10, in this order. The chart is left as found.
 pub fn check(grammar: &Grammar, input: &[u8], offered: &[u16], chart: &mut [u32]) -> Result<bool, Refusal> {
-    // SAFETY: the pointers are those of live values of these lengths; the chart is borrowed for writing, so that nothing else lies in it.
+    // SAFETY: the pointers point to live values of these lengths. The chart is borrowed for writing, so it overlaps nothing else.
     answer(unsafe {
         sys::filbozseg_check(
             grammar.row(),
@@ -62,7 +62,7 @@ pub fn check(grammar: &Grammar, input: &[u8], offered: &[u16], chart: &mut [u32]
     })
 }
 
-/// The length of an offered derivation, in tenths of a millimetre, halves away from zero. The chart is filled for the input.
+/// The length of an offered derivation in tenths of a millimetre; halves are rounded away from zero. The chart is filled for the input.
 ///
 /// ```
 /// # fn main() -> Result<(), filbozseg::Error> {
@@ -75,10 +75,10 @@ pub fn check(grammar: &Grammar, input: &[u8], offered: &[u16], chart: &mut [u32]
 ///
 /// # Errors
 ///
-/// Refusals 8, 9 and 10, with the chart left as found; then 12, where the row is no derivation of the input, with the chart filled.
+/// Refusals 8, 9 and 10, with the chart left as found; then 12 if the row is no derivation of the input, with the chart filled.
 pub fn length(grammar: &Grammar, input: &[u8], offered: &[u16], chart: &mut [u32]) -> Result<i32, Refusal> {
     let mut tenths = NO_TENTHS;
-    // SAFETY: as in `check`; the tenths belong to this call alone.
+    // SAFETY: as in `check`; only this call uses the tenths.
     let code = unsafe {
         sys::filbozseg_length(
             grammar.row(),
@@ -94,8 +94,8 @@ pub fn length(grammar: &Grammar, input: &[u8], offered: &[u16], chart: &mut [u32
     done(code).map(|()| tenths)
 }
 
-/// Whether two offered derivations are the same build: whether the rules of their nodes that cover something agree, each as often. The
-/// chart is filled for the input. One row may be offered as both.
+/// Whether two offered derivations are the same build: whether their nodes that cover something use the same rules, each equally often.
+/// The chart is filled for the input. The two rows may be the same slice.
 ///
 /// ```
 /// # fn main() -> Result<(), filbozseg::Error> {
@@ -109,7 +109,7 @@ pub fn length(grammar: &Grammar, input: &[u8], offered: &[u16], chart: &mut [u32
 ///
 /// # Errors
 ///
-/// As [`length`]; 12 where either row is no derivation of the input.
+/// As for [`length`]; 12 if either row is no derivation of the input.
 pub fn same_build(grammar: &Grammar, input: &[u8], a: &[u16], b: &[u16], chart: &mut [u32]) -> Result<bool, Refusal> {
     // SAFETY: as in `check`; what is only read may overlap.
     answer(unsafe {

@@ -4,14 +4,14 @@ use crate::refusal::done;
 use crate::{sys, Grammar, Refusal};
 use std::fmt;
 
-// What a lent place holds before the library writes it. It is no result, so that a place left unwritten passes for none: none are counted
-// so far.
+// What the lent place holds before the library writes it. No count is so large, so a place that the library fails to write is never
+// mistaken for a result.
 const NO_COUNT: usize = usize::MAX;
 
-/// How many derivations an input has. Less is smaller; it is written as a number, or as `more`.
+/// How many derivations an input has. Counts are ordered by size, `More` last. A count is displayed as a number or as `more`.
 #[derive(Clone, Copy, Debug, PartialEq, Eq, PartialOrd, Ord, Hash)]
 pub enum Count {
-    /// So many, at most 4,096; 0 if the input has no tree at all.
+    /// This many, at most 4,096; 0 if the input has no tree at all.
     Exactly(usize),
     /// More than 4,096.
     More,
@@ -26,7 +26,7 @@ impl fmt::Display for Count {
     }
 }
 
-/// How many derivations the input has. The chart is filled for it.
+/// How many derivations the input has. The chart is filled for the input.
 ///
 /// ```
 /// # fn main() -> Result<(), filbozseg::Error> {
@@ -44,11 +44,11 @@ impl fmt::Display for Count {
 ///
 /// # Errors
 ///
-/// Refusals 8, 9 and 10, in this order, with the chart left as found; then 13, where the input has trees, but none of at most 512 nodes,
-/// with the chart filled.
+/// Refusals 8, 9 and 10, in this order, with the chart left as found; then 13 if the input has trees, but none of at most 512 nodes, with
+/// the chart filled.
 pub fn count(grammar: &Grammar, input: &[u8], chart: &mut [u32]) -> Result<Count, Refusal> {
     let mut count = NO_COUNT;
-    // SAFETY: the pointers are those of live values of these lengths; those that are written are borrowed for writing by this call alone.
+    // SAFETY: the pointers point to live values of these lengths, and only this call borrows those that are written.
     let code = unsafe {
         sys::filbozseg_count(grammar.row(), input.as_ptr(), input.len(), chart.as_mut_ptr(), chart.len(), &mut count)
     };

@@ -1,10 +1,11 @@
-//! The errors: a refused book, and any refusal.
+//! The errors: for a refused book, and for any refusal.
 
 use crate::{Grammar, Refusal};
 use std::error;
 use std::fmt;
 
-/// A refused book. Its text says at which offset the fault is; its [source](error::Error::source) is the refusal, which says what it is.
+/// A refused book. The text of the error says where the fault is; its [source](error::Error::source) is the refusal, which says what it
+/// is.
 ///
 /// ```
 /// use filbozseg::{load, Refusal};
@@ -17,11 +18,11 @@ use std::fmt;
 #[derive(Clone, PartialEq, Eq, Hash)]
 #[non_exhaustive]
 pub struct LoadError {
-    /// Why the book is refused: 1 to 7.
+    /// Why the book is refused: refusals 1 to 7.
     pub refusal: Refusal,
-    /// The offset of the command at fault; the book's length where it ends too early, and that of the first byte behind its end.
+    /// The offset of the faulty command. If the book ends too early, its length; if a byte follows its end, the offset of that byte.
     pub offset: usize,
-    /// The grammar left, which has no rules: its row is all zeros.
+    /// The grammar that the call leaves. It has no rules: its row is all zeros.
     pub grammar: Grammar,
 }
 
@@ -46,8 +47,8 @@ impl error::Error for LoadError {
     }
 }
 
-/// Any error of this crate, for a function that loads a book and then reads with it: `?` turns both errors into it. Its text and its source
-/// are those of the error within.
+/// Any error of this crate, for a function that loads a book and then uses it: `?` converts both errors into this one. Its text and its
+/// source are those of the error inside.
 ///
 /// ```
 /// fn readings(book: &[u8], input: &[u8]) -> Result<Vec<String>, filbozseg::Error> {

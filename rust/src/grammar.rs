@@ -1,22 +1,22 @@
-//! A grammar, as the row of numbers in which it crosses, and what the numbers say.
+//! A grammar, as the row of numbers that is passed to the library, and what the numbers mean.
 
 use crate::rule::{byte, RULE};
 use crate::{check, Reading, Readings, Refusal, Rule, CELLS, ROW};
 use std::fmt;
 
-/// Where the first rule begins in a row, and how many rules there can be.
+/// Where the first rule begins in a row, and how many rules a grammar has at most.
 const RULES: usize = 3;
 const MAX_RULES: usize = 128;
 
-/// A grammar, as the row of numbers in which it crosses: start symbol, number of rules, nullable depth, and 19 numbers for each of 128
-/// rules (left side, length in two's complement, number of places, and a tag and a value for each of 8 places; tag 0 is a nonterminal, 1 a
-/// terminal).
+/// A grammar, as the row of numbers that is passed to the library: start symbol, number of rules, nullable depth, and 19 numbers for each
+/// of 128 rules (left side, length in two's complement, number of places, and a tag and a value for each of 8 places; tag 0 is a
+/// nonterminal, 1 a terminal).
 ///
-/// [`load`](crate::load) makes one from a book. The row of [`Grammar::from_row`] may hold anything, and each call judges each number whole.
-/// Refused with 8: a start over 31; more than 128 rules; in a used rule a left side over 31, or more than 8 places; in a used place a tag
-/// other than 0 and 1, a nonterminal over 31, or a terminal over 255. The depth, the lengths, and all numbers of unused rules and unused
-/// places may be any. The accessors read such a row as the library does: a number over 255 as 255, and a place that holds neither a
-/// nonterminal nor a terminal as the nonterminal 255.
+/// [`load`](crate::load) makes one from a book. The row of [`Grammar::from_row`] may hold anything: each call checks all 16 bits of each
+/// number. Refused with 8: a start over 31; more than 128 rules; in a used rule a left side over 31, or more than 8 places; in a used
+/// place a tag other than 0 and 1, a nonterminal over 31, or a terminal over 255. The depth, the lengths, and all numbers of unused rules
+/// and unused places may have any value. The accessors read such a row as the library does: a number over 255 as 255, and a place that
+/// holds neither a nonterminal nor a terminal as the nonterminal 255.
 ///
 /// ```
 /// # fn main() -> Result<(), filbozseg::LoadError> {
@@ -46,38 +46,38 @@ impl Grammar {
         &self.row
     }
 
-    /// The start symbol: over 31 only in a row that is refused.
+    /// The start symbol. It is over 31 only in a row that is refused.
     pub fn start(&self) -> u8 {
         byte(self.row[0])
     }
 
-    /// The nullable depth (blank depth). As loaded, it is 0 to 32: no nullable nonterminal's lowest empty tree is higher, and it is 0 if no
-    /// nonterminal is nullable.
+    /// The nullable depth (blank depth). In a loaded grammar it is 0 to 32: the lowest empty tree of each nullable nonterminal is at most
+    /// that high, and the depth is 0 if no nonterminal is nullable.
     pub fn nullable_depth(&self) -> u8 {
         byte(self.row[2])
     }
 
-    /// The rules, in their order.
+    /// The rules, in order.
     pub fn rules(&self) -> impl ExactSizeIterator<Item = Rule<'_>> + DoubleEndedIterator + '_ {
         let used = usize::from(self.row[1]).min(MAX_RULES);
         self.row[RULES..][..used * RULE].chunks_exact(RULE).enumerate().map(|(number, row)| Rule::new(number, row))
     }
 
-    /// The rule of a number, if the grammar has so many.
+    /// The rule with this number, if the grammar has one.
     pub fn rule(&self, number: usize) -> Option<Rule<'_>> {
         self.rules().nth(number)
     }
 
-    /// All readings of the input, in their order.
+    /// All readings of the input, in order.
     pub fn readings<'a>(&'a self, input: &'a [u8]) -> Readings<'a> {
         Readings::new(self, input)
     }
 
-    /// The reading of the input that a row of numbers says.
+    /// The reading of the input that a row of numbers describes.
     ///
     /// # Errors
     ///
-    /// Refusals 8 and 9 of [`check`]; 12, where the row is no reading of the input.
+    /// Refusals 8 and 9 of [`check`]; 12 if the row is no reading of the input.
     pub fn reading(&self, input: &[u8], numbers: &[u16]) -> Result<Reading, Refusal> {
         if check(self, input, numbers, &mut vec![0; CELLS])? {
             Ok(Reading::new(self, numbers))

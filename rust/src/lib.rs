@@ -1,6 +1,6 @@
-//! The proved plate reader, from safe Rust.
+//! The proved plate reader for safe Rust.
 //!
-//! A book is loaded into a [`Grammar`]; an input of 1 to 64 bytes has [readings](Grammar::readings) in it, each a [`Reading`] with its
+//! A book is loaded into a [`Grammar`]. With it, an input of 1 to 64 bytes has [readings](Grammar::readings), each a [`Reading`] with
 //! nodes:
 //!
 //! ```
@@ -20,23 +20,24 @@
 //! # }
 //! ```
 //!
-//! Each of the functions [`load`], [`open`], [`Recognizer::take`], [`check`], [`length`], [`same_build`], [`first`], [`next`] and [`count`]
-//! calls one function of the static library, which is proved to meet its contract, and turns its code back into a result. They work in what
-//! the caller lends and allocate nothing, but for `load`, which boxes the grammar. [`Grammar::readings`] and [`Grammar::reading`] stand on
-//! them and allocate what they need. [`sys`] has the functions themselves.
+//! Each of the functions [`load`], [`open`], [`Recognizer::take`], [`check`], [`length`], [`same_build`], [`first`], [`next`] and
+//! [`count`] calls one function of the static library, which is proved to meet its contract, and turns its code into a result. They use
+//! the memory that the caller lends and allocate nothing; only `load` boxes the grammar. [`Grammar::readings`] and [`Grammar::reading`]
+//! are built on them and allocate what they need. [`sys`] has the functions of the static library themselves.
 //!
 //! # Words
 //!
-//! The words are those of the field; document 01, the customer's scope, has those of a trade, and `docs/REFERENCE.md` says in our own
-//! words what it fixes. A grammar is a loaded book, a nonterminal a kind, a terminal a mark,
-//! an input a plate, a recognizer a plate in hand, a chart a sheet, a derivation a reading, and a node a part.
+//! This crate uses the standard terms of parsing. Document 01, the customer's scope, uses the words of a trade: a grammar is a loaded
+//! book, a nonterminal a kind, a terminal a mark, an input a plate, a recognizer a plate in hand, a chart a sheet, a derivation a reading,
+//! and a node a part. `docs/REFERENCE.md` says in our own words what document 01 requires.
 //!
 //! # Stack and threads
 //!
-//! `first`, `next`, `count` and the iterator over readings need up to 1,900 KiB of stack: a thread of Rust has 2 MiB by default, and that
-//! is enough. In a thread with less, the process may be ended as by any overflow of a stack. `include/filbozseg.h` has the figure of each
-//! call. Nothing is kept between calls, so that they may run in any number of threads.
+//! `first`, `next`, `count` and the iterator over readings need up to 1,900 KiB of stack. A Rust thread has 2 MiB by default, and that is
+//! enough. In a thread with less, a stack overflow may end the process. `include/filbozseg.h` has the figure for each call. Nothing is
+//! kept between calls, so any number of threads may call them.
 #![deny(missing_docs)]
+#![warn(clippy::undocumented_unsafe_blocks)]
 
 mod calls;
 mod counting;
@@ -64,26 +65,26 @@ pub use recognizer::{open, Recognizer};
 pub use refusal::Refusal;
 pub use rule::{Rule, Symbol};
 
-/// How many numbers the flat row of a grammar has.
+/// How many numbers the row of a grammar has.
 pub const ROW: usize = 2435;
 
 /// How many cells of a chart are used. A shorter chart is refused.
 pub const CELLS: usize = 4225;
 
-/// How many bytes an input and a recognizer have at most.
+/// The most bytes that an input or a recognizer has.
 pub const BYTES: usize = 64;
 
-/// How many numbers an output has at least, two for each node that a derivation has at most. A shorter output is refused.
+/// The length of an output: two numbers for each of at most 512 nodes of a derivation. A shorter output is refused.
 pub const OUTPUT: usize = 1024;
 
 /// How many numbers the row of a recognizer has: its bytes, and then their count.
 pub const HAND: usize = BYTES + 1;
 
-// What a row or a hand holds before the library writes it. It is no result, so that one left unwritten passes for none: it is refused (8,
-// 14).
+// What a row or a hand holds before the library writes it. A row or a hand of such numbers is refused (8, 14), so one that the library
+// fails to write is never mistaken for a result.
 const NO_NUMBER: u16 = u16::MAX;
 
-/// The program of the README, byte for byte, as a test.
+/// The program in README, byte for byte, as a test.
 #[cfg(doctest)]
 #[doc = include_str!("../README-snippet.md")]
 pub struct ReadmeSnippet;

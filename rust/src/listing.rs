@@ -3,20 +3,20 @@
 use crate::refusal::answer;
 use crate::{sys, Grammar, Refusal};
 
-// What a lent place holds before the library writes it. It is no result, so that a place left unwritten passes for none: no derivation has
-// so many nodes.
+// What the lent place holds before the library writes it. No derivation has so many nodes, so a place that the library fails to write is
+// never mistaken for a result.
 const NO_NODES: usize = usize::MAX / 2;
 
-/// The first derivation of the input, the smallest by the first number in which two differ: for each node, in preorder, how many bytes it
-/// covers and the number of its rule. None if the input has no tree at all. It stands at the front of the output, whose rest is left as
-/// found, and all of it where there is none. The chart is filled for the input.
+/// The first derivation of the input: for each node, in preorder, how many bytes it covers and the number of its rule. Derivations are
+/// ordered by the first number in which they differ. `None` if the input has no tree at all. The derivation is at the front of the output;
+/// the rest of the output is left as found, or all of it with `None`. The chart is filled for the input.
 ///
-/// The call needs up to 1,900 KiB of stack, as `include/filbozseg.h` says; a thread of Rust has 2 MiB by default.
+/// The call needs up to 1,900 KiB of stack, as `include/filbozseg.h` says; a Rust thread has 2 MiB by default.
 ///
 /// # Errors
 ///
-/// Refusals 8, 9, 10 and 11, in this order, with chart and output left as found; then 13, where the input has trees, but none of at most
-/// 512 nodes, with the chart filled and the output left as found.
+/// Refusals 8, 9, 10 and 11, in this order, with chart and output left as found; then 13 if the input has trees, but none of at most 512
+/// nodes, with the chart filled and the output left as found.
 pub fn first<'a>(
     grammar: &Grammar,
     input: &[u8],
@@ -24,7 +24,7 @@ pub fn first<'a>(
     output: &'a mut [u16],
 ) -> Result<Option<&'a [u16]>, Refusal> {
     let mut nodes = NO_NODES;
-    // SAFETY: the pointers are those of live values of these lengths; those that are written are borrowed for writing by this call alone.
+    // SAFETY: the pointers point to live values of these lengths, and only this call borrows those that are written.
     let code = unsafe {
         sys::filbozseg_first(
             grammar.row(),
@@ -40,11 +40,10 @@ pub fn first<'a>(
     Ok(answer(code)?.then_some(output).map(|output| &output[..2 * nodes]))
 }
 
-/// The derivation of the input that follows the offered one in the order of [`first`], at the front of the output as there; none if the
-/// offered one is the last, and then the output is left as found. The chart is filled for the input.
+/// The derivation of the input that follows the offered one in the order of [`first`]. It is at the front of the output, as with `first`.
+/// `None` if the offered one is the last; the output is then left as found. The chart is filled for the input.
 ///
-/// [`Grammar::readings`] is the walk from the first to the last. By hand, what is handed out lies in the output, and is copied before it is
-/// offered:
+/// [`Grammar::readings`] iterates from the first to the last. Without it, copy each derivation out of the output before you offer it:
 ///
 /// ```
 /// use filbozseg::{first, load, next, CELLS, OUTPUT};
@@ -59,7 +58,7 @@ pub fn first<'a>(
 /// assert_eq!(all, [[1, 0, 0, 1, 1, 2], [1, 0, 1, 2, 0, 1]]);
 /// ```
 ///
-/// Offered where it lies, it would overlap what is lent for writing, and that does not compile:
+/// Offered in place, it would overlap the output, and that does not compile:
 ///
 /// ```compile_fail,E0499
 /// # use filbozseg::{first, load, next, CELLS, OUTPUT};
@@ -73,8 +72,8 @@ pub fn first<'a>(
 ///
 /// # Errors
 ///
-/// Refusals 8, 9, 10 and 11, in this order, with chart and output left as found; then 12, where the offered row is no derivation of the
-/// input, with the chart filled and the output left as found.
+/// Refusals 8, 9, 10 and 11, in this order, with chart and output left as found; then 12 if the offered row is no derivation of the input,
+/// with the chart filled and the output left as found.
 pub fn next<'a>(
     grammar: &Grammar,
     input: &[u8],

@@ -1,4 +1,4 @@
-//! The nodes of a reading, as a tree. Nothing here calls itself: a reading may be nested 512 deep.
+//! The nodes of a reading, as a tree. Nothing here is recursive, because a reading may be nested 512 deep.
 
 use crate::span::Span;
 use crate::Reading;
@@ -22,7 +22,7 @@ impl<'a> Node<'a> {
         self.reading.spans[self.number]
     }
 
-    /// The number of the node in preorder, from 0, the root's.
+    /// The number of the node in preorder. The root has number 0.
     pub fn number(self) -> usize {
         self.number
     }
@@ -37,18 +37,18 @@ impl<'a> Node<'a> {
         usize::from(self.reading.numbers[2 * self.number])
     }
 
-    /// Which bytes of the input (marks of the plate) the node covers. The range is empty where it covers none, and says between which.
+    /// Which bytes of the input (marks of the plate) the node covers. If it covers none, the range is empty and begins where the node is.
     pub fn marks(self) -> Range<usize> {
         let start = usize::from(self.span().start);
         start..start + self.cover()
     }
 
-    /// Below how many nodes it stands: 0 for the root.
+    /// How many nodes are above it: 0 for the root.
     pub fn depth(self) -> usize {
         usize::from(self.span().depth)
     }
 
-    /// The nodes right below it, from the left: one for each nonterminal of its rule.
+    /// Its children, from the left: one for each nonterminal of its rule.
     pub fn children(self) -> Children<'a> {
         let mut nodes = self.nodes();
         nodes.next();

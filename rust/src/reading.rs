@@ -1,4 +1,4 @@
-//! A reading (derivation). Nothing here calls itself: a reading may be nested 512 deep.
+//! A reading (derivation). Nothing here is recursive, because a reading may be nested 512 deep.
 
 use crate::span::{spans, Span};
 use crate::{Grammar, Node, Nodes};
@@ -8,9 +8,9 @@ use std::hash::{Hash, Hasher};
 
 /// A reading (derivation) of an input: a parse tree without superfluous recursion and with at most 512 nodes.
 ///
-/// [`Grammar::readings`] hands them out, and [`Grammar::reading`] makes one from its numbers. It is written as document 01 prints it, each
-/// node as the bytes that it covers, a point, and its rule. Two readings of one input are ordered as document 01 orders them, by the first
-/// number in which they differ; neither begins with the whole of the other.
+/// [`Grammar::readings`] finds them all, and [`Grammar::reading`] makes one from its numbers. A reading is displayed as document 01
+/// prints it: for each node the number of bytes that it covers, a point, and its rule. Readings of one input are ordered as in document
+/// 01, by the first number in which they differ; none of them is the beginning of another.
 ///
 /// ```
 /// # fn main() -> Result<(), filbozseg::Error> {
@@ -33,7 +33,7 @@ pub struct Reading {
 }
 
 impl Reading {
-    /// The reading of numbers that the library has handed out or found to be a reading of this grammar.
+    /// The reading with these numbers, which the library has handed out or accepted as a reading for this grammar.
     pub(crate) fn new(grammar: &Grammar, numbers: &[u16]) -> Reading {
         Reading { numbers: numbers.into(), spans: spans(grammar, numbers) }
     }
@@ -44,7 +44,7 @@ impl Reading {
         &self.numbers
     }
 
-    /// The nodes in preorder, each as how many bytes it covers and its rule.
+    /// The nodes in preorder, each as the number of bytes that it covers and its rule.
     pub fn parts(&self) -> impl ExactSizeIterator<Item = (u16, u16)> + DoubleEndedIterator + '_ {
         self.numbers.chunks_exact(2).map(|part| (part[0], part[1]))
     }

@@ -4,12 +4,12 @@ use crate::{first, next, Grammar, Reading, Refusal, CELLS, OUTPUT};
 use std::fmt;
 use std::iter::FusedIterator;
 
-/// All readings of an input, in document 01's order: see [`Grammar::readings`].
+/// All readings of an input, in the order of document 01: see [`Grammar::readings`].
 ///
-/// Each item is a `Result`, since the input is judged only when the first reading is asked for: `collect` into a `Result<Vec<_>, _>`, or
-/// `?` each item. A refusal (8, 9, 13) is the only item then. After the last reading, and after a refusal, it answers `None` for good; an
-/// input without any tree has no items. It finds each reading when it is asked for it, and there may be very many of them: `take` as many
-/// as you want, or ask [`count`](crate::count) first.
+/// Each item is a `Result`, because the input is checked only when the first reading is asked for: `collect` into a `Result<Vec<_>, _>`,
+/// or use `?` on each item. A refusal (8, 9, 13) is the only item. After the last reading, and after a refusal, the iterator returns
+/// `None` forever. An input without any tree has no items. Each reading is found when it is asked for, and there may be very many: `take`
+/// as many as you want, or call [`count`](crate::count) first.
 ///
 /// ```
 /// # fn main() -> Result<(), filbozseg::Error> {
@@ -29,7 +29,7 @@ use std::iter::FusedIterator;
 /// # }
 /// ```
 ///
-/// It owns a chart, an output and a copy of the last reading, some 20 KB, and needs as much stack as [`first`].
+/// It owns a chart, an output and a copy of the last reading, about 20 KB, and needs as much stack as [`first`].
 #[derive(Clone)]
 #[must_use = "the readings are found only when they are asked for"]
 pub struct Readings<'a> {
@@ -37,7 +37,7 @@ pub struct Readings<'a> {
     input: &'a [u8],
     chart: Vec<u32>,
     output: Vec<u16>,
-    /// The reading handed out last, which is offered for the next one; empty before the first.
+    /// The last reading found, which is offered to find the next one; empty before the first.
     last: Vec<u16>,
     ended: bool,
 }

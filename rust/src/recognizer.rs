@@ -3,18 +3,18 @@
 use crate::refusal::answer;
 use crate::{sys, Grammar, Refusal, BYTES, HAND, NO_NUMBER};
 
-/// A recognizer, as the row of numbers in which it crosses: 64 bytes, each as a number, and then the count of those that have been taken.
+/// A recognizer, as the row of numbers that is passed to the library: 64 bytes, each as a number, and then how many have been taken.
 ///
-/// [`open`] makes one. The row of [`Recognizer::from_row`] may hold anything, and each number is judged whole. Refused with 14: a count
-/// over 64, or a number over 255 among the first `count`. The numbers of bytes not taken may be any.
+/// [`open`] makes one. The row of [`Recognizer::from_row`] may hold anything: all 16 bits of each number are checked. Refused with 14: a
+/// count over 64, or a number over 255 among the first `count`. The numbers of bytes not taken may have any value.
 #[derive(Clone, Copy, Debug, PartialEq, Eq, Hash)]
 pub struct Recognizer {
     row: [u16; HAND],
 }
 
-/// Opens a recognizer on a chart: the recognizer of no bytes, and whether the empty input is complete. It clears the first 4,225 cells of
-/// the chart and writes the first column. Refused (8, 10, in this order), it gives the recognizer of no bytes too, and leaves the chart as
-/// found.
+/// Opens a recognizer on a chart. Returns the recognizer of no bytes, and whether the empty input is complete. It clears the first 4,225
+/// cells of the chart and writes the first column. If refused (8, 10, in this order), it also returns the recognizer of no bytes, and
+/// leaves the chart as found.
 ///
 /// ```
 /// # fn main() -> Result<(), filbozseg::Error> {
@@ -33,7 +33,7 @@ pub struct Recognizer {
 /// ```
 pub fn open(grammar: &Grammar, chart: &mut [u32]) -> (Recognizer, Result<bool, Refusal>) {
     let mut r = Recognizer { row: [NO_NUMBER; HAND] };
-    // SAFETY: the pointers are those of live values of these lengths; those that are written are borrowed for writing by this call alone.
+    // SAFETY: the pointers point to live values of these lengths, and only this call borrows those that are written.
     let code = unsafe { sys::filbozseg_open(grammar.row(), &mut r.row, chart.as_mut_ptr(), chart.len()) };
     (r, answer(code))
 }
@@ -49,21 +49,21 @@ impl Recognizer {
         &self.row
     }
 
-    /// How many bytes have been taken, as the row says it: over 64 only in a row that is refused.
+    /// How many bytes have been taken, according to the row. It is over 64 only in a row that is refused.
     pub fn count(&self) -> usize {
         usize::from(self.row[BYTES])
     }
 
-    /// The bytes taken so far, each as its number: over 255 only in a row that is refused.
+    /// The bytes taken so far, as numbers. A number is over 255 only in a row that is refused.
     pub fn bytes(&self) -> &[u16] {
         &self.row[..self.count().min(BYTES)]
     }
 
-    /// Takes a byte: whether the input so far is complete. The recognizer has the byte then, with zeros behind it, and the chart its
-    /// column.
+    /// Takes a byte, and returns whether the input so far is complete. The recognizer then has the byte, with zeros after it, and the
+    /// chart has its column.
     ///
-    /// The answer is that of the input if the chart is the one on which the recognizer was opened with this grammar, and nobody else wrote
-    /// to it.
+    /// The answer is right for the input if the recognizer was opened with this grammar on this chart, and nothing else wrote to the
+    /// chart.
     ///
     /// # Errors
     ///

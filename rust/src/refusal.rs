@@ -1,4 +1,4 @@
-//! The refusals, and what the codes of the library say.
+//! The refusals, and the meaning of the library's codes.
 
 use std::fmt;
 
@@ -15,11 +15,11 @@ use std::fmt;
 #[non_exhaustive]
 #[repr(u8)]
 pub enum Refusal {
-    /// The book ends within a command or before its end command.
+    /// The book ends inside a command, or before its end command.
     UnexpectedEnd = 1,
-    /// A byte that is due to be a command is none.
+    /// A byte is no command where a command must be.
     UnknownCommand = 2,
-    /// A start command that is not the first, another command that is, or a place before any rule.
+    /// The first command is not a start command, a later one is, or a place comes before any rule.
     OutOfTurn = 3,
     /// A nonterminal of the book is over 31.
     NonterminalTooLarge = 4,
@@ -29,7 +29,7 @@ pub enum Refusal {
     TooManyPlaces = 6,
     /// A byte follows the end command.
     FurtherByte = 7,
-    /// The grammar handed in has a used number out of its range.
+    /// A used number of the grammar is out of its range.
     InvalidGrammar = 8,
     /// The input has no bytes, or more than 64.
     InputLength = 9,
@@ -37,11 +37,11 @@ pub enum Refusal {
     ChartTooShort = 10,
     /// The output has fewer than 1,024 numbers.
     OutputTooShort = 11,
-    /// An offered derivation is none of the input.
+    /// An offered row is no derivation of the input.
     NotADerivation = 12,
     /// The input has trees, but none of at most 512 nodes.
     OnlyLargerTrees = 13,
-    /// The recognizer's count is over 64, or one of the bytes that it has taken is over 255.
+    /// The recognizer's count is over 64, or a byte that it has taken is over 255.
     InvalidRecognizer = 14,
     /// The recognizer has taken 64 bytes.
     RecognizerFull = 15,
@@ -49,33 +49,47 @@ pub enum Refusal {
 
 use Refusal::*;
 
-const REFUSALS: [Refusal; 15] = [
-    UnexpectedEnd,
-    UnknownCommand,
-    OutOfTurn,
-    NonterminalTooLarge,
-    TooManyRules,
-    TooManyPlaces,
-    FurtherByte,
-    InvalidGrammar,
-    InputLength,
-    ChartTooShort,
-    OutputTooShort,
-    NotADerivation,
-    OnlyLargerTrees,
-    InvalidRecognizer,
-    RecognizerFull,
-];
+/// The code of a refusal is the sum of this and its number.
+const REFUSED: u32 = 256;
 
 impl Refusal {
-    /// The refusal's number, as document 01 numbers them: 1 to 15.
-    pub fn number(self) -> u8 {
+    /// All refusals, in the order of their numbers, which begin at 1.
+    pub const ALL: &'static [Refusal] = &[
+        UnexpectedEnd,
+        UnknownCommand,
+        OutOfTurn,
+        NonterminalTooLarge,
+        TooManyRules,
+        TooManyPlaces,
+        FurtherByte,
+        InvalidGrammar,
+        InputLength,
+        ChartTooShort,
+        OutputTooShort,
+        NotADerivation,
+        OnlyLargerTrees,
+        InvalidRecognizer,
+        RecognizerFull,
+    ];
+
+    /// The refusal's number in document 01, from 1 on.
+    pub const fn number(self) -> u8 {
         self as u8
     }
 
-    /// The refusal of a number.
+    /// The refusal with this number.
     pub fn of_number(number: u8) -> Option<Refusal> {
-        REFUSALS.get(usize::from(number).checked_sub(1)?).copied()
+        Refusal::ALL.get(usize::from(number).checked_sub(1)?).copied()
+    }
+
+    /// The code that a function of [`sys`](crate::sys) returns for this refusal.
+    pub const fn code(self) -> u32 {
+        REFUSED + self as u32
+    }
+
+    /// The refusal that a function of [`sys`](crate::sys) reports with this code; `None` if the code is an answer.
+    pub fn of_code(code: u32) -> Option<Refusal> {
+        Refusal::of_number(code.checked_sub(REFUSED)?.try_into().ok()?)
     }
 
     fn sentence(self) -> &'static str {
@@ -107,17 +121,16 @@ impl fmt::Display for Refusal {
 
 impl std::error::Error for Refusal {}
 
-/// What a code says: no, yes, or a refusal. The library is proved to return no other code.
+/// The meaning of a code: no, yes, or a refusal. The library is proved to return no other code.
 pub(crate) fn answer(code: u32) -> Result<bool, Refusal> {
     match code {
         0 => Ok(false),
         1 => Ok(true),
-        257..=271 => Err(REFUSALS[code as usize - 257]),
-        _ => unreachable!("the library returned the code {code}"),
+        _ => Err(Refusal::of_code(code).unwrap_or_else(|| unreachable!("the library returned the code {code}"))),
     }
 }
 
-/// What the code of a call says that never answers no: done, or a refusal.
+/// The meaning of a code from a call that never answers no: done, or a refusal.
 pub(crate) fn done(code: u32) -> Result<(), Refusal> {
     answer(code).map(|yes| assert!(yes, "the library returned the code 0"))
 }

@@ -2,17 +2,17 @@
 
 use std::fmt;
 
-/// How many numbers a rule has in a row, where its places begin, and how many there can be.
+/// How many numbers a rule has in a row, where its places begin, and how many places it has at most.
 pub(crate) const RULE: usize = 19;
 const PLACES: usize = 3;
 const MAX_PLACES: usize = 8;
 
-/// A number of a row as a byte: what is over 255 is read as 255.
+/// A number of a row as a byte: a number over 255 is read as 255.
 pub(crate) fn byte(number: u16) -> u8 {
     number.min(255) as u8
 }
 
-/// A rule of a grammar. It is written `0 -> 1 'A'`, with `-` for no places; its `Debug` adds the length.
+/// A rule of a grammar. It is displayed as `0 -> 1 'A'`, with `-` for no places; `Debug` adds the length.
 #[derive(Clone, Copy, PartialEq, Eq, Hash)]
 pub struct Rule<'a> {
     number: usize,
@@ -39,7 +39,7 @@ impl<'a> Rule<'a> {
         self.row[1] as i16
     }
 
-    /// The places, in their order.
+    /// The places, in order.
     pub fn places(self) -> impl ExactSizeIterator<Item = Symbol> + DoubleEndedIterator + 'a {
         let used = usize::from(self.row[2]).min(MAX_PLACES);
         self.row[PLACES..][..2 * used].chunks_exact(2).map(|place| match (place[0], place[1]) {
@@ -66,11 +66,11 @@ impl fmt::Debug for Rule<'_> {
     }
 }
 
-/// What a place of a rule holds. A nonterminal is written as its number, a terminal as in Rust: `'A'`, `'\x07'`.
+/// What a place of a rule holds. A nonterminal is displayed as its number, a terminal as in Rust: `'A'`, `'\x07'`.
 #[derive(Clone, Copy, Debug, PartialEq, Eq, Hash)]
 #[non_exhaustive]
 pub enum Symbol {
-    /// A nonterminal (kind): over 31 only in a grammar that is refused.
+    /// A nonterminal (kind). It is over 31 only in a grammar that is refused.
     Nonterminal(u8),
     /// A terminal (mark).
     Terminal(u8),

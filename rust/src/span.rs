@@ -1,8 +1,8 @@
-//! Where the nodes of a reading lie. Nothing here calls itself: a reading may be nested 512 deep.
+//! Where the nodes of a reading are. Nothing here is recursive, because a reading may be nested 512 deep.
 
 use crate::{Grammar, Rule, Symbol};
 
-/// Where a node lies: at which byte it begins, below how many others it stands, and which node is the first that is not below it.
+/// Where a node is: the byte at which it begins, how many nodes are above it, and the first later node that is not below it.
 #[derive(Clone, Copy)]
 pub(crate) struct Span {
     pub(crate) start: u16,
@@ -10,7 +10,7 @@ pub(crate) struct Span {
     pub(crate) end: u16,
 }
 
-/// A node whose places are being read: its number, its rule, how many places have been read, and the byte that comes next.
+/// A node whose places are being read: its number, its rule, how many places have been read, and the next byte.
 struct Open<'a> {
     node: usize,
     rule: Rule<'a>,
@@ -18,7 +18,7 @@ struct Open<'a> {
     byte: u16,
 }
 
-/// Closes nodes until one has a place for a child that covers so many bytes. Returns the byte at which the child begins.
+/// Closes nodes until one has a place for a child that covers this many bytes. Returns the byte at which the child begins.
 fn child_start(open: &mut Vec<Open<'_>>, cover: u16, spans: &mut [Span]) -> u16 {
     while let Some(parent) = open.last_mut() {
         let place = parent.rule.places().nth(parent.places);
@@ -39,7 +39,7 @@ fn child_start(open: &mut Vec<Open<'_>>, cover: u16, spans: &mut [Span]) -> u16 
     0
 }
 
-/// Where each node lies of a reading of this grammar, in preorder.
+/// The span of each node of a reading for this grammar, in preorder.
 pub(crate) fn spans(grammar: &Grammar, numbers: &[u16]) -> Box<[Span]> {
     let (mut spans, mut open) = (Vec::with_capacity(numbers.len() / 2), Vec::new());
     for part in numbers.chunks_exact(2) {

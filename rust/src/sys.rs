@@ -1,9 +1,10 @@
 //! The functions of the static library, as `include/filbozseg.h` declares them: a slice is a pointer and a length, an array a pointer.
 //!
 //! The header says what each code means, what is written and when, and how much stack a call needs.
+//! [`Refusal::of_code`](crate::Refusal::of_code) is the refusal with a code.
 //!
-//! What a caller owes: each pointer is that of as many live values as its length says (or its array type), also where that is 0 (none may
-//! be null), and what is lent for writing overlaps nothing else that is lent.
+//! Obligations of the caller: each pointer points to as many live values as its length or its array type says. No pointer is null, even if
+//! the length is 0. What is lent for writing overlaps nothing else that is lent.
 
 use crate::{HAND, ROW};
 
@@ -28,7 +29,7 @@ extern "C" {
         chart_length: usize,
     ) -> u32;
 
-    /// Whether the offered derivation is one of the input: see [`crate::check`].
+    /// Whether the offered row is a derivation of the input: see [`crate::check`].
     pub fn filbozseg_check(
         grammar: *const [u16; ROW],
         input: *const u8,

@@ -1,10 +1,10 @@
-//! The wrapper turns each code back into its answer, and hands over what each call leaves.
+//! The wrapper turns each code into its answer, and returns what each call leaves.
 use filbozseg::*;
 
 /// Book T of document 01: 0 -> 1 1 (4,600), 1 -> nothing (0), 1 -> A (25).
 const T: &[u8] = b"\x10\x00\x20\x00\xf8\x11\x30\x01\x30\x01\x20\x01\x00\x00\x20\x01\x19\x00\x40A\x50";
 
-/// What the cells of a chart hold before a call, and how many cells there are past those that are used.
+/// What the cells of a chart hold before a call, and how many unused cells follow the used ones.
 const FOUND: u32 = 7;
 const PAST: usize = 3;
 
@@ -55,7 +55,7 @@ fn the_numbers_of_a_grammar_are_judged_whole() {
     for (at, number) in bad {
         assert_eq!(open(&changed(at, number), &mut chart).1, Err(Refusal::InvalidGrammar), "{number} at {at}");
     }
-    // what the wrapper lends before it is written
+    // what the wrapper lends for the library to write
     assert_eq!(open(&Grammar::from_row(&[u16::MAX; ROW]), &mut chart).1, Err(Refusal::InvalidGrammar));
     assert_eq!(chart, self::chart());
     // the depth, a length, an unused place, an unused rule
@@ -81,7 +81,7 @@ fn an_opening_leaves_no_bytes_also_where_it_is_refused() {
     }
 }
 
-/// A recognizer of nines, but for the count.
+/// A recognizer whose bytes are all nine, with this count.
 fn nines(count: u16) -> Recognizer {
     let mut row = [9; HAND];
     row[BYTES] = count;
@@ -93,7 +93,7 @@ fn a_refused_byte_leaves_the_recognizer_and_the_chart() {
     let (grammar, mut chart) = (load(T).unwrap(), chart());
     let mut large = *nines(3).row();
     large[2] = 256;
-    // the last is what the wrapper lends before it is written
+    // the last is what the wrapper lends for the library to write
     let unwritten = Recognizer::from_row(&[u16::MAX; HAND]);
     for found in [nines(65), nines(256), nines(256 + 3), Recognizer::from_row(&large), unwritten] {
         let mut r = found;
@@ -152,7 +152,7 @@ fn offered_rows_are_checked_measured_and_compared() {
     assert_eq!(same_build(&recess, b"A", &[1, 0], &[1, 1], &mut chart), Ok(false));
 }
 
-/// Numbers of an output past those that are asked for, and what they all hold before a call.
+/// How many numbers of an output follow the required ones, and what all numbers hold before a call.
 const UNWRITTEN: [u16; OUTPUT + 2] = [9; OUTPUT + 2];
 
 #[test]
@@ -271,7 +271,14 @@ fn derivations_are_counted_up_to_4096() {
 }
 
 #[test]
-fn refusals_and_numbers_agree() {
-    assert!((1..=15).all(|n| Refusal::of_number(n).unwrap().number() == n));
-    assert_eq!((Refusal::of_number(0), Refusal::of_number(16)), (None, None));
+fn refusals_numbers_and_codes_agree() {
+    for (number, &refusal) in (1..).zip(Refusal::ALL) {
+        assert_eq!((refusal.number(), Refusal::of_number(number)), (number, Some(refusal)));
+        let code = 256 + u32::from(number);
+        assert_eq!((refusal.code(), Refusal::of_code(code)), (code, Some(refusal)));
+    }
+    let past = Refusal::ALL.len() as u8 + 1;
+    assert!([0, past, 255].iter().all(|&number| Refusal::of_number(number).is_none()));
+    let codes = [0, 1, 2, 255, 256, 256 + u32::from(past), 512, 513, u32::MAX];
+    assert!(codes.iter().all(|&code| Refusal::of_code(code).is_none()));
 }

@@ -1,4 +1,4 @@
-//! The accessors of a grammar say what its row says, whatever that is.
+//! The accessors of a grammar agree with its row, whatever the row holds.
 mod books;
 
 use books::{deep, MIXED, T};

@@ -1,9 +1,9 @@
-//! The C header says what the wrapper says: its version, its sizes and its refusals.
+//! The C header and the wrapper have the same version, sizes, refusals and functions.
 use filbozseg::{Refusal, BYTES, CELLS, HAND, OUTPUT, ROW};
 
 const HEADER: &str = include_str!("../../include/filbozseg.h");
 
-/// The number of a macro that is one.
+/// The value of a macro that is defined as a number.
 fn defined(name: &str) -> usize {
     let line = HEADER.lines().find_map(|line| line.strip_prefix(&format!("#define FILBOZSEG_{name} ")));
     line.and_then(|number| number.parse().ok()).unwrap_or_else(|| panic!("{name} is not defined as a number"))
@@ -31,15 +31,17 @@ fn in_c(name: &str) -> String {
 fn the_refusals_are_those_of_the_crate() {
     let values: Vec<_> =
         HEADER.lines().filter_map(|line| line.trim().strip_prefix("FILBOZSEG_REFUSAL_")?.split_once(" = ")).collect();
-    assert_eq!(values.len(), 15);
-    for (number, (name, rest)) in (1..).zip(values) {
-        let refusal = Refusal::of_number(number).unwrap();
+    assert_eq!(values.len(), Refusal::ALL.len());
+    for (refusal, (name, rest)) in Refusal::ALL.iter().zip(values) {
         let (value, _) = rest.split_once(|c: char| !c.is_ascii_digit()).unwrap();
-        assert_eq!((name.to_string(), value), (in_c(&format!("{refusal:?}")), number.to_string().as_str()));
+        assert_eq!((name.to_string(), value), (in_c(&format!("{refusal:?}")), refusal.number().to_string().as_str()));
     }
+    let (last, base) = (Refusal::ALL.len(), Refusal::ALL[0].code() - 1);
+    assert!(HEADER.contains(&format!("{base} + n    refusal n, 1 <= n <= {last}: ")));
+    assert!(HEADER.contains(&format!("return code > {base} ? code - {base} : 0;")));
 }
 
-/// The functions that a text declares from `before` their names on: a name, and what stands between the brackets, blanks made one.
+/// The functions that a text declares after each `before`: the name, and what is between the brackets, with single spaces.
 fn functions(text: &str, before: &str) -> Vec<(String, String)> {
     let declared = text.split(before).skip(1).filter_map(|rest| rest.split_once('('));
     let declared =
@@ -47,7 +49,7 @@ fn functions(text: &str, before: &str) -> Vec<(String, String)> {
     declared.map(|(name, rest)| (name.into(), rest.split_whitespace().collect::<Vec<_>>().join(" "))).collect()
 }
 
-/// A parameter of C as Rust writes it.
+/// A C parameter as Rust writes it.
 fn in_rust(parameter: &str) -> String {
     let (constant, rest) = match parameter.strip_prefix("const ") {
         Some(rest) => ("*const ", rest),

@@ -1,4 +1,4 @@
-//! What is lent to the calls: slices of no length, one row twice, several threads with their stacks.
+//! What is lent to the calls: empty slices, the same row twice, and the stacks of several threads.
 mod books;
 
 use books::{deep, wide, MIXED, PAIRS, T};
@@ -49,7 +49,7 @@ fn one_row_may_be_both_readings_of_same_build() {
     assert_eq!(same_build(&mixed, b"ACB", &row, &row, &mut chart), Err(Refusal::NotADerivation));
 }
 
-/// All that the library says of an input, with at most 200 readings.
+/// Everything that the library answers for an input, with at most 200 readings.
 fn said(grammar: &Grammar, input: &[u8]) -> String {
     let (mut chart, mut text) = (vec![0; CELLS], String::new());
     let (mut recognizer, complete) = open(grammar, &mut chart);
@@ -70,7 +70,7 @@ fn said(grammar: &Grammar, input: &[u8]) -> String {
     text + &format!(" {chart:?}")
 }
 
-/// What loading a book says, cut to each length.
+/// The results of loading a book cut to each length.
 fn loads(book: &[u8]) -> String {
     (0..=book.len())
         .map(|length| format!("{:?}\n", load(&book[..length]).map(|grammar| grammar.row().to_vec())))
@@ -100,11 +100,11 @@ fn four_threads_say_what_one_says() {
 #[test]
 fn all_types_may_go_to_other_threads() {
     fn goes<T: Send + Sync>() {}
-    goes::<(Grammar, Rule, Recognizer, Reading, Node, Nodes, Children, Readings)>();
+    goes::<(Grammar, Rule<'_>, Recognizer, Reading, Node<'_>, Nodes<'_>, Children<'_>, Readings<'_>)>();
     goes::<(Error, LoadError, Refusal, Count, Symbol)>();
 }
 
-/// The variable by which the next test asks the process that it starts to overflow.
+/// The variable with which the next test tells its child process to overflow the stack.
 const OVERFLOW: &str = "FILBOZSEG_TEST_OVERFLOW";
 
 #[test]

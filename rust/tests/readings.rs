@@ -1,4 +1,4 @@
-//! The iterator hands out the readings of an input in their order, and ends.
+//! The iterator finds the readings of an input in order, and ends.
 mod books;
 
 use books::{deep, wide, PAIRS, T};

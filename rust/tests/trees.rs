@@ -1,4 +1,4 @@
-//! The nodes of a reading are those of its tree, and a deep tree needs no deep stack.
+//! The nodes of a reading form its tree, and a deep tree needs no deep stack.
 mod books;
 #[path = "../examples/tree.rs"]
 mod tree;
@@ -7,7 +7,7 @@ use books::{deep, wide, MIXED, PAIRS, T};
 use filbozseg::*;
 
 /// The rule and the marks of a node.
-fn rule_and_marks(node: Node) -> (usize, std::ops::Range<usize>) {
+fn rule_and_marks(node: Node<'_>) -> (usize, std::ops::Range<usize>) {
     (node.rule(), node.marks())
 }
 
@@ -30,7 +30,7 @@ fn a_node_has_its_rule_its_marks_and_its_children() {
     assert_eq!(format!("{:?}", children[1]), "Node { number: 4, rule: 0, marks: 2..4 }");
 }
 
-/// Reads the places of each node's rule from the left: its children and the bytes between them are what the places hold.
+/// Reads the places of each node's rule from the left: the children and the bytes between them must agree with the places.
 fn read_through(grammar: &Grammar, input: &[u8], reading: &Reading) {
     assert_eq!((reading.root().number(), reading.root().marks()), (0, 0..input.len()));
     for node in reading.nodes() {
@@ -71,7 +71,7 @@ fn the_children_and_bytes_of_a_node_are_the_places_of_its_rule() {
     }
 }
 
-/// What a thread has for looking at a reading: a 32nd of what a thread of Rust has by default.
+/// The stack of a thread that looks at a reading: 1/32 of what a Rust thread has by default.
 const SMALL: usize = 64 * 1024;
 
 #[test]

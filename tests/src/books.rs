@@ -1,18 +1,18 @@
-//! Random books (grammars as bytes) with inputs (plates), each from a fixed seed,
-//! in the styles that wrong programs fall over.
+//! Random books (grammars as bytes) with inputs (plates), each made from a fixed seed, in styles that wrong programs
+//! fail on.
 
-/// A plain xorshift generator; the seed is spread first.
+/// A plain xorshift generator; the seed is mixed first.
 pub struct Rng(u64);
 
 impl Rng {
     pub fn new(seed: u64) -> Rng {
         let mut rng = Rng(seed.wrapping_mul(0x9E37_79B9_7F4A_7C15) ^ 0x2545_F491_4F6C_DD1D | 1);
         for _ in 0..8 {
-            rng.next();
+            rng.draw();
         }
         rng
     }
-    pub fn next(&mut self) -> u64 {
+    pub fn draw(&mut self) -> u64 {
         self.0 ^= self.0 << 13;
         self.0 ^= self.0 >> 7;
         self.0 ^= self.0 << 17;
@@ -20,13 +20,13 @@ impl Rng {
     }
     /// A number below n.
     pub fn below(&mut self, n: usize) -> usize {
-        (self.next() >> 11) as usize % n
+        (self.draw() >> 11) as usize % n
     }
     /// A number from low to high, both included.
     pub fn within(&mut self, low: usize, high: usize) -> usize {
         low + self.below(high - low + 1)
     }
-    /// True once in n times.
+    /// True once in n times, on average.
     pub fn one_in(&mut self, n: usize) -> bool {
         self.below(n) == 0
     }
@@ -38,7 +38,7 @@ impl Rng {
 /// The variable that sets the seed of a run's first book.
 pub const SEED: &str = "FILBOZSEG_SEED";
 
-/// The seed of a run's first book: what the variable says, or this one. The books after it have the seeds after it.
+/// The seed of a run's first book: the variable's value, or this one. The books after it have the seeds after it.
 pub fn first_seed(usual: u64) -> u64 {
     match std::env::var(SEED) {
         Ok(text) => text.parse().unwrap_or_else(|_| panic!("{SEED} is no number: {text}")),
@@ -46,7 +46,7 @@ pub fn first_seed(usual: u64) -> u64 {
     }
 }
 
-/// A symbol of a draft: N nonterminal (kind), T terminal (mark).
+/// A symbol of a draft: N for a nonterminal (kind), T for a terminal (mark).
 #[derive(Clone, Copy, PartialEq, Eq, Debug)]
 pub enum Sym {
     N(u8),
@@ -54,7 +54,7 @@ pub enum Sym {
 }
 use Sym::{N, T};
 
-/// A grammar in the making: start, and rules with left side, length and places.
+/// A grammar being drafted: its start, and rules with left side, length and places.
 #[derive(Clone, Default)]
 pub struct Draft {
     pub start: u8,
@@ -71,7 +71,7 @@ impl Draft {
         self.rules.push((left, 0, places.to_vec()));
     }
 
-    /// The book in document 01's commands.
+    /// The book, in the commands of document 01.
     pub fn bytes(&self) -> Vec<u8> {
         let mut book = vec![0x10, self.start];
         for (left, length, places) in &self.rules {
@@ -88,13 +88,13 @@ impl Draft {
         book
     }
 
-    /// A terminal row that the nonterminal derives, by random rules; None if it grows too long or deep.
+    /// A row of terminals that the nonterminal derives by random rules; None if it gets too long or too deep.
     fn sample(&self, rng: &mut Rng, k: u8, depth: usize, most: usize, row: &mut Vec<u8>) -> Option<()> {
         let own: Vec<_> = self.rules.iter().filter(|rule| rule.0 == k).collect();
         if own.is_empty() || depth == 0 {
             return None;
         }
-        // Deep down prefer rules with few nonterminals, so that the row ends.
+        // Deep down, prefer rules with few nonterminals, so that the row ends.
         let mut rule = own[rng.below(own.len())];
         for _ in 0..(8 / depth.min(8)) {
             let other = own[rng.below(own.len())];
@@ -126,8 +126,8 @@ pub struct Book {
 const A: u8 = b'A';
 const B: u8 = b'B';
 
-/// Random rules: so many over kinds below `kinds`, with an empty rule once in
-/// `empty` and a unit rule once in `unit`.
+/// Random rules: this many, over kinds below `kinds`, with an empty rule once in `empty` and a unit rule once in
+/// `unit`.
 fn plain(rng: &mut Rng, draft: &mut Draft, kinds: usize, rules: usize, places: usize, empty: usize, unit: usize) {
     for _ in 0..rules {
         let left = rng.below(kinds) as u8;
@@ -146,9 +146,9 @@ fn plain(rng: &mut Rng, draft: &mut Draft, kinds: usize, rules: usize, places: u
     }
 }
 
-/// Nonterminals in a ring over the same span, with a cheap way out at one of them
-/// and a dear one (a chain, or a bunch of empty nodes) at another: the least tree
-/// of a nonterminal then runs through one that may already stand above it.
+/// Nonterminals in a ring over the same span, with a cheap way out at one of them and an expensive one (a chain, or a
+/// bunch of empty nodes) at another. The least tree of a nonterminal then goes through one that may already be above
+/// it.
 fn forbidden_ancestor(rng: &mut Rng, draft: &mut Draft, base: u8) {
     let ring = rng.within(2, 4) as u8;
     let (chain, blank) = (base + 4, base + 9);
@@ -161,11 +161,11 @@ fn forbidden_ancestor(rng: &mut Rng, draft: &mut Draft, base: u8) {
         }
     }
     let cheap = base + rng.below(ring as usize) as u8;
-    let dear = base + rng.below(ring as usize) as u8;
+    let expensive = base + rng.below(ring as usize) as u8;
     let empty_way = rng.one_in(2);
     draft.rule(cheap, if empty_way { &[] } else { &[T(A)] });
     let length = rng.within(1, 4) as u8;
-    draft.rule(dear, &[N(chain)]);
+    draft.rule(expensive, &[N(chain)]);
     for step in 0..length {
         draft.rule(chain + step, &[N(chain + step + 1)]);
     }
@@ -183,8 +183,8 @@ fn forbidden_ancestor(rng: &mut Rng, draft: &mut Draft, base: u8) {
     }
 }
 
-/// A bush of empty nodes of exactly `size` nodes (400 to 511) below one
-/// nonterminal, which is handed back; it uses the kinds 24 to 29.
+/// A bush of exactly `size` empty nodes (400 to 511) below one nonterminal, which is returned. It uses the kinds 24
+/// to 29.
 fn bush(draft: &mut Draft, size: usize) -> Sym {
     draft.rule(29, &[]); // 1 node
     draft.rule(28, &[N(29); 8]); // 9 nodes
@@ -205,7 +205,7 @@ fn bush(draft: &mut Draft, size: usize) -> Sym {
     N(24)
 }
 
-/// A start over a core and a bush that leaves it 1 to 30 nodes of the 512.
+/// A start over a core and a bush that leaves the core 1 to 30 of the 512 nodes.
 fn beside_a_bush(rng: &mut Rng, draft: &mut Draft) {
     let left = rng.within(1, 30);
     draft.start = 23;
@@ -219,12 +219,12 @@ fn beside_a_bush(rng: &mut Rng, draft: &mut Draft) {
     }
 }
 
-/// A small core whose derivations of one input differ in their numbers of nodes.
+/// A small core whose derivations of one input have different numbers of nodes.
 fn core(rng: &mut Rng, draft: &mut Draft) {
     match rng.below(4) {
         0 => forbidden_ancestor(rng, draft, 0),
         1 => {
-            // a list whose items are one terminal behind 0 to 3 unit steps
+            // a list whose items are one terminal below 0 to 3 unit steps
             draft.rule(0, &[N(1), N(0)]);
             draft.rule(0, &[N(1)]);
             for k in 1..=rng.within(2, 4) as u8 {
@@ -284,7 +284,7 @@ fn draft(rng: &mut Rng, style: usize) -> (&'static str, Draft) {
             "unit cycles"
         }
         3 => {
-            // left recursion, hidden behind a nullable nonterminal or not
+            // left recursion, hidden by a nullable nonterminal or not
             d.rule(0, &[N(0), T(A)]);
             if rng.one_in(2) {
                 d.rule(0, &[N(1), N(0), T(rng.pick(&[A, B]))]);
@@ -333,7 +333,7 @@ fn draft(rng: &mut Rng, style: usize) -> (&'static str, Draft) {
             "forbidden ancestor beside a bush"
         }
         10 => {
-            // near the limits of 128 rules and 8 places
+            // close to the limits of 128 rules and 8 places
             let rules = if rng.one_in(2) { rng.within(126, 131) } else { rng.within(2, 12) };
             let most = if rules > 100 { 1 } else { 9 };
             for _ in 0..rules {
@@ -345,13 +345,13 @@ fn draft(rng: &mut Rng, style: usize) -> (&'static str, Draft) {
             "near the limits"
         }
         11 => {
-            // many kinds, many places: the charts are full, the lists too large
+            // many kinds, many places: the charts are full, and the lists are too large
             let (kinds, rules) = (rng.within(8, 32), rng.within(20, 128));
             plain(rng, &mut d, kinds, rules, 8, 9, 5);
             "dense"
         }
         _ => {
-            // an expression-like book that reads long inputs
+            // a book of expressions, which reads long inputs
             d.rule(0, &[N(0), T(B), N(1)]);
             d.rule(0, &[N(1)]);
             d.rule(1, &[N(2), N(1)]);
@@ -364,8 +364,8 @@ fn draft(rng: &mut Rng, style: usize) -> (&'static str, Draft) {
     (name, d)
 }
 
-/// Other numbers for the kinds, other bytes for the marks, another order of the
-/// rules, and lengths: negative ones, halves to round, and the extremes.
+/// Renumbers the kinds, changes the bytes of the marks and the order of the rules, and sets lengths: negative ones,
+/// halves to round, and the extremes.
 fn dress(rng: &mut Rng, draft: &mut Draft, inputs: &mut [Vec<u8>]) {
     let mut kinds: Vec<u8> = (0..32).collect();
     if rng.one_in(2) {
@@ -393,7 +393,7 @@ fn dress(rng: &mut Rng, draft: &mut Draft, inputs: &mut [Vec<u8>]) {
         rule.0 = kinds[rule.0 as usize];
         rule.1 = match rng.below(6) {
             0 => rng.pick(&[i16::MIN, i16::MAX, -1, 1, 0, 256, -256]),
-            1 => rng.next() as i16,
+            1 => rng.draw() as i16,
             2 => rng.within(0, 200) as i16 - 100,
             _ => 5 * (rng.within(0, 40) as i16 - 20),
         };
@@ -409,13 +409,13 @@ fn dress(rng: &mut Rng, draft: &mut Draft, inputs: &mut [Vec<u8>]) {
     }
 }
 
-/// Bytes cut, changed, inserted, appended.
+/// Cuts, changes, inserts or appends bytes.
 pub fn damage(rng: &mut Rng, book: &mut Vec<u8>) {
     for _ in 0..rng.within(1, 2) {
         let byte = match rng.below(3) {
             0 => rng.pick(&[0x10, 0x20, 0x30, 0x40, 0x50]),
             1 => rng.pick(&[0, 31, 32, 33, 255]),
-            _ => rng.next() as u8,
+            _ => rng.draw() as u8,
         };
         let at = rng.below(book.len() + 1);
         match rng.below(6) {
@@ -428,12 +428,12 @@ pub fn damage(rng: &mut Rng, book: &mut Vec<u8>) {
     }
 }
 
-/// Commands at random, mostly in turn.
+/// Random commands, mostly in turn.
 pub fn soup(rng: &mut Rng) -> Vec<u8> {
     let mut book = if rng.one_in(6) { Vec::new() } else { vec![0x10, rng.below(33) as u8] };
     for _ in 0..rng.below(9) {
         match rng.below(12) {
-            0 => book.push(rng.next() as u8),
+            0 => book.push(rng.draw() as u8),
             1 => book.extend([0x10, 0]),
             2..=4 => book.extend([0x20, rng.below(33) as u8, 0, 0xFF]),
             5 | 6 => book.extend([0x30, rng.below(33) as u8]),
@@ -448,8 +448,7 @@ pub fn soup(rng: &mut Rng) -> Vec<u8> {
     book
 }
 
-/// Inputs for a draft: of 0 to 8 terminals, some of 9 to 64; derived, derived with
-/// a terminal changed, or at random.
+/// Inputs for a draft, of 0 to 8 terminals, some of 9 to 64: derived, derived with one terminal changed, or random.
 fn inputs(rng: &mut Rng, draft: &Draft, style: &str) -> Vec<Vec<u8>> {
     let mut all = Vec::new();
     for number in 0..5 {
@@ -482,7 +481,7 @@ fn inputs(rng: &mut Rng, draft: &Draft, style: &str) -> Vec<Vec<u8>> {
     all
 }
 
-/// The book of a seed. About one in seven is damaged, and some are no books from the start.
+/// The book of a seed. About one in seven is damaged, and some were never books.
 pub fn book(seed: u64) -> Book {
     let rng = &mut Rng::new(seed);
     if seed % 28 == 5 {
@@ -499,8 +498,8 @@ pub fn book(seed: u64) -> Book {
     Book { style, bytes, inputs }
 }
 
-/// 0 -> 1 1, 1 -> six of 2, 2 -> A, 2 -> A: exactly 4,096 derivations of 12 marks; with
-/// 0 -> 3 3, 3 -> six marks one more.
+/// 0 -> 1 1, 1 -> six of 2, 2 -> A, 2 -> A: 12 marks have exactly 4,096 derivations. With 0 -> 3 3, 3 -> six marks,
+/// they have one more.
 pub fn boundary(more: bool) -> Book {
     let mut draft = Draft::new(0);
     draft.rule(0, &[N(1), N(1)]);
@@ -514,10 +513,9 @@ pub fn boundary(more: bool) -> Book {
     Book { style: "boundary", bytes: draft.bytes(), inputs: vec![vec![A; 12]] }
 }
 
-/// A full book of a seed with an input of 64 marks: 32 kinds, each with a rule, and
-/// 128 rules of 8 places but for some that are empty or one place long. The styles
-/// differ in how many those are, how rare marks are, and in that most places hold one
-/// of four nullable kinds.
+/// A full book of a seed, with an input of 64 marks: 32 kinds, each with a rule, and 128 rules of 8 places, except
+/// that some are empty or have one place. The styles differ in how many these are and in how rare marks are. In one
+/// style most places hold one of four nullable kinds.
 pub fn full_book(seed: u64) -> Book {
     let rng = &mut Rng::new(seed ^ 0xF011);
     let (rare, empty, single) = (rng.pick(&[2, 3, 5, 9]), rng.within(0, 6), rng.pick(&[8, 24, 40, 56]));

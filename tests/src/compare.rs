@@ -1,5 +1,5 @@
-//! The comparison of a reader with the lister over one book and its inputs. The
-//! first difference is handed back as a text; what came up is counted.
+//! Compares a reader with the lister over one book and its inputs. The first difference is returned as a text; the
+//! outcomes are counted.
 
 mod firsts;
 mod grammars;
@@ -23,7 +23,7 @@ use crate::reader::{FlatGrammar, Reader, CELLS};
 use lent::same;
 use std::fmt::Debug;
 
-/// A limit above 512, to see what the limit cuts off.
+/// A limit above 512, to see what the limit of 512 cuts off.
 const WIDER: usize = 640;
 
 /// Compares a reader with the lister over the book of a seed.
@@ -33,7 +33,7 @@ pub fn compare_book(reader: &dyn Reader, book: &Book, seed: u64, counts: &mut Co
     comparison.book(book).map_err(|what| format!("seed {seed} ({}), book {:02X?}: {what}", book.style, book.bytes))
 }
 
-/// One comparison under way.
+/// A comparison in progress.
 pub struct Comparison<'a> {
     pub reader: &'a dyn Reader,
     pub rng: Rng,
@@ -53,7 +53,7 @@ impl Comparison<'_> {
         Ok(())
     }
 
-    /// A chart long enough, with rubbish in it and words behind the cells.
+    /// A chart that is long enough, filled with rubbish, with further words after its cells.
     fn chart(&mut self) -> Lent<u32> {
         let length = CELLS + self.rng.pick(&[0, 0, 1, 40]);
         rubbish(&mut self.rng, length)
@@ -64,8 +64,8 @@ impl Comparison<'_> {
         rubbish(&mut self.rng, length)
     }
 
-    /// Runs a call on the reader and on the lister, each with its own copy of the
-    /// chart, and compares the answers and the whole charts; gives those.
+    /// Makes a call on the reader and on the lister, each with its own copy of the chart, and compares the answers
+    /// and the whole charts. Returns both.
     fn both<T: PartialEq + Debug>(
         &self,
         what: &str,
@@ -82,7 +82,7 @@ impl Comparison<'_> {
         Ok((due_answer, due))
     }
 
-    /// Everything about one input.
+    /// Compares everything about one input.
     pub fn input(&mut self, flat: &FlatGrammar, input: &[u8]) -> Result<(), String> {
         let grammar = grammar::from_flat(flat).expect("a loaded grammar passes check 8");
         self.counts.add(match input.len() {

@@ -1,12 +1,10 @@
-//! Outside evidence: the code under test beside a simple lister that was
-//! written from document 01 alone and shares nothing with it. Document 01 is the
-//! customer's scope; docs/REFERENCE.md says in our own words what it fixes.
+//! Outside evidence: compares the code under test with a simple lister. The lister was written from document 01 alone and
+//! shares nothing with the code under test. Document 01 is the customer's scope; docs/REFERENCE.md says in our own words
+//! what it requires.
 //!
-//! `cargo test --release --offline` runs everything; with `-- --nocapture` it also
-//! prints what came up in the random books and which book caught which fault.
-//! The reader under test is the lister itself, or the proved library with
-//! `--features library`, which also runs the built listing program beside the
-//! lister's text. tests/faults.rs runs the lister with deliberate faults, one by one.
+//! The code under test is the lister itself, or the proved library with `--features library`; then the built listing
+//! program is compared with the lister's text too. tests/faults.rs runs the lister with deliberate faults, one by one.
+//! `cargo test -- --nocapture` also prints what came up in the random books and which book caught which fault.
 
 pub mod books;
 pub mod compare;
@@ -17,8 +15,7 @@ pub mod reader;
 pub mod switches;
 pub mod text;
 
-/// The code under test: the lister itself, or the proved library with the
-/// feature `library`.
+/// The code under test: the lister itself. With the feature `library` it is the proved library.
 #[cfg(not(feature = "library"))]
 pub fn reader_under_test() -> lister::Lister {
     lister::Lister

@@ -1,7 +1,6 @@
-//! The proved library as a `Reader`. The calls that write a lent number, row or hand
-//! go to the library's functions themselves, with canaries around what is lent, so
-//! that nothing of the safe wrapper hides what they leave; the other calls go
-//! through the wrapper that a user links (`rust/`).
+//! The proved library as a `Reader`. Calls that write a lent number, row or hand use the library's functions directly,
+//! with canaries around what is lent, so that the safe wrapper hides nothing of what they leave. The other calls use the
+//! wrapper (`rust/`).
 
 use crate::reader::{Answer, FlatGrammar, Hand, Reader};
 use filbozseg::{sys, Grammar, Refusal};
@@ -13,18 +12,20 @@ use std::time::{Duration, Instant};
 /// The proved library.
 pub struct Library;
 
-/// What a code says.
+/// The answer with this code.
 fn said(code: u32) -> Answer {
     match code {
         0 => Answer::No,
         1 => Answer::Yes,
-        257..=271 => Answer::Refused((code - 256) as u8),
-        _ => panic!("the library returned the code {code}"),
+        _ => match Refusal::of_code(code) {
+            Some(refusal) => Answer::Refused(refusal.number()),
+            None => panic!("the library returned the code {code}"),
+        },
     }
 }
 
-/// What the wrapper says.
-fn told(answer: Result<bool, Refusal>) -> Answer {
+/// The answer that the wrapper returns.
+fn wrapped(answer: Result<bool, Refusal>) -> Answer {
     match answer {
         Ok(true) => Answer::Yes,
         Ok(false) => Answer::No,
@@ -42,24 +43,24 @@ struct Guarded<T> {
     after: [u8; 32],
 }
 
-/// Lends a copy of the place, between canaries, and takes back what is left in it.
+/// Lends a copy of the place between canaries, and copies back what the call leaves in it.
 fn lend<T: Copy>(place: &mut T, call: impl FnOnce(*mut T) -> u32) -> u32 {
     let mut guarded = Guarded { before: CANARY, place: *place, after: CANARY };
     let all: *mut Guarded<T> = &mut guarded;
-    // Safety: `all` points to a live value; no reference to it is used before the call ends.
+    // SAFETY: `all` points to a live value; no reference to it is used before the call ends.
     let code = call(unsafe { std::ptr::addr_of_mut!((*all).place) });
-    assert!(guarded.before == CANARY && guarded.after == CANARY, "the library wrote beside what it was lent");
+    assert!(guarded.before == CANARY && guarded.after == CANARY, "the library wrote outside what it was lent");
     *place = guarded.place;
     code
 }
 
-/// How long a call may take: a search that blows up fails, and does not hang.
+/// How long a call may take: a search that takes forever fails instead of hanging.
 const CAP: Duration = Duration::from_secs(20);
 
-/// The threads with a call under way, and when it began.
+/// The threads with a call in progress, and when the call began.
 static UNDER_WAY: Mutex<Vec<(ThreadId, Instant)>> = Mutex::new(Vec::new());
 
-/// A call under way on this thread, until it is dropped.
+/// A call in progress on this thread, until it is dropped.
 struct UnderWay;
 
 impl UnderWay {
@@ -80,19 +81,19 @@ fn under_way() -> MutexGuard<'static, Vec<(ThreadId, Instant)>> {
     UNDER_WAY.lock().expect("nobody panics while holding it")
 }
 
-/// Ends the run, saying so, once a call has taken longer than it may.
+/// Ends the run with a message once a call has taken too long.
 fn watch() {
     loop {
         thread::sleep(Duration::from_millis(100));
         if under_way().iter().any(|(_, began)| began.elapsed() > CAP) {
-            // not eprintln!, whose text a test keeps back and the abort loses
+            // not eprintln!: the test captures its text, and the abort loses it
             let _ = writeln!(std::io::stderr(), "a call takes longer than {CAP:?}");
             std::process::abort();
         }
     }
 }
 
-/// The call, watched. One thread watches all calls, as starting one for each takes longer than most calls do.
+/// Makes the call while it is watched. One thread watches all calls: starting one for each would take longer than most calls.
 fn capped<T>(call: impl FnOnce() -> T) -> T {
     static WATCHED: Once = Once::new();
     WATCHED.call_once(|| drop(thread::spawn(watch)));
@@ -100,8 +101,12 @@ fn capped<T>(call: impl FnOnce() -> T) -> T {
     call()
 }
 
-// Safety, of each call: the pointers are those of live values of these lengths, and those that are written overlap nothing.
+// SAFETY of each call: the pointers point to live values of these lengths, and those that are written overlap nothing.
 impl Reader for Library {
+    fn by_listing(&self) -> bool {
+        false
+    }
+
     fn load(&self, book: &[u8], grammar: &mut FlatGrammar, offset: &mut usize) -> Answer {
         said(lend(grammar, |grammar| {
             lend(offset, |offset| unsafe { sys::filbozseg_load(book.as_ptr(), book.len(), grammar, offset) })
@@ -119,7 +124,7 @@ impl Reader for Library {
     }
 
     fn check(&self, grammar: &FlatGrammar, input: &[u8], offered: &[u16], chart: &mut [u32]) -> Answer {
-        told(filbozseg::check(&Grammar::from_row(grammar), input, offered, chart))
+        wrapped(filbozseg::check(&Grammar::from_row(grammar), input, offered, chart))
     }
 
     fn length(
@@ -137,7 +142,7 @@ impl Reader for Library {
     }
 
     fn same_build(&self, grammar: &FlatGrammar, input: &[u8], one: &[u16], other: &[u16], chart: &mut [u32]) -> Answer {
-        told(filbozseg::same_build(&Grammar::from_row(grammar), input, one, other, chart))
+        wrapped(filbozseg::same_build(&Grammar::from_row(grammar), input, one, other, chart))
     }
 
     fn first(
@@ -156,10 +161,6 @@ impl Reader for Library {
             Answer::No => Answer::NoDerivation,
             refused => refused,
         }
-    }
-
-    fn lists(&self) -> bool {
-        true
     }
 
     fn next(

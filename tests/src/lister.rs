@@ -1,7 +1,6 @@
-//! The simple reference, written from document 01 alone: explicit trees, the
-//! definitions word by word, no cleverness. As a `Reader` it can stand in for the
-//! code under test. Where it asks for a `fault`, read "no": only tests/faults.rs
-//! compiles these files with faults to switch on.
+//! The simple reference, written from document 01 alone: explicit trees, the definitions word by word, no cleverness.
+//! As a `Reader` it can be the code under test. Read each `fault(..)` as "no": only tests/faults.rs compiles these
+//! files with faults that can be switched on.
 
 pub mod chart;
 pub mod grammar;
@@ -17,7 +16,7 @@ use walk::Given;
 
 /// Steps after which a listing is called too large.
 pub const STEPS: u64 = 40_000;
-/// Steps for the calls that have to give an answer.
+/// Steps for calls that must give an answer.
 const MANY_STEPS: u64 = 20_000_000;
 
 pub struct Lister;
@@ -30,7 +29,7 @@ fn yes_or_no(yes: bool) -> Answer {
     }
 }
 
-/// "Complete": whether the start nonterminal's bit stands in cell (0, n).
+/// "Complete": whether cell (0, n) has the bit of the start nonterminal.
 fn complete(grammar: &Grammar, chart: &[u32], n: usize) -> Answer {
     let from = usize::from(fault(Fault::CompleteFromAnotherWord)).min(n);
     yes_or_no(chart[chart::cell(from, n)] >> grammar.start & 1 == 1)
@@ -38,13 +37,10 @@ fn complete(grammar: &Grammar, chart: &[u32], n: usize) -> Answer {
 
 /// Checks 8, 9 and 10 of a call on an input; then the chart is filled.
 fn filled(flat: &FlatGrammar, input: &[u8], chart: &mut [u32]) -> Result<Grammar, Answer> {
-    judged(flat, input, chart.len(), OUTPUT).map(|grammar| {
-        chart::fill(&grammar, input, chart);
-        grammar
-    })
+    judged(flat, input, chart.len(), OUTPUT).inspect(|grammar| chart::fill(grammar, input, chart))
 }
 
-/// Checks 8 to 11 in their order.
+/// Checks 8 to 11, in order.
 pub fn judged(flat: &FlatGrammar, input: &[u8], cells: usize, output: usize) -> Result<Grammar, Answer> {
     let (nine, ten) = (input.is_empty() || input.len() > INPUT, cells < CELLS);
     let eleven = output < OUTPUT - usize::from(fault(Fault::ElevenPasses1023));
@@ -75,8 +71,8 @@ pub fn has_tree(grammar: &Grammar, input: &[u8]) -> bool {
     chart::derives(grammar, input)[0][usize::from(grammar.start)] >> input.len() & 1 == 1
 }
 
-/// The answer for what first, next or count gives; a row goes to the front of the output,
-/// and the number is how many nodes it has, or the count.
+/// The answer for what first, next or count gives. A row is written to the front of the output; the number is its
+/// number of nodes, or the count.
 fn answered(given: Given, out: &mut [u16], number: &mut usize) -> Answer {
     match given {
         Given::Row(row) => {
@@ -95,7 +91,7 @@ fn answered(given: Given, out: &mut [u16], number: &mut usize) -> Answer {
     }
 }
 
-/// The faults of the order in which taking checks 10, 14 and 15: a refusal out of turn.
+/// The faults of the order in which take makes checks 10, 14 and 15: a refusal out of turn.
 fn out_of_turn(hand: &Hand, cells: usize) -> Option<Answer> {
     let (count, ten) = (usize::from(hand[INPUT]), cells < CELLS);
     let ten_first = fault(Fault::TenBeforeFourteen) || (fault(Fault::TenBeforeAMarkOver255) && count <= INPUT);
@@ -109,6 +105,10 @@ fn out_of_turn(hand: &Hand, cells: usize) -> Option<Answer> {
 }
 
 impl Reader for Lister {
+    fn by_listing(&self) -> bool {
+        true
+    }
+
     fn load(&self, book: &[u8], flat: &mut FlatGrammar, offset: &mut usize) -> Answer {
         match grammar::load(book) {
             Err((number, at)) => {
@@ -184,10 +184,6 @@ impl Reader for Lister {
         }
     }
 
-    fn by_listing(&self) -> bool {
-        true
-    }
-
     fn first(&self, flat: &FlatGrammar, input: &[u8], chart: &mut [u32], out: &mut [u16], nodes: &mut usize) -> Answer {
         match judged(flat, input, chart.len(), out.len()) {
             Err(refused) => refused,
@@ -197,10 +193,6 @@ impl Reader for Lister {
                 answered(walk::first(&list, tree), out, nodes)
             }
         }
-    }
-
-    fn lists(&self) -> bool {
-        true
     }
 
     fn next(

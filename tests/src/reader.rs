@@ -1,4 +1,4 @@
-//! What the code under test has to offer, on plain numbers and slices.
+//! The calls of the code under test, on plain numbers and slices.
 
 /// How many 16-bit numbers a flat grammar has.
 pub const FLAT: usize = 3 + RULES * RULE_WIDTH;
@@ -20,7 +20,7 @@ pub const HAND: usize = INPUT + 1;
 /// A grammar (loaded book) as a flat row that can hold every value: start, rules
 /// used, nullable depth (blank depth), then for each of 128 rule records: left
 /// side, length (two's complement), places used, then 8 times tag (0 nonterminal,
-/// 1 terminal) and value. Each number is judged whole.
+/// 1 terminal) and value. All 16 bits of each number are checked.
 pub type FlatGrammar = [u16; FLAT];
 
 /// Where the record of a rule begins in a flat grammar.
@@ -29,7 +29,7 @@ pub fn record(rule: usize) -> usize {
 }
 
 /// A recognizer's state (document 01: plate in hand) as a row that can hold
-/// every value: 64 marks, and then their count.
+/// every value: 64 marks, then how many of them are used.
 pub type Hand = [u16; HAND];
 
 /// What a call answers.
@@ -40,28 +40,53 @@ pub enum Answer {
     No,
     /// A refusal with its number in document 01.
     Refused(u8),
-    /// First, next: a derivation of so many nodes (parts) stands in the output.
+    /// First, next: a derivation of this many nodes (parts) is in the output.
     Nodes(usize),
     /// First: "no reading".
     NoDerivation,
     /// Next: "none".
     NoneLeft,
-    /// Count: so many.
+    /// Count: this many.
     Count(usize),
     /// Count: "more".
     More,
 }
 
-/// The code under test. What is lent for writing may hold anything before a call,
-/// and what it holds after it is a result as much as the answer is.
+/// The code under test. What is lent for writing may hold anything before a call. What it holds afterwards is a result
+/// too, like the answer.
+///
+/// A reader over another one, its `inner`, has only the calls in which the two differ. All other calls go to the inner
+/// reader.
 pub trait Reader {
+    /// The reader that answers every call that this one does not have. A reader that has all calls needs no inner one.
+    fn inner(&self) -> &dyn Reader {
+        unreachable!("a reader over no other one has all calls")
+    }
+
+    /// Whether first, next and count make the whole list, so that they cannot be called where it is too large.
+    fn by_listing(&self) -> bool {
+        self.inner().by_listing()
+    }
+
     /// Always writes the grammar, and the offset with a refusal only.
-    fn load(&self, book: &[u8], grammar: &mut FlatGrammar, offset: &mut usize) -> Answer;
+    fn load(&self, book: &[u8], grammar: &mut FlatGrammar, offset: &mut usize) -> Answer {
+        self.inner().load(book, grammar, offset)
+    }
+
     /// Always writes the hand.
-    fn open(&self, grammar: &FlatGrammar, hand: &mut Hand, chart: &mut [u32]) -> Answer;
+    fn open(&self, grammar: &FlatGrammar, hand: &mut Hand, chart: &mut [u32]) -> Answer {
+        self.inner().open(grammar, hand, chart)
+    }
+
     /// Leaves the hand as found with a refusal.
-    fn take(&self, grammar: &FlatGrammar, hand: &mut Hand, terminal: u8, chart: &mut [u32]) -> Answer;
-    fn check(&self, grammar: &FlatGrammar, input: &[u8], offered: &[u16], chart: &mut [u32]) -> Answer;
+    fn take(&self, grammar: &FlatGrammar, hand: &mut Hand, terminal: u8, chart: &mut [u32]) -> Answer {
+        self.inner().take(grammar, hand, terminal, chart)
+    }
+
+    fn check(&self, grammar: &FlatGrammar, input: &[u8], offered: &[u16], chart: &mut [u32]) -> Answer {
+        self.inner().check(grammar, input, offered, chart)
+    }
+
     /// Writes the stack length, in tenths of a millimetre, with `Yes` only.
     fn length(
         &self,
@@ -70,10 +95,15 @@ pub trait Reader {
         offered: &[u16],
         chart: &mut [u32],
         tenths: &mut i32,
-    ) -> Answer;
-    fn same_build(&self, grammar: &FlatGrammar, input: &[u8], one: &[u16], other: &[u16], chart: &mut [u32]) -> Answer;
+    ) -> Answer {
+        self.inner().length(grammar, input, offered, chart, tenths)
+    }
 
-    /// Writes the output's front and the number of nodes with `Nodes` only.
+    fn same_build(&self, grammar: &FlatGrammar, input: &[u8], one: &[u16], other: &[u16], chart: &mut [u32]) -> Answer {
+        self.inner().same_build(grammar, input, one, other, chart)
+    }
+
+    /// Writes the front of the output and the number of nodes, with `Nodes` only.
     fn first(
         &self,
         grammar: &FlatGrammar,
@@ -81,28 +111,25 @@ pub trait Reader {
         chart: &mut [u32],
         out: &mut [u16],
         nodes: &mut usize,
-    ) -> Answer;
-    /// Whether first, next and count make the whole list, so that they cannot be asked where that is too large.
-    fn by_listing(&self) -> bool {
-        false
+    ) -> Answer {
+        self.inner().first(grammar, input, chart, out, nodes)
     }
 
-    /// Whether the two calls below are there.
-    fn lists(&self) -> bool;
-    /// Writes as first does; what is offered is no part of the output.
+    /// Writes as `first` does. The offered row does not overlap the output.
     fn next(
         &self,
-        _grammar: &FlatGrammar,
-        _input: &[u8],
-        _offered: &[u16],
-        _chart: &mut [u32],
-        _out: &mut [u16],
-        _nodes: &mut usize,
+        grammar: &FlatGrammar,
+        input: &[u8],
+        offered: &[u16],
+        chart: &mut [u32],
+        out: &mut [u16],
+        nodes: &mut usize,
     ) -> Answer {
-        unimplemented!("lists() is false")
+        self.inner().next(grammar, input, offered, chart, out, nodes)
     }
+
     /// Writes the count with `Count` only.
-    fn count(&self, _grammar: &FlatGrammar, _input: &[u8], _chart: &mut [u32], _count: &mut usize) -> Answer {
-        unimplemented!("lists() is false")
+    fn count(&self, grammar: &FlatGrammar, input: &[u8], chart: &mut [u32], count: &mut usize) -> Answer {
+        self.inner().count(grammar, input, chart, count)
     }
 }

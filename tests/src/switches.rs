@@ -1,13 +1,12 @@
-//! The switches of the deliberate faults, by name. In the ordinary build the answer to
-//! each is no, a constant, so that nothing of a fault is left in the code. tests/faults.rs
-//! compiles the lister once more, with switches of its own that it can turn on.
+//! The switches of the deliberate faults, by name. In the ordinary build every switch is off, by a constant, so no
+//! fault is left in the code. tests/faults.rs compiles the lister again, with switches that it can turn on.
 
 /// Whether a fault is switched on: none is.
 pub const fn fault(_: Fault) -> bool {
     false
 }
 
-/// The number; with that fault, of which there is none, only its low byte.
+/// The number; with the fault, which is always off here, only its low byte.
 pub const fn low_byte(number: u16, _: Fault) -> u16 {
     number
 }
@@ -23,7 +22,7 @@ macro_rules! faults {
         }
 
         impl Fault {
-            /// Every one that has to be caught.
+            /// All faults that must be caught.
             pub const ALL: &'static [Fault] = &[$(Fault::$name),*];
         }
     };

@@ -1,5 +1,4 @@
-//! What the listing program has to print, from document 01 alone, for the bytes of a
-//! book and those of a plate.
+//! What the listing program must print for the bytes of a book and of a plate, from document 01 alone.
 
 mod in_order;
 
@@ -13,11 +12,11 @@ use crate::reader::INPUT;
 
 /// The most readings that are printed and counted.
 pub const MOST: usize = 4096;
-/// Steps of the search in order after which a list is called too large.
+/// Steps of the search in order, after which a list is called too large.
 const SEARCH_STEPS: u64 = 1_000_000;
 
-/// What is printed: "the book is judged first", then the plate (check 9), then its
-/// trees. Of a list that is too large to make, only as much as is printed is looked for.
+/// What is printed: "the book is judged first", then the plate (check 9), then its trees. If the list is too large,
+/// only the part that is printed is searched for.
 pub fn text(book: &[u8], plate: &[u8]) -> Result<Vec<u8>, TooLarge> {
     let grammar = match judged(book, plate) {
         Ok(grammar) => grammar,
@@ -28,7 +27,7 @@ pub fn text(book: &[u8], plate: &[u8]) -> Result<Vec<u8>, TooLarge> {
     Ok(list_text(&grammar, &list, has_tree(&grammar, plate)))
 }
 
-/// The grammar of a book that loads, for a plate that check 9 lets through; or the refusal's number.
+/// The grammar, if the book loads and check 9 accepts the plate; or the refusal's number.
 pub fn judged(book: &[u8], plate: &[u8]) -> Result<Grammar, u8> {
     let grammar = grammar::load(book).map_err(|(number, _)| number)?;
     match plate.len() {

@@ -1,5 +1,5 @@
-//! The plates from the drawer (document 01) and the named cases, with the results
-//! written out by hand, run on the reader under test.
+//! The plates from the drawer (document 01) and the named cases, run on the reader under test. The results are
+//! written out by hand.
 
 #[allow(dead_code)] // not all of it is called from here
 mod calls;
@@ -11,7 +11,7 @@ use outside_tests::lister::{self, trees, walk::Given};
 use outside_tests::reader::{record, Answer, Reader, CELLS, FLAT, OUTPUT};
 use outside_tests::reader_under_test;
 
-/// Everything that the random comparison does, on this book and input.
+/// Everything that the random comparison does, with this book and input.
 fn compared(book: &[u8], input: &[u8]) {
     let mut counts = Counts::default();
     let mut comparison = Comparison { reader: &reader_under_test(), rng: Rng::new(7), counts: &mut counts };
@@ -19,9 +19,8 @@ fn compared(book: &[u8], input: &[u8]) {
     comparison.input(&flat, input).expect("no difference");
 }
 
-/// All readings of the input, from the lister, each one checked by the reader, which
-/// hands out the first; the number of them for a reader that lists is its own count,
-/// and it hands out the others too.
+/// All readings of the input, as the lister lists them. The reader accepts each of them,
+/// hands out the first 21 of them in order, and counts as many.
 fn listed(book: &[u8], input: &[u8]) -> Vec<Vec<u16>> {
     let (flat, reader) = (loaded(book), reader_under_test());
     let grammar = lister::grammar::from_flat(&flat).expect("loaded");
@@ -31,24 +30,22 @@ fn listed(book: &[u8], input: &[u8]) -> Vec<Vec<u16>> {
         assert_eq!(check(&flat, input, reading), Answer::Yes);
     }
     assert_eq!(first(&flat, input), lister::walk::first(&list, tree));
-    if reader.lists() {
-        let mut chart = rubbish(&mut Rng::new(5), CELLS);
-        let due = match lister::walk::count(&list, tree) {
-            Given::Count(count) => Answer::Count(count),
-            Given::More => Answer::More,
-            _ => Answer::Refused(13),
-        };
-        assert_eq!(reader.count(&flat, input, chart.part_mut(), &mut 0), due);
-        let (mut out, mut nodes) = ([7; OUTPUT], 0);
-        for (at, reading) in list.iter().enumerate().take(20) {
-            let answer = reader.next(&flat, input, reading, chart.part_mut(), &mut out, &mut nodes);
-            match list.get(at + 1) {
-                Some(next) => {
-                    assert_eq!((answer, nodes), (Answer::Nodes(next.len() / 2), next.len() / 2));
-                    assert_eq!(&out[..next.len()], &next[..]);
-                }
-                None => assert_eq!(answer, Answer::NoneLeft),
+    let mut chart = rubbish(&mut Rng::new(5), CELLS);
+    let due = match lister::walk::count(&list, tree) {
+        Given::Count(count) => Answer::Count(count),
+        Given::More => Answer::More,
+        _ => Answer::Refused(13),
+    };
+    assert_eq!(reader.count(&flat, input, chart.part_mut(), &mut 0), due);
+    let (mut out, mut nodes) = ([7; OUTPUT], 0);
+    for (at, reading) in list.iter().enumerate().take(20) {
+        let answer = reader.next(&flat, input, reading, chart.part_mut(), &mut out, &mut nodes);
+        match list.get(at + 1) {
+            Some(next) => {
+                assert_eq!((answer, nodes), (Answer::Nodes(next.len() / 2), next.len() / 2));
+                assert_eq!(&out[..next.len()], &next[..]);
             }
+            None => assert_eq!(answer, Answer::NoneLeft),
         }
     }
     list

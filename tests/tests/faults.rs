@@ -1,7 +1,6 @@
-//! The harness is not blind: deliberate faults in the lister, and readers that leave a
-//! lent place unwritten, each caught by the comparison over the same books that the
-//! random test uses. The lister's files are compiled here once more, with faults to
-//! switch on; the comparison's own lister is the ordinary one.
+//! The harness is not blind: the comparison must catch deliberate faults in the lister, and readers that leave a lent
+//! place unwritten, over the books of the random test. The lister's files are compiled here again, with faults that
+//! can be switched on. The comparison's own lister is the ordinary one.
 
 mod faulty;
 #[allow(dead_code)] // not all of it is called from here
@@ -19,11 +18,11 @@ use outside_tests::compare::{compare_book, compare_boundary, play_book, Counts};
 use outside_tests::reader::{self, Reader};
 use std::sync::atomic::{AtomicUsize, Ordering};
 
-/// A fault has to be caught within so many books.
+/// A fault must be caught within this many books. After `SOME` of them come the books at the limit of count.
 const WITHIN: u64 = 400;
 const SOME: u64 = 40;
 
-/// The seed of the first book that shows a difference, with its text; after some of them come the books at the boundary of count.
+/// The seed of the first book that shows a difference, and the text of the difference.
 fn caught(reader: &dyn Reader) -> Option<(u64, String)> {
     let mut random = (0..WITHIN).map(|seed| {
         let book = book(seed);
@@ -38,7 +37,7 @@ fn caught(reader: &dyn Reader) -> Option<(u64, String)> {
     random.by_ref().take(SOME as usize).flatten().next().or_else(boundary).or_else(|| random.flatten().next())
 }
 
-/// Tries all cases on two threads; none may be missed.
+/// Tries all cases on two threads. None may be missed.
 fn all_caught<T: Sync>(cases: &[(String, T)], try_one: impl Fn(&T) -> Option<(u64, String)> + Sync) {
     let turn = AtomicUsize::new(0);
     let work = || {
@@ -73,7 +72,7 @@ fn every_fault_is_caught() {
     });
 }
 
-/// Faults where the list is too large for the lister to make: the library, but for one answer.
+/// Faults where the list is too large for the lister: the library with one wrong answer.
 #[cfg(feature = "library")]
 #[test]
 fn every_fault_with_large_lists_is_caught() {
@@ -88,7 +87,7 @@ fn every_place_left_unwritten_is_caught() {
     all_caught(&readers, |which| caught(which));
 }
 
-/// The faults that the walk of demand 3 has to turn down by itself.
+/// The faults that the walk of demand 3 must catch by itself.
 #[test]
 fn the_walk_alone_catches_what_it_has_to() {
     let faults = [
@@ -130,7 +129,7 @@ fn the_walk_alone_catches_what_it_has_to() {
     });
 }
 
-/// No difference over so many books.
+/// There is no difference over this many books.
 fn passes(reader: &dyn Reader, books: u64) {
     for seed in 0..books {
         compare_book(reader, &book(seed), seed, &mut Counts::default()).expect("no difference");

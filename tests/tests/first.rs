@@ -1,5 +1,5 @@
-//! First of the proved library on the books that betray a search, on full books, and
-//! at its deepest: each call on a thread of 2 MiB, Rust's default, and within 10 s.
+//! First of the proved library on books that are hard for a search, on full books, and at its deepest. Each call runs
+//! on a thread of 2 MiB, Rust's default, and within 10 s.
 #![cfg(feature = "library")]
 
 #[allow(dead_code)] // not all of it is called from here
@@ -15,10 +15,10 @@ use outside_tests::reader_under_test;
 use std::sync::mpsc::channel;
 use std::time::{Duration, Instant};
 
-/// The longest that a call may take: a search that blows up fails, and does not hang.
+/// The longest time that a call may take: a search that takes forever fails instead of hanging.
 const CAP: Duration = Duration::from_secs(10);
 
-/// First, on a thread of its own; also how long it took.
+/// Calls first on a thread of its own; also returns how long it took.
 fn timed(flat: &FlatGrammar, input: &[u8]) -> (Given, Duration) {
     let (flat, input, (send, receive)) = (*flat, input.to_vec(), channel());
     let call = move || {
@@ -30,7 +30,7 @@ fn timed(flat: &FlatGrammar, input: &[u8]) -> (Given, Duration) {
     receive.recv_timeout(CAP).expect("an answer within 10 s")
 }
 
-/// First of a book: what is handed out passes the reader's own check and the lister's.
+/// First of a book: the reader's own check and the lister's accept what is handed out.
 fn handed(book: &[u8], input: &[u8]) -> Given {
     let flat = loaded(book);
     let (given, _) = timed(&flat, input);
@@ -75,9 +75,8 @@ fn complete_unit_graphs() {
     }
 }
 
-/// k -> eight of k + 1 for each k below 31, 31 -> nothing, 31 -> A; then k -> A for
-/// each k, if asked for. Every kind is nullable, but its least empty tree has 8 nodes
-/// for one of the next kind.
+/// k -> eight of k + 1 for each k below 31, 31 -> nothing, 31 -> A; then k -> A for each k, if asked for. Every kind
+/// is nullable, but its least empty tree contains 8 trees of the next kind.
 fn wide(marks: bool) -> Vec<u8> {
     let mut rules: Vec<String> = (0..31).map(|k| format!("{k}:{}", format!(" {}", k + 1).repeat(8))).collect();
     rules.extend(["31:".to_string(), "31: A".to_string()]);
@@ -96,7 +95,7 @@ fn a_wide_rule_for_each_kind() {
     assert_eq!(handed(&wide(true), b"AA"), Given::Refused(13));
     let eight = [&[8, 0][..], &[1, 34].repeat(8)].concat();
     assert_eq!(handed(&wide(true), &[b'A'; 8]), Given::Row(eight));
-    // Seven children of one mark each, and the last covers the rest: nine levels.
+    // Seven children cover one mark each, and the last covers the rest: nine levels.
     let mut chain: Vec<u16> = (0..9).flat_map(|k| [&[64 - 7 * k, k][..], &[1, 34 + k].repeat(7)].concat()).collect();
     chain.extend([1, 42]);
     assert_eq!(handed(&wide(true), &[b'A'; 64]), Given::Row(chain));
@@ -104,22 +103,21 @@ fn a_wide_rule_for_each_kind() {
 
 #[test]
 fn a_forbidden_ancestor() {
-    // The least tree of 2 is 2 -> 1 -> A, which may not stand below 1; the other way costs 66 nodes with 1. Seven of
-    // eight fit into 512 nodes beside a last one of 1 node.
+    // The least tree of 2 is 2 -> 1 -> A, which may not occur below 1; the other way costs 66 nodes with 1. Seven of
+    // eight fit into 512 nodes together with a last one of 1 node.
     let rules =
         ["0: 1 1 1 1 1 1 1 1", "1: 2", "2: 1", "2: 3", "1: A", "3: A 4 4 4 4 4 4 4", "4: 5 5 5 5 5 5 5 5", "5:"];
-    let dear = [&[1, 1, 1, 3, 1, 5][..], &[&[0, 6][..], &[0, 7].repeat(8)].concat().repeat(7)].concat();
-    let due = [&[8, 0][..], &dear.repeat(7), &[1, 4]].concat();
+    let expensive = [&[1, 1, 1, 3, 1, 5][..], &[&[0, 6][..], &[0, 7].repeat(8)].concat().repeat(7)].concat();
+    let due = [&[8, 0][..], &expensive.repeat(7), &[1, 4]].concat();
     assert_eq!(handed(&book(0, &rules), &[b'A'; 8]), Given::Row(due));
     // Over no mark: 1 -> 2 -> 1 is superfluous, 1 -> 2 -> 3 -> four of 4 is not.
     let rules = ["0: A 1", "1: 2", "2: 1", "2: 3", "1:", "3: 4 4 4 4", "4:"];
     assert_eq!(handed(&book(0, &rules), b"A"), Given::Row(row("1.0 0.1 0.3 0.5 0.6 0.6 0.6 0.6")));
-    // A kind over fewer marks is no ancestor that forbids.
+    // An ancestor of the same kind that covers more marks does not forbid.
     assert_eq!(handed(&book(0, &["0: 0 A", "0: A"]), b"AAA"), Given::Row(row("3.0 2.0 1.1")));
 }
 
-/// Of full books the list is too large: what is handed out is judged, and no answer
-/// but it takes the lister's word.
+/// The list of a full book is too large. What is handed out is checked; for any other answer the lister is trusted.
 #[test]
 fn full_books() {
     let half = |parity: u64| {
@@ -156,7 +154,7 @@ fn the_deepest_reading_is_handed_out() {
     let deep = deepest();
     assert_eq!(handed(&deep, &[b'A'; 16]), Given::Row(deepest_row(16)));
     assert_eq!(handed(&deep, &[b'A'; 17]), Given::Refused(13));
-    // The same with four marks a turn: 64 marks.
+    // The same with four marks per turn: 64 marks.
     let mut rules: Vec<String> = (0..31).map(|k| format!("{k}: {}", k + 1)).collect();
     rules.extend(["31: A A A A 0".to_string(), "31: A A A A".to_string()]);
     let due = deepest_row(16).chunks(2).flat_map(|node| [4 * node[0], node[1]]).collect();
@@ -181,7 +179,7 @@ fn refusals_in_their_order() {
     ];
     for (flat, input, cells, numbers, due) in cases {
         let mut rng = Rng::new(8);
-        let (mut chart, mut out) = (rubbish(&mut rng, cells), Lent::filled(numbers, || rng.next() as u16));
+        let (mut chart, mut out) = (rubbish(&mut rng, cells), Lent::filled(numbers, || rng.draw() as u16));
         let (found, found_out, mut nodes) = (chart.clone(), out.clone(), 77);
         let answer = reader_under_test().first(flat, input, chart.part_mut(), out.part_mut(), &mut nodes);
         assert_eq!(answer, due);

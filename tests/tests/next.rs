@@ -1,6 +1,5 @@
-//! Next and count of the proved library on the named cases, on the books that betray a
-//! search, on full books, and at their deepest: each call on a thread of 2 MiB, Rust's
-//! default, and within 10 s.
+//! Next and count of the proved library on the named cases, on books that are hard for a search, on full books, and
+//! at their deepest. Each call runs on a thread of 2 MiB, Rust's default, and within 10 s.
 #![cfg(feature = "library")]
 
 #[allow(dead_code)] // not all of it is called from here
@@ -16,10 +15,10 @@ use outside_tests::reader_under_test;
 use std::sync::mpsc::channel;
 use std::time::{Duration, Instant};
 
-/// The longest that a call may take: a search that blows up fails, and does not hang.
+/// The longest time that a call may take: a search that takes forever fails instead of hanging.
 const CAP: Duration = Duration::from_secs(10);
 
-/// A call, on a thread of its own; also how long it took.
+/// Makes a call on a thread of its own; also returns how long it took.
 fn timed(call: impl FnOnce() -> Given + Send + 'static) -> (Given, Duration) {
     let (send, receive) = channel();
     let call = move || {
@@ -46,7 +45,7 @@ fn counted(flat: &FlatGrammar, input: &[u8]) -> Given {
     timed(move || count(&flat, &input)).0
 }
 
-/// The readings from the first on, at most so many; whether the last of them is the last of all.
+/// The readings from the first on, at most this many, and whether the last of them is the last of all.
 fn walked(flat: &FlatGrammar, input: &[u8], most: usize) -> (Vec<Vec<u16>>, bool) {
     let (mut all, mut given) = (Vec::new(), firsted(flat, input));
     while let Given::Row(row) = given {
@@ -60,7 +59,7 @@ fn walked(flat: &FlatGrammar, input: &[u8], most: usize) -> (Vec<Vec<u16>>, bool
     (all, given == Given::NoneLeft)
 }
 
-/// All readings, by first and next, are the lister's, and so is the count.
+/// All readings, by first and next, are those of the lister, and so is the count.
 fn all_of(book: &[u8], input: &[u8]) -> usize {
     let flat = loaded(book);
     let (list, tree) = lister::listed(&grammar::from_flat(&flat).expect("loaded"), input);
@@ -108,7 +107,7 @@ fn nodes_up_to_512() {
     assert_eq!(counted(&over, b"A"), Given::Refused(13));
     assert_eq!(nexted(&over, b"A", &[&[1, 4], &most[..]].concat()), Given::Refused(12));
     assert_eq!(nexted(&over, b"A", &most), Given::Refused(12));
-    // A bush that leaves 30 nodes beside pairs: of 1 to 11 marks all fit, of 16 none does.
+    // A bush that leaves 30 nodes for pairs: with 1 to 11 marks all readings fit, with 16 none does.
     let bushy = |n: usize| {
         let core = ["0: 1 4", "1: 1 1", "1: A", "1: 5", "5: 6", "6: A", "4: 2 2 2 2 2 2", "2: 3 3 3 3 3 3 3 3"];
         let rules = [&core[..], &["3: 7 7 7 7 7 7 7 7", "7:"]].concat();
@@ -125,7 +124,7 @@ fn the_deepest_reading_is_the_last() {
     assert_eq!(nexted(&deep, &[b'A'; 16], &deepest_row(16)), Given::NoneLeft);
     assert_eq!(counted(&deep, &[b'A'; 17]), Given::Refused(13));
     assert_eq!(nexted(&deep, &[b'A'; 17], &deepest_row(17)), Given::Refused(12));
-    // With a twin of 0 -> 1, rule 33: 2 to the 16 readings; at each 0, from the root on, the one or the other.
+    // With a twin of 0 -> 1, rule 33: 2 to the 16 readings. Each 0, from the root on, has one or the other.
     let mut rules: Vec<String> = (0..31).map(|k| format!("{k}: {}", k + 1)).collect();
     rules.extend(["31: A 0".to_string(), "31: A".to_string(), "0: 1".to_string()]);
     let twin = loaded(&book(0, &texts(&rules)));
@@ -191,7 +190,7 @@ fn small_books_to_their_end() {
     all_of(&book(0, &["0: 1 0 A", "0: A", "0: 2", "2: 0", "1:", "1: A"]), &[b'A'; 6]);
 }
 
-/// Of full books the list is too large: what is handed out is judged by the lister.
+/// The list of a full book is too large: the lister checks what is handed out.
 #[test]
 fn full_books() {
     let half = |parity: u64| {
@@ -221,13 +220,16 @@ fn full_books() {
     assert!(one.0 + other.0 >= 60, "{} {}", one.0, other.0);
 }
 
+/// A grammar, an input, an offered row, the lengths of chart and output, and the expected answer.
+type Case<'a> = (&'a FlatGrammar, &'a [u8], &'a [u16], usize, usize, Answer);
+
 #[test]
 fn refusals_in_their_order() {
     let rules = ["0: 1 1", "1:", "1: A"];
     let (good, mut bad) = (loaded(&book(0, &rules)), loaded(&book(0, &rules)));
     bad[0] = 32;
     let (long, reading, other) = ([b'A'; 65], row("1.0 0.1 1.2"), row("1.0 0.1 0.1"));
-    let cases: [(&FlatGrammar, &[u8], &[u16], usize, usize, Answer); 11] = [
+    let cases: [Case<'_>; 11] = [
         (&bad, &[], &other, CELLS - 1, OUTPUT - 1, Answer::Refused(8)),
         (&bad, b"A", &reading, CELLS, OUTPUT, Answer::Refused(8)),
         (&good, &[], &other, CELLS - 1, OUTPUT - 1, Answer::Refused(9)),
@@ -242,7 +244,7 @@ fn refusals_in_their_order() {
     ];
     for (flat, input, offered, cells, numbers, due) in cases {
         let mut rng = Rng::new(8);
-        let (mut chart, mut out) = (rubbish(&mut rng, cells), Lent::filled(numbers, || rng.next() as u16));
+        let (mut chart, mut out) = (rubbish(&mut rng, cells), Lent::filled(numbers, || rng.draw() as u16));
         let (found, found_out, mut nodes) = (chart.clone(), out.clone(), 77);
         let answer = reader_under_test().next(flat, input, offered, chart.part_mut(), out.part_mut(), &mut nodes);
         assert_eq!(answer, due);

@@ -1,5 +1,5 @@
-//! The built listing program beside the lister's text, byte for byte: random books, the
-//! plates from the drawer and the named cases; nothing on standard error, exit status 0.
+//! Compares the built listing program with the lister's text, byte for byte, on random books, the plates from the
+//! drawer and the named cases. It prints nothing on standard error, and exits with status 0.
 #![cfg(feature = "library")]
 
 #[allow(dead_code)] // not all of it is called from here
@@ -22,7 +22,7 @@ const BOOKS: u64 = 1300;
 /// Plates of each.
 const PLATES: usize = 3;
 
-/// How often each outcome has to come up at least.
+/// How often each outcome must come up at least.
 const DUE: &[(&str, u64)] = &[
     ("book", 1000),
     ("REFUSED 1", 20),
@@ -44,7 +44,7 @@ const DUE: &[(&str, u64)] = &[
 /// Full books compared in a run.
 const FULL_BOOKS: u64 = 6;
 
-/// The rows of printed lines, if there are so many lines and a last one.
+/// The rows of the printed lines, if there are this many lines and a last one.
 fn rows(printed: &[u8]) -> Option<(Vec<Vec<u16>>, String)> {
     let text = std::str::from_utf8(printed).ok()?.strip_suffix('\n')?;
     let mut lines: Vec<&str> = text.split('\n').collect();
@@ -62,8 +62,8 @@ fn rows(printed: &[u8]) -> Option<(Vec<Vec<u16>>, String)> {
     Some((rows?, last))
 }
 
-/// Where even the front of the list is too large to make: what is printed has to be readings by the
-/// lister, in rising order, each in its line, and as many as the last line says.
+/// Where even the front of the list is too large: by the lister, what is printed must be readings, in rising order,
+/// each on its line, and as many as the last line says.
 fn judge(grammar: &Grammar, plate: &[u8], printed: &[u8]) -> Result<(), String> {
     if printed == b"REFUSED 13\n" && has_tree(grammar, plate) {
         return Ok(());
@@ -87,7 +87,7 @@ fn judge(grammar: &Grammar, plate: &[u8], printed: &[u8]) -> Result<(), String> 
     Err(format!("{} lines, then {last:?}", rows.len()))
 }
 
-/// What a text says, to be counted.
+/// The sort of a text, to be counted.
 fn outcome(text: &[u8]) -> String {
     let text = String::from_utf8_lossy(text);
     match text.lines().last().unwrap_or_default() {
@@ -98,7 +98,7 @@ fn outcome(text: &[u8]) -> String {
     }
 }
 
-/// The program beside the lister on a book and three of its plates; a book that is refused gets one.
+/// Compares the program with the lister on a book and three of its plates; a refused book gets one plate.
 fn compare(folder: &Folder, book: &Book, seed: u64, counts: &mut Counts) -> Result<(), String> {
     folder.put(&book.bytes);
     counts.add("book");
@@ -117,7 +117,7 @@ fn compare(folder: &Folder, book: &Book, seed: u64, counts: &mut Counts) -> Resu
                 let grammar = judged(&book.bytes, plate).expect("it is not refused");
                 let (printed, ..) = folder.ran(plate);
                 judge(&grammar, plate, &printed).map_err(said)?;
-                folder.prints(plate, &printed).map_err(said)?; // the same again, and no fault said
+                folder.prints(plate, &printed).map_err(said)?; // the same again, and no error
                 counts.add("too large, judged");
             }
         }
@@ -161,7 +161,7 @@ fn prints(book: &[u8], plate: &[u8], due: &str) {
     Folder::with(book).prints(plate, due.as_bytes()).expect("no difference");
 }
 
-/// The program prints what the lister does, so many readings and this last line.
+/// The program prints what the lister does: this many readings, and this last line.
 fn prints_so_many(book: &[u8], plate: &[u8], readings: usize, last: &str) {
     let due = text(book, plate).expect("small enough");
     let lines: Vec<&str> = std::str::from_utf8(&due).expect("ASCII").lines().collect();
@@ -206,8 +206,8 @@ fn exactly_4096_and_one_more() {
     assert!(text(&boundary(true).bytes, &[b'A'; 12]).expect("small enough").starts_with(first.as_bytes()));
 }
 
-/// Texts from less than a page (64 KiB, of which the last 8 KiB may stay free) to two pages: t twin rules for each of two marks make t * t
-/// readings.
+/// Texts from less than a page (64 KiB, of which the last 8 KiB may stay free) to two pages: with t twin rules for
+/// each of two marks there are t * t readings.
 #[test]
 fn texts_of_about_one_page() {
     let (mut shortest, mut longest) = (usize::MAX, 0);
@@ -224,7 +224,7 @@ fn texts_of_about_one_page() {
     assert!(shortest < 57_344 && 65_536 < longest, "from {shortest} to {longest} bytes");
 }
 
-/// 512 parts, also with the longest line, and 513.
+/// 512 parts, also with the longest line; and 513 parts.
 #[test]
 fn the_limit_of_512() {
     for each in [0, i16::MIN, i16::MAX] {
@@ -241,7 +241,7 @@ fn the_limit_of_512() {
     }
 }
 
-/// 512 parts nested 512 deep, on 16 marks and on 64: the most that the program's stack has to hold.
+/// 512 parts nested 512 deep, with 16 marks and with 64: the most that the program's stack must hold.
 #[test]
 fn the_deepest_reading() {
     for turn in [1, 4] {
@@ -258,7 +258,7 @@ fn the_deepest_reading() {
     prints(&deepest(), &[b'A'; 17], "REFUSED 13\n");
 }
 
-/// Each byte is a mark, also a newline, 0 and 255.
+/// Each byte is a mark, including a newline, 0 and 255.
 #[test]
 fn every_byte_is_a_mark() {
     let folder = Folder::new();
@@ -274,7 +274,7 @@ fn every_byte_is_a_mark() {
     }
 }
 
-/// 128 rules of 8 places but for some, 64 marks: the most work.
+/// 128 rules, most of them of 8 places, and 64 marks: the most work.
 #[test]
 fn full_books() {
     let mut counts = Counts::default();

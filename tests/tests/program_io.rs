@@ -1,5 +1,5 @@
-//! The built listing program at its edges: books that are missing, cannot be read or are
-//! too long, plates of every length and kind of input, and output that cannot be written.
+//! The built listing program at its edges: books that are missing, unreadable or too long, plates of every length and
+//! kind of input, and output that cannot be written.
 #![cfg(feature = "library")]
 
 #[allow(dead_code)] // not all of it is called from here
@@ -19,14 +19,14 @@ use std::time::Duration;
 
 /// 100,000 bytes: more than the program reads of a book or a plate, and more than a pipe holds.
 const MANY: usize = 100_000;
-/// The signal that ends a program which writes to a pipe that nobody reads.
+/// The signal that ends a program when it writes to a pipe that nobody reads.
 const SIGPIPE: i32 = 13;
 
 fn pairs() -> Vec<u8> {
     book(0, &["0: 0 0", "0: A"])
 }
 
-/// The program prints what the lister does, and this is it.
+/// The program prints what the lister does, and it is this text.
 fn prints(book: &[u8], plate: &[u8], due: &str) {
     assert_eq!(String::from_utf8(text(book, plate).expect("small enough")).expect("ASCII"), due);
     Folder::with(book).prints(plate, due.as_bytes()).expect("no difference");
@@ -44,7 +44,7 @@ fn a_book_that_is_not_there_is_empty() {
     }
 }
 
-/// A book of as many bytes as the longest that loads has, 2,563: 128 rules of 8 places.
+/// A book with as many bytes as the longest that loads, 2,563: 128 rules of 8 places.
 fn longest() -> Vec<u8> {
     let mut draft = Draft::new(0);
     draft.rules.push((0, -15, vec![Sym::T(b'A'); 8]));
@@ -62,7 +62,7 @@ fn books_of_every_length() {
     let (more, places) = ([&longest[..2562], &[0x20, 0, 0, 0]].concat(), [&longest[..2562], &[0x40, 0]].concat());
     prints(&[&more[..], &[0x50]].concat(), b"A", "REFUSED 5\n");
     prints(&[&places[..], &[0x50]].concat(), b"A", "REFUSED 6\n");
-    // Followed by junk: at the sizes of buffers, one byte on either side of them, and much longer.
+    // Followed by junk: up to the sizes of buffers, one byte less and one more, and much longer.
     for length in [2564, 4095, 4096, 4097, 8191, 8192, 8193, 65_536, MANY] {
         for (junk, filler) in [(0x50, 0x30), (0x00, 0xFF), (0x20, 0x00)] {
             for book in [&pairs(), &longest] {
@@ -109,7 +109,7 @@ fn plates_of_every_length() {
     }
 }
 
-/// A plate from a file, in pieces through a pipe, and none at all.
+/// A plate from a file, a plate in pieces through a pipe, and no plate.
 #[test]
 fn plates_from_everywhere() {
     let line = book(0, &["0: A 0", "0: A"]);
@@ -128,7 +128,7 @@ fn plates_from_everywhere() {
         let mut child = folder.command(&program()).spawn().expect("the program starts");
         let mut pipe = child.stdin.take().expect("a pipe");
         for piece in pieces {
-            let _ = pipe.write_all(&vec![b'A'; *piece]); // after 65 marks nobody need read on
+            let _ = pipe.write_all(&vec![b'A'; *piece]); // after 65 marks nobody needs to read on
             std::thread::sleep(Duration::from_millis(20));
         }
         drop(pipe);
@@ -141,7 +141,7 @@ fn plates_from_everywhere() {
     }
 }
 
-/// Runs the program through a shell that first redirects: how it ends, what it prints, and what it says of faults.
+/// Runs the program in a shell that first redirects: returns how it ends, what it prints, and its errors.
 fn shell(folder: &Folder, redirection: &str, plate: &[u8]) -> (Option<i32>, Vec<u8>, String) {
     let mut command = folder.command(Path::new("sh"));
     command.args(["-c", &format!("exec \"$0\" {redirection}")]).arg(program());
@@ -150,7 +150,7 @@ fn shell(folder: &Folder, redirection: &str, plate: &[u8]) -> (Option<i32>, Vec<
     (status.code(), folder.written("stdout"), said)
 }
 
-/// The program leaves its folder as it finds it.
+/// The program leaves its folder as found.
 #[test]
 fn nothing_but_the_output_is_written() {
     for (book, plate) in [(pairs(), 9), (pairs(), 0), (longest(), 8), (vec![0x50; MANY], 1)] {
@@ -167,7 +167,7 @@ fn nothing_but_the_output_is_written() {
     assert_eq!(fs::read_dir(bare.run()).expect("a folder").count(), 0);
 }
 
-/// Short and long texts: a line that is written at the end, and many that are written in pieces.
+/// Short and long texts: a line that is written at the end, and many lines that are written in pieces.
 const SHORT_AND_LONG: [usize; 3] = [1, 9, 10];
 
 #[test]
@@ -198,7 +198,7 @@ fn a_closed_output_is_named() {
     assert_eq!((code, stdout), (Some(0), vec![]));
 }
 
-/// A text through a pipe that is read slowly: more than a pipe holds.
+/// A text through a pipe that is read slowly: it is longer than a pipe holds.
 #[test]
 fn a_slow_reader_gets_all() {
     let due = text(&pairs(), &[b'A'; 10]).expect("small enough");
@@ -221,7 +221,7 @@ fn a_slow_reader_gets_all() {
     assert_eq!(folder.written("stderr"), b"");
 }
 
-/// A pipe that nobody reads, from the start on or after some bytes, ends the program, and it says nothing.
+/// A pipe that nobody reads, from the start or after some bytes, ends the program without a message.
 #[test]
 fn a_closed_pipe_ends_the_program() {
     let folder = Folder::with(&pairs());
@@ -239,7 +239,7 @@ fn a_closed_pipe_ends_the_program() {
         assert_eq!(status.signal(), Some(SIGPIPE), "{marks} marks, {bytes} bytes read: {status}");
         assert_eq!(folder.written("stderr"), b"");
     }
-    // The same signal ends any program here: the test does not pass its own ignoring of it on.
+    // The same signal ends any program here: the test does not pass on that it ignores the signal.
     let mut yes = Command::new("yes").stdout(Stdio::piped()).spawn().expect("yes");
     drop(yes.stdout.take());
     assert_eq!(ended(&mut yes).signal(), Some(SIGPIPE));

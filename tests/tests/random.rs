@@ -1,7 +1,6 @@
-//! Random books from fixed seeds: the reader under test beside the lister. What
-//! came up is printed, and each outcome has to come up often enough. FILBOZSEG_SEED=N
-//! runs other books, of the seeds from N on; a difference is printed with the seed of
-//! its book and the book itself.
+//! Random books from fixed seeds: compares the reader under test with the lister. The outcomes are printed, and each
+//! must come up often enough. FILBOZSEG_SEED=N runs other books, with the seeds from N on. A difference is printed
+//! with its book and the book's seed.
 
 use outside_tests::books::{book, first_seed, SEED};
 use outside_tests::compare::{compare_book, compare_boundary, Counts};
@@ -12,7 +11,7 @@ use std::time::Instant;
 /// Books compared in a run.
 const BOOKS: u64 = 1300;
 
-/// How often each outcome has to come up at least.
+/// How often each outcome must come up at least.
 const DUE: &[(&str, u64)] = &[
     ("book", 1000),
     // Loading: the books themselves, and each of them damaged in thirty ways.
@@ -88,53 +87,7 @@ const DUE: &[(&str, u64)] = &[
     ("first: refused 10", 500),
     ("first: refused 11", 300),
     ("first: refused 13", 50),
-    // Styles.
-    ("style: plain", 40),
-    ("style: nullable", 40),
-    ("style: unit cycles", 40),
-    ("style: left recursion", 40),
-    ("style: twin rules", 40),
-    ("style: kinds without rules", 40),
-    ("style: forbidden ancestor", 40),
-    ("style: beside a bush", 80),
-    ("style: forbidden ancestor beside a bush", 40),
-    ("style: near the limits", 40),
-    ("style: dense", 40),
-    ("style: expressions", 40),
-    ("style: soup", 30),
-    ("style: damaged", 100),
-];
-
-/// The numbers that check 8 judges, and how they are out of range: each of the one
-/// comes up in each of the other, so often at least.
-const JUDGED: &[&str] =
-    &["a start", "a number of rules", "a left side", "a number of places", "a tag", "a kind", "a mark"];
-const OUT_OF_RANGE: &[(&str, u64)] = &[
-    ("one over", 80),
-    ("up to 255", 80),
-    ("256", 30),
-    ("257", 25),
-    ("low byte in range", 90),
-    ("low byte out of range", 45),
-    ("65,535", 25),
-];
-/// A mark up to 255 is in range, so is the low byte of any, and one over is 256.
-const NO_SUCH: &[&str] = &["a mark, up to 255", "a mark, 256", "a mark, low byte out of range"];
-
-/// The same for a reader that hands out the first without listing.
-const DUE_UNLISTED: &[(&str, u64)] = &[("first, too many to list: handed out", 5)];
-
-/// The same for one that also hands out the next and counts without listing.
-const DUE_UNLISTED_NEXT: &[(&str, u64)] = &[
-    ("next, too many to list", 5),
-    ("more than 4,096", 60),
-    ("count: more", 60),
-    ("next: every derivation offered", 3000),
-    ("next: some offered", 80),
-];
-
-/// The same for a reader that lists.
-const DUE_LISTING: &[(&str, u64)] = &[
+    // Next, count and walks.
     ("walk: First", 3000),
     ("walk: NextWithCopy", 5000),
     ("walk: NextWithNoDerivation", 800),
@@ -152,6 +105,46 @@ const DUE_LISTING: &[(&str, u64)] = &[
     ("count: refused 9", 2000),
     ("count: refused 10", 500),
     ("count: refused 13", 50),
+    // Styles.
+    ("style: plain", 40),
+    ("style: nullable", 40),
+    ("style: unit cycles", 40),
+    ("style: left recursion", 40),
+    ("style: twin rules", 40),
+    ("style: kinds without rules", 40),
+    ("style: forbidden ancestor", 40),
+    ("style: beside a bush", 80),
+    ("style: forbidden ancestor beside a bush", 40),
+    ("style: near the limits", 40),
+    ("style: dense", 40),
+    ("style: expressions", 40),
+    ("style: soup", 30),
+    ("style: damaged", 100),
+];
+
+/// The numbers that check 8 checks, and the ways to be out of range. Each number comes up in each way, at least this often.
+const JUDGED: &[&str] =
+    &["a start", "a number of rules", "a left side", "a number of places", "a tag", "a kind", "a mark"];
+const OUT_OF_RANGE: &[(&str, u64)] = &[
+    ("one over", 80),
+    ("up to 255", 80),
+    ("256", 30),
+    ("257", 25),
+    ("low byte in range", 90),
+    ("low byte out of range", 45),
+    ("65,535", 25),
+];
+/// Impossible: a mark up to 255 is in range, and so is any low byte; one over the largest mark is 256.
+const NO_SUCH: &[&str] = &["a mark, up to 255", "a mark, 256", "a mark, low byte out of range"];
+
+/// The same for a reader that does not make the whole list for first, next and count.
+const DUE_UNLISTED: &[(&str, u64)] = &[
+    ("first, too many to list: handed out", 5),
+    ("next, too many to list", 5),
+    ("more than 4,096", 60),
+    ("count: more", 60),
+    ("next: every derivation offered", 3000),
+    ("next: some offered", 80),
 ];
 
 #[test]
@@ -178,13 +171,10 @@ fn random_books() {
     for (name, count) in &counts.0 {
         println!("{count:8}  {name}");
     }
-    let listing = if reader_under_test().lists() { DUE_LISTING } else { &[] };
     let unlisted = if reader_under_test().by_listing() { &[] } else { DUE_UNLISTED };
-    let both = reader_under_test().lists() && !reader_under_test().by_listing();
-    let next = if both { DUE_UNLISTED_NEXT } else { &[] };
-    // With other books half as often is enough.
+    // With other books, half as often is enough.
     let usual = |due: u64| if from == 0 { due } else { due / 2 };
-    for (name, due) in DUE.iter().chain(unlisted).chain(listing).chain(next) {
+    for (name, due) in DUE.iter().chain(unlisted) {
         assert!(counts.get(name) >= usual(*due), "{name}: came up {} times, due {due}", counts.get(name));
     }
     for (number, (how, due)) in JUDGED.iter().flat_map(|number| OUT_OF_RANGE.iter().map(move |how| (number, how))) {

@@ -1,5 +1,5 @@
-//! The lister's text of the listing program, with the lines written out by hand; and
-//! the search in order beside the whole list.
+//! The lister's text of the listing program, with the lines written out by hand; and the search in order, compared
+//! with the whole list.
 
 #[allow(dead_code)] // not all of it is called from here
 mod calls;
@@ -56,7 +56,7 @@ fn refusals_are_printed() {
     assert_eq!(printed(&deepest(), &[b'A'; 16]), format!("1: {row}= 0\nREADINGS 1\n"));
 }
 
-/// The lines of a text, the last one apart.
+/// The lines of a text, with the last one separate.
 fn lines(text: &str) -> (Vec<&str>, &str) {
     let mut lines: Vec<&str> = text.strip_suffix('\n').expect("a newline ends each line").split('\n').collect();
     let last = lines.pop().expect("a line");
@@ -80,7 +80,7 @@ fn at_most_4096_readings_are_printed() {
     }
 }
 
-/// Where the list is not too large to make, the search in order finds it, or as much of its front as is asked for.
+/// If the list is not too large, the search in order finds it, or as much of its front as is asked for.
 #[test]
 fn the_search_in_order_finds_the_front_of_the_list() {
     let (mut compared, mut front, mut given_up) = (0, 0, 0);

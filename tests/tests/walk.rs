@@ -1,12 +1,12 @@
-//! Demand 3: random lists of the four calls on the reader under test, refused ones
-//! included, with rubbish in charts and outputs of different lengths, against the walk's
-//! machine of document 01, which is fed only which call comes. FILBOZSEG_SEED=N runs other books.
+//! Demand 3: compares random lists of the four calls on the reader under test, including refused ones, with the
+//! machine of document 01, which is given only which call comes. Charts and outputs hold rubbish and have different
+//! lengths. FILBOZSEG_SEED=N runs other books.
 
 use outside_tests::books::{book, first_seed, SEED};
 use outside_tests::compare::{play_book, Counts};
 use outside_tests::reader_under_test;
 
-/// How often each outcome has to come up at least.
+/// How often each outcome must come up at least.
 const DUE: &[(&str, u64)] = &[
     ("walk, First: handed out", 1000),
     ("walk, First: NoDerivation", 500),
@@ -43,7 +43,7 @@ fn random_lists_of_calls() {
         println!("{count:8}  {name}");
     }
     for (name, due) in DUE {
-        let due = if from == 5000 { *due } else { *due / 2 }; // with other books half as often is enough
+        let due = if from == 5000 { *due } else { *due / 2 }; // with other books, half as often is enough
         assert!(counts.get(name) >= due, "{name}: came up {} times, due {due}", counts.get(name));
     }
 }

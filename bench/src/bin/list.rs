@@ -1,15 +1,16 @@
-//! The listing program in plain Rust: the book from `book.bin` of the current folder, the plate from standard input.
+//! The listing program in plain Rust. It reads the book from `book.bin` in the current folder and the plate from
+//! standard input.
 
 use bench::plain::listing::list;
 use std::fs::File;
 use std::io::{stdin, stdout, Read, Result};
 use std::os::fd::AsFd;
 
-/// Every book is decided by fewer bytes than these, and every plate by 65.
+/// Every book is decided by fewer bytes than this, and every plate by 65.
 const BOOK: u64 = 8192;
 const PLATE: u64 = 65;
 
-/// At most so many bytes; none where they cannot be read.
+/// At most this many bytes, or none if they cannot be read.
 fn bytes(from: Result<impl Read>, most: u64) -> Vec<u8> {
     let mut bytes = Vec::new();
     match from.and_then(|from| from.take(most).read_to_end(&mut bytes)) {
@@ -21,7 +22,7 @@ fn bytes(from: Result<impl Read>, most: u64) -> Vec<u8> {
 fn main() {
     let book = bytes(File::open("book.bin"), BOOK);
     let plate = bytes(Ok(stdin().lock()), PLATE);
-    // Not through std's standard output, which keeps back the piece behind the last newline and writes it apart.
+    // Not through std's standard output: that keeps what follows the last newline and writes it separately.
     let written = stdout().as_fd().try_clone_to_owned().and_then(|out| list(&book, &plate, File::from(out)));
     if let Err(error) = written {
         eprintln!("write: {error}");

@@ -1,8 +1,8 @@
-//! Both sides judge numbers whole, and leave the same of what is lent.
+//! Both sides check all 16 bits of each number, and leave the same in what is lent.
 
-use super::{chart, hand, Plain, Proved, Reader, FLAT};
+use super::{chart, hand, Plain, Proved, Reader, Refusal, FLAT};
 
-/// A row with one number changed: what both sides answer to it, and the same hand and chart left.
+/// Opens with a row in which one number is changed: both sides give this answer and leave the same hand and chart.
 fn opened(row: &[u16; FLAT], at: usize, number: u16) -> u32 {
     let mut row = *row;
     row[at] = number;
@@ -21,11 +21,11 @@ fn both_sides_judge_the_numbers_of_a_row_whole() {
     assert_eq!((Proved::load(book, &mut row, &mut offset), offset), (1, 9));
     for at in [0, 1, 3, 5, 7, 41, 44] {
         for number in [256, 257, 256 + 31, 0xff00, u16::MAX] {
-            assert_eq!(opened(&row, at, number), 256 + 8, "{number} at {at}");
+            assert_eq!(opened(&row, at, number), Refusal::InvalidGrammar.code(), "{number} at {at}");
         }
     }
     let more = [(0, 32), (1, 129), (3, 32), (5, 9), (7, 32), (44, 2), (44, 255), (45, 256 + 65), (45, u16::MAX)];
-    assert!(more.iter().all(|&(at, number)| opened(&row, at, number) == 256 + 8));
+    assert!(more.iter().all(|&(at, number)| opened(&row, at, number) == Refusal::InvalidGrammar.code()));
     // the depth, a length, the numbers of an unused place and of an unused rule
     assert!([2, 4, 10, 11, 60, 61, 62, 63, 64].iter().all(|&at| opened(&row, at, u16::MAX) == 1));
 }
@@ -40,11 +40,11 @@ fn both_sides_judge_a_hand_whole_and_leave_a_refused_one() {
         hand
     };
     let cases = [
-        (of(65, 0, 7), 256 + 14),
-        (of(256 + 3, 0, 7), 256 + 14),
-        (of(3, 2, 256), 256 + 14),
-        (of(64, 63, u16::MAX), 256 + 14),
-        (of(64, 0, 7), 256 + 15),
+        (of(65, 0, 7), Refusal::InvalidRecognizer.code()),
+        (of(256 + 3, 0, 7), Refusal::InvalidRecognizer.code()),
+        (of(3, 2, 256), Refusal::InvalidRecognizer.code()),
+        (of(64, 63, u16::MAX), Refusal::InvalidRecognizer.code()),
+        (of(64, 0, 7), Refusal::RecognizerFull.code()),
         (of(3, 3, u16::MAX), 0),
     ];
     for (found, code) in cases {

@@ -1,11 +1,11 @@
-//! Checking an offered row, its length, and the same build. A node is read through its row of places, and a row
-//! through its nodes.
+//! Checking an offered row, its length, and the same build. A node is read as its row of places, and a row as its
+//! nodes.
 
 use super::packed::{contains, Packed};
 use super::spans::fill;
 use super::{Grammar, Refusal, CHART, INPUT};
 
-/// What stays the same all through one check.
+/// What stays the same during one check.
 struct Walk<'a> {
     p: &'a Packed,
     w: &'a [u8],
@@ -87,7 +87,7 @@ pub fn check(g: &Grammar, input: &[u8], offered: &[u16], chart: &mut [u32]) -> R
     Ok(is_derivation(&p, g.start as usize, input, offered))
 }
 
-/// In tenths, halves away from zero.
+/// In tenths; halves are rounded away from zero.
 pub fn rounded(sum: i32) -> i32 {
     if sum < 0 {
         (sum - 5) / 10

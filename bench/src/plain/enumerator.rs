@@ -1,5 +1,5 @@
-//! The first reading and the next. The tables decide every choice (rule, cover, a child's nodes), so that nothing is
-//! tried twice.
+//! The first reading and the next. The tables decide every choice (rule, cover, a child's nodes), so nothing is tried
+//! twice.
 
 use super::checker::{filled, is_derivation, judge};
 use super::packed::{contains, Packed};
@@ -37,7 +37,7 @@ impl Node {
         a == self.i && c == self.j
     }
 
-    /// The kinds that may not stand over all of a..c below it.
+    /// The kinds that may not occur over all of a..c below it.
     fn forbidden(&self, a: usize, c: usize) -> u32 {
         if self.whole(a, c) {
             self.above
@@ -48,7 +48,7 @@ impl Node {
 }
 
 impl Enumerator<'_> {
-    #[inline(never)] // a frame of the stack has room for one
+    #[inline(never)] // a stack frame has room for one
     fn frame(&self, node: Node, full: Full) -> Frame {
         let mut rows: Rows = [[NONE; SIDE]; PLACES + 1];
         for a in (node.i..=node.j).rev() {
@@ -77,15 +77,16 @@ impl Enumerator<'_> {
         of.find(|&r| self.given.cost(r, self.tables, &full, i, j) <= budget).map(|r| (r, full))
     }
 
-    /// The smallest end from `from` on of a child of kind k that begins at a, the places after q following it.
-    fn end(&self, node: Node, frame: &Frame, q: usize, k: usize, a: usize, from: usize, budget: u16) -> Option<usize> {
+    /// The smallest end from `from` on of a child at place q that begins at a and is followed by the places after q.
+    fn end(&self, node: Node, frame: &Frame, q: usize, a: usize, from: usize, budget: u16) -> Option<usize> {
+        let k = self.given.rules[node.r].places()[q].value as usize;
         let costs = costs(self.tables, k, a);
         let cost = |c: usize| if node.whole(a, c) { frame.full[k] } else { costs[c] };
         (from..=node.j).find(|&c| cost(c) + frame.rows[q + 1][c] <= budget)
     }
 
-    /// Writes the first tree of kind k over i..j of at most `budget` nodes, the kinds of `above` not standing over all
-    /// of it, to the front of `out`: its number of nodes. There is one.
+    /// Writes the first tree of kind k over i..j of at most `budget` nodes to the front of `out`, without the kinds
+    /// of `above` over all of i..j. There is one. Returns its number of nodes.
     #[inline(never)]
     fn first(&self, k: usize, i: usize, j: usize, above: u32, budget: u16, out: &mut [u16]) -> usize {
         let above = above | 1 << k;
@@ -99,7 +100,7 @@ impl Enumerator<'_> {
         1 + self.first_row(node, &self.frame(node, full), 0, node.i, budget - 1, &mut out[2..])
     }
 
-    /// The same for the places q.. of a node from a on: there may be none of them.
+    /// The same for the places q.. of a node from a on. There may be no such places.
     fn first_row(&self, node: Node, frame: &Frame, q: usize, a: usize, budget: u16, out: &mut [u16]) -> usize {
         let (mut left, mut nodes, mut a) = (budget, 0, a);
         for (q, place) in self.given.rules[node.r].places().iter().enumerate().skip(q) {
@@ -108,25 +109,25 @@ impl Enumerator<'_> {
                 continue;
             }
             let k = place.value as usize;
-            let c = self.end(node, frame, q, k, a, a, left).expect("a cover fits");
+            let c = self.end(node, frame, q, a, a, left).expect("a cover fits");
             let used = self.first(k, a, c, node.forbidden(a, c), left - frame.rows[q + 1][c], &mut out[2 * nodes..]);
             (left, nodes, a) = (left - used as u16, nodes + used, c);
         }
         nodes
     }
 
-    /// How many nodes the tree has that stands at the front of a row: as long as a place is open, there is one more.
+    /// How many nodes the tree at the front of a row has: as long as a place is open, there is one more.
     fn nodes(&self, row: &[u16]) -> usize {
         let (mut open, mut nodes) = (1, 0);
         while open > 0 {
-            open += self.given.nonterminals(row[2 * nodes + 1] as usize) - 1;
+            open = open + self.given.nonterminals(row[2 * nodes + 1] as usize) - 1;
             nodes += 1;
         }
         nodes
     }
 
-    /// Writes the next tree of kind k over i..j after the one at the front of `out`, as `first` does; none, and the
-    /// row as found, if that is the last.
+    /// Writes the next tree of kind k over i..j after the one at the front of `out`, as `first` does. If that one is
+    /// the last, returns None and leaves the row as found.
     fn next(&self, k: usize, i: usize, j: usize, above: u32, budget: u16, out: &mut [u16]) -> Option<usize> {
         let above = above | 1 << k;
         let node = Node { r: out[1] as usize, i, j, above };
@@ -166,7 +167,7 @@ impl Enumerator<'_> {
         let frame = &*frame.get_or_insert_with(|| self.frame(node, self.solved(node.i, node.j, node.above)));
         let room = |c: usize| budget - frame.rows[q + 1][c];
         let moved = self.next(k, a, c, node.forbidden(a, c), room(c), out).map(|nodes| (c, nodes)).or_else(|| {
-            let c = self.end(node, frame, q, k, a, c + 1, budget)?;
+            let c = self.end(node, frame, q, a, c + 1, budget)?;
             Some((c, self.first(k, a, c, node.forbidden(a, c), room(c), out)))
         });
         let (c, nodes) = moved?;
@@ -174,13 +175,13 @@ impl Enumerator<'_> {
     }
 }
 
-/// What `with` makes of the tables of an input of 0 to 64 marks, the chart being filled for them; none without a tree.
+/// What `with` returns for the tables of an input of 0 to 64 marks, whose chart is filled. None without a tree.
 fn tabled<T>(
     p: &Packed,
     k: usize,
     w: &[u8],
     chart: &[u32],
-    with: impl FnOnce(Enumerator) -> T,
+    with: impl FnOnce(Enumerator<'_>) -> T,
 ) -> Result<Option<T>, Refusal> {
     if !contains(chart[w.len()], k) {
         return Ok(None);
@@ -195,12 +196,12 @@ fn tabled<T>(
     Ok(Some(with(Enumerator { given, tables: &tables })))
 }
 
-/// How many nodes the reading has that the output's front holds.
+/// How many nodes the reading at the front of the output has.
 pub fn first_filled(p: &Packed, k: usize, w: &[u8], chart: &[u32], out: &mut [u16]) -> Result<Option<usize>, Refusal> {
     tabled(p, k, w, chart, |enumerator| enumerator.first(k, 0, w.len(), 0, NODES as u16, out))
 }
 
-/// The same for the reading after the offered one; the output is written only with it.
+/// The same for the reading after the offered one. The output is written only if there is one.
 pub fn next_filled(
     p: &Packed,
     k: usize,
@@ -218,7 +219,7 @@ pub fn next_filled(
     Ok(next.flatten().inspect(|nodes| out[..2 * nodes].copy_from_slice(&row[..2 * nodes])))
 }
 
-/// How many readings there are; none for more than 4,096.
+/// How many readings there are; None if more than 4,096.
 pub fn count_filled(p: &Packed, k: usize, w: &[u8], chart: &[u32]) -> Result<Option<usize>, Refusal> {
     let count = tabled(p, k, w, chart, |enumerator| {
         let mut row = [0; OUTPUT];
@@ -228,8 +229,8 @@ pub fn count_filled(p: &Packed, k: usize, w: &[u8], chart: &[u32]) -> Result<Opt
     Ok(count.unwrap_or(Some(0)))
 }
 
-/// Hands the readings to `with`, each with its place from 1 and at most 4,096 of them, as long as it says yes: how many
-/// there are; none for more.
+/// Passes the readings to `with`, each with its place from 1, at most 4,096 of them, as long as `with` returns true.
+/// Returns how many there are; None for more.
 pub fn list_filled(
     p: &Packed,
     k: usize,

@@ -1,15 +1,15 @@
-//! A grammar as the row of 2,435 numbers that crosses to C: start, count, depth, then 19 numbers a rule.
+//! A grammar as the row of 2,435 numbers that C passes: start, count, depth, then 19 numbers for each rule.
 
 use super::{Grammar, Rule, Symbol};
 
 pub const FLAT: usize = 2435;
 
-/// A number in a byte's place, or 255 if that is less: check 8 refuses it.
+/// A number as a byte: a number over 255 becomes 255, which check 8 refuses.
 fn byte(number: u16) -> u8 {
     number.min(255) as u8
 }
 
-/// The symbol of a tag and a value; what is none is the nonterminal 255, which check 8 refuses.
+/// The symbol of a tag and a value. If they are no symbol, the nonterminal 255, which check 8 refuses.
 fn symbol(tag: u16, value: u16) -> Symbol {
     match tag {
         0 => Symbol::Nonterminal(byte(value)),
@@ -18,7 +18,8 @@ fn symbol(tag: u16, value: u16) -> Symbol {
     }
 }
 
-/// The grammar in a row. Each number is judged whole: one too large for its field is read as a value that check 8 refuses.
+/// The grammar in a row. All 16 bits of each number count: one too large for its field is read as a value that check
+/// 8 refuses.
 pub fn read(flat: &[u16; FLAT]) -> Grammar {
     let mut g = Grammar::ZERO;
     g.start = byte(flat[0]);

@@ -1,4 +1,4 @@
-//! The plate in hand as the row of 65 numbers that crosses to C: 64 marks, and then their count.
+//! The plate in hand as the row of 65 numbers that C passes: 64 marks, and then their count.
 
 use super::recognizer::Recognizer;
 use super::INPUT;
@@ -7,7 +7,7 @@ pub const HAND: usize = INPUT + 1;
 
 pub type Hand = [u16; HAND];
 
-/// The state in a row. Where a used mark is no byte the count is 65, which check 14 refuses.
+/// The state in a row. If a used mark is no byte, the count becomes 65, which check 14 refuses.
 pub fn read(hand: &Hand) -> Recognizer {
     let count = hand[INPUT] as usize;
     let large = hand[..count.min(INPUT)].iter().any(|&mark| mark > 255);

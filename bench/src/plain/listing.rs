@@ -5,9 +5,9 @@ use super::enumerator::list_filled;
 use super::{loader, Grammar, Refusal, CHART};
 use std::io::{Result, Write};
 
-/// What is kept back before it is written.
+/// How much is kept before it is written.
 const BUFFER: usize = 65_536;
-/// No line is longer: 512 nodes of at most 7 bytes, and 20 bytes beside them.
+/// No line is longer: 512 nodes of at most 7 bytes, and 20 further bytes.
 const LINE: usize = 4096;
 
 struct Text<W: Write> {
@@ -37,7 +37,7 @@ impl<W: Write> Text<W> {
         self.buffer.extend_from_slice(&digits[at..]);
     }
 
-    /// One reading: whether the text goes on.
+    /// Adds the line of a reading. Returns whether the text goes on.
     fn line(&mut self, g: &Grammar, place: usize, row: &[u16]) -> bool {
         if self.buffer.len() > BUFFER - LINE {
             self.flush();
@@ -74,14 +74,14 @@ impl<W: Write> Text<W> {
             Ok(None) => self.buffer.extend_from_slice(b"READINGS more\n"),
             Err(refusal) => {
                 self.buffer.extend_from_slice(b"REFUSED ");
-                self.number(refusal as u32);
+                self.number(u32::from(refusal.number()));
                 self.buffer.push(b'\n');
             }
         }
     }
 }
 
-/// Writes what the program prints for the bytes of a book and those of a plate.
+/// Writes what the program prints for the bytes of a book and of a plate.
 pub fn list(book: &[u8], plate: &[u8], out: impl Write) -> Result<()> {
     let mut text = Text { buffer: Vec::with_capacity(BUFFER), out, written: Ok(()) };
     let count = loader::load(book).map_err(|(refusal, _)| refusal).and_then(|g| {

@@ -1,5 +1,5 @@
-//! Loading a book: one command a turn, a match over its first byte, then the nullable kinds by passes until one adds
-//! nothing.
+//! Loading a book: one command after the other, by a match over its first byte; then the nullable kinds, by passes
+//! until one adds nothing.
 
 use super::{Grammar, Refusal, Rule, Symbol, PLACES, RULES};
 

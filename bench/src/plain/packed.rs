@@ -1,4 +1,4 @@
-//! The copy of a grammar for inner loops: 128 rows of 18 bytes, those of unused rules with the left side 255.
+//! The copy of a grammar for inner loops: 128 rows of 18 bytes. The rows of unused rules have the left side 255.
 
 use super::{Grammar, Symbol, PLACES, RULES};
 
@@ -31,7 +31,7 @@ impl Place {
 }
 
 impl Rule {
-    /// The places: none where there is no such rule.
+    /// The places; none if there is no such rule.
     pub fn places(&self) -> &[Place] {
         if self.left < 32 {
             &self.places[..(self.count as usize).min(PLACES)]

@@ -1,7 +1,7 @@
 //! Opening, taking and filling. Column n is written for i from n down to 0, with suffix flags kept over the whole
-//! column: bit q of flags[a][r] says that places q.. of rule r cut a..n. Per cell first the masks of the cuts whose
-//! first piece lies inside the span, then passes over the rules until one adds nothing. Loops go over the rules up to
-//! the last one in use, which each column looks for, as the proved code does.
+//! column: bit q of flags[a][r] says that places q.. of rule r cut a..n. Each cell begins with the masks of the cuts
+//! whose first piece is inside the span; then passes over the rules follow until one adds nothing. Loops go over the
+//! rules up to the last one in use, which each column looks for, as the proved code does.
 
 use super::packed::{contains, Packed, Rule};
 use super::{Grammar, Refusal, CHART, INPUT, RULES};
@@ -64,7 +64,7 @@ fn rule_mask(rule: &Rule, whole: bool, empty: u32, own: u32, inner: u32, last: u
     v
 }
 
-/// `start` is the cell (i, i) where i is before n.
+/// `start` is the cell (i, i) if i is before n.
 fn pass(
     rules: &[Rule],
     start: Option<u32>,
@@ -134,7 +134,7 @@ pub struct Recognizer {
 }
 
 impl Recognizer {
-    /// Whether the input is complete; refused, it leaves everything as it was.
+    /// Returns whether the input is complete. If refused, it leaves everything as it was.
     pub fn take(&mut self, g: &Grammar, byte: u8, chart: &mut [u32]) -> Result<bool, Refusal> {
         if !g.valid() {
             return Err(Refusal::InvalidGrammar);

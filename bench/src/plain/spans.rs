@@ -1,35 +1,35 @@
-//! Opening, taking and filling with spans as bits (docs/FILL.md). `ends` keeps, for a start and a kind, the set of the
-//! ends found so far; `starts`, for a rule and a place q, the set of the starts from which the places q.. cut up to the
-//! column's end. A piece inside the span and the rest from its end is then one AND.
+//! Opening, taking and filling with spans as bits (docs/FILL.md). For a start and a kind, `ends` has the set of the
+//! ends found so far. For a rule and a place q, `starts` has the set of the starts from which the places q.. cut up
+//! to the column's end. A piece inside the span followed by the rest from its end is then one AND.
 
 use super::packed::{contains, Packed, Rule};
 use super::{CHART, INPUT, PLACES, RULES};
 
 const KINDS: usize = 32;
 
-/// What is the same for every column: the set of the kinds that derive the empty span, for each rule the places from
-/// which on it cuts that span, and the kinds whose place is the last that need not be empty.
+/// What is the same for every column: the set of the kinds that derive the empty span; for each rule the places from
+/// which on it cuts that span; and the kinds whose place is the last that need not be empty.
 struct Empty {
     own: u32,
     last: [u32; RULES],
     kinds: [u32; RULES],
 }
 
-/// For a start i and a kind k the ends b of k from i, i < b; `reach` is their union over k.
+/// For a start i and a kind k, the ends b of k from i, i < b; `reach` is their union over k.
 struct Ends {
     of: [[u64; KINDS]; INPUT],
     reach: [u64; INPUT],
 }
 
-/// For a rule and a place q the starts from which the places q.. cut up to the column's end; `live` is their union over
-/// q from 1 on.
+/// For a rule and a place q, the starts from which the places q.. cut up to the column's end; `live` is their union
+/// over q from 1 on.
 struct Starts {
     of: [[u64; PLACES]; RULES],
     live: [u64; RULES],
 }
 
-/// The places q of a rule such that the places q.. cut the span. `whole` and `empty` are the sets of the span and of the
-/// empty span at its start, `inner` the places at which a cut begins whose first piece lies inside.
+/// The places q of a rule such that the places q.. cut the span. `whole` and `empty` are the sets of the span and of
+/// the empty span at its start. `inner` has the places at which a cut begins whose first piece is inside the span.
 fn rule_flags(rule: &Rule, at_end: bool, empty: u32, whole: u32, inner: u32, last: u32) -> u32 {
     let places = rule.places();
     let mut v = if at_end { 1 << places.len() } else { 0 };
@@ -53,11 +53,11 @@ fn added(rule: &Rule, flags: u32, own: u32) -> u32 {
     }
 }
 
-/// The kinds on which the rule's flags at a span that is not empty depend: those in places behind which all can be
+/// The kinds on which the rule's flags at a non-empty span depend: those in places after which everything can be
 /// empty.
 fn kinds_of(rule: &Rule, last: u32) -> u32 {
-    let behind = |q: usize| contains(last, q + 1);
-    let kinds = rule.places().iter().enumerate().filter(|&(q, place)| place.is_nonterminal() && behind(q));
+    let after = |q: usize| contains(last, q + 1);
+    let kinds = rule.places().iter().enumerate().filter(|&(q, place)| place.is_nonterminal() && after(q));
     kinds.filter(|(_, place)| place.value < 32).fold(0, |set, (_, place)| set | 1 << place.value)
 }
 
@@ -94,7 +94,7 @@ impl Ends {
         }
     }
 
-    /// Those of the columns before n, from the chart as found.
+    /// The sets of the columns before n, from the chart as found.
     fn found(chart: &[u32], n: usize) -> Ends {
         let mut ends = Ends::NONE;
         for i in 0..n {
@@ -120,16 +120,16 @@ impl Starts {
     }
 }
 
-/// The places of a rule at which a cut of i..n begins whose first piece lies inside the span. `rest` is the start behind
-/// a byte, as a set: none where that is the end.
+/// The places of a rule at which a cut of i..n begins whose first piece is inside the span. `rest` is the start after
+/// a byte, as a set, which is empty if that start is the end.
 fn inner(rule: &Rule, byte: u8, ends: &[u64; KINDS], starts: &[u64; PLACES], rest: u64, last: u32) -> u32 {
     let mut v = 0;
     for (q, place) in rule.places().iter().enumerate() {
-        let behind = starts.get(q + 1).copied().unwrap_or(0);
+        let after = starts.get(q + 1).copied().unwrap_or(0);
         let begins = if place.is_nonterminal() {
-            place.value < 32 && ends[place.value as usize] & behind != 0
+            place.value < 32 && ends[place.value as usize] & after != 0
         } else {
-            place.fits(byte) && (behind & rest != 0 || rest == 0 && contains(last, q + 1))
+            place.fits(byte) && (after & rest != 0 || rest == 0 && contains(last, q + 1))
         };
         if begins {
             v |= 1 << q;
@@ -138,8 +138,8 @@ fn inner(rule: &Rule, byte: u8, ends: &[u64; KINDS], starts: &[u64; PLACES], res
     v
 }
 
-/// What is known of each rule at one start: where inner cuts begin, the flags, and the members of the cell's set on
-/// which they depend, as they were when the flags were made.
+/// What is known about each rule at one start: where inner cuts begin, the flags, and the members of the cell's set
+/// on which the flags depend, as they were when the flags were made.
 struct Looked {
     inside: [u32; RULES],
     flags: [u32; RULES],
@@ -156,7 +156,7 @@ impl Looked {
         added(rule, self.flags[r], own)
     }
 
-    /// The first look at the rules, at the cell (i, n): those that can have no flag are passed over.
+    /// The first look at the rules, at the cell (i, n). Rules that can have no flag are skipped.
     fn first(&mut self, rules: &[Rule], e: &Empty, byte: u8, at: Span, ends: &Ends, starts: &Starts) -> u32 {
         let rest = if at.i + 1 < at.n { 1 << (at.i + 1) } else { 0 };
         let near = ends.reach[at.i] | rest;
@@ -172,7 +172,7 @@ impl Looked {
         own
     }
 
-    /// Looks again at the rules whose flags can have changed.
+    /// Looks again at the rules whose flags may have changed.
     fn again(&mut self, rules: &[Rule], e: &Empty, start: u32, own: u32) -> u32 {
         let mut own = own;
         for (r, rule) in rules.iter().enumerate() {
@@ -192,7 +192,7 @@ struct Span {
     start: u32,
 }
 
-/// Column n; `ends` has those of the columns before n, and afterwards that of n too, if a column can follow.
+/// Column n. `ends` has the ends of the columns before n; afterwards it also has those of n, if a column can follow.
 fn column(rules: &[Rule], e: &Empty, w: &[u8], n: usize, ends: &mut Ends, chart: &mut [u32]) {
     let (mut starts, mut looked) = (Starts::NONE, Looked::NONE);
     chart[65 * n + n] = e.own;

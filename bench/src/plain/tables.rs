@@ -1,4 +1,4 @@
-//! The tables of the enumerator: least numbers of nodes, at most 513, which stands for none. They are made once for a
+//! The tables of the enumerator: least numbers of nodes, at most 513, which means none. They are made once for each
 //! call, from the packed grammar, the fit table and the chart filled for the same input.
 
 mod before;
@@ -28,9 +28,9 @@ pub fn fit_table(p: &Packed, w: &[u8]) -> Fit {
     fit
 }
 
-/// One array, on the stack: the least nodes of each kind over each span, the last index the end; behind them for each
-/// rule and place a node beside its child there, all its other children being empty; behind those for each span that is
-/// not empty and each rule a node without a child over the whole of the span.
+/// One array, on the stack. First the least nodes of each kind over each span; the last index is the end. Then for
+/// each rule and place the cost of a node without its child there, when all its other children are empty. Then for
+/// each non-empty span and each rule the cost of a node without a child over the whole span.
 pub type Tables = [u16; TABLES];
 pub const TABLES: usize = BARES + INPUT / 2 * SIDE * RULES;
 const ALONES: usize = KINDS * CHART;
@@ -50,13 +50,13 @@ fn alone(t: &Tables, r: usize) -> &[u16] {
     &t[ALONES + PLACES * r..][..PLACES]
 }
 
-/// Where the cost of rule r without a child over the whole of i..j stands: two starts share a row.
+/// Where the cost of rule r without a child over the whole of i..j is stored: two starts share a row.
 fn bare(r: usize, i: usize, j: usize) -> usize {
     let span = if i < INPUT / 2 { SIDE * i + (j - i - 1) } else { SIDE * (INPUT - 1 - i) + j };
     BARES + RULES * span + r
 }
 
-/// What the costs are made from.
+/// What the costs are computed from.
 #[derive(Clone, Copy)]
 pub struct Given<'a> {
     pub rules: &'a [Rule],
@@ -74,9 +74,9 @@ impl Given<'_> {
         self.rules[r].places().iter().filter(|place| place.is_nonterminal()).count()
     }
 
-    /// Writes the suffixes of rule r from a to j, those from later starts standing. A child over the whole of i..j
-    /// costs `full`, any other what the least table says. The ends behind a and before `from` cost NONE, or what is
-    /// behind them does, and are not looked at.
+    /// Writes the suffixes of rule r from a to j; those from later starts are already there. A child over the whole
+    /// of i..j costs `full`, any other what the least table says. The ends after a and before `from` are skipped:
+    /// they cost NONE, or what comes after them does.
     #[allow(clippy::too_many_arguments)]
     pub fn put_column(
         &self,
@@ -116,14 +116,14 @@ impl Given<'_> {
             return (total(places, full) + 1).min(NONE);
         }
         let (bare, alone) = (t[bare(r, i, j)], alone(t, r));
-        if alone.iter().all(|&beside| beside == NONE) {
+        if alone.iter().all(|&others| others == NONE) {
             return bare;
         }
         let through = places.iter().zip(alone).filter(|(place, _)| place.is_nonterminal());
-        through.map(|(place, beside)| beside + full[place.value as usize]).fold(bare, u16::min)
+        through.map(|(place, others)| others + full[place.value as usize]).fold(bare, u16::min)
     }
 
-    /// The least nodes of each kind over i..j where the kinds of `mask` may not stand over all of it: passes over the
+    /// The least nodes of each kind over i..j if the kinds of `mask` may not occur over all of it: passes over the
     /// rules until one lowers nothing.
     pub fn solve(&self, t: &Tables, i: usize, j: usize, mask: u32) -> Full {
         let mut full = [NONE; KINDS];
@@ -145,9 +145,9 @@ impl Given<'_> {
         full
     }
 
-    /// Makes the tables of an input of n marks, all NONE before: for each end the starts from the last to the first. A rule
-    /// is passed over where no piece ends at one of its live starts, those from which places behind its first have a cost; the sums of
-    /// the others begin at the first end that is set and live.
+    /// Makes the tables of an input of n marks, which are all NONE before: for each end, the starts from the last to
+    /// the first. The live starts of a rule are those from which the places after its first have a cost. A rule is
+    /// skipped if no piece ends at one of them; the sums of the others begin at the first end that is set and live.
     pub fn make(&self, n: usize, t: &mut Tables) {
         let mut rows: [Rows; RULES] = [[[NONE; SIDE]; PLACES + 1]; RULES];
         let rows = &mut rows[..self.rules.len()];
@@ -177,7 +177,7 @@ impl Given<'_> {
         }
     }
 
-    /// The column of start i, and the set of i if it is a live start; `ends` has the ends from i on that are live.
+    /// The column of start i, and the set of i if it is a live start; `ends` has the live ends from i on.
     #[allow(clippy::too_many_arguments)]
     fn put_start(&self, r: usize, t: &Tables, full: &Full, ends: u64, i: usize, j: usize, rows: &mut Rows) -> u64 {
         let first = ends.trailing_zeros() as usize;
@@ -187,7 +187,7 @@ impl Given<'_> {
         u64::from(rows[1..].iter().take(count).any(|row| row[i] < NONE)) << i
     }
 
-    /// For each start the ends before n of cells that are not empty.
+    /// For each start, the ends before n of cells that are not empty.
     fn reach(&self, n: usize) -> [u64; INPUT] {
         let ends = |i: usize| (i + 1..n).filter(|&c| self.cell(i, c) != 0).fold(0, |set, c| set | 1 << c);
         std::array::from_fn(ends)
@@ -208,9 +208,9 @@ impl Given<'_> {
     fn put_alone(&self, t: &mut Tables, empty: &Full) {
         for (rule, row) in self.rules.iter().zip(t[ALONES..].chunks_exact_mut(PLACES)) {
             let sum = total(rule.places(), empty);
-            for (place, beside) in rule.places().iter().zip(row) {
+            for (place, others) in rule.places().iter().zip(row) {
                 if place.is_nonterminal() {
-                    *beside = (sum - single(place, empty) + 1).min(NONE);
+                    *others = (sum - single(place, empty) + 1).min(NONE);
                 }
             }
         }
@@ -227,7 +227,7 @@ fn kinds_below(rule: &Rule) -> u32 {
     rule.places().iter().filter(|place| place.is_nonterminal()).fold(0, |set, place| set | 1 << place.value)
 }
 
-/// What places cost that are all empty.
+/// The cost of places that are all empty.
 fn total(places: &[Place], full: &Full) -> u16 {
     places.iter().map(|place| single(place, full)).sum()
 }

@@ -1,5 +1,5 @@
-//! The plain side against a naive reading of the definitions, on small random grammars: each column as a fixpoint over
-//! every way to cut a span, over charts filled and charts spoilt; each offered row against explicit trees.
+//! The plain side against a naive reading of the definitions, on small random grammars: each column as a fixpoint
+//! over every way to cut a span, over filled and spoilt charts; each offered row against explicit trees.
 
 use super::packed::Packed;
 use super::recognizer::{fill, write_column};
@@ -82,7 +82,7 @@ fn a_column_over_a_spoilt_chart_is_the_naive_one() {
         let g = small_grammar(&mut random);
         let n = random.below(7);
         let w: Vec<u8> = (0..n).map(|_| b'A' + random.below(2) as u8).collect();
-        let mut chart: Vec<u32> = (0..CHART).map(|_| (random.next() & random.next() & 31) as u32).collect();
+        let mut chart: Vec<u32> = (0..CHART).map(|_| (random.draw() & random.draw() & 31) as u32).collect();
         let mut naive = chart.clone();
         naive_column(&g, &w, n, &mut naive);
         write_column(&Packed::new(&g), &w, n, &mut chart);
@@ -90,7 +90,7 @@ fn a_column_over_a_spoilt_chart_is_the_naive_one() {
     }
 }
 
-/// Lists readings by explicit trees, until it has taken too many steps.
+/// Lists readings by explicit trees, unless that takes too many steps.
 struct Lister<'a> {
     g: &'a Grammar,
     w: &'a [u8],
@@ -269,8 +269,8 @@ fn the_limit_of_512_parts_decides_what_is_first() {
     assert_eq!(first(&books::deepest().0, 17), Err(Refusal::OnlyLargerTrees));
     assert_eq!(first(&books::wide(false), 64), Err(Refusal::OnlyLargerTrees));
     assert_eq!(first(&books::wide(true), 64).unwrap().unwrap().len(), 2 * 73);
-    let dear = [&[1, 1, 1, 3, 1, 5][..], &[&[0, 6][..], &[0, 7].repeat(8)].concat().repeat(7)].concat();
-    assert_eq!(first(&books::forbidden(), 8), Ok(Some([&[8, 0][..], &dear.repeat(7), &[1, 4]].concat())));
+    let expensive = [&[1, 1, 1, 3, 1, 5][..], &[&[0, 6][..], &[0, 7].repeat(8)].concat().repeat(7)].concat();
+    assert_eq!(first(&books::forbidden(), 8), Ok(Some([&[8, 0][..], &expensive.repeat(7), &[1, 4]].concat())));
 }
 
 #[test]
@@ -297,7 +297,7 @@ fn the_flat_row_is_read_as_it_was_written() {
     let mut random = Random::new(4);
     for _ in 0..200 {
         let mut g = small_grammar(&mut random);
-        g.rules[0].length = random.next() as i16;
+        g.rules[0].length = random.draw() as i16;
         let mut row = [9u16; flat::FLAT];
         flat::write(&g, &mut row);
         assert_eq!(flat::read(&row), g);

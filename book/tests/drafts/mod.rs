@@ -1,4 +1,4 @@
-//! Random books within document 01's sizes, and random spellings of their texts.
+//! Random books within the sizes of document 01, and random spellings of their texts.
 
 use outside_tests::books::{Draft, Rng, Sym};
 
@@ -14,7 +14,7 @@ pub fn draft(rng: &mut Rng) -> Draft {
         let length = match rng.below(4) {
             0 => rng.pick(&[i16::MIN, i16::MAX, -100, -99, -1, 0, 1, 99, 100]),
             1 => rng.within(0, 300) as i16 - 150,
-            _ => rng.next() as i16,
+            _ => rng.draw() as i16,
         };
         let left = rng.below(32) as u8;
         let places = (0..rng.below(9)).map(|_| symbol(rng)).collect();
@@ -26,11 +26,11 @@ pub fn draft(rng: &mut Rng) -> Draft {
 fn symbol(rng: &mut Rng) -> Sym {
     match rng.one_in(2) {
         true => Sym::N(rng.below(32) as u8),
-        false => Sym::T(rng.next() as u8),
+        false => Sym::T(rng.draw() as u8),
     }
 }
 
-/// A text of the book in which everything that may be spelt in more than one way is.
+/// A text of the book in a random spelling, wherever there is more than one.
 pub fn spelt(rng: &mut Rng, draft: &Draft) -> String {
     let mut text = String::new();
     let start = kind(rng, draft.start);
@@ -53,7 +53,7 @@ pub fn spelt(rng: &mut Rng, draft: &Draft) -> String {
     text
 }
 
-/// Adds a line, with blanks and comments, and empty lines before it.
+/// Adds a line, with blanks and comments, and with empty lines before it.
 fn line(rng: &mut Rng, text: &mut String, words: &[String]) {
     let end = rng.pick(&["\n", "\n", "\r\n"]);
     let comment = rng.pick(&["#", "# start 1", "#0 -> 1 : 2", "# 'é', \u{2028}", "##'"]);

@@ -1,5 +1,5 @@
 //! Books that several tests use.
-#![allow(dead_code)] // each test file uses some of them
+#![allow(dead_code)] // each test file uses only some of them
 
 use filbozseg::{load, Grammar};
 
@@ -9,7 +9,7 @@ pub const T: &[u8] = b"\x10\x00\x20\x00\xf8\x11\x30\x01\x30\x01\x20\x01\x00\x00\
 /// 0 -> 0 0, 0 -> A.
 pub const PAIRS: &[u8] = b"\x10\x00\x20\x00\x00\x00\x30\x00\x30\x00\x20\x00\x00\x00\x40A\x50";
 
-/// 0 -> 1 0, 0 -> 1, 1 -> A 2 B, 1 -> 2 2, 2 -> nothing, 2 -> C: terminals before and behind nonterminals, and empty nodes between them.
+/// 0 -> 1 0, 0 -> 1, 1 -> A 2 B, 1 -> 2 2, 2 -> nothing, 2 -> C: terminals before and after nonterminals, and empty nodes between them.
 pub const MIXED: &[u8] =
     b"\x10\x00\x20\x00\x00\x00\x30\x01\x30\x00\x20\x00\x00\x00\x30\x01\x20\x01\x00\x00\x40A\x30\x02\x40B\
     \x20\x01\x00\x00\x30\x02\x30\x02\x20\x02\x00\x00\x20\x02\x00\x00\x40C\x50";

@@ -1,5 +1,4 @@
-//! First on an input that passes the checks: the answer, the number of nodes, the
-//! output and the chart.
+//! First, on an input that passes the checks: the answer, the number of nodes, the output and the chart.
 
 use super::lent::{offset, same, Lent};
 use super::Comparison;
@@ -8,9 +7,9 @@ use crate::lister::trees::{self, Row, LIMIT};
 use crate::lister::walk::{self, Given};
 use crate::reader::{Answer, FlatGrammar, CELLS, OUTPUT};
 
-/// What is known of an input: all its derivations, unless they are too many to list, and
-/// then the first 4,097 of them, unless looking for them takes too long; whether it has a
-/// tree of any size; and rows, some of which may be derivations.
+/// What is known about an input. `list` has all its derivations, unless they are too many to list; `front` then has
+/// the first 4,097, unless finding them takes too long. `tree` says whether it has a tree of any size, and `offered`
+/// has rows, some of which may be derivations.
 #[derive(Clone, Copy)]
 pub(super) struct First<'a> {
     pub list: Option<&'a [Row]>,
@@ -20,15 +19,15 @@ pub(super) struct First<'a> {
 }
 
 impl Comparison<'_> {
-    /// Calls first on the reader. What is lent holds rubbish; of the output only the
-    /// front is written, and nothing of it without a derivation.
+    /// Calls first on the reader. What is lent holds rubbish. Only the front of the output is written, and nothing
+    /// without a derivation.
     pub(super) fn first(
         &mut self,
         flat: &FlatGrammar,
         grammar: &Grammar,
         input: &[u8],
         filled: &[u32],
-        known: First,
+        known: First<'_>,
     ) -> Result<(), String> {
         let listed = known.list.or(known.front);
         if known.list.is_none() && self.reader.by_listing() {
@@ -36,7 +35,7 @@ impl Comparison<'_> {
         }
         let (mine, mut chart, found) = (self.either(flat), self.chart(), offset(&mut self.rng));
         let length = OUTPUT + self.rng.pick(&[0, 0, 1, 40]);
-        let mut out = Lent::filled(length, || self.rng.next() as u16);
+        let mut out = Lent::filled(length, || self.rng.draw() as u16);
         let (mut due_chart, mut due_out, mut nodes) = (chart.clone(), out.clone(), found);
         due_chart.part_mut()[..CELLS].copy_from_slice(filled);
         let (input, before) = (Lent::of(input, 0x41), Lent::of(input, 0x41));
@@ -66,15 +65,14 @@ impl Comparison<'_> {
         Ok(())
     }
 
-    /// Where the list is too large to make: what is handed out has to be a derivation,
-    /// by the lister and by the reader's own check, and no derivation at hand may
-    /// stand before it; with 13 there may be none at hand.
+    /// Where the list is too large: the lister and the reader's own check must accept what first returns, and no
+    /// known derivation may come before it. With 13, no derivation may be known.
     fn unlisted(
         &mut self,
         flat: &FlatGrammar,
         grammar: &Grammar,
         input: &[u8],
-        known: &First,
+        known: &First<'_>,
         answer: Answer,
         out: &[u16],
     ) -> Result<Given, String> {
@@ -87,7 +85,7 @@ impl Comparison<'_> {
                 same("first: a derivation, by the reader's own check", own, Answer::Yes)?;
                 match at_hand.find(|other| **other < row) {
                     None => Ok(Given::Row(row)),
-                    Some(other) => Err(format!("first: {row:?} handed out, and {other:?} stands before it")),
+                    Some(other) => Err(format!("first: {row:?} handed out, and {other:?} comes before it")),
                 }
             }
             Answer::Refused(13) if known.tree => match at_hand.next() {

@@ -1,4 +1,4 @@
-//! Grammars as they may be handed in: dirty where nobody may look, or out of range.
+//! Grammars as a caller may pass them: with rubbish in unused numbers, or out of range.
 
 use super::lent::number;
 use super::Comparison;
@@ -6,11 +6,11 @@ use crate::books::Rng;
 use crate::lister::grammar;
 use crate::reader::{record, FlatGrammar, PLACES, RULES};
 
-/// A number of a row that is judged: where it stands, the most it may be, its name.
+/// A number of a row that is checked: its place, the largest allowed value, its name.
 type Judged = (usize, u16, &'static str);
 
 impl Comparison<'_> {
-    /// The same grammar with rubbish in unused records and places and any depth.
+    /// The same grammar with rubbish in unused records and places, and any depth.
     fn dirtied(&mut self, flat: &FlatGrammar) -> FlatGrammar {
         let (mut dirty, rng) = (*flat, &mut self.rng);
         dirty[2] = number(rng);
@@ -28,7 +28,7 @@ impl Comparison<'_> {
         dirty
     }
 
-    /// The grammar as it is, or dirtied: what the calls do must not depend on it.
+    /// The grammar as it is, or with rubbish in unused numbers. The calls must not depend on it.
     pub(super) fn either(&mut self, flat: &FlatGrammar) -> FlatGrammar {
         if self.rng.one_in(2) {
             self.dirtied(flat)
@@ -37,8 +37,8 @@ impl Comparison<'_> {
         }
     }
 
-    /// A grammar that check 8 refuses, by one number out of range, dirty or not; and
-    /// which number it is, and how.
+    /// A grammar that check 8 refuses because of one number, with or without rubbish in unused numbers. Also which
+    /// number it is, and how it is out of range.
     pub(super) fn out_of_range(&mut self, flat: &FlatGrammar) -> (FlatGrammar, String) {
         let mut bad = self.either(flat);
         let (at, most, name) = self.judged_number(flat);
@@ -56,7 +56,7 @@ impl Comparison<'_> {
         (bad, format!("{name}, {how}"))
     }
 
-    /// One of the numbers that check 8 looks at.
+    /// One of the numbers that check 8 checks.
     fn judged_number(&mut self, flat: &FlatGrammar) -> Judged {
         let (rng, rules) = (&mut self.rng, usize::from(flat[1]));
         let head = [(0, 31, "a start"), (1, RULES as u16, "a number of rules")];
@@ -77,7 +77,7 @@ impl Comparison<'_> {
     }
 }
 
-/// A number over the most, often one whose low byte is in range or as it was.
+/// A number over the largest allowed; often its low byte is in range, or as before.
 fn over(rng: &mut Rng, most: u16, was: u16) -> u16 {
     let least = usize::from(most) + 1;
     (match rng.below(6) {

@@ -1,15 +1,15 @@
-//! Hands as they may be handed in: with room, full, or refused.
+//! Hands as a caller may pass them: with room, full, or refused.
 
 use super::lent::number;
 use super::Comparison;
 use crate::reader::{Answer, FlatGrammar, Hand, Reader, INPUT};
 
-/// Opens into a hand found: the answer, and the hand left.
+/// Opens, given what the hand holds before: returns the answer and the hand afterwards.
 pub(super) fn opened(r: &dyn Reader, grammar: &FlatGrammar, mut hand: Hand, chart: &mut [u32]) -> (Answer, Hand) {
     (r.open(grammar, &mut hand, chart), hand)
 }
 
-/// Takes a terminal into a hand found: the answer, and the hand left.
+/// Takes a terminal, given what the hand holds before: returns the answer and the hand afterwards.
 pub(super) fn taken(
     r: &dyn Reader,
     grammar: &FlatGrammar,
@@ -21,8 +21,8 @@ pub(super) fn taken(
 }
 
 impl Comparison<'_> {
-    /// A hand with rubbish in its unused marks, and what it is: 0 with room, 1 full,
-    /// 2 a count over 64, 3 a used mark over 255.
+    /// A hand with rubbish in its unused marks, and its sort: 0 with room, 1 full, 2 a count over 64, 3 a used mark
+    /// over 255.
     pub(super) fn hand(&mut self, which: usize) -> (Hand, String) {
         let rng = &mut self.rng;
         let mut hand: Hand = std::array::from_fn(|_| number(rng));

@@ -1,5 +1,4 @@
-//! Counts of outcomes, rows to lend with canaries around them, and rubbish to fill
-//! what is lent for writing.
+//! Counts of outcomes, rows to lend with canaries around them, and rubbish to fill what is lent for writing.
 
 use crate::books::Rng;
 use crate::reader::{FlatGrammar, Hand};
@@ -34,7 +33,7 @@ pub struct Lent<T> {
 }
 
 impl<T: Copy + PartialEq + Debug> Lent<T> {
-    /// A row of the given length, all of it and the canaries from `draw`.
+    /// A row of the given length; `draw` fills it and the canaries.
     pub fn filled(length: usize, mut draw: impl FnMut() -> T) -> Lent<T> {
         Lent { all: (0..length + 2 * GUARD).map(|_| draw()).collect() }
     }
@@ -49,7 +48,7 @@ impl<T: Copy + PartialEq + Debug> Lent<T> {
         let end = self.all.len() - GUARD;
         &mut self.all[GUARD..end]
     }
-    /// The first difference, canaries included, or nothing.
+    /// The first difference, including the canaries, if there is one.
     pub(super) fn against(&self, expected: &Lent<T>, what: &str) -> Result<(), String> {
         match self.all.iter().zip(&expected.all).position(|(a, b)| a != b) {
             None => Ok(()),
@@ -67,7 +66,7 @@ impl<T: Copy + PartialEq + Debug> Lent<T> {
 
 /// A chart with rubbish in it.
 pub fn rubbish(rng: &mut Rng, length: usize) -> Lent<u32> {
-    Lent::filled(length, || rng.next() as u32)
+    Lent::filled(length, || rng.draw() as u32)
 }
 
 pub(super) fn same<T: PartialEq + Debug>(what: &str, got: T, due: T) -> Result<(), String> {
@@ -78,29 +77,28 @@ pub(super) fn same<T: PartialEq + Debug>(what: &str, got: T, due: T) -> Result<(
     }
 }
 
-/// Rubbish for a number that is lent: anything but zero, and more than a byte as
-/// often as not.
+/// Rubbish for a lent number: anything but zero, and in half of the cases more than a byte.
 pub(super) fn number(rng: &mut Rng) -> u16 {
     let most = rng.pick(&[64, 255, 65_535, 65_535]);
     rng.within(1, most) as u16
 }
 
-/// A row of rubbish, for a grammar to be left in.
+/// A row of rubbish, into which a grammar is written.
 pub(super) fn row(rng: &mut Rng) -> FlatGrammar {
     std::array::from_fn(|_| number(rng))
 }
 
-/// A row of rubbish, for a hand to be left in.
+/// A row of rubbish, into which a hand is written.
 pub(super) fn hand(rng: &mut Rng) -> Hand {
     std::array::from_fn(|_| number(rng))
 }
 
-/// Rubbish for an offset or a number of nodes: larger than any here.
+/// Rubbish for an offset or a number of nodes: larger than any result here.
 pub(super) fn offset(rng: &mut Rng) -> usize {
-    1 << 40 | rng.next() as usize
+    1 << 40 | rng.draw() as usize
 }
 
-/// Rubbish for a length: longer than any stack, one way or the other.
+/// Rubbish for a length: larger than any result, positive or negative.
 pub(super) fn tenths(rng: &mut Rng) -> i32 {
     let far = rng.within(2_000_000, i32::MAX as usize) as i32;
     if rng.one_in(2) {

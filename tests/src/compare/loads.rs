@@ -1,5 +1,4 @@
-//! Loading: the answer, the offset and the whole row left, of the book and of what
-//! damage makes of it.
+//! Loading a book and damaged copies of it: the answer, the offset and the whole row.
 
 use super::lent::{offset, row, same, Lent};
 use super::Comparison;
@@ -8,7 +7,7 @@ use crate::lister::{grammar, Lister};
 use crate::reader::{Answer, FlatGrammar, Reader, FLAT};
 
 impl Comparison<'_> {
-    /// Loads the book damaged, cut, and cut with a command or two begun after the cut.
+    /// Loads the book damaged, cut, and cut with one or two commands begun after the cut.
     pub(super) fn other_loads(&mut self, book: &[u8]) -> Result<(), String> {
         for number in 0..30 {
             let mut bytes = if number % 6 == 5 { soup(&mut self.rng) } else { book.to_vec() };
@@ -25,8 +24,8 @@ impl Comparison<'_> {
         Ok(())
     }
 
-    /// A load into a row and an offset of rubbish: the row is written whole, the
-    /// offset with a refusal only; the depth goes by its formula. Gives the grammar.
+    /// Loads into a row and an offset of rubbish. The whole row must be written, the offset only with a refusal. The
+    /// depth is checked by its formula. Returns the grammar.
     pub fn load(&mut self, book: &[u8], name: &str) -> Result<Option<FlatGrammar>, String> {
         let lent = Lent::of(book, 0x10);
         let before = lent.clone();

@@ -1,5 +1,4 @@
-//! Next and count on an input that passes the checks: the answer, the number, the
-//! output and the chart.
+//! Next and count, on an input that passes the checks: the answer, the number, the output and the chart.
 
 use super::firsts::First;
 use super::lent::{offset, same, Counts, Lent};
@@ -10,15 +9,14 @@ use crate::lister::trees::{self, Row, LIMIT};
 use crate::lister::walk::{self, Given};
 use crate::reader::{Answer, FlatGrammar, Reader, CELLS, OUTPUT};
 
-/// At most so many derivations of one input are offered to next where there are more than 400.
+/// How many derivations of one input are offered to next at most, if there are more than 400.
 const DRAWN: usize = 202;
-/// And so many where the list is too large to make, and only its front is known.
+/// How many are offered at most if the list is too large, so that only its front is known.
 const DRAWN_OF_MORE: usize = 22;
-/// At most so many rows that are none are offered to next.
+/// How many rows that are no derivations are offered to next at most.
 const STRANGERS: usize = 12;
 
-/// Count at its boundary, where the list is too long for the random books: exactly
-/// 4,096 derivations, and one more.
+/// Count at its limit, where the list is too long for the random books: exactly 4,096 derivations, and one more.
 pub fn compare_boundary(reader: &dyn Reader) -> Result<(), String> {
     let (rng, mut counts) = (Rng::new(4096), Counts::default());
     let mut comparison = Comparison { reader, rng, counts: &mut counts };
@@ -33,14 +31,14 @@ pub fn compare_boundary(reader: &dyn Reader) -> Result<(), String> {
 }
 
 impl Comparison<'_> {
-    /// The derivations of an input, all of them up to 400, and rows that are none, offered to next; and the count.
+    /// Offers the derivations of an input, all of them up to 400, and rows that are none, to next; then counts.
     pub(super) fn nexts(
         &mut self,
         flat: &FlatGrammar,
         grammar: &Grammar,
         input: &[u8],
         filled: &[u32],
-        known: First,
+        known: First<'_>,
         readings: &[Row],
     ) -> Result<(), String> {
         let Some(list) = known.list.or(known.front) else {
@@ -66,17 +64,16 @@ impl Comparison<'_> {
         self.count(flat, input, filled, |given| same("count", given, &due))
     }
 
-    /// Where the list is too large to make: the first derivation and those at hand are
-    /// offered. What is handed out has to be a derivation, by the lister, that follows
-    /// the offered one, and none at hand may stand between them; without one, none at
-    /// hand may follow. The count has to be no less than those at hand.
+    /// Where the list is too large: offers the first derivation and the known ones. By the lister, what next returns
+    /// must be a derivation that follows the offered one, with no known one in between. If next returns none, no
+    /// known one may follow. The count must be at least the number of known ones.
     fn unlisted_nexts(
         &mut self,
         flat: &FlatGrammar,
         grammar: &Grammar,
         input: &[u8],
         filled: &[u32],
-        known: First,
+        known: First<'_>,
     ) -> Result<(), String> {
         let mut at_hand: Vec<Row> =
             known.offered.iter().filter(|row| trees::is_derivation(grammar, input, row)).cloned().collect();
@@ -93,7 +90,7 @@ impl Comparison<'_> {
                     same("next: a derivation, by the lister", trees::is_derivation(grammar, input, &next), true)?;
                     same("next: it follows", next > *row, true)?;
                     if let Some(other) = later.find(|other| **other < next) {
-                        return Err(format!("next of {row:?}: {next:?} handed out, and {other:?} stands before it"));
+                        return Err(format!("next of {row:?}: {next:?} handed out, and {other:?} comes before it"));
                     }
                 }
                 Given::NoneLeft => same("next: none", later.next(), None)?,
@@ -110,12 +107,12 @@ impl Comparison<'_> {
         })
     }
 
-    /// Calls next on the reader: what it gives. What is lent holds rubbish; of the
-    /// output only the front is written, and nothing of it without a derivation.
+    /// Calls next on the reader, and returns what it gives. What is lent holds rubbish. Only the front of the output
+    /// is written, and nothing without a derivation.
     fn next(&mut self, flat: &FlatGrammar, input: &[u8], filled: &[u32], offered: &[u16]) -> Result<Given, String> {
         let (mine, mut chart, found) = (self.either(flat), self.chart(), offset(&mut self.rng));
         let length = OUTPUT + self.rng.pick(&[0, 0, 1, 40]);
-        let mut out = Lent::filled(length, || self.rng.next() as u16);
+        let mut out = Lent::filled(length, || self.rng.draw() as u16);
         let (mut due_chart, mut due_out, mut nodes) = (chart.clone(), out.clone(), found);
         due_chart.part_mut()[..CELLS].copy_from_slice(filled);
         let (input, offered) = (Lent::of(input, 0x41), Lent::of(offered, 0));
@@ -145,7 +142,7 @@ impl Comparison<'_> {
         Ok(given)
     }
 
-    /// Calls count on the reader, and judges what it gives. What is lent holds rubbish.
+    /// Calls count on the reader, and checks what it gives. What is lent holds rubbish.
     fn count(
         &mut self,
         flat: &FlatGrammar,

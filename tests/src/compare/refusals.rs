@@ -8,8 +8,8 @@ use crate::lister::trees::Row;
 use crate::reader::{Answer, FlatGrammar, Reader, HAND, OUTPUT};
 
 impl Comparison<'_> {
-    /// Refusals 8, 9, 10, 12, 14 and 15 in all combinations: their order, and
-    /// everything lent untouched.
+    /// Refusals 8, 9, 10, 12, 14 and 15 in all combinations: their order, and that
+    /// everything lent is untouched.
     pub(super) fn refusals(&mut self, flat: &FlatGrammar, inputs: &[Vec<u8>]) -> Result<(), String> {
         for bits in 0..16 {
             let (bad_grammar, short, which) = (bits & 1 == 1, bits & 2 == 2, bits / 4);
@@ -74,20 +74,19 @@ impl Comparison<'_> {
         Ok(())
     }
 
-    /// Refusals 8 to 11 of first, next and count, as far as these are there; calls that would list are left out.
+    /// Refusals 8 to 11 of first, next and count. Calls that would not be refused are left out.
     fn listing_refusals(&mut self, flat: &FlatGrammar, input: &[u8], chart: &Lent<u32>) -> Result<(), String> {
         let length = self.rng.pick(&[0, 1, OUTPUT - 1, OUTPUT, OUTPUT + 1]);
-        let out = Lent::filled(length, || self.rng.next() as u16);
+        let out = Lent::filled(length, || self.rng.draw() as u16);
         let found = lent::offset(&mut self.rng);
-        let names = ["first", "next", "count"];
-        for name in &names[..if self.reader.lists() { 3 } else { 1 }] {
-            let output = if *name == "count" { OUTPUT } else { length };
+        for name in ["first", "next", "count"] {
+            let output = if name == "count" { OUTPUT } else { length };
             if judged(flat, input, chart.part().len(), output).is_ok() {
                 continue;
             }
             let call = |r: &dyn Reader, g: &FlatGrammar, c: &mut [u32]| {
                 let (mut out, mut nodes) = (out.clone(), found);
-                let answer = match *name {
+                let answer = match name {
                     "first" => r.first(g, input, c, out.part_mut(), &mut nodes),
                     "next" => r.next(g, input, &[1, 0], c, out.part_mut(), &mut nodes),
                     _ => r.count(g, input, c, &mut nodes),
@@ -101,8 +100,8 @@ impl Comparison<'_> {
         Ok(())
     }
 
-    /// Counts a refusal and makes sure that it left the chart untouched (the lister
-    /// is held to it here, and the reader to the lister).
+    /// Counts a refusal and makes sure that it left the chart untouched. This checks the
+    /// lister; the reader was compared with the lister before.
     fn seen(&mut self, call: &str, answer: Answer, before: &Lent<u32>, after: &Lent<u32>) -> Result<(), String> {
         if let Answer::Refused(number) = answer {
             self.counts.add(&format!("{call}: refused {number}"));

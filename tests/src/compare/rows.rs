@@ -11,9 +11,9 @@ use crate::lister::{has_tree, STEPS};
 use crate::reader::{Answer, FlatGrammar, CELLS};
 use crate::text::{in_order, MOST};
 
-/// At most so many derivations of one input are offered to each call.
+/// How many derivations of one input are offered to each call at most.
 const MOST_OFFERED: usize = 400;
-/// Steps of the search for the first derivations in order where the list is too large to make.
+/// Steps of the search for the first derivations in order, if the list is too large.
 const SEARCH_STEPS: u64 = 200_000;
 
 /// An input with its filled chart, and one row or two that are offered for it.
@@ -26,8 +26,8 @@ struct Offer<'a> {
 }
 
 impl Comparison<'_> {
-    /// The derivations of an input, and rows that are none, offered to check, length
-    /// and same build; the readers that list are walked.
+    /// Offers the derivations of an input, and rows that are none, to check, length and
+    /// same build; then calls first, next and count.
     pub(super) fn rows(
         &mut self,
         flat: &FlatGrammar,
@@ -61,7 +61,7 @@ impl Comparison<'_> {
         offered.extend(self.strangers(grammar, input, &readings, wider.unwrap_or_default()));
         let mut pairs = 12;
         if input.len().pow(2) * grammar.rules.len() > 10_000 {
-            // each call fills the chart, and here that takes long
+            // each call fills the chart, which takes long here
             self.thin(&mut offered, 6);
             pairs = 2;
         }
@@ -104,19 +104,19 @@ impl Comparison<'_> {
         let known = First { list: list.as_deref(), front: front.as_deref(), tree, offered: &offered };
         self.first(flat, grammar, input, filled, known)?;
         let quick = !self.reader.by_listing() || derivations(grammar, input, LIMIT, STEPS / 10).is_ok();
-        if self.reader.lists() && quick {
+        if quick {
             self.nexts(flat, grammar, input, filled, known, &readings)?;
         }
         let list = if quick { list.or(front) } else { None };
-        if let (true, Some(list)) = (self.reader.lists(), list) {
+        if let Some(list) = list {
             let calls = list.len().min(8) + 4;
             self.walk(flat, input, filled, Walk { list, tree, place: 0 }, &offered, calls)?;
         }
         Ok(())
     }
 
-    /// All derivations of an input; or, where the list is too large to make and the reader
-    /// does not make it either, the first 4,097 of them, unless that takes too long too.
+    /// All derivations of an input. If the list is too large, and the reader does not make
+    /// it either: the first 4,097 of them, unless that also takes too long.
     fn listed(&self, grammar: &Grammar, input: &[u8]) -> (Option<Vec<Row>>, Option<Vec<Row>>) {
         match derivations(grammar, input, LIMIT, STEPS) {
             Ok(list) => (Some(list), None),
@@ -128,7 +128,7 @@ impl Comparison<'_> {
         }
     }
 
-    /// At most so many of the rows, the first and the last among them.
+    /// Thins the rows out to at most this many, including the first and the last.
     pub(super) fn thin(&mut self, rows: &mut Vec<Row>, most: usize) {
         if rows.len() > most {
             let last = rows.pop().expect("more than none");
@@ -141,12 +141,12 @@ impl Comparison<'_> {
         }
     }
 
-    /// Calls check, length or same build on the reader; the chart has to be the filled
-    /// one, and the tenths what is due, or as found where none are.
+    /// Calls check, length or same build on the reader. The chart must be the filled one,
+    /// and the tenths must be as expected, or as found if there are none.
     fn offered(
         &mut self,
         flat: &FlatGrammar,
-        offer: Offer,
+        offer: Offer<'_>,
         name: &str,
         due: Answer,
         tenths: Option<i32>,
@@ -177,8 +177,8 @@ impl Comparison<'_> {
         Ok(())
     }
 
-    /// Why a row is no derivation, as far as it is the row of a tree of the input; whether
-    /// it has superfluous recursion.
+    /// Why a row is no derivation, if it is the row of a tree of the input: whether the
+    /// tree has superfluous recursion.
     fn classify(&mut self, grammar: &Grammar, input: &[u8], row: &[u16], yes: bool) -> bool {
         if let (false, Some((tree, _))) = (yes, trees::tree_of(grammar, grammar.start, row)) {
             if tree.terminals() == input && tree.row() == row {

@@ -1,5 +1,5 @@
-//! Rows that may be no derivations: of other inputs, of larger trees, of trees
-//! with superfluous recursion, and rows tampered with.
+//! Rows that may be no derivations: of other inputs, of larger trees, of trees with superfluous recursion, and
+//! modified rows.
 
 use super::{Comparison, WIDER};
 use crate::books::Rng;
@@ -20,18 +20,18 @@ impl Comparison<'_> {
         mut wider: Vec<Row>,
     ) -> Vec<Row> {
         let mut rows = Vec::new();
-        // Trees without superfluous recursion around the limit, the smallest over it among them.
+        // Trees without superfluous recursion near the limit, including the smallest one over it.
         wider.retain(|row| row.len() > 2 * LIMIT);
         wider.sort_by_key(Vec::len);
         wider.truncate(4);
         rows.extend(wider);
-        // The derivations of a near input, and of a front stretch.
+        // The derivations of a similar input, and of the front of the input.
         for near in [self.near(input), input[..self.rng.below(input.len())].to_vec()] {
             let mut others = derivations(grammar, &near, LIMIT, STEPS / 4).unwrap_or_default();
             self.thin(&mut others, 12);
             rows.extend(others);
         }
-        // Trees of the input, superfluous recursion or not, and trees of another nonterminal.
+        // Trees of the input, with or without superfluous recursion, and trees of another nonterminal.
         let derives = chart::derives(grammar, input);
         for _ in 0..8 {
             let k = if self.rng.one_in(6) { self.rng.below(32) as u8 } else { grammar.start };
@@ -40,7 +40,7 @@ impl Comparison<'_> {
                 rows.push(row);
             }
         }
-        // Rows changed, cut, extended, with numbers swapped; and odd ones.
+        // Rows changed, cut, extended, or with numbers swapped; and odd ones.
         let bases: Vec<Row> = readings.iter().chain(&rows).cloned().collect();
         for _ in 0..bases.len().min(12) {
             let mut row = bases[self.rng.below(bases.len())].clone();
@@ -56,7 +56,7 @@ impl Comparison<'_> {
         rows
     }
 
-    /// An input with one terminal changed, dropped or added.
+    /// The input with one terminal changed, dropped or added.
     fn near(&mut self, input: &[u8]) -> Vec<u8> {
         let mut near = input.to_vec();
         let (at, other) = (self.rng.below(near.len()), near[self.rng.below(near.len())]);
@@ -70,8 +70,8 @@ impl Comparison<'_> {
     }
 }
 
-/// A parse tree by random choices, superfluous recursion or not, as its row; None
-/// if it grows too large or there is none.
+/// The row of a parse tree made by random choices, with or without superfluous recursion; None if it gets too large
+/// or there is none.
 fn random_tree(
     rng: &mut Rng,
     grammar: &Grammar,
@@ -94,8 +94,8 @@ fn random_tree(
         match *place {
             Symbol::Terminal(_) => at += 1,
             Symbol::Nonterminal(child) => {
-                let stands = |b: &usize| derives[at][usize::from(child)] >> b & 1 == 1 && reaches(&places[p + 1..], *b);
-                let ends: Vec<usize> = (at..=j).filter(stands).collect();
+                let fits = |b: &usize| derives[at][usize::from(child)] >> b & 1 == 1 && reaches(&places[p + 1..], *b);
+                let ends: Vec<usize> = (at..=j).filter(fits).collect();
                 let end = rng.pick(&ends);
                 random_tree(rng, grammar, input, derives, (child, at, end), row)?;
                 at = end;
@@ -105,7 +105,7 @@ fn random_tree(
     Some(())
 }
 
-/// A number changed, the row cut, extended, or two numbers swapped.
+/// Changes a number, cuts or extends the row, or swaps two numbers.
 fn mutate(rng: &mut Rng, grammar: &Grammar, row: &mut Row) {
     let at = rng.below(row.len().max(1));
     let pair = 2 * rng.below((row.len() / 2).max(1));

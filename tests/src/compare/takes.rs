@@ -1,4 +1,4 @@
-//! Opening and taking, over charts as they are filled and over charts spoilt.
+//! Opening and taking, over correctly filled charts and over spoilt charts.
 
 use super::hands::{opened, taken};
 use super::lent::{self, same, Lent};
@@ -9,8 +9,8 @@ use crate::lister::has_tree;
 use crate::reader::{Answer, FlatGrammar, CELLS, HAND, INPUT};
 
 impl Comparison<'_> {
-    /// Opening and taking the input terminal by terminal, the chart full of rubbish
-    /// before, the hands with rubbish past their counts. Gives the chart.
+    /// Opens, and takes the input terminal by terminal. At first the chart is full of rubbish, and so are the unused
+    /// marks of the hands. Returns the chart.
     pub(super) fn takes(&mut self, flat: &FlatGrammar, grammar: &Grammar, input: &[u8]) -> Result<Lent<u32>, String> {
         let chart = self.chart();
         let mine = self.either(flat);
@@ -30,21 +30,19 @@ impl Comparison<'_> {
             ((answer, hand), chart) = self.both(&what, &mine, &chart, |r, g, c| taken(r, g, hand, *mark, c))?;
         }
         self.counts.add(if answer == Answer::Yes { "complete: yes" } else { "complete: no" });
-        // The lister against itself: from a fresh opening these are the true sets.
+        // Checks the lister itself: from a fresh opening, these are the true sets.
         let derives = chart::derives(grammar, input);
-        for i in 0..65 {
-            for j in 0..65 {
-                let holds = |k: &usize| i <= j && j <= input.len() && derives[i][*k] >> j & 1 == 1;
-                let due: u32 = (0..32).filter(holds).map(|k| 1 << k).sum();
-                same("the lister's own cell: i, j, word", (i, j, chart.part()[cell(i, j)]), (i, j, due))?;
-            }
+        for (i, j) in (0..=INPUT).flat_map(|i| (0..=INPUT).map(move |j| (i, j))) {
+            let holds = |k: &usize| i <= j && j <= input.len() && derives[i][*k] >> j & 1 == 1;
+            let due: u32 = (0..32).filter(holds).map(|k| 1 << k).sum();
+            same("the lister's own cell: i, j, word", (i, j, chart.part()[cell(i, j)]), (i, j, due))?;
         }
         same("the lister's complete", answer == Answer::Yes, has_tree(grammar, input))?;
         Ok(chart)
     }
 
-    /// The same over spoilt charts: before each take some words are changed, and the
-    /// next column has to be the least one over the chart as found.
+    /// The same over spoilt charts: before each take some words are changed, and the next column must be the least
+    /// one over the chart as found.
     pub(super) fn spoilt_takes(&mut self, flat: &FlatGrammar, grammar: &Grammar, input: &[u8]) -> Result<(), String> {
         let mut chart = self.chart();
         chart::open(grammar, chart.part_mut());
@@ -62,7 +60,7 @@ impl Comparison<'_> {
                 };
                 let word = &mut chart.part_mut()[at];
                 match self.rng.below(6) {
-                    0 => *word = self.rng.next() as u32,
+                    0 => *word = self.rng.draw() as u32,
                     1 => *word = 0,
                     _ => *word ^= 1 << self.rng.pick(&kinds),
                 }
@@ -72,7 +70,7 @@ impl Comparison<'_> {
             let mine = self.either(flat);
             ((_, hand), chart) = self.both(&what, &mine, &chart, |r, g, c| taken(r, g, hand, *mark, c))?;
             self.counts.add("take over a spoilt chart");
-            // How often the cells (a, a) as found decide, where the nullable set would say otherwise.
+            // Counts how often the cells (a, a) as found decide, where the nullable set would decide otherwise.
             let mut other = before;
             (0..=n).for_each(|a| other.part_mut()[cell(a, a)] = nullable);
             chart::fill_column(grammar, &input[..n + 1], other.part_mut());

@@ -1,4 +1,4 @@
-//! The walk of demand 3, for a reader that lists.
+//! The walk of demand 3.
 
 use super::lent::{offset, same, Counts, Lent};
 use super::{Comparison, WIDER};
@@ -9,7 +9,7 @@ use crate::lister::walk::{Call, Given, Walk};
 use crate::lister::{chart, grammar, has_tree, STEPS};
 use crate::reader::{Answer, FlatGrammar, Reader, CELLS, OUTPUT};
 
-/// Plays random lists of so many calls on each input of a book that can be listed.
+/// Plays random lists of this many calls on each input of a book, if the input can be listed.
 pub fn play_book(reader: &dyn Reader, book: &Book, seed: u64, calls: usize, counts: &mut Counts) -> Result<(), String> {
     let mut comparison = Comparison { reader, rng: Rng::new(seed ^ 0x3A1C), counts };
     let Some(flat) = comparison.load(&book.bytes, "load")? else { return Ok(()) };
@@ -29,8 +29,8 @@ pub fn play_book(reader: &dyn Reader, book: &Book, seed: u64, calls: usize, coun
     Ok(())
 }
 
-/// What the caller keeps: the copy of the reading handed out last, the readings handed
-/// out since the last first, and how often next was since offered the copy.
+/// What the caller keeps: the copy of the last reading handed out, the readings handed out since the last call of
+/// first, and how often next was offered the copy since then.
 #[derive(Default)]
 struct Caller {
     copy: Row,
@@ -39,8 +39,8 @@ struct Caller {
 }
 
 impl Caller {
-    /// Document 01: the readings handed out since the last first are the first p of L,
-    /// p being the smaller of N and 1 plus how often next was since offered the copy.
+    /// Document 01: the readings handed out since the last first are the first p of L. Here p is the smaller of N and
+    /// 1 plus the number of times that next was offered the copy since then.
     fn judged(&self, walk: &Walk) -> Result<(), String> {
         let p = if self.since.is_empty() { 0 } else { walk.list.len().min(1 + self.nexts) };
         same("walk: place", walk.place, p)?;
@@ -49,8 +49,8 @@ impl Caller {
 }
 
 impl Comparison<'_> {
-    /// The walk of demand 3: a random list of calls, chart and output anew each time. A
-    /// list of more than 4,096 may be cut, if fewer calls come than are left of it.
+    /// The walk of demand 3: a random list of calls, each with a new chart and output. A list of more than 4,096 may
+    /// be cut if the calls are fewer than the rest of the list.
     pub(super) fn walk(
         &mut self,
         flat: &FlatGrammar,
@@ -99,7 +99,7 @@ impl Comparison<'_> {
         Ok(())
     }
 
-    /// A row that is mostly no derivation: one at hand, or the copy cut, extended or changed.
+    /// A row that is mostly no derivation: a known row, or the copy cut, extended or changed.
     fn stranger(&mut self, caller: &Caller, offered: &[Row]) -> Row {
         let mut row = caller.copy.clone();
         match self.rng.below(5) {
@@ -114,12 +114,12 @@ impl Comparison<'_> {
         row
     }
 
-    /// The call with a chart or an output that is too short: refused, and nothing is written.
+    /// Makes the call with a chart or an output that is too short: it must be refused and write nothing.
     fn too_short(&mut self, flat: &FlatGrammar, input: &[u8], call: Call, row: &[u16]) -> Result<(), String> {
         let short = call == Call::Count || self.rng.one_in(2);
         let mut chart = if short { self.short_chart() } else { self.chart() };
         let length = if short { OUTPUT } else { self.rng.pick(&[0, 1, OUTPUT - 1]) };
-        let mut out = Lent::filled(length, || self.rng.next() as u16);
+        let mut out = Lent::filled(length, || self.rng.draw() as u16);
         let (due_chart, due_out, found) = (chart.clone(), out.clone(), offset(&mut self.rng));
         let mut number = found;
         let got = self.asked(flat, input, call, row, &mut chart, &mut out, &mut number);
@@ -149,7 +149,7 @@ impl Comparison<'_> {
         }
     }
 
-    /// Makes one call, and holds all it leaves to what the machine gives: the row handed out.
+    /// Makes one call, and compares all that it leaves with what the machine gives. Returns the row handed out.
     fn called(
         &mut self,
         flat: &FlatGrammar,
@@ -161,7 +161,7 @@ impl Comparison<'_> {
     ) -> Result<Option<Row>, String> {
         let (mine, mut chart) = (self.either(flat), self.chart());
         let length = OUTPUT + self.rng.pick(&[0, 1, 2, 40, 1024]);
-        let mut out = Lent::filled(length, || self.rng.next() as u16);
+        let mut out = Lent::filled(length, || self.rng.draw() as u16);
         let (mut due_chart, mut due_out) = (chart.clone(), out.clone());
         due_chart.part_mut()[..CELLS].copy_from_slice(filled);
         let found = offset(&mut self.rng);

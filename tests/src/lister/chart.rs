@@ -1,12 +1,12 @@
-//! The chart (sheet) by its definition: opening, a column as the least sets over
-//! the chart as found, and apart from that which nonterminals derive which spans.
+//! The chart (sheet) by its definition: opening, and a column as the least sets over the chart as found.
+//! Independently of that: which nonterminals derive which spans.
 
 use super::grammar::{empty_heights, heights_in, Grammar, Symbol};
 use crate::reader::CELLS;
 use crate::switches::{fault, Fault};
 
-/// For each position a and nonterminal k the set of positions b, as bits, such
-/// that k stands for the span from a up to, not including, b.
+/// For each position a and nonterminal k, the set of positions b, as bits, such that k derives the span from a up to,
+/// but not including, b.
 pub type Ends = Vec<[u128; 32]>;
 
 /// The number of the cell (word) of the span from i to j.
@@ -23,8 +23,8 @@ pub fn members(mut set: u128) -> impl Iterator<Item = usize> {
     })
 }
 
-/// All positions b such that the places cut the span from i to b into pieces,
-/// each a fitting terminal or a nonterminal that stands for its piece.
+/// All positions b such that the places cut the span from i to b into pieces, each a fitting terminal or a
+/// nonterminal that derives its piece.
 pub fn ends_of_row(places: &[Symbol], i: usize, input: &[u8], ends: &Ends) -> u128 {
     let mut here = 1_u128 << i;
     for (p, place) in places.iter().enumerate() {
@@ -43,10 +43,10 @@ pub fn ends_of_row(places: &[Symbol], i: usize, input: &[u8], ends: &Ends) -> u1
     here
 }
 
-/// Fills the cells of column n = number of terminals, i = 0 to n, and no others.
-/// The pieces that end before n are those of the chart as found, an empty piece
-/// at a < n too: that is cell (a, a). The pieces that end at n come from this
-/// column, which begins empty and grows until no rule adds anything: the least sets.
+/// Fills the cells of column n, where n is the number of terminals, for i = 0 to n, and no others. Pieces that end
+/// before n are those of the chart as found; this includes an empty piece at a < n, which is cell (a, a). Pieces that
+/// end at n come from this column. The column begins empty and grows until no rule adds anything: these are the least
+/// sets.
 pub fn fill_column(grammar: &Grammar, input: &[u8], chart: &mut [u32]) {
     let n = input.len();
     let mut ends: Ends = vec![[0; 32]; n + 1];
@@ -66,8 +66,8 @@ pub fn fill_column(grammar: &Grammar, input: &[u8], chart: &mut [u32]) {
         for i in 0..=n {
             for rule in &grammar.rules {
                 let left = usize::from(rule.left);
-                let stands = ends_of_row(&rule.places, i, input, &ends) >> n & 1 == 1;
-                if stands && ends[i][left] >> n & 1 == 0 {
+                let derived = ends_of_row(&rule.places, i, input, &ends) >> n & 1 == 1;
+                if derived && ends[i][left] >> n & 1 == 0 {
                     ends[i][left] |= 1 << n;
                     changed = true;
                 }
@@ -85,7 +85,7 @@ pub fn fill_column(grammar: &Grammar, input: &[u8], chart: &mut [u32]) {
     }
 }
 
-/// Opening fills all cells: the nullable nonterminals for the span 0 to 0, else zero.
+/// Opening fills all cells: the nullable nonterminals for the span 0 to 0, and zero elsewhere.
 pub fn open(grammar: &Grammar, chart: &mut [u32]) {
     let heights = if fault(Fault::OnePassInOpening) { heights_in(grammar, 1) } else { empty_heights(grammar) };
     chart[..CELLS - usize::from(fault(Fault::OpeningLeavesTheLastWord))].fill(0);
@@ -100,8 +100,8 @@ pub fn fill(grammar: &Grammar, input: &[u8], chart: &mut [u32]) {
     }
 }
 
-/// Which nonterminals derive which spans of the input, by trees of any size: the
-/// least sets over all spans at once. Uses neither `open` nor `fill_column`.
+/// Which nonterminals derive which spans of the input, by trees of any size: the least sets over all spans at once.
+/// Uses neither `open` nor `fill_column`.
 pub fn derives(grammar: &Grammar, input: &[u8]) -> Ends {
     let mut ends: Ends = vec![[0; 32]; input.len() + 1];
     loop {

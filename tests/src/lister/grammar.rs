@@ -4,14 +4,14 @@
 use crate::reader::{record, FlatGrammar, FLAT, PLACES, RULES};
 use crate::switches::{fault, low_byte, Fault};
 
-/// What a place holds: document 01's kind or mark.
+/// What a place holds: in document 01 a kind or a mark.
 #[derive(Clone, Copy, PartialEq, Eq, Debug)]
 pub enum Symbol {
     Nonterminal(u8),
     Terminal(u8),
 }
 
-/// A rule; the length is in hundredths of a millimetre.
+/// A rule. Its length is in hundredths of a millimetre.
 #[derive(Clone, PartialEq, Eq, Debug)]
 pub struct Rule {
     pub left: u8,
@@ -19,24 +19,24 @@ pub struct Rule {
     pub places: Vec<Symbol>,
 }
 
-/// A grammar that check 8 lets through (document 01: loaded book).
+/// A grammar that check 8 accepts (document 01: loaded book).
 #[derive(Clone, PartialEq, Eq, Debug)]
 pub struct Grammar {
     pub start: u8,
     pub rules: Vec<Rule>,
 }
 
-/// Reads a book from the left; the first fault gives number and offset.
+/// Reads a book from the left. The first fault determines number and offset.
 pub fn load(book: &[u8]) -> Result<Grammar, (u8, usize)> {
     let mut grammar = Grammar { start: 0, rules: Vec::new() };
     let mut at = 0;
     loop {
-        // 1: the book ends where a command or 50 is due.
+        // 1: the book ends where a command or 50 must come.
         if at == book.len() {
             return Err((1, book.len()));
         }
         let command = book[at];
-        // 2: unknown byte.
+        // 2: an unknown byte.
         let operands = match command {
             0x10 | 0x30 | 0x40 => 1,
             0x20 => 3,
@@ -49,7 +49,7 @@ pub fn load(book: &[u8]) -> Result<Grammar, (u8, usize)> {
         if fault(Fault::OneBeforeThree) && cut {
             return Err((1, book.len()));
         }
-        // 3: out of turn. 10 is the first command and only there; 30 and 40 need an open rule.
+        // 3: out of turn. 10 is the first command and occurs only there; 30 and 40 need an open rule.
         let in_turn = match command {
             0x10 => at == 0,
             0x50 if fault(Fault::EndAcceptedFirst) => true,
@@ -99,7 +99,7 @@ pub fn load(book: &[u8]) -> Result<Grammar, (u8, usize)> {
     }
 }
 
-/// The grammar as a flat row; everything unused is zero, a place nonterminal 0.
+/// The grammar as a flat row. All unused numbers are zero; an unused place is the nonterminal 0.
 pub fn to_flat(grammar: &Grammar, depth: u16) -> FlatGrammar {
     let mut flat = [0; FLAT];
     flat[0] = u16::from(grammar.start);
@@ -122,10 +122,9 @@ pub fn to_flat(grammar: &Grammar, depth: u16) -> FlatGrammar {
     flat
 }
 
-/// Check 8 on any row handed in: None if start or a used kind is over 31, there
-/// are more than 128 rules, or more than 8 places in a used rule; and None if a
-/// used place holds no symbol: a tag other than 0 and 1, or a mark over 255. Unused
-/// records, unused places and the depth are not looked at.
+/// Check 8 on any row. None if the start or a used kind is over 31, there are more than 128 rules, or a used rule has
+/// more than 8 places. Also None if a used place holds no symbol: its tag is not 0 or 1, or its mark is over 255.
+/// Unused records, unused places and the depth are ignored.
 pub fn from_flat(flat: &FlatGrammar) -> Option<Grammar> {
     let start = low_byte(flat[0], Fault::StartByItsLowByte);
     let rules = usize::from(low_byte(flat[1], Fault::RulesByTheirLowByte));
@@ -162,20 +161,20 @@ pub fn from_flat(flat: &FlatGrammar) -> Option<Grammar> {
     Some(grammar)
 }
 
-/// Two of the faults of check 8: it looks at the depth, or at unused records.
+/// Two faults of check 8: it reads the depth, or unused records.
 fn unused_number_read(flat: &FlatGrammar) -> bool {
     (fault(Fault::Check8ReadsTheDepth) && flat[2] > 32)
         || (fault(Fault::Check8ReadsUnusedRecords) && (0..RULES).any(|rule| flat[record(rule)] > 31))
 }
 
-/// For each nonterminal the height of its lowest empty tree, None if it is not
-/// nullable (blank). Round h finds those that have a rule all of whose places
-/// are nonterminals with an empty tree lower than h. A round without a find ends it.
+/// For each nonterminal the height of its lowest empty tree; None if it is not nullable (blank). Round h finds the
+/// nonterminals with a rule in which every place is a nonterminal with an empty tree lower than h. A round that finds
+/// nothing is the last.
 pub fn empty_heights(grammar: &Grammar) -> [Option<u16>; 32] {
     heights_in(grammar, if fault(Fault::OnePassNullable) { 1 } else { u16::MAX })
 }
 
-/// The same, in so many rounds at most; in a last one a find counts at once.
+/// The same in at most this many rounds. In the last of them, what is found counts at once.
 pub fn heights_in(grammar: &Grammar, rounds: u16) -> [Option<u16>; 32] {
     let mut heights = [None; 32];
     for h in 1..=rounds {
@@ -200,8 +199,8 @@ pub fn heights_in(grammar: &Grammar, rounds: u16) -> [Option<u16>; 32] {
     heights
 }
 
-/// What holds of the nullable depth (blank depth), the one result left open: 0 to
-/// 32; 0 if nothing is nullable; no nullable nonterminal's lowest empty tree is higher.
+/// What holds for the nullable depth (blank depth), the one result left open: it is 0 to 32, and 0 if nothing is
+/// nullable. The lowest empty tree of each nullable nonterminal is at most that high.
 pub fn depth_is_legal(grammar: &Grammar, depth: u16) -> bool {
     let heights = empty_heights(grammar);
     depth <= 32

@@ -1,4 +1,4 @@
-//! The plate in hand as a row: the check of one handed in, and the one of given marks.
+//! The plate in hand as a row: the check of a given one, and the hand with given marks.
 
 use crate::reader::{Hand, HAND, INPUT};
 use crate::switches::{fault, low_byte, Fault};
@@ -19,7 +19,7 @@ pub fn marks(hand: &Hand) -> Option<Vec<u8>> {
     Some(hand[..count].iter().map(|mark| *mark as u8).collect())
 }
 
-/// The hand of these marks: everything unused is zero.
+/// The hand with these marks: everything unused is zero.
 pub fn of(marks: &[u8]) -> Hand {
     let mut hand = [0; HAND];
     for (number, mark) in marks.iter().enumerate() {

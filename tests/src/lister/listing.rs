@@ -1,5 +1,4 @@
-//! All derivations (readings) of an input, by building explicit trees from short
-//! spans to long ones.
+//! All derivations (readings) of an input, built as explicit trees from short spans to long ones.
 
 use super::chart::{derives, ends_of_row, members, Ends};
 use super::grammar::{Grammar, Symbol};
@@ -7,13 +6,13 @@ use super::trees::{Child, Node, Row};
 use crate::switches::{fault, Fault};
 use std::rc::Rc;
 
-/// Said instead of a list where building it would take too many steps.
+/// Returned instead of a list if building it would take too many steps.
 #[derive(Clone, Copy, PartialEq, Eq, Debug)]
 pub struct TooLarge;
 
-/// The places of a rule filled from the left up to position `at`, or a whole tree
-/// once they all are. The level counts how many nodes that cover the tree's whole
-/// span lie above one another at its top: 1 if all its children are shorter.
+/// The places of a rule, filled from the left up to position `at`; a whole tree once all of them are filled. The
+/// level is the number of nodes at the top, one above the other, that cover the tree's whole span: 1 if all children
+/// are shorter.
 #[derive(Clone)]
 struct Partial {
     children: Vec<Child>,
@@ -38,15 +37,14 @@ struct Builder<'a> {
     steps_left: u64,
 }
 
-/// All rows of trees of the start nonterminal over the whole input that have no
-/// superfluous recursion and at most `limit` nodes, each once, in rising order.
-/// Trees are left out early only for these reasons, each from the definition:
-/// - a subtree's superfluous recursion is the whole tree's, and its nodes are the
-///   whole's: so trees with superfluous recursion, or with too many nodes, are
-///   never built upon;
-/// - the root of a reading's tree is of the start nonterminal over the whole
-///   input: so no other node is, and trees with such a node below are not built;
-/// - a nonterminal that stands at a span in no parse tree of the input is not needed.
+/// All rows of trees of the start nonterminal over the whole input that have no superfluous recursion and at most
+/// `limit` nodes, each once, in rising order. Trees are left out early only for these reasons, each from the
+/// definition:
+/// - A subtree's superfluous recursion and its nodes belong to the whole tree. So nothing is built on trees with
+///   superfluous recursion or too many nodes.
+/// - The root of a reading's tree has the start nonterminal over the whole input, so no other node does. Trees with
+///   such a node below are not built.
+/// - A nonterminal that occurs at a span in no parse tree of the input is not needed.
 pub fn derivations(grammar: &Grammar, input: &[u8], limit: usize, steps: u64) -> Result<Vec<Row>, TooLarge> {
     let limit = limit + usize::from(fault(Fault::ListingLimit513)) - usize::from(fault(Fault::ListingLimit511));
     let n = input.len();
@@ -65,13 +63,13 @@ pub fn derivations(grammar: &Grammar, input: &[u8], limit: usize, steps: u64) ->
     }
     let mut rows: Vec<Row> = builder.trees[0][n][start].iter().map(|built| built.node.row()).collect();
     rows.sort();
-    // Each once, and no row begins another: "the first number that differs" orders them.
+    // Each row occurs once, and no row is the beginning of another, so "the first number that differs" orders them.
     assert!(rows.windows(2).all(|two| !two[1].starts_with(&two[0])));
     out_of_order(&mut rows);
     Ok(rows)
 }
 
-/// The faults of the order: without one the rows stay as they are.
+/// The faults of the order. Without a fault the rows stay as they are.
 fn out_of_order(rows: &mut [Row]) {
     if fault(Fault::OrderReversed) {
         rows.reverse();
@@ -117,7 +115,7 @@ impl Builder<'_> {
         Ok(useful)
     }
 
-    /// One step of the budget is used up.
+    /// Uses up one step of the budget.
     fn step(&mut self) -> Result<(), TooLarge> {
         self.steps_left = self.steps_left.checked_sub(1).ok_or(TooLarge)?;
         Ok(())
@@ -128,9 +126,9 @@ impl Builder<'_> {
         ends_of_row(places, a, self.input, &self.derives) >> j & 1 == 1
     }
 
-    /// Builds all trees over the span from i to j, once all shorter spans are done.
-    /// Round r builds those of level r, from children over the same span of levels
-    /// below r, so each tree is built once. A round without a find ends it.
+    /// Builds all trees over the span from i to j, after all shorter spans. Round r builds those of level r, from
+    /// children over the same span of levels below r, so each tree is built once. A round that finds nothing is the
+    /// last.
     fn build(&mut self, i: usize, j: usize, useful: &Ends) -> Result<(), TooLarge> {
         for level in 1.. {
             let mut found = Vec::new();
@@ -143,7 +141,7 @@ impl Builder<'_> {
                         continue; // built in an earlier round
                     }
                     let node = Node::new(self.grammar, number, row.children);
-                    // Children suffice: no tree with such a node deeper down was kept.
+                    // It is enough to look at the children: no tree with such a node deeper down was kept.
                     let whole = i == 0 && j == self.input.len();
                     let root_below = whole && node.below().any(|n| n.nonterminal == self.grammar.start && n.cover == j);
                     if !node.recurs() && !root_below {
@@ -161,7 +159,7 @@ impl Builder<'_> {
         Ok(())
     }
 
-    /// All ways to fill the places over the span from i to j with trees found so far.
+    /// All ways to fill the places over the span from i to j with the trees found so far.
     fn rows(&mut self, places: &[Symbol], i: usize, j: usize) -> Result<Vec<Partial>, TooLarge> {
         let mut rows = vec![Partial { children: Vec::new(), at: i, nodes: 1, level: 1 }];
         for (p, place) in places.iter().enumerate() {

@@ -1,26 +1,24 @@
-//! Explicit parse trees, superfluous recursion as document 01 words it, and the
-//! preorder row of a tree.
+//! Explicit parse trees, superfluous recursion in the words of document 01, and the preorder row of a tree.
 
 use super::grammar::{Grammar, Symbol};
 use crate::switches::{fault, Fault};
 use std::rc::Rc;
 
-/// A derivation (reading) as it is written: for each node in preorder how many
-/// terminals it covers, then its rule.
+/// A derivation (reading) as it is written: for each node in preorder, how many terminals it covers, then its rule.
 pub type Row = Vec<u16>;
 
 /// The most nodes (parts) of a derivation (reading).
 pub const LIMIT: usize = 512;
 
-/// What stands in a place: a terminal (mark), which is no node, or a node.
+/// What a place holds: a terminal (mark), which is no node, or a node.
 #[derive(Clone)]
 pub enum Child {
     Leaf(u8),
     Below(Rc<Node>),
 }
 
-/// A node (part) with the tree below it. The rule and the children are the tree;
-/// nonterminal, cover and number of nodes are kept beside them.
+/// A node (part) with the tree below it. The rule and the children are the tree; the nonterminal, the cover and the
+/// number of nodes are stored with them.
 pub struct Node {
     pub rule: usize,
     pub children: Vec<Child>,
@@ -55,10 +53,9 @@ impl Node {
         })
     }
 
-    /// Whether a proper descendant node has this node's nonterminal and covers the
-    /// same terminals. A descendant lies inside its ancestor: as many terminals
-    /// are the same ones; of two empty nodes the nonterminals alone decide. And
-    /// covers never grow downward: only nodes of equal cover need be looked into.
+    /// Whether a proper descendant node has this node's nonterminal and covers the same terminals. A descendant is
+    /// inside its ancestor, so equally many terminals are the same ones; two empty nodes need only the same
+    /// nonterminal. Covers never grow downward, so only nodes of equal cover are searched.
     pub fn recurs(&self) -> bool {
         fn inside(node: &Node, nonterminal: u8, cover: usize) -> bool {
             let mut equal = node.below().filter(|n| n.cover == cover || fault(Fault::FewerTerminalsSuperfluous));
@@ -70,7 +67,7 @@ impl Node {
         inside(self, self.nonterminal, self.cover) || (fault(Fault::EmptySiblingsSuperfluous) && self.twin_blanks())
     }
 
-    /// Whether two children are empty and of one kind: no recursion, but for a fault.
+    /// Whether two children are empty and of one kind. This is no recursion; a fault takes it for one.
     fn twin_blanks(&self) -> bool {
         let blanks: Vec<u8> = self.below().filter(|n| n.cover == 0).map(|n| n.nonterminal).collect();
         (1..blanks.len()).any(|at| blanks[..at].contains(&blanks[at]))
@@ -107,9 +104,8 @@ impl Node {
     }
 }
 
-/// The tree that an offered row may stand for: the rules are followed in
-/// preorder, the covers are left aside. None if a rule is not there, does not
-/// fit its place, or the row is too short; the rest of the row is handed back.
+/// The tree that an offered row may describe: follows the rules in preorder and ignores the covers. None if a rule
+/// does not exist or does not fit its place, or if the row is too short. Also returns the rest of the row.
 pub fn tree_of<'a>(grammar: &Grammar, nonterminal: u8, row: &'a [u16]) -> Option<(Node, &'a [u16])> {
     let number = usize::from(*row.get(1)?);
     let rule = grammar.rules.get(number)?;
@@ -131,13 +127,12 @@ pub fn tree_of<'a>(grammar: &Grammar, nonterminal: u8, row: &'a [u16]) -> Option
     Some((Node::new(grammar, number, children), rest))
 }
 
-/// Whether an offered row is a derivation (reading) of the input: the row of a
-/// tree of the start nonterminal over the whole input, without superfluous
-/// recursion, of at most 512 nodes, written exactly so.
+/// Whether an offered row is a derivation (reading) of the input: exactly the row of a tree of the start nonterminal
+/// over the whole input, without superfluous recursion, of at most 512 nodes.
 pub fn is_derivation(grammar: &Grammar, input: &[u8], row: &[u16]) -> bool {
     let limit = LIMIT + usize::from(fault(Fault::Limit513)) - usize::from(fault(Fault::Limit511));
     if row.len() > 2 * limit || fault(Fault::CheckAlwaysNo) {
-        return false; // two numbers for each node: more than 512 nodes, or no row of a tree
+        return false; // two numbers for each node: more than 512 nodes, or no tree's row
     }
     match tree_of(grammar, root(grammar, row), row) {
         None => false,
@@ -168,14 +163,14 @@ fn written(tree: &Node, row: &[u16]) -> bool {
         || (fault(Fault::CoversNotCompared) && row.len() == 2 * tree.nodes)
 }
 
-/// Stack length in tenths: the rule lengths of all nodes of a row, empty ones
-/// too, added up and rounded, halves away from zero.
+/// The stack length in tenths: the sum of the rule lengths of all nodes of a row, including empty ones. Halves are
+/// rounded away from zero.
 pub fn tenths(grammar: &Grammar, row: &[u16]) -> i32 {
     let measured = row.chunks(2).filter(|node| node[0] > 0 || !fault(Fault::EmptyLengthsLeftOut));
     round(measured.map(|node| grammar.rules[usize::from(node[1])].length).sum())
 }
 
-/// Hundredths rounded to tenths, halves away from zero.
+/// Hundredths rounded to tenths, with halves away from zero.
 pub fn round(sum: i32) -> i32 {
     if fault(Fault::HalfUpward) {
         return (sum + 5).div_euclid(10);
@@ -188,7 +183,7 @@ pub fn round(sum: i32) -> i32 {
     }
 }
 
-/// Same build: the rules of the non-empty nodes agree as a bag.
+/// Same build: the rules of the non-empty nodes are the same, as bags.
 pub fn same_build(one: &[u16], other: &[u16]) -> bool {
     let bag = |row: &[u16]| {
         let counts = |node: &&[u16]| node[0] > 0 || fault(Fault::EmptyNodesInTheBuild);

@@ -1,10 +1,9 @@
-//! First, next and count as functions of the list of all derivations, and the
-//! walk of demand 3 as its own machine.
+//! First, next and count as functions of the list of all derivations, and the walk of demand 3 as a separate machine.
 
 use super::trees::{same_build, Row};
 use crate::switches::{fault, Fault};
 
-/// What first, next or count gives: a row handed out, or an answer without one.
+/// What first, next or count gives: a row, or an answer without one.
 #[derive(Clone, PartialEq, Eq, Debug)]
 pub enum Given {
     Row(Row),
@@ -33,7 +32,7 @@ pub fn first(list: &[Row], tree: bool) -> Given {
     }
 }
 
-/// The first in another order: by these numbers in place of those of a row. Only faults ask for it.
+/// The first row in another order: by these numbers instead of those of the row. Only faults use it.
 fn first_by(list: &[Row], key: impl Fn(usize, u16) -> u16) -> Option<&Row> {
     list.iter().min_by_key(|row| row.iter().enumerate().map(|(at, number)| key(at, *number)).collect::<Row>())
 }
@@ -92,7 +91,7 @@ pub enum Call {
     Count,
 }
 
-/// The walk of demand 3: a plain machine, fed only which of the four calls comes.
+/// The walk of demand 3: a plain machine that is given only which of the four calls comes.
 pub struct Walk {
     pub list: Vec<Row>,
     pub tree: bool,

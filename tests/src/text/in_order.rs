@@ -1,5 +1,5 @@
-//! The first readings of a plate in their order, without making the whole list: every
-//! tree is tried from its front, the smaller cover first and then the smaller rule.
+//! The first readings of a plate, in order, without making the whole list. Every tree is tried from its front, first
+//! the smaller cover and then the smaller rule.
 
 use crate::lister::chart::{derives, ends_of_row, members, Ends};
 use crate::lister::grammar::{Grammar, Symbol};
@@ -7,7 +7,8 @@ use crate::lister::listing::TooLarge;
 use crate::lister::trees::Row;
 use std::rc::Rc;
 
-/// A node whose places from `place` on are still to be filled, from `at` to its end; then come those that wait behind it.
+/// A node whose places from `place` on are still to be filled, from `at` to its end; then come the nodes that wait
+/// after it.
 struct Open {
     rule: usize,
     place: usize,
@@ -16,7 +17,7 @@ struct Open {
     end: usize,
     /// Its own nonterminal and those of the nodes above it over the same span.
     above: u32,
-    behind: Option<Rc<Open>>,
+    after: Option<Rc<Open>>,
 }
 
 struct Search<'a> {
@@ -30,8 +31,8 @@ struct Search<'a> {
     found: Vec<Row>,
 }
 
-/// The first `most` rows of the list of all readings, or all of it if it is shorter;
-/// or that looking for them takes more steps.
+/// The first `most` rows of the list of all readings, or the whole list if it is shorter. An error if finding them
+/// takes too many steps.
 pub fn in_order(grammar: &Grammar, input: &[u8], limit: usize, most: usize, steps: u64) -> Result<Vec<Row>, TooLarge> {
     let derives = derives(grammar, input);
     let mut search =
@@ -41,8 +42,8 @@ pub fn in_order(grammar: &Grammar, input: &[u8], limit: usize, most: usize, step
 }
 
 impl Search<'_> {
-    /// Tries each rule for a node, and then all that waits behind it.
-    fn node(&mut self, k: u8, i: usize, j: usize, above: u32, behind: Option<Rc<Open>>) -> Result<(), TooLarge> {
+    /// Tries each rule for a node, and then everything that waits after it.
+    fn node(&mut self, k: u8, i: usize, j: usize, above: u32, after: Option<Rc<Open>>) -> Result<(), TooLarge> {
         if above >> k & 1 == 1 || self.row.len() == 2 * self.limit {
             return Ok(()); // superfluous recursion, or one node too many
         }
@@ -50,8 +51,8 @@ impl Search<'_> {
         for (rule, _) in grammar.rules.iter().enumerate().filter(|(_, rule)| rule.left == k) {
             if self.reaches(&grammar.rules[rule].places, i, j) {
                 self.row.extend([(j - i) as u16, rule as u16]);
-                let (above, behind) = (above | 1 << k, behind.clone());
-                self.rest(Some(Rc::new(Open { rule, place: 0, at: i, begin: i, end: j, above, behind })))?;
+                let (above, after) = (above | 1 << k, after.clone());
+                self.rest(Some(Rc::new(Open { rule, place: 0, at: i, begin: i, end: j, above, after })))?;
                 self.row.truncate(self.row.len() - 2);
             }
             if self.found.len() == self.most {
@@ -61,7 +62,7 @@ impl Search<'_> {
         Ok(())
     }
 
-    /// Tries each cover of the next node that is to come; without one the row is a reading's.
+    /// Tries each cover of the next node; if no node is left, the row is a reading.
     fn rest(&mut self, mut open: Option<Rc<Open>>) -> Result<(), TooLarge> {
         self.steps_left = self.steps_left.checked_sub(1).ok_or(TooLarge)?;
         let grammar = self.grammar;
@@ -71,19 +72,16 @@ impl Search<'_> {
                 return Ok(());
             };
             let places = &grammar.rules[top.rule].places;
-            let after = |at: usize| {
-                let behind = top.behind.clone();
-                Some(Rc::new(Open { place: top.place + 1, at, behind, ..*top }))
-            };
+            let filled = |at: usize| Some(Rc::new(Open { place: top.place + 1, at, after: top.after.clone(), ..*top }));
             match places.get(top.place) {
-                None => open = top.behind.clone(),
-                Some(Symbol::Terminal(_)) => open = after(top.at + 1), // it fits: the places reach the end
+                None => open = top.after.clone(),
+                Some(Symbol::Terminal(_)) => open = filled(top.at + 1), // it fits: the places reach the end
                 Some(Symbol::Nonterminal(k)) => {
                     let ends = self.derives[top.at][usize::from(*k)];
                     for end in members(ends).filter(|end| *end <= top.end) {
                         if self.reaches(&places[top.place + 1..], end, top.end) && self.found.len() < self.most {
                             let whole = top.at == top.begin && end == top.end;
-                            self.node(*k, top.at, end, if whole { top.above } else { 0 }, after(end))?;
+                            self.node(*k, top.at, end, if whole { top.above } else { 0 }, filled(end))?;
                         }
                     }
                     return Ok(());

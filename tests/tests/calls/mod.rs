@@ -1,4 +1,4 @@
-//! Single calls on the reader under test, each with rubbish in what it is lent.
+//! Single calls on the reader under test, each with rubbish in what is lent.
 
 use outside_tests::books::{Draft, Rng, Sym};
 use outside_tests::compare::{rubbish, Lent};
@@ -6,7 +6,7 @@ use outside_tests::lister::walk::Given;
 use outside_tests::reader::{Answer, FlatGrammar, Reader, CELLS, FLAT, HAND, INPUT, OUTPUT};
 use outside_tests::reader_under_test;
 
-/// What lent numbers hold before a call: no result here is one of them.
+/// What lent numbers hold before a call: no result here is one of these.
 const FOUND: u16 = 0xABCD;
 const FOUND_AT: usize = 0xABCD_ABCD;
 const FOUND_TENTHS: i32 = -0x0BCD_ABCD;
@@ -17,7 +17,7 @@ pub const T: [u8; 21] = [
     0x41, 0x50,
 ];
 
-/// A book from rules like "0: 0 A": numbers are kinds, letters marks, nothing is nothing.
+/// A book from rules like "0: 0 A": numbers are kinds, letters are marks, and no symbol means an empty rule.
 pub fn book(start: u8, rules: &[&str]) -> Vec<u8> {
     let mut draft = Draft::new(start);
     for rule in rules {
@@ -42,7 +42,7 @@ pub fn deepest() -> Vec<u8> {
     book(0, &rules)
 }
 
-/// The row of its one tree over n marks, by hand: covers n down to 1, each 32 deep.
+/// The row of its only tree over n marks, by hand: covers n down to 1, each 32 deep.
 pub fn deepest_row(n: u16) -> Vec<u16> {
     (1..=n)
         .rev()
@@ -50,7 +50,7 @@ pub fn deepest_row(n: u16) -> Vec<u16> {
         .collect()
 }
 
-/// Number and offset of a book, None if it is loaded; and the row left.
+/// The number and offset of a book's refusal, None if it is loaded; and the row that is left.
 pub fn fault(book: &[u8]) -> (Option<(u8, usize)>, FlatGrammar) {
     let (mut flat, mut offset) = ([FOUND; FLAT], FOUND_AT);
     match reader_under_test().load(book, &mut flat, &mut offset) {
@@ -73,7 +73,7 @@ pub fn row(text: &str) -> Vec<u16> {
     text.split([' ', '.']).map(|number| number.parse().expect("a number")).collect()
 }
 
-/// Opens and takes the input; whether it is complete at the end.
+/// Opens and takes the input; returns whether it is complete at the end.
 pub fn complete(flat: &FlatGrammar, input: &[u8]) -> bool {
     let (reader, mut chart, mut hand) = (reader_under_test(), rubbish(&mut Rng::new(1), CELLS), [FOUND; HAND]);
     let mut answer = reader.open(flat, &mut hand, chart.part_mut());
@@ -92,7 +92,7 @@ pub fn check(flat: &FlatGrammar, input: &[u8], offered: &[u16]) -> Answer {
     reader_under_test().check(flat, input, offered, rubbish(&mut Rng::new(2), CELLS).part_mut())
 }
 
-/// The length of a row, or the number of its refusal.
+/// The length of a row, or its refusal's number.
 pub fn length(flat: &FlatGrammar, input: &[u8], offered: &[u16]) -> Result<i32, u8> {
     let (mut chart, mut tenths) = (rubbish(&mut Rng::new(3), CELLS), FOUND_TENTHS);
     match reader_under_test().length(flat, input, offered, chart.part_mut(), &mut tenths) {
@@ -111,11 +111,11 @@ pub fn same_build(flat: &FlatGrammar, input: &[u8], one: &[u16], other: &[u16]) 
     reader_under_test().same_build(flat, input, one, other, rubbish(&mut Rng::new(4), CELLS).part_mut())
 }
 
-/// The first reading, "no reading", or a refusal. The output's rest, and without a
-/// reading all of it and the number of nodes, have to be left as found.
+/// The first reading, "no reading", or a refusal. The rest of the output must be left as found; without a reading,
+/// all of it and the number of nodes.
 pub fn first(flat: &FlatGrammar, input: &[u8]) -> Given {
     let (mut chart, mut nodes, mut rng) = (rubbish(&mut Rng::new(6), CELLS), FOUND_AT, Rng::new(7));
-    let mut out = Lent::filled(OUTPUT + 3, || rng.next() as u16);
+    let mut out = Lent::filled(OUTPUT + 3, || rng.draw() as u16);
     let mut due = out.clone();
     let given = match reader_under_test().first(flat, input, chart.part_mut(), out.part_mut(), &mut nodes) {
         Answer::Nodes(n) => {
@@ -132,14 +132,14 @@ pub fn first(flat: &FlatGrammar, input: &[u8]) -> Given {
             }
         }
     };
-    assert!(out == due, "the output is not as found behind the reading");
+    assert!(out == due, "the output is not as found after the reading");
     given
 }
 
 /// The next reading, "none", or a refusal; the output and the number of nodes as in `first`.
 pub fn next(flat: &FlatGrammar, input: &[u8], offered: &[u16]) -> Given {
     let (mut chart, mut nodes, mut rng) = (rubbish(&mut Rng::new(8), CELLS), FOUND_AT, Rng::new(9));
-    let mut out = Lent::filled(OUTPUT + 3, || rng.next() as u16);
+    let mut out = Lent::filled(OUTPUT + 3, || rng.draw() as u16);
     let mut due = out.clone();
     let given = match reader_under_test().next(flat, input, offered, chart.part_mut(), out.part_mut(), &mut nodes) {
         Answer::Nodes(n) => {
@@ -156,11 +156,11 @@ pub fn next(flat: &FlatGrammar, input: &[u8], offered: &[u16]) -> Given {
             }
         }
     };
-    assert!(out == due, "the output is not as found behind the reading");
+    assert!(out == due, "the output is not as found after the reading");
     given
 }
 
-/// The count, "more", or a refusal; without a count the number has to be left as found.
+/// The count, "more", or a refusal. Without a count the number must be left as found.
 pub fn count(flat: &FlatGrammar, input: &[u8]) -> Given {
     let (mut chart, mut number) = (rubbish(&mut Rng::new(10), CELLS), FOUND_AT);
     match reader_under_test().count(flat, input, chart.part_mut(), &mut number) {

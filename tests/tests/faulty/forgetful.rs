@@ -1,5 +1,5 @@
-//! The lister, but for one lent place, or all, that it leaves as found: a library
-//! that writes nothing there must be caught.
+//! The lister, except that it leaves one lent place, or all of them, as found: a library that writes nothing there
+//! must be caught.
 
 use outside_tests::lister::Lister;
 use outside_tests::reader::{Answer, FlatGrammar, Hand, Reader};
@@ -22,7 +22,7 @@ pub enum Forgets {
     Nodes,
     Count,
     Everything,
-    /// Nothing: this one is the lister.
+    /// Nothing: this is the lister itself.
     Nothing,
 }
 
@@ -50,7 +50,7 @@ impl Forgets {
         self.slice(which, std::slice::from_mut(place), |place| call(&mut place[0]))
     }
 
-    /// Calls with what is lent, or with a copy of it.
+    /// Calls with what is lent; where this reader forgets, with a copy of it.
     fn slice<T: Copy, A>(self, which: Forgets, lent: &mut [T], call: impl FnOnce(&mut [T]) -> A) -> A {
         if self == which || self == Forgets::Everything {
             call(&mut lent.to_vec())
@@ -61,6 +61,10 @@ impl Forgets {
 }
 
 impl Reader for Forgets {
+    fn inner(&self) -> &dyn Reader {
+        &Lister
+    }
+
     fn load(&self, book: &[u8], grammar: &mut FlatGrammar, offset: &mut usize) -> Answer {
         self.place(Forgets::Row, grammar, |g| self.place(Forgets::Offset, offset, |at| Lister.load(book, g, at)))
     }
@@ -98,10 +102,6 @@ impl Reader for Forgets {
         self.slice(Forgets::ComparedChart, chart, |c| Lister.same_build(grammar, input, one, other, c))
     }
 
-    fn by_listing(&self) -> bool {
-        true
-    }
-
     fn first(
         &self,
         grammar: &FlatGrammar,
@@ -115,10 +115,6 @@ impl Reader for Forgets {
                 self.place(Forgets::Nodes, nodes, |n| Lister.first(grammar, input, c, o, n))
             })
         })
-    }
-
-    fn lists(&self) -> bool {
-        true
     }
 
     fn next(

@@ -1,7 +1,7 @@
-//! The library, but for one answer on inputs with more than 4,096 derivations.
+//! The library, except for one answer on inputs with more than 4,096 derivations.
 
 use outside_tests::library::Library;
-use outside_tests::reader::{Answer, FlatGrammar, Hand, Reader};
+use outside_tests::reader::{Answer, FlatGrammar, Reader};
 
 /// What is wrong where there are more than 4,096.
 #[derive(Clone, Copy, PartialEq, Eq, Debug)]
@@ -22,35 +22,15 @@ impl Large {
         Large::CountedTo4096,
     ];
 
-    /// Whether this is the fault, and the input one where it shows.
+    /// Whether this is the fault, and the input shows it.
     fn shows(self, which: Large, flat: &FlatGrammar, input: &[u8], chart: &mut [u32]) -> bool {
         self == which && Library.count(flat, input, chart, &mut 0) == Answer::More
     }
 }
 
 impl Reader for Large {
-    fn load(&self, book: &[u8], flat: &mut FlatGrammar, offset: &mut usize) -> Answer {
-        Library.load(book, flat, offset)
-    }
-
-    fn open(&self, flat: &FlatGrammar, hand: &mut Hand, chart: &mut [u32]) -> Answer {
-        Library.open(flat, hand, chart)
-    }
-
-    fn take(&self, flat: &FlatGrammar, hand: &mut Hand, terminal: u8, chart: &mut [u32]) -> Answer {
-        Library.take(flat, hand, terminal, chart)
-    }
-
-    fn check(&self, flat: &FlatGrammar, input: &[u8], offered: &[u16], chart: &mut [u32]) -> Answer {
-        Library.check(flat, input, offered, chart)
-    }
-
-    fn length(&self, flat: &FlatGrammar, input: &[u8], offered: &[u16], chart: &mut [u32], tenths: &mut i32) -> Answer {
-        Library.length(flat, input, offered, chart, tenths)
-    }
-
-    fn same_build(&self, flat: &FlatGrammar, input: &[u8], one: &[u16], other: &[u16], chart: &mut [u32]) -> Answer {
-        Library.same_build(flat, input, one, other, chart)
+    fn inner(&self) -> &dyn Reader {
+        &Library
     }
 
     fn first(&self, flat: &FlatGrammar, input: &[u8], chart: &mut [u32], out: &mut [u16], nodes: &mut usize) -> Answer {
@@ -61,10 +41,6 @@ impl Reader for Large {
             }
             answer => answer,
         }
-    }
-
-    fn lists(&self) -> bool {
-        true
     }
 
     fn next(

@@ -1,6 +1,5 @@
-//! The lister with one fault switched on. Faults of what it computes stand in the lister
-//! itself; those of what it leaves in what is lent, and of what it keeps between calls,
-//! are made here, after its call.
+//! The lister with one fault switched on. Faults in what it computes are in the lister itself. Faults in what it
+//! leaves in lent places, and in what it keeps between calls, are made here, after its call.
 
 pub mod forgetful;
 #[cfg(feature = "library")]
@@ -14,14 +13,14 @@ use outside_tests::reader::{Answer, FlatGrammar, Hand, Reader, CELLS, FLAT, INPU
 use std::cell::RefCell;
 use switches::{fault, Fault};
 
-/// The lister with the fault that is switched on in this thread; it knows the row that it handed out last.
+/// The lister with the fault that is switched on in this thread. It knows the last row that it handed out.
 #[derive(Default)]
 pub struct Faulty {
     last: RefCell<Row>,
 }
 
 impl Faulty {
-    /// The row handed out last and its place in the list, if it is a derivation of this input.
+    /// The last row handed out and its place in the list, if it is a derivation of this input.
     fn kept(&self, flat: &FlatGrammar, input: &[u8]) -> Option<(Row, usize)> {
         let grammar = judged(flat, input, CELLS, OUTPUT).ok()?;
         let last = self.last.borrow().clone();
@@ -39,20 +38,20 @@ impl Faulty {
             Answer::Refused(_) => (Fault::OutputZeroWhenRefused, Fault::NodesZeroWhenRefused),
             _ => (Fault::OneNumberTooMany, Fault::NodesZeroWithAReading),
         };
-        let behind = match answer {
+        let end = match answer {
             Answer::Nodes(nodes) => 2 * nodes,
             _ => 0,
         };
-        if fault(zero_output) && behind < out.len() {
-            out[behind] = 0;
+        if fault(zero_output) && end < out.len() {
+            out[end] = 0;
         }
         if fault(zero_number) {
             *number = 0;
         }
         if let Answer::Nodes(nodes) = answer {
-            *self.last.borrow_mut() = out.iter().take(behind).copied().collect();
-            if fault(Fault::OutputClearedBehind) && behind < out.len() {
-                out[behind..].fill(0);
+            *self.last.borrow_mut() = out.iter().take(end).copied().collect();
+            if fault(Fault::OutputClearedBehind) && end < out.len() {
+                out[end..].fill(0);
             }
             if fault(Fault::NodesCountsNumbers) {
                 *number = 2 * nodes;
@@ -63,6 +62,10 @@ impl Faulty {
 }
 
 impl Reader for Faulty {
+    fn inner(&self) -> &dyn Reader {
+        &Lister
+    }
+
     fn load(&self, book: &[u8], flat: &mut FlatGrammar, offset: &mut usize) -> Answer {
         let found = *flat;
         let answer = Lister.load(book, flat, offset);
@@ -115,10 +118,6 @@ impl Reader for Faulty {
         answer
     }
 
-    fn check(&self, flat: &FlatGrammar, input: &[u8], offered: &[u16], chart: &mut [u32]) -> Answer {
-        Lister.check(flat, input, offered, chart)
-    }
-
     fn length(&self, flat: &FlatGrammar, input: &[u8], offered: &[u16], chart: &mut [u32], tenths: &mut i32) -> Answer {
         let answer = Lister.length(flat, input, offered, chart, tenths);
         match answer {
@@ -128,14 +127,6 @@ impl Reader for Faulty {
             _ => (),
         }
         answer
-    }
-
-    fn same_build(&self, flat: &FlatGrammar, input: &[u8], one: &[u16], other: &[u16], chart: &mut [u32]) -> Answer {
-        Lister.same_build(flat, input, one, other, chart)
-    }
-
-    fn by_listing(&self) -> bool {
-        true
     }
 
     fn first(&self, flat: &FlatGrammar, input: &[u8], chart: &mut [u32], out: &mut [u16], nodes: &mut usize) -> Answer {
@@ -149,10 +140,6 @@ impl Reader for Faulty {
             }
         }
         self.left(answer, out, nodes)
-    }
-
-    fn lists(&self) -> bool {
-        true
     }
 
     fn next(

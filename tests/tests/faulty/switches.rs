@@ -1,5 +1,4 @@
-//! The switches of the lister as tests/faults.rs compiles it: each thread has one fault
-//! switched on, or none.
+//! The switches of the lister as tests/faults.rs compiles it: each thread has one fault switched on, or none.
 
 pub use outside_tests::switches::Fault;
 use std::cell::Cell;

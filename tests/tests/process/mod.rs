@@ -7,35 +7,35 @@ use std::process::{Child, Command, ExitStatus, Stdio};
 use std::sync::atomic::{AtomicUsize, Ordering};
 use std::time::{Duration, Instant};
 
-/// The longest that a run may take: a program that hangs fails, and the test does not hang with it.
+/// The longest time that a run may take: a program that hangs fails, and the test does not hang with it.
 const CAP: Duration = Duration::from_secs(60);
 
-/// The program, as `rt check list` proves, compiles and links it.
+/// The program that `rt check list` proves, compiles and links.
 pub fn program() -> PathBuf {
     let path = Path::new(env!("CARGO_MANIFEST_DIR")).join("../target/bin/list");
     assert!(path.is_file(), "{} is not there: build it with `rt check list`", path.display());
     path
 }
 
-/// A fresh folder, removed at the end: `run` in it is where the program runs.
+/// A fresh folder, removed at the end. The program runs in its subfolder `run`.
 pub struct Folder(PathBuf);
 
 impl Folder {
-    /// Without a book.
+    /// A folder without a book.
     pub fn new() -> Folder {
         static NUMBER: AtomicUsize = AtomicUsize::new(0);
         loop {
             let number = NUMBER.fetch_add(1, Ordering::Relaxed);
             let path = std::env::temp_dir().join(format!("filbozseg-list-{}-{number}", std::process::id()));
             match fs::create_dir(&path) {
-                Err(error) if error.kind() == io::ErrorKind::AlreadyExists => continue, // left over by an aborted run
+                Err(error) if error.kind() == io::ErrorKind::AlreadyExists => continue, // left over from an aborted run
                 made => made.and_then(|()| fs::create_dir(path.join("run"))).expect("a fresh folder"),
             }
             return Folder(path);
         }
     }
 
-    /// With this book.
+    /// A folder with this book.
     pub fn with(book: &[u8]) -> Folder {
         let folder = Folder::new();
         folder.put(book);
@@ -46,7 +46,7 @@ impl Folder {
         fs::write(self.book(), book).expect("the book is written");
     }
 
-    /// Where the program runs, and where it looks for its book.
+    /// Where the program runs and looks for its book.
     pub fn run(&self) -> PathBuf {
         self.0.join("run")
     }
@@ -55,17 +55,18 @@ impl Folder {
         self.run().join("book.bin")
     }
 
-    /// A file for the program to write to, outside the folder that it runs in.
+    /// A file for the program to write to, outside the folder where it runs.
     fn file(&self, name: &str) -> File {
         File::create(self.0.join(name)).expect("a file")
     }
 
-    /// What was written to it.
+    /// What was written to that file.
     pub fn written(&self, name: &str) -> Vec<u8> {
         fs::read(self.0.join(name)).expect("a file")
     }
 
-    /// The program, or a command that runs it, in this folder: the plate comes through a pipe, and what is said goes to files.
+    /// The program, or a command that runs it, in this folder. The plate comes through a pipe, and all output goes to
+    /// files.
     pub fn command(&self, program: &Path) -> Command {
         let mut command = Command::new(program);
         command.current_dir(self.run()).stdin(Stdio::piped());
@@ -73,14 +74,14 @@ impl Folder {
         command
     }
 
-    /// Runs the program on a plate: what it prints, what it says of faults, and how it ends.
+    /// Runs the program on a plate: returns what it prints, its errors, and how it ends.
     pub fn ran(&self, plate: &[u8]) -> (Vec<u8>, Vec<u8>, ExitStatus) {
         let mut child = self.command(&program()).spawn().expect("the program starts");
         let status = given(&mut child, plate);
         (self.written("stdout"), self.written("stderr"), status)
     }
 
-    /// The program prints exactly this for a plate, says nothing of faults, and ends with status 0.
+    /// The program prints exactly this for a plate, reports no error, and ends with status 0.
     pub fn prints(&self, plate: &[u8], due: &[u8]) -> Result<(), String> {
         let (stdout, stderr, status) = self.ran(plate);
         if stdout != due {
@@ -109,7 +110,7 @@ impl Drop for Folder {
     }
 }
 
-/// Gives a child its plate, closes the pipe and waits for its end. It need not read all of it.
+/// Gives a child its plate, closes the pipe and waits for its end. The child need not read all of the plate.
 pub fn given(child: &mut Child, plate: &[u8]) -> ExitStatus {
     let mut pipe = child.stdin.take().expect("a pipe");
     std::thread::scope(|scope| {

@@ -7,7 +7,7 @@ use super::{fill, write_column};
 use crate::books;
 use crate::random::Random;
 
-/// Below one of three bounds.
+/// A number below one of three bounds.
 fn some(random: &mut Random, bounds: [usize; 3]) -> usize {
     let bound = bounds[random.below(3)];
     random.below(bound)
@@ -40,7 +40,7 @@ fn input(random: &mut Random, n: usize) -> Vec<u8> {
 /// Words with few or with many bits, or with none at all.
 fn spoilt(random: &mut Random) -> Vec<u32> {
     let thin = random.below(5);
-    (0..CHART).map(|_| (0..thin).fold(random.next(), |word, _| word & random.next()) as u32).collect()
+    (0..CHART).map(|_| (0..thin).fold(random.draw(), |word, _| word & random.draw()) as u32).collect()
 }
 
 fn fills_alike(p: &Packed, w: &[u8]) -> u32 {

@@ -1,9 +1,9 @@
-//! The tables made without passing over any rule or any end, as they were made before: what the benchmark and a test compare with.
+//! The tables made without skipping any rule or any end: the benchmark and a test compare with them.
 
 use super::{bare, kinds_below, put_least, Given, Rows, Tables, KINDS, NONE, PLACES, RULES, SIDE};
 
 impl Given<'_> {
-    /// The same tables as `make` does: every rule is looked at from every start, up to every end.
+    /// Makes the same tables as `make`, but tries every rule from every start up to every end.
     pub fn make_before(&self, n: usize, t: &mut Tables) {
         let mut rows: [Rows; RULES] = [[[NONE; SIDE]; PLACES + 1]; RULES];
         let rows = &mut rows[..self.rules.len()];

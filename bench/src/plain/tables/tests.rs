@@ -1,4 +1,4 @@
-//! The tables with rules and ends passed over against those made before: the same numbers, on random grammars and on
+//! The tables with rules and ends skipped against those without skipping: the same numbers, on random grammars and on
 //! the books of the benchmark.
 
 use super::super::{loader, packed::Packed, recognizer, Grammar, Rule, Symbol, CHART};
