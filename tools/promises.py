@@ -1,5 +1,5 @@
-"""What the repository promises, read from its text: the exported contracts, the final theorems and the definitions, of a commit or of the
-working tree, each without comments and layout. `tools/note`, `tools/renamed` and `tools/trace-check` go by it."""
+"""Reads from the repository's text what it promises: the exported contracts, the final theorems and the definitions, of a commit or of the
+working tree, without comments and layout. `tools/note`, `tools/renamed` and `tools/trace-check` use it."""
 import glob
 import os
 import re
@@ -7,8 +7,8 @@ import subprocess
 
 TOP = os.path.join(os.path.dirname(os.path.abspath(__file__)), "..")
 THEOREMS = "crates/theorems/proofs/Theorems.antt"
-# the functions that the listing program calls
-PROGRAM = [("print_begin", "begin"), ("print_page", "fill_page"), ("print_write", "write_pages")]
+# The functions that the listing program calls, each with its crate's former name.
+PROGRAM = [("print_begin", "begin", "lister"), ("print_page", "fill_page", "pages"), ("print_write", "write_pages", "output")]
 
 
 def git(*arguments):
@@ -17,13 +17,13 @@ def git(*arguments):
 
 
 class State:
-    """The files of a commit, or of the working tree where rev is None."""
+    """The files of a commit, or of the working tree if rev is None."""
 
     def __init__(self, rev=None):
         self.rev = rev
 
     def read(self, path):
-        """What a file holds; nothing if it is not there."""
+        """The text of a file, or the empty text if there is no such file."""
         if self.rev is None:
             full = os.path.join(TOP, path)
             return open(full, encoding="utf-8").read() if os.path.isfile(full) else ""
@@ -39,12 +39,12 @@ class State:
 
 
 def plain(source):
-    """Text without layout: no trailing separator, one space between words."""
+    """The text without layout: no trailing separators, one space between words."""
     return re.sub(r"\s+", " ", re.sub(r"[,;](\s*[)}])", r"\1", source)).strip()
 
 
 def contract(source, name):
-    """The contract of a public function, from its head to its body, or None. Its body opens on a line of its own."""
+    """The contract of a public function, from its head to its body, or None. The body begins on a line of its own."""
     found = re.search(rf"^ *pub (?:extern \"C\" )?fn {re.escape(name)}\(.*?\n\s*\{{\n", source, re.M | re.S)
     return found.group(0) if found else None
 
@@ -56,7 +56,8 @@ def exported(state):
 
 def contracts(state):
     """The contracts of the nine calls, of the C functions and of the listing program's functions, by crate and name."""
-    wanted = [(path.split("/")[0], name) for path, name, _ in exported(state)] + PROGRAM
+    wanted = [(path.split("/")[0], name) for path, name, _ in exported(state)]
+    wanted += [(crate if state.files(f"crates/{crate}/src") else former, name) for crate, name, former in PROGRAM]
     crates = {"filbozseg", *(crate for crate, _ in wanted)}
     sources = {crate: "".join(map(state.read, state.files(f"crates/{crate}/src"))) for crate in crates}
     wanted += [("filbozseg", name) for name in re.findall(r'^pub extern "C" fn (\w+)\(', sources["filbozseg"], re.M)]
@@ -65,7 +66,7 @@ def contracts(state):
 
 
 def sections(source):
-    """The lines of an antt file without comments, blank lines and imports, each with the heads of the sections that it stands in."""
+    """The lines of an antt file without comments, blank lines and imports, each with the heads of the sections around it."""
     heads, opening = [], None
     for line in source.split("\n"):
         line = re.sub(r"(^|\s)--.*", "", line).rstrip()
@@ -106,7 +107,7 @@ def theorems(state):
 
 
 def definitions(state, paths):
-    """The definitions of the named files of specs/ and the types declared in those of src/: by crate and name, all that are so named."""
+    """The definitions of these files, if in specs/, and the types that they declare, if in src/: by crate and name, all of that name."""
     defined = {}
     for path in paths:
         crate, part = path.split("/")[1:3]
