@@ -1,12 +1,11 @@
 -- `c_grammar::write::write` meets its contract. The loop's invariant: the rules passed are written after the first three numbers.
 -- The measure is what is left of the 128 rules. Assumes nothing.
-use Prim.Native.Nat.{ℕ, _≤_, _-_}
+use Prim.Native.Nat.{ℕ, _-_}
 use native.Mathlib.Omega.{arith}
 use mathlib.Core.Path.{refl}
 use lib.ListN.{length-set, length-replicate, replicate}
 use Rattle.sizes.specs.Sizes.{maxRules}
 use Rattle.grammar.proofs.Declared.{rules-long}
-use Rattle.grammar.specs.Zero.{noRule}
 use Rattle.c_grammar.specs.Flat.{flatRule, flatSize, ruleNumbers}
 use Rattle.c_grammar.proofs.Written.{Written, written-start, written-step, grammar-done}
 use Rattle.c_grammar.proofs.write.write.Statement.{statement}

@@ -1,11 +1,10 @@
 -- `c_grammar::write::write_rule` meets its contract. The loop's invariant: the places passed are written after the first three numbers.
 -- The measure is what is left of the 8 places. Assumes nothing.
-use Prim.Native.Nat.{_≤_, _+_, _-_}
+use Prim.Native.Nat.{_+_, _-_}
 use native.Mathlib.Omega.{arith}
 use lib.ListN.{length-set}
 use Rattle.sizes.specs.Sizes.{maxPlaces}
 use Rattle.grammar.proofs.Declared.{length-fits, places-long}
-use Rattle.grammar.specs.Zero.{zeroPlace}
 use Rattle.c_grammar.specs.Flat.{flatPlace}
 use Rattle.c_grammar.proofs.Written.{Written, written-start, written-step, rule-done}
 use Rattle.c_grammar.proofs.write.write_rule.Statement.{statement}
