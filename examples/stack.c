@@ -14,7 +14,7 @@
 
 enum { KIB = 1024, PAGE = 4096, LARGE = 4096 * KIB, KNOWN = 100 * KIB, PAINT = 0xA5 };
 
-static uint8_t book[2563], plate[FILBOZSEG_BYTES];
+static uint8_t book[3587], plate[FILBOZSEG_BYTES];
 static uint16_t full[FILBOZSEG_ROW], deep[FILBOZSEG_ROW], wide[FILBOZSEG_ROW], left[FILBOZSEG_ROW], hand[FILBOZSEG_HAND];
 static uint16_t nested[FILBOZSEG_OUTPUT], output[FILBOZSEG_OUTPUT];
 static uint16_t twin[FILBOZSEG_ROW];
@@ -190,7 +190,7 @@ static int load_twin(void)
     return filbozseg_load(book, size, twin, &offset) == 1;
 }
 
-/* 128 rules of 8 places. */
+/* 128 rules of 8 places, with a range in every second one. */
 static int load_full(void)
 {
     size_t k, q;
@@ -199,13 +199,13 @@ static int load_full(void)
     for (k = 0; k < 128; k++) {
         put((uint8_t[]){0x20, k % 32, 1, 0}, 4);
         for (q = 0; q < 8; q++)
-            put(q % 2 ? (uint8_t[]){0x40, 'A'} : (uint8_t[]){0x30, (k + q) % 32}, 2);
+            put(q % 2 ? (uint8_t[]){0x41, 'A', 'B'} : (uint8_t[]){0x30, (k + q) % 32}, q % 2 ? 3 : 2);
     }
     put((uint8_t[]){0x50}, 1);
     return filbozseg_load(book, size, full, &offset) == 1;
 }
 
-/* 128 rules of 8 places: in a quarter of them every place holds a terminal, in the others every second one. 64 bytes have derivations. */
+/* 128 rules of 8 places: in a quarter of them every place holds a range, in the others every second one. 64 bytes have derivations. */
 static int load_wide(void)
 {
     size_t k, q;
@@ -214,7 +214,7 @@ static int load_wide(void)
     for (k = 0; k < 128; k++) {
         put((uint8_t[]){0x20, k % 32, 1, 0}, 4);
         for (q = 0; q < 8; q++)
-            put(q % 2 || k / 32 == 3 ? (uint8_t[]){0x40, 'A'} : (uint8_t[]){0x30, (k + 5 * q) % 32}, 2);
+            put(q % 2 || k / 32 == 3 ? (uint8_t[]){0x41, 0, 255} : (uint8_t[]){0x30, (k + 5 * q) % 32}, q % 2 || k / 32 == 3 ? 3 : 2);
     }
     put((uint8_t[]){0x50}, 1);
     return filbozseg_load(book, size, wide, &offset) == 1;

@@ -11,7 +11,7 @@
  *     0          no; none
  *     1          yes; loaded; measured; handed out; counted
  *     2          more (only from filbozseg_count)
- *     256 + n    refusal n, 1 <= n <= 15: FILBOZSEG_REFUSED gives n, enum filbozseg_refusal has its name, and docs/REFERENCE.md says when
+ *     256 + n    refusal n, 1 <= n <= 16: FILBOZSEG_REFUSED gives n, enum filbozseg_refusal has its name, and docs/REFERENCE.md says when
  *                a call is refused with it and what the call leaves
  * and no other code. No function allocates or keeps anything between calls. Of the C library they need only memcpy and memset. Several
  * threads may call them at once if what is lent for writing is lent to one call only.
@@ -47,7 +47,7 @@ extern "C" {
 
 /* The version of this header and of the library that it describes. */
 #define FILBOZSEG_VERSION_MAJOR 0
-#define FILBOZSEG_VERSION_MINOR 1
+#define FILBOZSEG_VERSION_MINOR 2
 #define FILBOZSEG_VERSION_PATCH 0
 
 /* Sizes: the numbers in a grammar's row, the numbers in a hand's row, the used cells of a chart, the maximum number of bytes of an input,
@@ -63,9 +63,9 @@ extern "C" {
 #define FILBOZSEG_LOAD_STACK (16 * 1024)
 #define FILBOZSEG_OPEN_STACK (48 * 1024)
 #define FILBOZSEG_TAKE_STACK (48 * 1024)
-#define FILBOZSEG_CHECK_STACK (136 * 1024)
-#define FILBOZSEG_LENGTH_STACK (140 * 1024)
-#define FILBOZSEG_SAME_BUILD_STACK (140 * 1024)
+#define FILBOZSEG_CHECK_STACK (148 * 1024)
+#define FILBOZSEG_LENGTH_STACK (148 * 1024)
+#define FILBOZSEG_SAME_BUILD_STACK (148 * 1024)
 #define FILBOZSEG_FIRST_STACK (1900 * 1024)
 #define FILBOZSEG_NEXT_STACK (1900 * 1024)
 #define FILBOZSEG_COUNT_STACK (1900 * 1024)
@@ -86,7 +86,8 @@ enum filbozseg_refusal {
     FILBOZSEG_REFUSAL_NOT_A_DERIVATION = 12,      /* what is offered is no derivation of the input */
     FILBOZSEG_REFUSAL_ONLY_LARGER_TREES = 13,     /* the input has trees, but none of at most 512 nodes */
     FILBOZSEG_REFUSAL_INVALID_RECOGNIZER = 14,    /* the hand's count is over 64, or a used mark over 255 */
-    FILBOZSEG_REFUSAL_RECOGNIZER_FULL = 15        /* the hand has 64 marks and takes no more */
+    FILBOZSEG_REFUSAL_RECOGNIZER_FULL = 15,       /* the hand has 64 marks and takes no more */
+    FILBOZSEG_REFUSAL_RANGE_REVERSED = 16         /* a range of the book has its low end over its high end */
 };
 
 /* The number of the refusal that a code stands for, or 0 if it is no refusal. The argument is evaluated once. */
@@ -99,12 +100,13 @@ static inline uint32_t filbozseg_refused(uint32_t code)
 /*
  * The row of a grammar has numbers of 16 bits: the start symbol, the number of rules, the nullable depth, and then 19 numbers for each of
  * 128 rules. These are the left side, the length in hundredths of a millimetre (two's complement), the number of places, and for each of 8
- * places a tag (0 for a nonterminal, 1 for a terminal) and a value.
+ * places a tag and a value. Tag 0 is a nonterminal and 1 a terminal. Tag 2 is a range, whose value is low + 256 * high: any byte from low
+ * to high fits such a place, both ends included, and no other.
  *
  * A row may hold anything, and all 16 bits of each number are checked. Refusal 8: a start over 31; more than 128 rules; in a used rule a
- * left side over 31, or more than 8 places; in a used place a tag other than 0 and 1, a nonterminal over 31, or a terminal over 255. A
- * rule is used if its number is below the number of rules. A place is used if its number is below its rule's number of places. The depth,
- * the lengths, and all numbers of unused rules and unused places may have any value.
+ * left side over 31, or more than 8 places; in a used place a tag over 2, a nonterminal over 31, a terminal over 255, or a range with low
+ * over high. A rule is used if its number is below the number of rules. A place is used if its number is below its rule's number of
+ * places. The depth, the lengths, and all numbers of unused rules and unused places may have any value.
  *
  * The row of a hand has numbers of 16 bits: 64 marks, and then the count, hand[FILBOZSEG_BYTES]. It may hold anything too, and all 16 bits
  * of each number are checked. Refusal 14: a count over 64, or a used mark over 255. A mark is used if its number is below the count; other
@@ -112,9 +114,18 @@ static inline uint32_t filbozseg_refused(uint32_t code)
  */
 
 /*
- * Loads a book of any length. Returns 1, writes the row of its grammar, and leaves the offset as found. Or returns 256 + n, n from 1 to
- * 7, writes the row of the grammar without rules, which is all zeros, and writes to offset where the fault is. Either way it writes all
- * numbers of the row.
+ * Loads a book of any length; one that loads has at most 3587 bytes. Returns 1, writes the row of its grammar, and leaves the offset as
+ * found. Or returns 256 + n, n from 1 to 7 or 16, writes the row of the grammar without rules, which is all zeros, and writes to offset
+ * where the fault is. Either way it writes all numbers of the row.
+ *
+ * A book is a row of commands. Their first bytes, in hexadecimal, and their operands:
+ *     10 start                 the start symbol; the first command, and only there
+ *     20 left low high         opens a rule: its left side, and its length in 16 bits with the low byte first
+ *     30 nonterminal           adds a place to that rule
+ *     40 byte                  adds a place that this byte fits
+ *     41 low high              adds a place that any byte from low to high fits; 40 a and 41 a a are two symbols
+ *     50                       the end; the last byte
+ * At one command the order of the refusals is 2, 3, 1, then 4 or 16, then 5 or 6, then 7.
  * Stack: FILBOZSEG_LOAD_STACK.
  */
 uint32_t filbozseg_load(const uint8_t *book, size_t book_length, uint16_t grammar[FILBOZSEG_ROW], size_t *offset);

@@ -2,13 +2,14 @@
 
 use crate::random::Random;
 
-/// A place: a nonterminal below 32, or a terminal.
+/// A place: a nonterminal below 32, a terminal, or a range from low to high.
 #[derive(Clone, Copy)]
 pub enum P {
     N(u8),
     T(u8),
+    R(u8, u8),
 }
-use P::{N, T};
+use P::{N, R, T};
 
 pub struct Book(Vec<u8>);
 
@@ -25,10 +26,11 @@ impl Book {
         self.0.extend([0x20, left]);
         self.0.extend(length.to_le_bytes());
         for p in places {
-            self.0.extend(match *p {
-                N(k) => [0x30, k],
-                T(m) => [0x40, m],
-            });
+            match *p {
+                N(k) => self.0.extend([0x30, k]),
+                T(m) => self.0.extend([0x40, m]),
+                R(low, high) => self.0.extend([0x41, low, high]),
+            }
         }
         self
     }
@@ -45,6 +47,11 @@ pub const A: P = T(b'A');
 /// 0 → 0 0 | A.
 pub fn pairs() -> Vec<u8> {
     Book::new(0).rule(0, &[N(0), N(0)]).rule(0, &[A]).bytes()
+}
+
+/// 0 → 0 0 | any byte: on 64 bytes A it does what `pairs` does, through a range.
+pub fn pairs_of_any() -> Vec<u8> {
+    Book::new(0).rule(0, &[N(0), N(0)]).rule(0, &[R(0, 255)]).bytes()
 }
 
 /// 40 rules: a condition, three levels of comparison and logic, sums, products, unary signs, powers, calls and
@@ -97,7 +104,7 @@ pub fn dense() -> Vec<u8> {
             book.rule(28 + (r / 32) as u8, &[]);
             continue;
         }
-        let mut places = random_places(&mut random, 32, 8, 6, b"AAB");
+        let mut places = random_places(&mut random, 32, 8, 6, &b"AAB".map(T));
         for place in &mut places {
             if random.below(4) > 0 {
                 *place = N(28 + random.below(4) as u8);
@@ -108,11 +115,11 @@ pub fn dense() -> Vec<u8> {
     book.bytes()
 }
 
-/// Eight places, of which one in `rare` is a mark.
-fn random_places(random: &mut Random, kinds: usize, count: usize, rare: usize, marks: &[u8]) -> Vec<P> {
+/// Places, of which one in `rare` is a mark.
+fn random_places(random: &mut Random, kinds: usize, count: usize, rare: usize, marks: &[P]) -> Vec<P> {
     (0..count)
         .map(|_| match random.below(rare) {
-            0 => T(marks[random.below(marks.len())]),
+            0 => marks[random.below(marks.len())],
             _ => N(random.below(kinds) as u8),
         })
         .collect()
@@ -229,8 +236,17 @@ pub fn full() -> Vec<u8> {
     let mut random = Random::new(0xf);
     let mut book = Book::new(0);
     for r in 0..128 {
-        let places = random_places(&mut random, 32, 8, 3, b"ABC");
+        let places = random_places(&mut random, 32, 8, 3, &b"ABC".map(T));
         book.measured((r % 32) as u8, random.draw() as i16, &places);
+    }
+    book.bytes()
+}
+
+/// The longest book that loads, 3,587 bytes: 128 rules of 8 ranges.
+pub fn full_of_ranges() -> Vec<u8> {
+    let mut book = Book::new(0);
+    for r in 0..128 {
+        book.measured(r % 32, 25, &[R(r, 127 + r); 8]);
     }
     book.bytes()
 }
@@ -362,11 +378,21 @@ pub fn forbidden() -> Vec<u8> {
 /// A random book of full size and its input of 64 marks. The styles differ in how many kinds and marks there are, how
 /// many rules are short, and how many are nullable.
 pub fn random_full(random: &mut Random) -> (Vec<u8>, Vec<u8>) {
+    full_with(random, T)
+}
+
+/// The same with a range in the place of each mark: it stands for any byte up to the mark. The input is the same.
+pub fn random_full_of_ranges(random: &mut Random) -> (Vec<u8>, Vec<u8>) {
+    full_with(random, |mark| R(0, mark))
+}
+
+fn full_with(random: &mut Random, place: fn(u8) -> P) -> (Vec<u8>, Vec<u8>) {
     let kinds = [4, 8, 16, 32][random.below(4)];
     let rare = [2, 4, 8, 16][random.below(4)];
     let marks: &[u8] = [&b"A"[..], b"AB", b"AAAB", b"ABCD"][random.below(4)];
     let empty = random.below(8);
     let single = random.below(24);
+    let terminals: Vec<P> = marks.iter().copied().map(place).collect();
     let mut book = Book::new(0);
     for r in 0..128 {
         let left = random.below(kinds) as u8;
@@ -377,7 +403,7 @@ pub fn random_full(random: &mut Random) -> (Vec<u8>, Vec<u8>) {
         } else {
             8
         };
-        let places = random_places(random, kinds, count, rare, marks);
+        let places = random_places(random, kinds, count, rare, &terminals);
         book.rule(left, &places);
     }
     let input = (0..64).map(|_| marks[random.below(marks.len())]).collect();

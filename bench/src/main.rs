@@ -117,6 +117,9 @@ fn loads() {
     let (code, _, at) = load_both(&faulty);
     assert_eq!((code, at), (Refusal::UnknownCommand.code(), 2562));
     time_load("the same, unknown byte at 2,562", &faulty);
+    let ranges = books::full_of_ranges();
+    assert_eq!((ranges.len(), loaded(&ranges)[1]), (3587, 128));
+    time_load("full valid book of ranges, 3,587 bytes", &ranges);
     time_load("empty chain of 32 kinds, one found in each pass", &books::chain(&[&[]]));
     time_load("10 00 50", &[0x10, 0, 0x50]);
 }
@@ -142,6 +145,7 @@ fn cases() -> Vec<Case> {
         case("the same on every span, 31 -> A 31 | nothing", books::chain(&[&[A, P::N(31)], &[]]), &a),
         case("worst by hand: most work, 128 rules", books::worst(), &a),
         case("worst by hand: mixed places, 128 rules", books::worst_mixed(), &a),
+        case("0 -> 0 0 | 00..FF", books::pairs_of_any(), &a),
     ];
     for c in &list {
         assert_eq!(c.input.len(), 64);
@@ -190,7 +194,7 @@ fn fills(list: &[Case]) -> (f64, String) {
     worst
 }
 
-fn takes(list: &[Case]) {
+fn takes(list: &[&Case]) {
     heading("TAKE of the 64th mark", &["One call on both sides: flat row, check 8, pack, column 64."]);
     for c in list {
         let (full, sheet) = feed_both(&c.flat, &c.input);
@@ -408,7 +412,7 @@ fn main() {
     println!("\nBOOKS of the fill, 64 marks each; results are equal on both sides");
     let list = cases();
     let worst = fills(&list);
-    takes(&list[..2]);
+    takes(&[&list[0], &list[1], &list[list.len() - 1]]);
     spans::spans(&list);
     overheads(&list);
     checks();

@@ -24,6 +24,17 @@ pub const CHART: usize = 4225;
 pub enum Symbol {
     Nonterminal(u8),
     Terminal(u8),
+    Range(u8, u8),
+}
+
+impl Symbol {
+    fn valid(&self) -> bool {
+        match *self {
+            Symbol::Nonterminal(k) => k < 32,
+            Symbol::Terminal(_) => true,
+            Symbol::Range(low, high) => low <= high,
+        }
+    }
 }
 
 #[derive(Clone, Copy, Debug, PartialEq)]
@@ -46,9 +57,7 @@ impl Rule {
     pub const ZERO: Rule = Rule { left: 0, length: 0, count: 0, places: [Symbol::Nonterminal(0); PLACES] };
 
     fn valid(&self) -> bool {
-        self.left < 32
-            && self.count <= PLACES
-            && self.places[..self.count].iter().all(|s| !matches!(s, Symbol::Nonterminal(k) if *k > 31))
+        self.left < 32 && self.count <= PLACES && self.places[..self.count].iter().all(Symbol::valid)
     }
 }
 

@@ -1,4 +1,4 @@
-//! The bytes of a book: reading and writing the commands of document 01.
+//! The bytes of a book: reading and writing the commands of document 01, and of request U1 of document 02.
 
 use crate::fault::Refusal;
 use crate::grammar::{Grammar, Rule, Symbol, KINDS, PLACES, RULES};
@@ -7,10 +7,11 @@ const START: u8 = 0x10;
 const RULE: u8 = 0x20;
 const KIND: u8 = 0x30;
 const MARK: u8 = 0x40;
+const RANGE: u8 = 0x41;
 const END: u8 = 0x50;
 
 /// Reads a book from the left. The first fault counts. At one command the faults are checked in the order 2, 3, 1,
-/// then 4, then 5 or 6.
+/// then 4 or 16, then 5 or 6.
 pub fn loaded(book: &[u8]) -> Result<Grammar, Refusal> {
     let mut grammar = Grammar { start: 0, rules: Vec::new() };
     let mut at = 0;
@@ -37,6 +38,7 @@ fn operands(book: &[u8], at: usize, rule_open: bool) -> Result<&[u8], Refusal> {
         START => (1, at == 0),
         RULE => (3, at > 0),
         KIND | MARK => (1, rule_open),
+        RANGE => (2, rule_open),
         END => (0, at > 0),
         _ => return Err(Refusal { number: 2, offset: at }),
     };
@@ -47,10 +49,12 @@ fn operands(book: &[u8], at: usize, rule_open: bool) -> Result<&[u8], Refusal> {
 }
 
 /// Adds to the grammar what a command in turn with all its operands says. Or the fault that its kind is over 31 (4),
-/// that its rule is the 129th (5), or that its place is the rule's ninth (6).
+/// that its range is reversed (16), that its rule is the 129th (5), or that its place is the rule's ninth (6).
 fn obey(grammar: &mut Grammar, command: u8, operands: &[u8]) -> Result<(), u8> {
-    if command != MARK && operands[0] >= KINDS {
-        return Err(4);
+    match (command, operands) {
+        (START | RULE | KIND, [kind, ..]) if *kind >= KINDS => return Err(4),
+        (RANGE, [low, high]) if low > high => return Err(16),
+        _ => (),
     }
     match (command, operands) {
         (START, _) => grammar.start = operands[0],
@@ -65,7 +69,11 @@ fn obey(grammar: &mut Grammar, command: u8, operands: &[u8]) -> Result<(), u8> {
             if places.len() == PLACES {
                 return Err(6);
             }
-            places.push(if command == KIND { Symbol::Nonterminal(operands[0]) } else { Symbol::Terminal(operands[0]) });
+            places.push(match command {
+                KIND => Symbol::Nonterminal(operands[0]),
+                MARK => Symbol::Terminal(operands[0]),
+                _ => Symbol::Range(operands[0], operands[1]),
+            });
         }
     }
     Ok(())
@@ -78,10 +86,11 @@ pub fn written(grammar: &Grammar) -> Vec<u8> {
         let [low, high] = rule.length.to_le_bytes();
         book.extend([RULE, rule.left, low, high]);
         for place in &rule.places {
-            book.extend(match *place {
-                Symbol::Nonterminal(kind) => [KIND, kind],
-                Symbol::Terminal(mark) => [MARK, mark],
-            });
+            match *place {
+                Symbol::Nonterminal(kind) => book.extend([KIND, kind]),
+                Symbol::Terminal(mark) => book.extend([MARK, mark]),
+                Symbol::Range(low, high) => book.extend([RANGE, low, high]),
+            }
         }
     }
     book.push(END);

@@ -32,10 +32,14 @@ pub enum Reason {
     PlacesDue,
     /// `-`, which means that there is no place, is not alone.
     DashWithPlaces,
-    /// A place is neither a kind nor a mark.
+    /// A place is neither a kind nor a mark nor a range.
     NotAPlace(String),
     /// A mark is neither one printable character in quotes nor `=` with two hexadecimal digits.
     NotAMark(String),
+    /// A mark and `..` begin a range, but no mark follows, or something else does.
+    NotARange(String),
+    /// The first mark of a range is over the second.
+    RangeReversed(String),
     /// The quote or the backslash is in quotes.
     NotInQuotes(String),
     /// There is a ninth place.
@@ -52,10 +56,10 @@ pub enum Reason {
     TooManyRules,
 }
 
-/// Why bytes are not a book: a refusal of document 01.
+/// Why bytes are not a book: a refusal of document 01, or 16 of document 02.
 #[derive(Clone, Copy, Debug, PartialEq, Eq)]
 pub struct Refusal {
-    /// Its number, 1 to 7.
+    /// Its number: 1 to 7, or 16.
     pub number: u8,
     /// Its offset: that of the command; for 1 the number of bytes; for 7 the byte after the end.
     pub offset: usize,
@@ -83,8 +87,10 @@ impl fmt::Display for Reason {
             ArrowDue => "`->` is due after the left side",
             PlacesDue => "places are due after `->`, or `-` for no place",
             DashWithPlaces => "`-` says that there is no place, and must be alone",
-            NotAPlace(_) => "neither a kind (0 to 31) nor a mark ('A', or =41 for any byte)",
+            NotAPlace(_) => "neither a kind (0 to 31) nor a mark ('A', or =41 for any byte) nor a range ('0'..'9')",
             NotAMark(_) => "not a mark: one printable ASCII character in quotes, or = and two hexadecimal digits",
+            NotARange(_) => "not a range: a mark, two points and a mark, as in '0'..'9' or =30..=39",
+            RangeReversed(_) => "a reversed range: its first mark is over its last",
             NotInQuotes(_) => "quote and backslash are the marks =27 and =5C, and cannot be in quotes",
             NinthPlace => "a ninth place",
             LengthDue => "`:` and a length in millimetres are due after the places",
@@ -102,7 +108,8 @@ impl Reason {
         use Reason::*;
         match self {
             StartDue(word) | NotAKind(word) | KindOver(word) | NotAPlace(word) | NotAMark(word) => Some(word),
-            NotInQuotes(word) | NotALength(word) | LengthOver(word) | Further(word) => Some(word),
+            NotARange(word) | RangeReversed(word) | NotInQuotes(word) => Some(word),
+            NotALength(word) | LengthOver(word) | Further(word) => Some(word),
             _ => None,
         }
     }
@@ -126,6 +133,7 @@ impl fmt::Display for Refusal {
             4 => "a kind over 31",
             5 => "the 129th rule",
             6 => "a ninth place",
+            16 => "a reversed range",
             _ => "a byte after the end of the book",
         };
         write!(f, "refusal {} at offset {}: {what}", self.number, self.offset)

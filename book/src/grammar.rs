@@ -7,10 +7,11 @@ pub const RULES: usize = 128;
 /// The most places of a rule.
 pub const PLACES: usize = 8;
 
-/// What a place holds: in document 01 a kind or a mark.
+/// What a place holds: a kind, a mark, or a range of marks from low to high.
 pub enum Symbol {
     Nonterminal(u8),
     Terminal(u8),
+    Range(u8, u8),
 }
 
 /// A rule. Its length is in hundredths of a millimetre.

@@ -18,14 +18,16 @@
 //!
 //! The text is UTF-8, with one statement on each line; a line may be empty. The words of a line are separated by one or more blanks
 //! (spaces and tabs), and there may be blanks around them. `#` begins a comment that goes to the end of its line, except in the mark
-//! `'#'`. Lines end with a line feed, or with a carriage return and a line feed.
+//! `'#'`, also as an end of a range. Lines end with a line feed, or with a carriage return and a line feed.
 //!
 //! - `start KIND` is the first statement, and occurs only there.
 //! - `KIND -> PLACES : LENGTH` is a rule. Rules are numbered from 0, in order; there are at most 128.
 //! - A kind is a decimal number from 0 to 31.
-//! - The places are 1 to 8 kinds and marks, or `-` alone for no place.
+//! - The places are 1 to 8 kinds, marks and ranges, or `-` alone for no place.
 //! - A mark is one byte: `'A'` for a printable ASCII character (the space is one), or `=41` for any byte, two hexadecimal digits.
 //!   Nothing is escaped inside the quotes, so the quote and the backslash cannot be written there: they are `=27` and `=5C`.
+//! - A range is two marks with `..` between them and no blank: `'0'..'9'`, `=30..=39` or `'0'..=39`. It stands for any mark from the
+//!   first to the last, both included, and the first must not be over the last. `'A'..'A'` and `'A'` are two books.
 //! - A length is in millimetres, from -327.68 to 327.67: an optional sign, digits, and optionally a point with one or two digits.
 //!
 //! The first fault counts, line by line and from the left. A word is checked before it is found to be one too many.
@@ -47,7 +49,8 @@ pub fn to_bytes(text: &str) -> Result<Vec<u8>, Fault> {
     Ok(bytes::written(&parse::parsed(text)?))
 }
 
-/// The text of a book. Bytes that do not load are refused as in document 01, with the number and the offset of their first fault.
+/// The text of a book. Bytes that do not load are refused as the library refuses them, with the number and the offset of their first
+/// fault.
 pub fn to_text(book: &[u8]) -> Result<String, Refusal> {
     Ok(write::text(&bytes::loaded(book)?))
 }

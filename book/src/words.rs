@@ -3,19 +3,33 @@
 use crate::fault::Reason;
 use crate::grammar::{Symbol, KINDS};
 
-/// The words of a line without its comment. A word ends before a blank or `#`. If it begins with a quote, the next character belongs to
-/// it, whatever it is: so `' '` and `'#'` are words.
+/// What is written between the two marks of a range.
+const RANGE: &str = "..";
+
+/// The words of a line without its comment.
 pub fn words(line: &str) -> Vec<&str> {
     let mut words = Vec::new();
     let mut rest = line.trim_start_matches(is_blank);
     while !rest.is_empty() && !rest.starts_with('#') {
-        let quoted = if rest.starts_with('\'') { 2 } else { 0 };
-        let mut ends = rest.char_indices().skip(quoted).filter(|(_, c)| is_blank(*c) || *c == '#');
-        let end = ends.next().map_or(rest.len(), |(at, _)| at);
-        words.push(&rest[..end]);
-        rest = rest[end..].trim_start_matches(is_blank);
+        let (word, after) = rest.split_at(word_end(rest));
+        words.push(word);
+        rest = after.trim_start_matches(is_blank);
     }
     words
+}
+
+/// Where the word at the front ends: before a blank or `#`. The character after a quote that begins the word, or that follows `..` in
+/// it, belongs to the word, whatever it is: so `' '`, `'#'` and `' '..'#'` are words.
+fn word_end(line: &str) -> usize {
+    let mut chars = line.char_indices();
+    while let Some((at, c)) = chars.next() {
+        match c {
+            '\'' if at == 0 || line[..at].ends_with(RANGE) => drop(chars.next()),
+            '#' | ' ' | '\t' => return at,
+            _ => (),
+        }
+    }
+    line.len()
 }
 
 fn is_blank(c: char) -> bool {
@@ -33,26 +47,38 @@ pub fn kind(word: &str) -> Result<u8, Reason> {
     }
 }
 
-/// A place: a kind or a mark.
+/// A place: a kind, a mark or a range.
 pub fn place(word: &str) -> Result<Symbol, Reason> {
     match word.as_bytes() {
-        [b'\'' | b'=', ..] => Ok(Symbol::Terminal(mark(word)?)),
+        [b'\'' | b'=', _, _, b'.', b'.', ..] => range(word),
+        [b'\'' | b'=', ..] => Ok(Symbol::Terminal(mark(word.as_bytes(), word, Reason::NotAMark)?)),
         [b'0'..=b'9', ..] if is_digits(word) => Ok(Symbol::Nonterminal(kind(word)?)),
         _ => Err(Reason::NotAPlace(word.to_string())),
     }
 }
 
-/// A mark: `'A'` or `=41`.
-fn mark(word: &str) -> Result<u8, Reason> {
+/// A range: two marks with `..` between them. The first mark and the points are five bytes.
+fn range(word: &str) -> Result<Symbol, Reason> {
+    let (first, rest) = word.as_bytes().split_at(3);
+    let low = mark(first, word, Reason::NotARange)?;
+    let high = mark(&rest[RANGE.len()..], word, Reason::NotARange)?;
+    match low > high {
+        true => Err(Reason::RangeReversed(word.to_string())),
+        false => Ok(Symbol::Range(low, high)),
+    }
+}
+
+/// A mark: `'A'` or `=41`. If it is none, the reason is `no` with the word to which it belongs.
+fn mark(mark: &[u8], word: &str, no: fn(String) -> Reason) -> Result<u8, Reason> {
     let digit = |byte: u8| char::from(byte).to_digit(16).map(|digit| digit as u8);
-    match *word.as_bytes() {
+    match *mark {
         [b'\'', b'\'' | b'\\', b'\''] => Err(Reason::NotInQuotes(word.to_string())),
         [b'\'', mark @ b' '..=b'~', b'\''] => Ok(mark),
         [b'=', high, low] => match (digit(high), digit(low)) {
             (Some(high), Some(low)) => Ok(16 * high + low),
-            _ => Err(Reason::NotAMark(word.to_string())),
+            _ => Err(no(word.to_string())),
         },
-        _ => Err(Reason::NotAMark(word.to_string())),
+        _ => Err(no(word.to_string())),
     }
 }
 

@@ -17,13 +17,21 @@ fn line(rule: &Rule) -> String {
     format!("{} -> {} : {}\n", rule.left, places.join(" "), millimetres(rule.length))
 }
 
-/// A place: a kind in decimal; a mark in quotes if it is printable ASCII other than the quote and the backslash, otherwise in
-/// hexadecimal.
+/// A place: a kind in decimal, a mark, or a range as two marks.
 fn place(symbol: &Symbol) -> String {
     match *symbol {
         Symbol::Nonterminal(kind) => kind.to_string(),
-        Symbol::Terminal(mark @ b' '..=b'~') if mark != b'\'' && mark != b'\\' => format!("'{}'", char::from(mark)),
-        Symbol::Terminal(mark) => format!("={mark:02X}"),
+        Symbol::Terminal(byte) => mark(byte),
+        Symbol::Range(low, high) => format!("{}..{}", mark(low), mark(high)),
+    }
+}
+
+/// A mark: in quotes if it is printable ASCII other than the quote and the backslash, otherwise in hexadecimal.
+fn mark(byte: u8) -> String {
+    match byte {
+        b'\'' | b'\\' => format!("={byte:02X}"),
+        b' '..=b'~' => format!("'{}'", char::from(byte)),
+        _ => format!("={byte:02X}"),
     }
 }
 

@@ -7,6 +7,7 @@ use book::{to_bytes, to_text, Refusal};
 use drafts::draft;
 use outside_tests::books::{book, damage, soup, Rng};
 use outside_tests::lister::grammar::load;
+use std::collections::BTreeMap;
 
 #[test]
 fn each_refusal() {
@@ -19,7 +20,7 @@ fn each_refusal() {
         (vec![0x10, 0x00], 1, 2),
         (vec![0x10, 0x00, 0x20, 0xFF, 0], 1, 5),
         (vec![0x00], 2, 0),
-        (vec![0x10, 0x00, 0x41], 2, 2),
+        (vec![0x10, 0x00, 0x42], 2, 2),
         (vec![0x50], 3, 0),
         (vec![0x20], 3, 0),
         (vec![0x10, 0x00, 0x10], 3, 2),
@@ -34,6 +35,12 @@ fn each_refusal() {
         (with(&eight, &[0x40, 0x41]), 6, 22),
         (with(&eight, &[0x30, 0x20]), 4, 22),
         (with(&eight, &[0x40]), 1, 23),
+        (vec![0x10, 0x00, 0x41, 0x39, 0x30], 3, 2),
+        (with(&eight[..6], &[0x41, 0xFF]), 1, 8),
+        (with(&eight[..6], &[0x41, 0x39, 0x30]), 16, 6),
+        (with(&eight, &[0x41, 0x39, 0x30]), 16, 22),
+        (with(&eight, &[0x41, 0x30, 0x39]), 6, 22),
+        (with(&eight, &[0x41, 0x39]), 1, 24),
         (vec![0x10, 0x00, 0x50, 0x00], 7, 3),
         (vec![0x10, 0x00, 0x50, 0x50, 0x50], 7, 3),
     ];
@@ -53,15 +60,16 @@ fn refusals_are_printed() {
         "refusal 5 at offset 9: the 129th rule",
         "refusal 6 at offset 9: a ninth place",
         "refusal 7 at offset 9: a byte after the end of the book",
+        "refusal 16 at offset 9: a reversed range",
     ];
-    let printed = (1..=7).map(|number| Refusal { number, offset: 9 }.to_string());
+    let printed = (1..=7).chain([16]).map(|number| Refusal { number, offset: 9 }.to_string());
     assert_eq!(printed.collect::<Vec<_>>(), due);
 }
 
 /// Damaged books, and random commands, are judged as the lister judges them. Those that load are returned.
 #[test]
 fn damaged_books_are_judged_as_the_lister_judges_them() {
-    let mut came_up = [0; 8];
+    let mut came_up: BTreeMap<u8, usize> = BTreeMap::new();
     for seed in 0..20_000 {
         let rng = &mut Rng::new(seed ^ 0xDA_3A6E);
         let mut bytes = match rng.below(4) {
@@ -73,10 +81,12 @@ fn damaged_books_are_judged_as_the_lister_judges_them() {
             0 => damage(rng, &mut bytes),
             1 => {
                 bytes.truncate(rng.below(bytes.len() + 1));
-                bytes.extend((0..rng.below(4)).map(|_| rng.pick(&[0x10, 0x20, 0x30, 0x40, 0x50, 0x1F, 0x20, 0xFF])));
+                let some = [0x10, 0x20, 0x30, 0x40, 0x41, 0x50, 0x1F, 0x20, 0xFF];
+                bytes.extend((0..rng.below(4)).map(|_| rng.pick(&some)));
             }
             _ => {
-                let more = rng.pick(&[&[0x20, 0, 0, 0, 0x50][..], &[0x40, 0x41, 0x50], &[0x30, 0, 0x50]]);
+                let places = [&[0x40, 0x41, 0x50][..], &[0x30, 0, 0x50], &[0x41, 0, 1, 0x50], &[0x41, 1, 0, 0x50]];
+                let more = if rng.one_in(3) { &[0x20, 0, 0, 0, 0x50] } else { rng.pick(&places) };
                 bytes.truncate(bytes.len().saturating_sub(1)); // before its end
                 for _ in 0..rng.within(1, 9) {
                     bytes.extend(&more[..more.len() - 1]);
@@ -86,15 +96,19 @@ fn damaged_books_are_judged_as_the_lister_judges_them() {
         }
         match (to_text(&bytes), load(&bytes)) {
             (Ok(text), Ok(_)) => {
-                came_up[0] += 1;
+                *came_up.entry(0).or_default() += 1;
                 assert_eq!(to_bytes(&text), Ok(bytes));
             }
             (Err(Refusal { number, offset }), Err(due)) => {
-                came_up[usize::from(number)] += 1;
+                *came_up.entry(number).or_default() += 1;
                 assert_eq!((number, offset), due, "{bytes:02X?}");
             }
             (got, due) => panic!("{bytes:02X?}: {got:?}, due {due:?}"),
         }
     }
-    assert!(came_up.iter().all(|times| *times > 50), "loaded, then refused 1 to 7: {came_up:?}");
+    let due = [0, 1, 2, 3, 4, 5, 6, 7, 16];
+    assert!(
+        came_up.keys().eq(&due) && came_up.values().all(|times| *times > 50),
+        "loaded (0), or refused: {came_up:?}"
+    );
 }

@@ -75,9 +75,10 @@ fn bad_places() {
         let printed = "`-` says that there is no place, and must be alone";
         refused(&rule(words), 2, Reason::DashWithPlaces, printed);
     }
-    for word in ["A", "-1", "1.0", "->", "46.00", "0x41", "1:", "x'A'", "\u{e9}"] {
+    for word in ["A", "-1", "1.0", "->", "46.00", "0x41", "1:", "x'A'", "\u{e9}", "0..9", "..'9'"] {
         let shown = if word == "\u{e9}" { "\\u{e9}" } else { word };
-        let printed = format!("`{shown}`: neither a kind (0 to 31) nor a mark ('A', or =41 for any byte)");
+        let printed =
+            format!("`{shown}`: neither a kind (0 to 31) nor a mark ('A', or =41 for any byte) nor a range ('0'..'9')");
         refused(&rule(&format!("0 -> 1 {word} : 0")), 2, with(Reason::NotAPlace, word), &printed);
     }
     refused(&rule("0 -> 1 32 : 0"), 2, with(Reason::KindOver, "32"), "`32`: a kind over 31");
@@ -104,6 +105,45 @@ fn bad_marks() {
         let printed = format!("`{word}`: quote and backslash are the marks =27 and =5C, and cannot be in quotes");
         refused(&rule(&format!("0 -> 1 {word} : 0")), 2, with(Reason::NotInQuotes, word), &printed);
     }
+}
+
+#[test]
+fn bad_ranges() {
+    let words = [
+        "'0'..",
+        "'0'..9",
+        "'0'..='9'",
+        "'0'...'9'",
+        "'0'..'9",
+        "'0'..'9''",
+        "'0'..'9'..'9'",
+        "=30..=3",
+        "=30..=",
+        "=3G..=40",
+    ];
+    let more = ["'0'..\u{e9}", "'0'..'\u{e9}'", "=\u{e9}..'9'", "'0'..''", "'0'..x"];
+    for word in words.into_iter().chain(more) {
+        let fault = Fault { line: 2, reason: with(Reason::NotARange, word) };
+        assert_eq!(to_bytes(&rule(&format!("0 -> 1 {word} : 0"))), Err(fault));
+    }
+    let printed = "`'0'..`: not a range: a mark, two points and a mark, as in '0'..'9' or =30..=39";
+    refused(&rule("0 -> '0'.. '9' : 0"), 2, with(Reason::NotARange, "'0'.."), printed);
+    for word in ["'0'.'9'", "'0'-'9'", "''..'9'", "'09'..'9'", "=3..=39", "=030..=39"] {
+        let fault = Fault { line: 2, reason: with(Reason::NotAMark, word) };
+        assert_eq!(to_bytes(&rule(&format!("0 -> 1 {word} : 0"))), Err(fault));
+    }
+    for word in ["'9'..'0'", "=39..'0'", "'B'..'A'", "=FF..=00", "=01..=00", "'a'..'Z'"] {
+        let printed = format!("`{word}`: a reversed range: its first mark is over its last");
+        refused(&rule(&format!("0 -> 1 {word} : 0")), 2, with(Reason::RangeReversed, word), &printed);
+    }
+    for word in ["'''..'9'", "' '..'''", "'0'..'\\'", "'\\'..'a'"] {
+        let printed = format!("`{word}`: quote and backslash are the marks =27 and =5C, and cannot be in quotes");
+        refused(&rule(&format!("0 -> 1 {word} : 0")), 2, with(Reason::NotInQuotes, word), &printed);
+    }
+    // a word is checked before it is found to be one too many
+    refused(&rule("0 -> 1 1 1 1 1 1 1 1 '0'..'9' : 0"), 2, Reason::NinthPlace, "a ninth place");
+    let printed = "`'9'..'0'`: a reversed range: its first mark is over its last";
+    refused(&rule("0 -> 1 1 1 1 1 1 1 1 '9'..'0' : 0"), 2, with(Reason::RangeReversed, "'9'..'0'"), printed);
 }
 
 #[test]
@@ -152,7 +192,7 @@ fn the_129th_rule() {
 
 #[test]
 fn the_first_fault_counts() {
-    let printed = "`x`: neither a kind (0 to 31) nor a mark ('A', or =41 for any byte)";
+    let printed = "`x`: neither a kind (0 to 31) nor a mark ('A', or =41 for any byte) nor a range ('0'..'9')";
     refused("start 0\r\n\r\n0 -> x 32 : y\r\nz", 3, with(Reason::NotAPlace, "x"), printed);
     refused("start 32 0\nstart 0", 1, with(Reason::KindOver, "32"), "`32`: a kind over 31");
 }

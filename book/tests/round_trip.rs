@@ -17,7 +17,8 @@ fn returns(bytes: &[u8]) -> String {
 
 #[test]
 fn random_books_return() {
-    let (mut lefts, mut kinds, mut marks) = (BTreeSet::new(), BTreeSet::new(), BTreeSet::new());
+    let (mut lefts, mut kinds, mut marks, mut lows) =
+        (BTreeSet::new(), BTreeSet::new(), BTreeSet::new(), BTreeSet::new());
     let (mut starts, mut places, mut rules, mut negative) = (BTreeSet::new(), BTreeSet::new(), BTreeSet::new(), 0);
     for seed in 0..2000 {
         let draft = draft(&mut Rng::new(seed));
@@ -33,12 +34,13 @@ fn random_books_return() {
                 match *place {
                     Sym::N(kind) => kinds.insert(kind),
                     Sym::T(mark) => marks.insert(mark),
+                    Sym::R(low, _) => lows.insert(low),
                 };
             }
         }
     }
     // What must have come up.
-    assert_eq!([starts.len(), lefts.len(), kinds.len(), marks.len()], [32, 32, 32, 256]);
+    assert_eq!([starts.len(), lefts.len(), kinds.len(), marks.len(), lows.len()], [32, 32, 32, 256, 256]);
     assert!((0..=8).all(|count| places.contains(&count)));
     assert!([0, 1, 127, 128].iter().all(|count| rules.contains(count)) && rules.len() > 100);
     assert!(negative > 10_000);
@@ -71,6 +73,41 @@ fn every_length_and_every_mark_returns() {
     assert!(text.contains("0 -> ' ' =A0 : 0.00\n") && text.contains("0 -> '#' =A3 : 0.00\n"));
     assert!(text.contains("0 -> =27 =A7 : 0.00\n") && text.contains("0 -> =5C =DC : 0.00\n"));
     assert!(text.contains("0 -> =00 =80 : 0.00\n") && text.contains("0 -> =7F =FF : 0.00\n"));
+}
+
+/// All pairs of a low and a high end.
+#[test]
+fn every_range_returns() {
+    let ranges: Vec<Sym> = (0..=255).flat_map(|high| (0..=high).map(move |low| Sym::R(low, high))).collect();
+    assert_eq!(ranges.len(), 32_896);
+    let rules: Vec<_> = ranges.chunks(8).map(|some| (0, 0, some.to_vec())).collect();
+    let mut texts = String::new();
+    for some in rules.chunks(128) {
+        let mut draft = Draft::new(0);
+        draft.rules = some.to_vec();
+        texts += &returns(&draft.bytes());
+    }
+    for word in
+        ["'0'..'9'", "=00..=FF", "=1F..' '", "' '..' '", "'#'..'#'", "=27..=27", "'.'..'/'", "' '..=5C", "'~'..=7F"]
+    {
+        assert_eq!(
+            texts.split([' ', '\n']).filter(|other| *other == word).count(),
+            usize::from(!word.contains(' ')),
+            "{word}"
+        );
+        assert!(texts.contains(word), "{word}");
+    }
+}
+
+#[test]
+fn ranges_are_spelt_in_many_ways() {
+    let mut draft = Draft::new(0);
+    draft.rules.push((0, 0, vec![Sym::R(b'0', b'9'); 4]));
+    draft.rules.push((0, 0, vec![Sym::R(b' ', b' '), Sym::R(b' ', b'#'), Sym::R(b'#', b'\''), Sym::R(b'.', b'.')]));
+    let text =
+        "start 0\n0 -> '0'..'9' =30..=39 '0'..=39 =30..'9' : 0\n0 -> ' '..' ' =20..'#'\t'#'..=27 '.'..'.' : 0# '..'\n";
+    assert_eq!(to_bytes(text), Ok(draft.bytes()));
+    assert!(returns(&draft.bytes()).ends_with("0 -> ' '..' ' ' '..'#' '#'..=27 '.'..'.' : 0.00\n"));
 }
 
 /// The same book in other spellings: blanks, comments, empty lines, line ends, zeros, signs, decimals, marks in

@@ -6,7 +6,7 @@ use std::path::PathBuf;
 
 /// Each sample, with the number of parts of its first reading and the number of its readings.
 const SAMPLES: &[(&str, usize, usize)] =
-    &[("T", 3, 2), ("pairs", 5, 2), ("bush", 512, 1), ("expressions", 19, 1), ("ambiguous", 7, 5)];
+    &[("T", 3, 2), ("pairs", 5, 2), ("bush", 512, 1), ("expressions", 19, 1), ("ambiguous", 7, 5), ("bores", 6, 2)];
 
 /// Book T of document 01, in full.
 const T: [u8; 21] = [
@@ -84,6 +84,20 @@ fn the_drawers_books_are_document_01s() {
     assert_eq!(places("pairs"), [(0, vec![kind(0); 2]), (0, vec![mark])]);
     let trunk = [&[mark][..], &[kind(1); 7]].concat();
     assert_eq!(places("bush"), [(0, trunk), (1, vec![kind(2); 8]), (2, vec![kind(3); 8]), (3, vec![])]);
+}
+
+/// The figures of the sample with ranges are any two digits, and nothing else.
+#[test]
+fn bores_are_two_digits() {
+    let grammar = grammar::load(&to_bytes(&text("bores")).expect("a text")).expect("a book");
+    let ranges = grammar.rules.iter().flat_map(|rule| &rule.places);
+    assert_eq!(ranges.filter(|place| **place == grammar::Symbol::Range(b'0', b'9')).count(), 2);
+    let readings = |plate: &str| listed(&grammar, plate.as_bytes()).0.len();
+    for figures in 0..100 {
+        let plate = format!("V{figures:02}");
+        assert_eq!(readings(&plate), if figures == 16 { 2 } else { 1 }, "{plate}");
+    }
+    assert_eq!(["V0", "V0/", "V:0", "V000", "W06", "VV0"].map(readings), [0; 6]);
 }
 
 /// Every file of the folder belongs to a sample that is tested here.

@@ -19,7 +19,7 @@ const NO_TENTHS: i32 = i32::MIN;
 ///
 /// # Errors
 ///
-/// The first fault of the book, read from the left: refusals 1 to 7.
+/// The first fault of the book, read from the left: refusals 1 to 7, and 16.
 pub fn load(book: &[u8]) -> Result<Grammar, LoadError> {
     let mut grammar = Grammar { row: Box::new([NO_NUMBER; ROW]) };
     let mut offset = NO_OFFSET;

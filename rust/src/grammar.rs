@@ -9,14 +9,14 @@ const RULES: usize = 3;
 const MAX_RULES: usize = 128;
 
 /// A grammar, as the row of numbers that is passed to the library: start symbol, number of rules, nullable depth, and 19 numbers for each
-/// of 128 rules (left side, length in two's complement, number of places, and a tag and a value for each of 8 places; tag 0 is a
-/// nonterminal, 1 a terminal).
+/// of 128 rules: left side, length in two's complement, number of places, and a tag and a value for each of 8 places. Tag 0 is a
+/// nonterminal and 1 a terminal. Tag 2 is a range, whose value is low + 256 × high.
 ///
 /// [`load`](crate::load) makes one from a book. The row of [`Grammar::from_row`] may hold anything: each call checks all 16 bits of each
 /// number. Refused with 8: a start over 31; more than 128 rules; in a used rule a left side over 31, or more than 8 places; in a used
-/// place a tag other than 0 and 1, a nonterminal over 31, or a terminal over 255. The depth, the lengths, and all numbers of unused rules
-/// and unused places may have any value. The accessors read such a row as the library does: a number over 255 as 255, and a place that
-/// holds neither a nonterminal nor a terminal as the nonterminal 255.
+/// place a tag over 2, a nonterminal over 31, a terminal over 255, or a range whose low end is over its high end. The depth, the lengths,
+/// and all numbers of unused rules and unused places may have any value. The accessors read such a row as the library does: a number over
+/// 255 as 255, and a place that holds no symbol as the nonterminal 255.
 ///
 /// ```
 /// # fn main() -> Result<(), filbozseg::LoadError> {

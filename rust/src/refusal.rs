@@ -45,6 +45,8 @@ pub enum Refusal {
     InvalidRecognizer = 14,
     /// The recognizer has taken 64 bytes.
     RecognizerFull = 15,
+    /// A range of the book has its low end over its high end.
+    RangeReversed = 16,
 }
 
 use Refusal::*;
@@ -70,9 +72,10 @@ impl Refusal {
         OnlyLargerTrees,
         InvalidRecognizer,
         RecognizerFull,
+        RangeReversed,
     ];
 
-    /// The refusal's number in document 01, from 1 on.
+    /// The refusal's number in the customer's documents, from 1 on.
     pub const fn number(self) -> u8 {
         self as u8
     }
@@ -109,6 +112,7 @@ impl Refusal {
             OnlyLargerTrees => "the input has trees, but none of at most 512 nodes",
             InvalidRecognizer => "the recognizer's count is over 64, or a byte that it has taken is over 255",
             RecognizerFull => "the recognizer has taken 64 bytes and takes no more",
+            RangeReversed => "a range of the book has its low end over its high end",
         }
     }
 }

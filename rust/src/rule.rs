@@ -45,6 +45,10 @@ impl<'a> Rule<'a> {
         self.row[PLACES..][..2 * used].chunks_exact(2).map(|place| match (place[0], place[1]) {
             (0, value) => Symbol::Nonterminal(byte(value)),
             (1, value @ 0..=255) => Symbol::Terminal(byte(value)),
+            (2, value) => {
+                let [low, high] = value.to_le_bytes();
+                Symbol::Range(low, high)
+            }
             _ => Symbol::Nonterminal(255),
         })
     }
@@ -66,7 +70,20 @@ impl fmt::Debug for Rule<'_> {
     }
 }
 
-/// What a place of a rule holds. A nonterminal is displayed as its number, a terminal as in Rust: `'A'`, `'\x07'`.
+/// What a place of a rule holds. A nonterminal is displayed as its number, a terminal as in Rust: `'A'`, `'\x07'`. A range is displayed
+/// as in the text of a book, with its two ends as terminals: `'0'..'9'`; both ends belong to it.
+///
+/// ```
+/// # fn main() -> Result<(), filbozseg::LoadError> {
+/// use filbozseg::{load, Symbol};
+/// let grammar = load(b"\x10\x00\x20\x00\x00\x00\x40V\x4109\x50")?; // 0 -> V and any digit
+/// let rule = grammar.rule(0).unwrap();
+/// assert_eq!(rule.to_string(), "0 -> 'V' '0'..'9'");
+/// assert_eq!(rule.places().next_back(), Some(Symbol::Range(b'0', b'9')));
+/// assert_eq!((grammar.readings(b"V6").count(), grammar.readings(b"VV").count()), (1, 0));
+/// # Ok(())
+/// # }
+/// ```
 #[derive(Clone, Copy, Debug, PartialEq, Eq, Hash)]
 #[non_exhaustive]
 pub enum Symbol {
@@ -74,6 +91,9 @@ pub enum Symbol {
     Nonterminal(u8),
     /// A terminal (mark).
     Terminal(u8),
+    /// A range, from the first byte to the second: any byte from low to high fits, both included, and no other. Low is over high only in
+    /// a grammar that is refused. `Range(a, a)` and `Terminal(a)` are two symbols.
+    Range(u8, u8),
 }
 
 impl fmt::Display for Symbol {
@@ -81,6 +101,7 @@ impl fmt::Display for Symbol {
         match self {
             Symbol::Nonterminal(number) => write!(f, "{number}"),
             Symbol::Terminal(byte) => write!(f, "'{}'", byte.escape_ascii()),
+            Symbol::Range(low, high) => write!(f, "{}..{}", Symbol::Terminal(*low), Symbol::Terminal(*high)),
         }
     }
 }

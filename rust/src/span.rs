@@ -29,7 +29,7 @@ fn child_start(open: &mut Vec<Open<'_>>, cover: u16, spans: &mut [Span]) -> u16 
                 parent.byte += cover;
                 return byte;
             }
-            Some(Symbol::Terminal(_)) => parent.byte += 1,
+            Some(Symbol::Terminal(_) | Symbol::Range(..)) => parent.byte += 1,
             None => {
                 spans[parent.node].end = spans.len() as u16;
                 open.pop();

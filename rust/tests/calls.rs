@@ -26,7 +26,7 @@ fn changed(at: usize, number: u16) -> Grammar {
 #[test]
 fn a_book_is_loaded_or_refused_at_its_offset() {
     assert_eq!(load(T).unwrap().row()[3..12], [0, 4600, 2, 0, 1, 0, 1, 0, 0]);
-    let faults: [(&[u8], u8, usize); 7] = [
+    let faults: [(&[u8], u8, usize); 10] = [
         (b"", 1, 0),
         (b"\x10", 1, 1),
         (b"\x99", 2, 0),
@@ -34,6 +34,9 @@ fn a_book_is_loaded_or_refused_at_its_offset() {
         (b"\x10\x20", 4, 0),
         (b"\x10\x00\x50\x50", 7, 3),
         (b"\x10\x00\x20\x00\xe7\xff\x40A", 1, 8),
+        (b"\x10\x00\x4109", 3, 2),
+        (b"\x10\x00\x20\x00\xe7\xff\x419", 1, 8),
+        (b"\x10\x00\x20\x00\xe7\xff\x4190", 16, 6),
     ];
     for (book, number, offset) in faults {
         let fault = load(book).unwrap_err();
@@ -50,7 +53,8 @@ fn the_numbers_of_a_grammar_are_judged_whole() {
     for at in [0, FIRST, FIRST + 4] {
         bad.extend(small(32).map(|number| (at, number)));
     }
-    bad.extend(small(2).map(|tag| (LAST + 3, tag)));
+    bad.extend(small(3).map(|tag| (LAST + 3, tag)));
+    bad.push((LAST + 3, 2)); // its value is 65, so the range is reversed
     bad.extend([256, 256 + 65, 0xFF00, u16::MAX].map(|terminal| (LAST + 4, terminal)));
     for (at, number) in bad {
         assert_eq!(open(&changed(at, number), &mut chart).1, Err(Refusal::InvalidGrammar), "{number} at {at}");

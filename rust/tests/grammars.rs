@@ -1,7 +1,7 @@
 //! The accessors of a grammar agree with its row, whatever the row holds.
 mod books;
 
-use books::{deep, MIXED, T};
+use books::{deep, MIXED, RANGES, T};
 use filbozseg::*;
 
 #[test]
@@ -26,6 +26,23 @@ fn a_loaded_grammar_says_its_rules() {
 }
 
 #[test]
+fn a_range_says_its_two_ends() {
+    let grammar = load(RANGES).unwrap();
+    let bore = grammar.rule(2).unwrap();
+    let digit = Symbol::Range(b'0', b'9');
+    assert_eq!(bore.places().collect::<Vec<_>>(), [Symbol::Terminal(b'V'), digit, digit]);
+    assert_eq!(bore.to_string(), "1 -> 'V' '0'..'9' '0'..'9'");
+    assert_eq!(grammar.rule(4).unwrap().to_string(), r"2 -> '\x00'..'\xff'");
+    assert_eq!(grammar.row()[43..50], [3, 1, 0x56, 2, 0x3930, 2, 0x3930]);
+    // a range of one byte is no terminal
+    assert_ne!(Symbol::Range(65, 65), Symbol::Terminal(65));
+    assert_eq!(
+        (Symbol::Range(65, 65).to_string(), Symbol::Range(39, 92).to_string()),
+        ("'A'..'A'".into(), r"'\''..'\\'".into())
+    );
+}
+
+#[test]
 fn any_row_is_read_as_the_library_reads_it() {
     let rubbish = Grammar::from_row(&[u16::MAX; ROW]);
     assert_eq!((rubbish.start(), rubbish.nullable_depth(), rubbish.rules().len()), (255, 255, 128));
@@ -34,11 +51,12 @@ fn any_row_is_read_as_the_library_reads_it() {
         assert_eq!(rule.places().collect::<Vec<_>>(), [Symbol::Nonterminal(255); 8]);
     }
     let mut row = [0; ROW];
-    row[..11].copy_from_slice(&[256, 1, 300, 257, 1, 3, 1, 255, 1, 256, 2]);
+    row[..14].copy_from_slice(&[256, 1, 300, 257, 1, 4, 1, 255, 1, 256, 3, 0, 2, 0x3039]);
     let bad = Grammar::from_row(&row);
     assert_eq!((bad.start(), bad.nullable_depth(), bad.rules().len(), bad.rule(0).unwrap().left()), (255, 255, 1, 255));
     let places: Vec<_> = bad.rule(0).unwrap().places().collect();
-    assert_eq!(places, [Symbol::Terminal(255), Symbol::Nonterminal(255), Symbol::Nonterminal(255)]);
+    let none = Symbol::Nonterminal(255);
+    assert_eq!(places, [Symbol::Terminal(255), none, none, Symbol::Range(0x39, 0x30)]);
     let empty = Grammar::from_row(&[0; ROW]);
     assert_eq!((empty.rules().len(), empty.rule(0), empty.readings(b"A").next()), (0, None, None));
 }

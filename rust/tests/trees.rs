@@ -3,7 +3,7 @@ mod books;
 #[path = "../examples/tree.rs"]
 mod tree;
 
-use books::{deep, wide, MIXED, PAIRS, T};
+use books::{deep, wide, MIXED, PAIRS, RANGES, T};
 use filbozseg::*;
 
 /// The rule and the marks of a node.
@@ -48,7 +48,11 @@ fn read_through(grammar: &Grammar, input: &[u8], reading: &Reading) {
                     assert_eq!(input[at], byte);
                     at + 1
                 }
-                _ => unreachable!("a place holds a nonterminal or a terminal"),
+                Symbol::Range(low, high) => {
+                    assert!((low..=high).contains(&input[at]));
+                    at + 1
+                }
+                _ => unreachable!("a place holds a nonterminal, a terminal or a range"),
             };
         }
         assert_eq!((at, children.next().is_none(), children.next().is_none()), (node.marks().end, true, true));
@@ -61,6 +65,7 @@ fn the_children_and_bytes_of_a_node_are_the_places_of_its_rule() {
         (load(T).unwrap(), &b"A"[..], 2),
         (load(PAIRS).unwrap(), b"AAAAAAA", 132),
         (load(MIXED).unwrap(), b"ACBABC", 2_000),
+        (load(RANGES).unwrap(), b"V06V16V1Z", 2),
         (wide(0), b"A", 1),
         (deep(), &[b'A'; 64], 1),
     ];

@@ -46,13 +46,14 @@ pub fn first_seed(usual: u64) -> u64 {
     }
 }
 
-/// A symbol of a draft: N for a nonterminal (kind), T for a terminal (mark).
+/// A symbol of a draft: N for a nonterminal (kind), T for a terminal (mark), R for a range (low, high).
 #[derive(Clone, Copy, PartialEq, Eq, Debug)]
 pub enum Sym {
     N(u8),
     T(u8),
+    R(u8, u8),
 }
-use Sym::{N, T};
+use Sym::{N, R, T};
 
 /// A grammar being drafted: its start, and rules with left side, length and places.
 #[derive(Clone, Default)]
@@ -81,6 +82,7 @@ impl Draft {
                 match *place {
                     N(k) => book.extend([0x30, k]),
                     T(t) => book.extend([0x40, t]),
+                    R(low, high) => book.extend([0x41, low, high]),
                 }
             }
         }
@@ -88,8 +90,38 @@ impl Draft {
         book
     }
 
-    /// A row of terminals that the nonterminal derives by random rules; None if it gets too long or too deep.
-    fn sample(&self, rng: &mut Rng, k: u8, depth: usize, most: usize, row: &mut Vec<u8>) -> Option<()> {
+    /// Turns one terminal in three into a range: of its one byte, from A to B, or of all bytes.
+    fn ranges(&mut self, rng: &mut Rng) {
+        for place in self.rules.iter_mut().flat_map(|rule| &mut rule.2) {
+            if let T(t) = *place {
+                if rng.one_in(3) {
+                    *place = rng.pick(&[R(t, t), R(A, B), R(0, 255)]);
+                }
+            }
+        }
+    }
+
+    /// Each rule is copied once for every way to replace its ranges by one of their bytes. There are no ranges left.
+    pub fn copied(&self) -> Draft {
+        let mut copied = Draft::new(self.start);
+        for (left, length, places) in &self.rules {
+            let mut rows = vec![Vec::new()];
+            for place in places {
+                let symbols: Vec<Sym> = match *place {
+                    R(low, high) => (low..=high).map(T).collect(),
+                    place => vec![place],
+                };
+                let longer = |row: &Vec<Sym>| symbols.iter().map(|symbol| [&row[..], &[*symbol]].concat()).collect();
+                rows = rows.iter().flat_map(|row| -> Vec<Vec<Sym>> { longer(row) }).collect();
+            }
+            copied.rules.extend(rows.into_iter().map(|row| (*left, *length, row)));
+        }
+        copied
+    }
+
+    /// A row of terminals that the nonterminal derives by random rules; None if it gets too long or too deep. In a range
+    /// comes one of its ends, any byte of it, or the usual mark if that fits.
+    fn sample(&self, rng: &mut Rng, k: u8, depth: usize, most: usize, usual: u8, row: &mut Vec<u8>) -> Option<()> {
         let own: Vec<_> = self.rules.iter().filter(|rule| rule.0 == k).collect();
         if own.is_empty() || depth == 0 {
             return None;
@@ -106,7 +138,11 @@ impl Draft {
         for place in &rule.2 {
             match *place {
                 T(t) => row.push(t),
-                N(k) => self.sample(rng, k, depth - 1, most, row)?,
+                R(low, high) => {
+                    let any = rng.within(low.into(), high.into()) as u8;
+                    row.push(rng.pick(&[low, high, any, usual.clamp(low, high)]));
+                }
+                N(k) => self.sample(rng, k, depth - 1, most, usual, row)?,
             }
             if row.len() > most {
                 return None;
@@ -305,7 +341,12 @@ fn draft(rng: &mut Rng, style: usize) -> (&'static str, Draft) {
             let (kinds, rules) = (rng.within(1, 3), rng.within(3, 5));
             plain(rng, &mut d, kinds, rules, 2, 6, 5);
             for _ in 0..rng.within(1, 3) {
-                let twin = d.rules[rng.below(d.rules.len())].clone();
+                let mut twin = d.rules[rng.below(d.rules.len())].clone();
+                if rng.one_in(3) {
+                    // a twin in all but one thing: its terminals are ranges of one byte
+                    let one = |place: Sym| if let T(t) = place { R(t, t) } else { place };
+                    twin.2.iter_mut().for_each(|place| *place = one(*place));
+                }
                 d.rules.push(twin);
             }
             d.rule(0, &[T(A)]);
@@ -365,8 +406,8 @@ fn draft(rng: &mut Rng, style: usize) -> (&'static str, Draft) {
 }
 
 /// Renumbers the kinds, changes the bytes of the marks and the order of the rules, and sets lengths: negative ones,
-/// halves to round, and the extremes.
-fn dress(rng: &mut Rng, draft: &mut Draft, inputs: &mut [Vec<u8>]) {
+/// halves to round, and the extremes. Returns the bytes of A and B.
+fn dress(rng: &mut Rng, draft: &mut Draft) -> [u8; 2] {
     let mut kinds: Vec<u8> = (0..32).collect();
     if rng.one_in(2) {
         for i in (1..32).rev() {
@@ -401,30 +442,41 @@ fn dress(rng: &mut Rng, draft: &mut Draft, inputs: &mut [Vec<u8>]) {
             *place = match *place {
                 N(k) => N(kinds[k as usize]),
                 T(t) => T(mark(t)),
+                R(low, high) => R(mark(low), mark(high)),
             };
         }
     }
-    for input in inputs {
-        input.iter_mut().for_each(|t| *t = mark(*t));
-    }
+    marks
 }
 
 /// Cuts, changes, inserts or appends bytes.
 pub fn damage(rng: &mut Rng, book: &mut Vec<u8>) {
     for _ in 0..rng.within(1, 2) {
         let byte = match rng.below(3) {
-            0 => rng.pick(&[0x10, 0x20, 0x30, 0x40, 0x50]),
+            0 => rng.pick(&[0x10, 0x20, 0x30, 0x40, 0x41, 0x50]),
             1 => rng.pick(&[0, 31, 32, 33, 255]),
             _ => rng.draw() as u8,
         };
         let at = rng.below(book.len() + 1);
-        match rng.below(6) {
+        match rng.below(8) {
             0 => book.truncate(at),
             1 | 2 if at < book.len() => book[at] = byte,
             3 => book.insert(at, byte),
             4 if at < book.len() => drop(book.remove(at)),
+            5 => drop(book.splice(at..at, range(rng))),
             _ => book.push(byte),
         }
+    }
+}
+
+/// A command 41; one in three has the low end above the high end.
+fn range(rng: &mut Rng) -> [u8; 3] {
+    let low = rng.pick(&[0, A, 255]);
+    let high = rng.pick(&[low, low.wrapping_add(1), low.wrapping_sub(1)]);
+    if rng.one_in(2) {
+        [0x41, low, high]
+    } else {
+        [0x41, high, low]
     }
 }
 
@@ -432,13 +484,15 @@ pub fn damage(rng: &mut Rng, book: &mut Vec<u8>) {
 pub fn soup(rng: &mut Rng) -> Vec<u8> {
     let mut book = if rng.one_in(6) { Vec::new() } else { vec![0x10, rng.below(33) as u8] };
     for _ in 0..rng.below(9) {
-        match rng.below(12) {
+        match rng.below(16) {
             0 => book.push(rng.draw() as u8),
             1 => book.extend([0x10, 0]),
             2..=4 => book.extend([0x20, rng.below(33) as u8, 0, 0xFF]),
             5 | 6 => book.extend([0x30, rng.below(33) as u8]),
             7 | 8 => book.extend([0x40, A]),
             9 => book.push(0x50),
+            10..=12 => book.extend(range(rng)),
+            13 => book.extend([&[0x20, 0, 1, 0][..], &[0x40, A].repeat(8)].concat()),
             _ => book.extend([0x20, 0, 1, 0, 0x40, A]),
         }
     }
@@ -448,8 +502,9 @@ pub fn soup(rng: &mut Rng) -> Vec<u8> {
     book
 }
 
-/// Inputs for a draft, of 0 to 8 terminals, some of 9 to 64: derived, derived with one terminal changed, or random.
-fn inputs(rng: &mut Rng, draft: &Draft, style: &str) -> Vec<Vec<u8>> {
+/// Inputs for a draft whose marks are a and b, of 0 to 8 terminals, some of 9 to 64: derived, derived with one terminal
+/// changed, or random. Changed ones are often right beside a and b, where a range may end.
+fn inputs(rng: &mut Rng, draft: &Draft, style: &str, [a, b]: [u8; 2]) -> Vec<Vec<u8>> {
     let mut all = Vec::new();
     for number in 0..5 {
         let long = number == 4 && rng.one_in(3);
@@ -458,7 +513,7 @@ fn inputs(rng: &mut Rng, draft: &Draft, style: &str) -> Vec<Vec<u8>> {
         for _ in 0..12 {
             let mut tried = Vec::new();
             let depth = rng.within(3, 12);
-            if draft.sample(rng, draft.start, depth, most, &mut tried).is_some() && (row.len() < 9 || !long) {
+            if draft.sample(rng, draft.start, depth, most, a, &mut tried).is_some() && (row.len() < 9 || !long) {
                 row = tried;
                 if !row.is_empty() && (!long || row.len() > 8) {
                     break;
@@ -467,16 +522,16 @@ fn inputs(rng: &mut Rng, draft: &Draft, style: &str) -> Vec<Vec<u8>> {
         }
         if row.is_empty() || rng.one_in(5) {
             let length = if long { rng.within(9, 64) } else { rng.below(9) };
-            row = (0..length).map(|_| rng.pick(&[A, A, A, B])).collect();
+            row = (0..length).map(|_| rng.pick(&[a, a, a, b])).collect();
         } else if rng.one_in(5) {
             let at = rng.below(row.len());
-            row[at] = rng.pick(&[A, B, b'C']);
+            row[at] = rng.pick(&[a, b, a.wrapping_sub(1), b.wrapping_add(1), b'C']);
         }
         all.push(row);
     }
     if style == "expressions" {
         let length = rng.within(9, 64);
-        all.push((0..length).map(|i| if i % 2 == 0 { A } else { B }).collect());
+        all.push((0..length).map(|i| if i % 2 == 0 { a } else { b }).collect());
     }
     all
 }
@@ -488,14 +543,30 @@ pub fn book(seed: u64) -> Book {
         return Book { style: "soup", bytes: soup(rng), inputs: vec![vec![A], vec![A, A]] };
     }
     let (mut style, mut rules) = draft(rng, seed as usize % 13);
-    let mut inputs = inputs(rng, &rules, style);
-    dress(rng, &mut rules, &mut inputs);
+    rules.ranges(rng);
+    let marks = dress(rng, &mut rules);
+    let inputs = inputs(rng, &rules, style, marks);
     let mut bytes = rules.bytes();
     if rng.one_in(7) {
         damage(rng, &mut bytes);
         style = "damaged";
     }
     Book { style, bytes, inputs }
+}
+
+/// The rules of a seed with small ranges, and inputs. Half of the terminals are ranges of one to four bytes.
+pub fn small_ranges(seed: u64) -> (Draft, Vec<Vec<u8>>) {
+    let rng = &mut Rng::new(seed ^ 0x41);
+    let (style, mut rules) = draft(rng, [0, 1, 2, 3, 4, 5, 6, 12][seed as usize % 8]);
+    for place in rules.rules.iter_mut().flat_map(|rule| &mut rule.2) {
+        if let T(t) = *place {
+            if rng.one_in(2) {
+                *place = rng.pick(&[R(t, t), R(A, B), R(A, A + 2), R(B, A + 3), R(A, A + 3)]);
+            }
+        }
+    }
+    let inputs = inputs(rng, &rules, style, [A, B]);
+    (rules, inputs)
 }
 
 /// 0 -> 1 1, 1 -> six of 2, 2 -> A, 2 -> A: 12 marks have exactly 4,096 derivations. With 0 -> 3 3, 3 -> six marks,
@@ -538,6 +609,7 @@ pub fn full_book(seed: u64) -> Book {
             .collect();
         draft.rule(if rule < 32 { rule as u8 } else { rng.below(32) as u8 }, &row);
     }
+    draft.ranges(rng);
     for i in (1..128).rev() {
         draft.rules.swap(i, rng.below(i + 1));
     }

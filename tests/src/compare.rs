@@ -1,6 +1,7 @@
 //! Compares a reader with the lister over one book and its inputs. The first difference is returned as a text; the
 //! outcomes are counted.
 
+mod copies;
 mod firsts;
 mod grammars;
 mod hands;
@@ -13,6 +14,7 @@ mod strangers;
 mod takes;
 mod walks;
 
+pub use copies::compare_copies;
 pub use lent::{rubbish, Counts, Lent};
 pub use nexts::compare_boundary;
 pub use walks::play_book;

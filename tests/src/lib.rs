@@ -1,6 +1,6 @@
-//! Outside evidence: compares the code under test with a simple lister. The lister was written from document 01 alone and
-//! shares nothing with the code under test. Document 01 is the customer's scope; docs/REFERENCE.md says in our own words
-//! what it requires.
+//! Outside evidence: compares the code under test with a simple lister. The lister was written from the customer's
+//! documents alone and shares nothing with the code under test. Document 01 is the customer's scope, and document 02 has
+//! his requests after it; docs/REFERENCE.md says in our own words what they require.
 //!
 //! The code under test is the lister itself, or the proved library with `--features library`; then the built listing
 //! program is compared with the lister's text too. tests/faults.rs runs the lister with deliberate faults, one by one.

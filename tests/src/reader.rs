@@ -20,7 +20,8 @@ pub const HAND: usize = INPUT + 1;
 /// A grammar (loaded book) as a flat row that can hold every value: start, rules
 /// used, nullable depth (blank depth), then for each of 128 rule records: left
 /// side, length (two's complement), places used, then 8 times tag (0 nonterminal,
-/// 1 terminal) and value. All 16 bits of each number are checked.
+/// 1 terminal, 2 range) and value (of a range low + 256 * high). All 16 bits of each
+/// number are checked.
 pub type FlatGrammar = [u16; FLAT];
 
 /// Where the record of a rule begins in a flat grammar.
@@ -38,7 +39,7 @@ pub enum Answer {
     /// Yes; from load: loaded; from length: measured.
     Yes,
     No,
-    /// A refusal with its number in document 01.
+    /// A refusal with its number in documents 01 and 02.
     Refused(u8),
     /// First, next: a derivation of this many nodes (parts) is in the output.
     Nodes(usize),

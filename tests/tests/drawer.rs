@@ -206,7 +206,8 @@ fn sums_are_rounded() {
 #[test]
 fn faulty_books() {
     let full: Vec<u8> = [&[0x10, 0x00][..], &[0x20, 0x00, 0, 0].repeat(128)].concat();
-    let nine = [&[0x10, 0x00, 0x20, 0x00, 0, 0][..], &[0x40, 0x41].repeat(8)].concat();
+    let rule = &[0x10, 0x00, 0x20, 0x00, 0, 0][..];
+    let nine = [rule, &[0x40, 0x41].repeat(8)].concat();
     let with = |book: &[u8], more: &[u8]| [book, more].concat();
     let cases: Vec<(Vec<u8>, u8, usize)> = vec![
         (vec![], 1, 0),
@@ -221,7 +222,7 @@ fn faulty_books() {
         (vec![0x10, 0x00, 0x30], 3, 2),
         (vec![0x10, 0x00, 0x40, 0x41], 3, 2),
         (vec![0x10, 0x00, 0x30, 0xFF], 3, 2),
-        (vec![0x10, 0x00, 0x41], 2, 2),
+        (vec![0x10, 0x00, 0x42], 2, 2),
         (vec![0x10, 0x00, 0x20, 0xFF], 1, 4),
         (vec![0x10, 0x00, 0x20, 0xFF, 0], 1, 5),
         (vec![0x10, 0x00, 0x20, 0xFF, 0, 0], 4, 2),
@@ -235,10 +236,99 @@ fn faulty_books() {
         (with(&nine, &[0x40, 0x41]), 6, 22),
         (with(&nine, &[0x30, 0x20]), 4, 22),
         (with(&nine, &[0x40]), 1, 23),
+        // ranges, request U1 of document 02
+        (vec![0x41], 3, 0),
+        (vec![0x41, 0x30, 0x39], 3, 0),
+        (vec![0x10, 0x00, 0x41], 3, 2),
+        (vec![0x10, 0x00, 0x41, 0x30, 0x39], 3, 2),
+        (vec![0x10, 0x00, 0x41, 0x39, 0x30], 3, 2),
+        (with(rule, &[0x41]), 1, 7),
+        (with(rule, &[0x41, 0xFF]), 1, 8),
+        (with(rule, &[0x41, 0x39, 0x30]), 16, 6),
+        (with(rule, &[0x41, 0x01, 0x00, 0x60]), 16, 6),
+        (with(rule, &[0x41, 0xFF, 0xFE]), 16, 6),
+        (with(&nine, &[0x41, 0x30, 0x39]), 6, 22),
+        (with(&nine, &[0x41, 0x39, 0x30]), 16, 22),
+        (with(&nine, &[0x41, 0x39]), 1, 24),
     ];
     for (book, number, offset) in cases {
         assert_eq!(fault(&book), (Some((number, offset)), [0; FLAT]), "{book:02X?}");
     }
     assert_eq!(loaded(&with(&full, &[0x50]))[1], 128);
     assert_eq!(loaded(&with(&nine, &[0x50]))[record(0) + 2], 8);
+    let ranges = loaded(&with(rule, &[0x41, 0x00, 0xFF, 0x41, 0x41, 0x41, 0x41, 0x30, 0x39, 0x50]));
+    assert_eq!(ranges[record(0)..record(0) + 11], [0, 0, 3, 2, 0xFF00, 2, 0x4141, 2, 0x3930, 0, 0]);
+}
+
+/// Which marks complete a book with one rule and this place.
+fn fitting(place: Sym) -> Vec<u8> {
+    let mut draft = Draft::new(0);
+    draft.rule(0, &[place]);
+    let flat = loaded(&draft.bytes());
+    (0..=255).filter(|mark| complete(&flat, &[*mark])).collect()
+}
+
+/// A place of a range fits the marks from low to high, both included, and no other.
+#[test]
+fn a_range_fits_its_bytes_and_no_other() {
+    for (low, high) in [(0, 255), (0x30, 0x39), (0x41, 0x41), (0, 0), (255, 255), (0, 1), (254, 255), (0x7F, 0x80)] {
+        assert_eq!(fitting(Sym::R(low, high)), (low..=high).collect::<Vec<u8>>());
+        assert_eq!(fitting(Sym::T(low)), [low]);
+    }
+    // a bore of two digits
+    let mut bore = Draft::new(0);
+    bore.rules.push((0, 25, vec![Sym::T(b'V'), Sym::R(b'0', b'9'), Sym::R(b'0', b'9')]));
+    for plate in ["V00", "V06", "V90", "V99"] {
+        self::plate(&bore.bytes(), plate, &["3.0"]);
+        assert_eq!(length(&loaded(&bore.bytes()), plate.as_bytes(), &row("3.0")), Ok(3));
+    }
+    for other in ["V0/", "V:0", "V0", "V000", "W00", "VV0"] {
+        plate(&bore.bytes(), other, &[]);
+        assert_eq!(length(&loaded(&bore.bytes()), other.as_bytes(), &row("3.0")), Err(12));
+    }
+}
+
+/// 40 A and 41 A A are two symbols: as twins, their rules count as two.
+#[test]
+fn a_range_of_one_byte_is_no_mark() {
+    let mut twins = Draft::new(0);
+    twins.rule(0, &[Sym::T(b'A')]);
+    twins.rule(0, &[Sym::R(b'A', b'A')]);
+    plate(&twins.bytes(), "A", &["1.0", "1.1"]);
+    assert_eq!(same_build(&loaded(&twins.bytes()), b"A", &row("1.0"), &row("1.1")), Answer::No);
+    let flat = loaded(&twins.bytes());
+    assert_eq!(flat[record(0) + 3..record(0) + 5], [1, 0x41]);
+    assert_eq!(flat[record(1) + 3..record(1) + 5], [2, 0x4141]);
+}
+
+/// Check 8 refuses a reversed range in a used place, and does not look at an unused one. Tags from 3 on hold no symbol.
+#[test]
+fn ranges_in_a_row() {
+    let mut draft = Draft::new(0);
+    draft.rule(0, &[Sym::R(b'0', b'9')]);
+    let flat = loaded(&draft.bytes());
+    let checked = |at: usize, number: u16| {
+        let mut row = flat;
+        row[record(0) + at] = number;
+        check(&row, b"5", &[1, 0])
+    };
+    let (tag, value) = (3, 4);
+    for good in [0x3930, 0x3530, 0x3935, 0x3535, 0xFF00, 0xFF35, 0x3500] {
+        assert_eq!(checked(value, good), Answer::Yes, "{good:04X}");
+    }
+    for other in [0x3430, 0x3936, 0x0000, 0xFFFF, 0x3636, 0x3400] {
+        assert_eq!(checked(value, other), Answer::No, "{other:04X}");
+    }
+    for reversed in [0x3039, 0x3435, 0x0001, 0x00FF, 0xFEFF, 0x3536] {
+        assert_eq!(checked(value, reversed), Answer::Refused(8), "{reversed:04X}");
+    }
+    for no_symbol in [3, 4, 255, 256, 257, 258, 0xFFFF] {
+        assert_eq!(checked(tag, no_symbol), Answer::Refused(8), "{no_symbol}");
+    }
+    // an unused place of the rule, and a place of an unused rule
+    for unused in [record(0) + 5, record(1) + 3] {
+        let mut row = flat;
+        (row[unused], row[unused + 1]) = (2, 0x3039);
+        assert_eq!(check(&row, b"5", &[1, 0]), Answer::Yes);
+    }
 }

@@ -14,7 +14,7 @@ use faulty::forgetful::Forgets;
 use faulty::switches::{self, switch_on, Fault};
 use faulty::Faulty;
 use outside_tests::books::book;
-use outside_tests::compare::{compare_book, compare_boundary, play_book, Counts};
+use outside_tests::compare::{compare_book, compare_boundary, compare_copies, play_book, Counts};
 use outside_tests::reader::{self, Reader};
 use std::sync::atomic::{AtomicUsize, Ordering};
 
@@ -65,7 +65,7 @@ fn all_caught<T: Sync>(cases: &[(String, T)], try_one: impl Fn(&T) -> Option<(u6
 #[test]
 fn every_fault_is_caught() {
     let faults: Vec<(String, Fault)> = Fault::ALL.iter().map(|fault| (format!("{fault:?}"), *fault)).collect();
-    assert!(faults.len() >= 139);
+    assert!(faults.len() >= 154);
     all_caught(&faults, |fault| {
         switch_on(Some(*fault));
         caught(&Faulty::default())
@@ -124,6 +124,27 @@ fn the_walk_alone_catches_what_it_has_to() {
         let reader = Faulty::default();
         (0..WITHIN).find_map(|seed| {
             let difference = play_book(&reader, &book(seed), seed, 16, &mut Counts::default());
+            difference.err().map(|text| (seed, text))
+        })
+    });
+}
+
+/// The faults that a book with ranges and its copy without ranges must show by themselves.
+#[test]
+fn the_copied_rules_alone_catch_what_they_have_to() {
+    let faults = [
+        Fault::UpperEndExcluded,
+        Fault::LowerEndExcluded,
+        Fault::UpperEndUnread,
+        Fault::OnlyTheLowEndFits,
+        Fault::Tag2ATerminal,
+        Fault::TwinsWithARangeMerged,
+    ];
+    all_caught(&faults.map(|fault| (format!("{fault:?}"), fault)), |fault| {
+        switch_on(Some(*fault));
+        let reader = Faulty::default();
+        (0..WITHIN).find_map(|seed| {
+            let difference = compare_copies(&reader, seed, &mut Counts::default());
             difference.err().map(|text| (seed, text))
         })
     });

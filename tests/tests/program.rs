@@ -34,6 +34,7 @@ const DUE: &[(&str, u64)] = &[
     ("REFUSED 7", 20),
     ("REFUSED 9", 50),
     ("REFUSED 13", 30),
+    ("REFUSED 16", 3),
     ("NO READING", 500),
     ("one reading", 500),
     ("two or more", 500),

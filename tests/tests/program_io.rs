@@ -44,26 +44,28 @@ fn a_book_that_is_not_there_is_empty() {
     }
 }
 
-/// A book with as many bytes as the longest that loads, 2,563: 128 rules of 8 places.
+/// A book with as many bytes as the longest that loads, 3,587: 128 rules of 8 ranges.
 fn longest() -> Vec<u8> {
     let mut draft = Draft::new(0);
-    draft.rules.push((0, -15, vec![Sym::T(b'A'); 8]));
-    (1..128).for_each(|rule| draft.rules.push((rule % 32, 7, vec![Sym::T(rule); 8])));
+    draft.rules.push((0, -15, vec![Sym::R(b'A', b'C'); 8]));
+    (1..128).for_each(|rule| draft.rules.push((rule % 32, 7, vec![Sym::R(rule, rule); 8])));
     draft.bytes()
 }
 
 #[test]
 fn books_of_every_length() {
     let longest = longest();
-    assert_eq!(longest.len(), 2563);
-    prints(&longest, &[b'A'; 8], "1: 8.0 = -2\nREADINGS 1\n");
+    assert_eq!(longest.len(), 3587);
+    prints(&longest, b"ABCABCAC", "1: 8.0 = -2\nREADINGS 1\n");
     prints(&longest, &[64; 8], "1: 8.64 = 1\nREADINGS 1\n");
-    prints(&longest[..2562], b"A", "REFUSED 1\n");
-    let (more, places) = ([&longest[..2562], &[0x20, 0, 0, 0]].concat(), [&longest[..2562], &[0x40, 0]].concat());
-    prints(&[&more[..], &[0x50]].concat(), b"A", "REFUSED 5\n");
-    prints(&[&places[..], &[0x50]].concat(), b"A", "REFUSED 6\n");
+    prints(&longest[..3586], b"A", "REFUSED 1\n");
+    let with = |more: &[u8]| [&longest[..3586], more, &[0x50]].concat();
+    prints(&with(&[0x20, 0, 0, 0]), b"A", "REFUSED 5\n");
+    prints(&with(&[0x40, 0]), b"A", "REFUSED 6\n");
+    prints(&with(&[0x41, 0, 1]), b"A", "REFUSED 6\n");
+    prints(&with(&[0x41, 1, 0]), b"A", "REFUSED 16\n");
     // Followed by junk: up to the sizes of buffers, one byte less and one more, and much longer.
-    for length in [2564, 4095, 4096, 4097, 8191, 8192, 8193, 65_536, MANY] {
+    for length in [3588, 4095, 4096, 4097, 8191, 8192, 8193, 65_536, MANY] {
         for (junk, filler) in [(0x50, 0x30), (0x00, 0xFF), (0x20, 0x00)] {
             for book in [&pairs(), &longest] {
                 let mut long = [&book[..], &[junk]].concat();
@@ -89,6 +91,8 @@ fn books_of_100_000_bytes() {
     prints(&long(&[0x10, 0x00], &[0x20, 0x00, 0x00, 0x00]), b"A", "REFUSED 5\n");
     prints(&long(&[0x10, 0x00], &[0x20, 0x1F, 0x50, 0x50]), &[b'A'; 65], "REFUSED 5\n");
     prints(&long(&[0x10, 0x00, 0x20, 0x00, 0x00, 0x00], &[0x40, 0x41]), b"A", "REFUSED 6\n");
+    prints(&long(&[0x10, 0x00, 0x20, 0x00, 0x00, 0x00], &[0x41]), b"A", "REFUSED 6\n");
+    prints(&long(&[0x10, 0x00, 0x20, 0x00, 0x00, 0x00, 0x41, 0x01], &[0x00]), b"A", "REFUSED 16\n");
     prints(&long(&[0x10, 0x00], &[0x50]), b"", "REFUSED 7\n");
     prints(&long(&longest(), &[0x50]), &[b'A'; MANY], "REFUSED 7\n");
 }

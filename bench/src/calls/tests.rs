@@ -1,6 +1,8 @@
 //! Both sides check all 16 bits of each number, and leave the same in what is lent.
 
 use super::{chart, hand, Plain, Proved, Reader, Refusal, FLAT};
+use crate::books::{random_full, random_full_of_ranges};
+use crate::random::Random;
 
 /// Opens with a row in which one number is changed: both sides give this answer and leave the same hand and chart.
 fn opened(row: &[u16; FLAT], at: usize, number: u16) -> u32 {
@@ -24,8 +26,15 @@ fn both_sides_judge_the_numbers_of_a_row_whole() {
             assert_eq!(opened(&row, at, number), Refusal::InvalidGrammar.code(), "{number} at {at}");
         }
     }
-    let more = [(0, 32), (1, 129), (3, 32), (5, 9), (7, 32), (44, 2), (44, 255), (45, 256 + 65), (45, u16::MAX)];
+    // with tag 2 the value 65 is a reversed range
+    let more =
+        [(0, 32), (1, 129), (3, 32), (5, 9), (7, 32), (44, 2), (44, 3), (44, 255), (45, 256 + 65), (45, u16::MAX)];
     assert!(more.iter().all(|&(at, number)| opened(&row, at, number) == Refusal::InvalidGrammar.code()));
+    row[44] = 2;
+    for (value, code) in [(0x4141, 1), (0xff00, 1), (0xffff, 1), (0, 1), (0x4041, 264), (1, 264), (0xfeff, 264)] {
+        assert_eq!(opened(&row, 45, value), code, "{value:04x}");
+    }
+    row[44] = 1;
     // the depth, a length, the numbers of an unused place and of an unused rule
     assert!([2, 4, 10, 11, 60, 61, 62, 63, 64].iter().all(|&at| opened(&row, at, u16::MAX) == 1));
 }
@@ -55,12 +64,20 @@ fn both_sides_judge_a_hand_whole_and_leave_a_refused_one() {
     }
 }
 
+/// A random book of full size, every second time with ranges.
+fn random_book(random: &mut Random, number: usize) -> (Vec<u8>, Vec<u8>) {
+    match number % 2 {
+        0 => random_full(random),
+        _ => random_full_of_ranges(random),
+    }
+}
+
 #[test]
 fn both_sides_hand_out_the_same_first_reading() {
-    let mut random = crate::random::Random::new(11);
+    let mut random = Random::new(11);
     let mut seen = [0; 3];
-    for _ in 0..24 {
-        let (book, input) = crate::books::random_full(&mut random);
+    for number in 0..24 {
+        let (book, input) = random_book(&mut random, number);
         let (mut row, mut offset) = ([9; FLAT], 9);
         assert_eq!(Proved::load(&book, &mut row, &mut offset), 1);
         for (input, numbers) in [(&input[..], 1024), (&input[..5], 1030), (&input[..1], 1023), (&[], 1024)] {
@@ -80,10 +97,10 @@ fn both_sides_hand_out_the_same_first_reading() {
 
 #[test]
 fn both_sides_hand_out_the_same_next_reading_and_count_alike() {
-    let mut random = crate::random::Random::new(12);
+    let mut random = Random::new(12);
     let mut seen = [0; 6];
-    for _ in 0..16 {
-        let (book, input) = crate::books::random_full(&mut random);
+    for number in 0..16 {
+        let (book, input) = random_book(&mut random, number);
         let (mut row, mut offset) = ([9; FLAT], 9);
         assert_eq!(Proved::load(&book, &mut row, &mut offset), 1);
         for (input, numbers) in [(&input[..], 1024), (&input[..5], 1030), (&input[..1], 1023), (&[], 1024)] {

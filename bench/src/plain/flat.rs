@@ -14,6 +14,10 @@ fn symbol(tag: u16, value: u16) -> Symbol {
     match tag {
         0 => Symbol::Nonterminal(byte(value)),
         1 if value <= 255 => Symbol::Terminal(byte(value)),
+        2 => {
+            let [low, high] = value.to_le_bytes();
+            Symbol::Range(low, high)
+        }
         _ => Symbol::Nonterminal(255),
     }
 }
@@ -44,6 +48,7 @@ fn write_rule(rule: &Rule, f: &mut [u16]) {
         (f[0], f[1]) = match *place {
             Symbol::Nonterminal(k) => (0, k as u16),
             Symbol::Terminal(m) => (1, m as u16),
+            Symbol::Range(low, high) => (2, u16::from_le_bytes([low, high])),
         };
     }
 }

@@ -3,10 +3,11 @@
 
 use super::{Grammar, Refusal, Rule, Symbol, PLACES, RULES};
 
+/// A place has as many operands as it says.
 enum Command {
     Start(u8),
     Rule(u8, i16),
-    Place(Symbol),
+    Place(Symbol, usize),
     End,
 }
 
@@ -42,20 +43,22 @@ fn command(bytes: &[u8], at: usize, rules: usize, places: usize) -> Result<Comma
                 _ => Err((Refusal::UnexpectedEnd, bytes.len())),
             }
         }
-        0x30 | 0x40 => {
+        0x30 | 0x40 | 0x41 => {
             if at == 0 || rules == 0 {
                 return Err((Refusal::OutOfTurn, at));
             }
-            let Some(&value) = bytes.get(at + 1) else {
-                return Err((Refusal::UnexpectedEnd, bytes.len()));
+            let place = match (byte, &bytes[at + 1..]) {
+                (0x30, &[k, ..]) if k > 31 => return Err((Refusal::NonterminalTooLarge, at)),
+                (0x41, &[low, high, ..]) if low > high => return Err((Refusal::RangeReversed, at)),
+                (0x30, &[k, ..]) => Command::Place(Symbol::Nonterminal(k), 1),
+                (0x40, &[m, ..]) => Command::Place(Symbol::Terminal(m), 1),
+                (0x41, &[low, high, ..]) => Command::Place(Symbol::Range(low, high), 2),
+                _ => return Err((Refusal::UnexpectedEnd, bytes.len())),
             };
-            if byte == 0x30 && value > 31 {
-                return Err((Refusal::NonterminalTooLarge, at));
-            }
             if places >= PLACES {
                 return Err((Refusal::TooManyPlaces, at));
             }
-            Ok(Command::Place(if byte == 0x30 { Symbol::Nonterminal(value) } else { Symbol::Terminal(value) }))
+            Ok(place)
         }
         0x50 => {
             if at == 0 {
@@ -103,11 +106,11 @@ pub fn load(bytes: &[u8]) -> Result<Grammar, (Refusal, usize)> {
                 g.count += 1;
                 at += 4;
             }
-            Command::Place(symbol) => {
+            Command::Place(symbol, operands) => {
                 let rule = &mut g.rules[n - 1];
                 rule.places[rule.count] = symbol;
                 rule.count += 1;
-                at += 2;
+                at += 1 + operands;
             }
             Command::End => {
                 g.depth = nullable_set(&g).count_ones() as u8;

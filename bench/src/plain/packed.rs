@@ -1,11 +1,13 @@
-//! The copy of a grammar for inner loops: 128 rows of 18 bytes. The rows of unused rules have the left side 255.
+//! The copy of a grammar for inner loops: 128 rows of 26 bytes. The rows of unused rules have the left side 255.
 
 use super::{Grammar, Symbol, PLACES, RULES};
 
+/// Tag 0 is a nonterminal, 1 a terminal, 2 a range from `value` to `high`.
 #[derive(Clone, Copy)]
 pub struct Place {
     pub tag: u8,
     pub value: u8,
+    high: u8,
 }
 
 #[derive(Clone, Copy)]
@@ -26,7 +28,11 @@ impl Place {
     }
 
     pub fn fits(self, mark: u8) -> bool {
-        self.tag != 0 && self.value == mark
+        match self.tag {
+            1 => self.value == mark,
+            2 => self.value <= mark && mark <= self.high,
+            _ => false,
+        }
     }
 }
 
@@ -43,15 +49,16 @@ impl Rule {
 
 impl Packed {
     pub fn new(g: &Grammar) -> Packed {
-        let none = Rule { left: 255, count: 255, places: [Place { tag: 255, value: 255 }; PLACES] };
+        let none = Rule { left: 255, count: 255, places: [Place { tag: 255, value: 255, high: 255 }; PLACES] };
         let mut p = Packed { rules: [none; RULES] };
         for (row, rule) in p.rules.iter_mut().zip(&g.rules[..g.count]) {
             row.left = rule.left;
             row.count = rule.count as u8;
             for (place, symbol) in row.places.iter_mut().zip(&rule.places[..rule.count]) {
                 *place = match *symbol {
-                    Symbol::Nonterminal(k) => Place { tag: 0, value: k },
-                    Symbol::Terminal(m) => Place { tag: 1, value: m },
+                    Symbol::Nonterminal(k) => Place { tag: 0, value: k, high: 0 },
+                    Symbol::Terminal(m) => Place { tag: 1, value: m, high: 0 },
+                    Symbol::Range(low, high) => Place { tag: 2, value: low, high },
                 };
             }
         }

@@ -7,6 +7,25 @@ use super::{checker, enumerator, flat, listing, loader, Grammar, Refusal, Rule, 
 use crate::books;
 use crate::random::Random;
 
+/// A or B, or once in three times a range: of one byte, A to B, or all bytes.
+fn terminal(random: &mut Random) -> Symbol {
+    let mark = b'A' + random.below(2) as u8;
+    match random.below(9) {
+        0 => Symbol::Range(mark, mark),
+        1 => Symbol::Range(b'A', b'B'),
+        2 => Symbol::Range(0, 255),
+        _ => Symbol::Terminal(mark),
+    }
+}
+
+fn fits(symbol: &Symbol, mark: u8) -> bool {
+    match *symbol {
+        Symbol::Nonterminal(_) => false,
+        Symbol::Terminal(m) => m == mark,
+        Symbol::Range(low, high) => (low..=high).contains(&mark),
+    }
+}
+
 fn small_grammar(random: &mut Random) -> Grammar {
     let kinds = 1 + random.below(5) as u8;
     let mut g = Grammar::ZERO;
@@ -16,7 +35,7 @@ fn small_grammar(random: &mut Random) -> Grammar {
         *rule = Rule { left: random.below(kinds as usize) as u8, count: random.below(cap + 1), ..Rule::ZERO };
         for place in &mut rule.places[..rule.count] {
             *place = if random.below(3) == 0 {
-                Symbol::Terminal(b'A' + random.below(2) as u8)
+                terminal(random)
             } else {
                 Symbol::Nonterminal(random.below(kinds as usize) as u8)
             };
@@ -29,10 +48,10 @@ fn small_grammar(random: &mut Random) -> Grammar {
 fn cuts(places: &[Symbol], a: usize, b: usize, w: &[u8], chart: &[u32]) -> bool {
     match places {
         [] => a == b,
-        [Symbol::Terminal(m), rest @ ..] => a < b && w[a] == *m && cuts(rest, a + 1, b, w, chart),
         [Symbol::Nonterminal(k), rest @ ..] => {
             (a..=b).any(|c| chart[65 * a + c] >> k & 1 == 1 && cuts(rest, c, b, w, chart))
         }
+        [place, rest @ ..] => a < b && fits(place, w[a]) && cuts(rest, a + 1, b, w, chart),
     }
 }
 
@@ -122,8 +141,6 @@ impl Lister<'_> {
         match places {
             [] if from == to => vec![vec![]],
             [] => vec![],
-            [Symbol::Terminal(m), rest @ ..] if from < to && self.w[from] == *m => self.rows(rest, from + 1, to, above),
-            [Symbol::Terminal(_), ..] => vec![],
             [Symbol::Nonterminal(k), rest @ ..] => {
                 let mut out = vec![];
                 for mid in from..=to {
@@ -136,6 +153,8 @@ impl Lister<'_> {
                 }
                 out
             }
+            [place, rest @ ..] if from < to && fits(place, self.w[from]) => self.rows(rest, from + 1, to, above),
+            _ => vec![],
         }
     }
 }
@@ -289,6 +308,13 @@ fn faulty_books_have_the_numbers_and_offsets_of_the_design() {
     assert_eq!(fault(&[0x10, 0, 0x20, 0xff]), Err((1, 4)));
     assert_eq!(fault(&[0x10, 0, 0x50, 0]), Err((7, 3)));
     assert_eq!(fault(&[0x10, 0, 0x60]), Err((2, 2)));
+    let rule = |more: &[u8]| fault(&[&[0x10, 0, 0x20, 0, 0, 0], more].concat());
+    assert_eq!(fault(&[0x10, 0, 0x41, 0x30, 0x39]), Err((3, 2)));
+    assert_eq!((rule(&[0x41]), rule(&[0x41, 0xFF])), (Err((1, 7)), Err((1, 8))));
+    assert_eq!((rule(&[0x41, 0x39, 0x30]), rule(&[0x41, 0x30, 0x39, 0x50])), (Err((16, 6)), Ok(())));
+    let ninth = |more: &[u8]| rule(&[&[0x40, 0x41].repeat(8), more].concat());
+    assert_eq!(ninth(&[0x41, 0x39, 0x30]), Err((16, 22)));
+    assert_eq!((ninth(&[0x41, 0x30, 0x39]), ninth(&[0x41, 0x39])), (Err((6, 22)), Err((1, 24))));
     assert_eq!(fault(&[0x10, 0, 0x50]), Ok(()));
 }
 

@@ -2,7 +2,7 @@
 
 use outside_tests::books::{Draft, Rng, Sym};
 
-/// A random book: any start, 0 to 128 rules of 0 to 8 places, any kind, mark and length.
+/// A random book: any start, 0 to 128 rules of 0 to 8 places, any kind, mark, range and length.
 pub fn draft(rng: &mut Rng) -> Draft {
     let mut draft = Draft::new(rng.below(32) as u8);
     let rules = match rng.below(6) {
@@ -24,9 +24,15 @@ pub fn draft(rng: &mut Rng) -> Draft {
 }
 
 fn symbol(rng: &mut Rng) -> Sym {
-    match rng.one_in(2) {
-        true => Sym::N(rng.below(32) as u8),
-        false => Sym::T(rng.draw() as u8),
+    match rng.below(6) {
+        0..=2 => Sym::N(rng.below(32) as u8),
+        3 | 4 => Sym::T(rng.draw() as u8),
+        _ => {
+            let (one, other) = (rng.draw() as u8, rng.draw() as u8);
+            let (one, other) =
+                rng.pick(&[(one, other), (one, one), (0, 255), (b'0', b'9'), (b' ', b'#'), (b'\'', b'\\')]);
+            Sym::R(one.min(other), one.max(other))
+        }
     }
 }
 
@@ -40,6 +46,7 @@ pub fn spelt(rng: &mut Rng, draft: &Draft) -> String {
         words.extend(places.iter().map(|place| match *place {
             Sym::N(k) => kind(rng, k),
             Sym::T(t) => mark(rng, t),
+            Sym::R(low, high) => format!("{}..{}", mark(rng, low), mark(rng, high)),
         }));
         if places.is_empty() {
             words.push("-".to_string());

@@ -1,4 +1,4 @@
--- The numbers that document 01 gives its refusals. Assumes nothing.
+-- The numbers that documents 01 and 02 give the refusals. Assumes nothing.
 use Prim.Native.Nat.{ℕ}
 use Rattle.answers.specs.declared.Refusal.{Refusal}
 use Rattle.answers.specs.declared.Refusal.the-variants as R
@@ -20,3 +20,4 @@ numberOf R.NotADerivation = 12
 numberOf R.OnlyLargerTrees = 13
 numberOf R.InvalidRecognizer = 14
 numberOf R.RecognizerFull = 15
+numberOf R.RangeReversed = 16

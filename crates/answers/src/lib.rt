@@ -19,6 +19,7 @@ pub enum Refusal {
     OnlyLargerTrees,
     InvalidRecognizer,
     RecognizerFull,
+    RangeReversed,
 }
 
 // Loading: the book was accepted, or why it was refused and at which offset.
@@ -74,5 +75,6 @@ pub fn number(r: Refusal) -> u8
         Refusal::OnlyLargerTrees => 13,
         Refusal::InvalidRecognizer => 14,
         Refusal::RecognizerFull => 15,
+        Refusal::RangeReversed => 16,
     }
 }

@@ -69,20 +69,24 @@ records-judged test read valid same w at n m h =
 
 symbol-judged : (t v : ℕ) → validSymbol (rowSymbol t v) ≡ validTagged t v
 unfolding rowSymbol
-symbol-judged t v = dite (ℕ-discrete t 0) nonterminal (λ z. dite (ℕ-discrete t 1) (terminal z) (other z))
+symbol-judged t v =
+    dite (ℕ-discrete t 0) nonterminal (λ z. dite (ℕ-discrete t 1) terminal (λ o. dite (ℕ-discrete t 2) range (other z o)))
   where
     value : (b : Bool) → validSymbol (cond b (Terminal v) (Nonterminal 255)) ≡ b
     value true = refl
     value false = refl
 
     nonterminal : t ≡ 0 → validSymbol (rowSymbol t v) ≡ validTagged t v
-    nonterminal e = rw (e, or-false (leb v 31)) (byte-limit v)
+    nonterminal e = rw (e, or-false (leb v 31), or-false (leb v 31)) (byte-limit v)
 
-    terminal : (t ≡ 0 → ⊥) → t ≡ 1 → validSymbol (rowSymbol t v) ≡ validTagged t v
-    terminal z e = rw e (value (leb v 255))
+    terminal : t ≡ 1 → validSymbol (rowSymbol t v) ≡ validTagged t v
+    terminal e = rw (e, or-false (leb v 255)) (value (leb v 255))
 
-    other : (t ≡ 0 → ⊥) → (t ≡ 1 → ⊥) → validSymbol (rowSymbol t v) ≡ validTagged t v
-    other z o = rw (ne-eqb t 0 z, ne-eqb t 1 o)
+    range : t ≡ 2 → validSymbol (rowSymbol t v) ≡ validTagged t v
+    range e = rw e
+
+    other : (t ≡ 0 → ⊥) → (t ≡ 1 → ⊥) → (t ≡ 2 → ⊥) → validSymbol (rowSymbol t v) ≡ validTagged t v
+    other z o r = rw (ne-eqb t 0 z, ne-eqb t 1 o, ne-eqb t 2 r)
 
 module _ (f : List ℕ) where
   place-judged : (at : ℕ) → validPlace (rowPlace f at) ≡ validPlaceAt f at

@@ -11,13 +11,13 @@ use mir.Syntax.{w16}
 use mir.Val.{SFits, toZ, ofZ}
 use mir.Facts.{toZ-ofZ}
 use Rattle.grammar.specs.declared.Symbol.{Symbol}
-use Rattle.grammar.specs.declared.Symbol.the-variants.{Nonterminal, Terminal}
+use Rattle.grammar.specs.declared.Symbol.the-variants.{Nonterminal, Terminal, Range}
 use Rattle.grammar.specs.declared.Place.{Place}
 use Rattle.grammar.specs.declared.Rule.{Rule}
 use Rattle.grammar.specs.Setters.{ruleWith, grammarWith}
 use Rattle.grammar.proofs.Setters.{rule-same, grammar-same}
 use Rattle.numbers.specs.Numbers.{byteIn, signedIn}
-use Rattle.c_grammar.specs.Flat.{rowSymbol, rowPlace, rowPlaces, rowRule, rowRules, grammarIn}
+use Rattle.c_grammar.specs.Flat.{lowEnd, highEnd, rowSymbol, rowPlace, rowPlaces, rowRule, rowRules, grammarIn}
 
 module _ (tag value v : ℕ) (e : v ≡ byteIn value) where
   pub symbol-nonterminal : tag ≡ 0 → Nonterminal v ≡ rowSymbol tag value
@@ -35,10 +35,14 @@ module _ (tag value v : ℕ) (e : v ≡ byteIn value) where
   unfolding rowSymbol
   symbol-large t h = rw (t, lt-leb value 255 h)
 
-  -- neither of the two tags
-  pub symbol-other : (tag ≡ 0 → ⊥) → (tag ≡ 1 → ⊥) → Nonterminal 255 ≡ rowSymbol tag value
+  pub symbol-range : (low high : ℕ) → low ≡ lowEnd value → high ≡ highEnd value → tag ≡ 2 → Range low high ≡ rowSymbol tag value
   unfolding rowSymbol
-  symbol-other z o = rw (ne-eqb tag 0 z, ne-eqb tag 1 o)
+  symbol-range low high l h t = rw (l, h, t)
+
+  -- no tag
+  pub symbol-other : (tag ≡ 0 → ⊥) → (tag ≡ 1 → ⊥) → (tag ≡ 2 → ⊥) → Nonterminal 255 ≡ rowSymbol tag value
+  unfolding rowSymbol
+  symbol-other z o r = rw (ne-eqb tag 0 z, ne-eqb tag 1 o, ne-eqb tag 2 r)
 
 pub read-place-of : (f : List ℕ) (at : ℕ) (s : Symbol) → s ≡ rowSymbol (getD f at 0) (getD f (at + 1) 0)
     → _≡_ {A = Place} (record { symbol = s }) (rowPlace f at)

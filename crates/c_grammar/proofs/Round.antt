@@ -9,28 +9,34 @@ use lib.Seq.{getD-drop, drop-drop, drop-at}
 use borrow.Author.Tests.{le-leb}
 use Rattle.sizes.specs.Sizes.{maxPlaces, maxRules}
 use Rattle.grammar.specs.declared.Symbol.{Symbol}
-use Rattle.grammar.specs.declared.Symbol.the-variants.{Nonterminal, Terminal}
+use Rattle.grammar.specs.declared.Symbol.the-variants.{Nonterminal, Terminal, Range}
 use Rattle.grammar.specs.declared.Place.{Place}
 use Rattle.grammar.specs.declared.Rule.{Rule}
 use Rattle.grammar.specs.declared.Grammar.{Grammar}
 use Rattle.grammar.specs.Setters.{setPlaceCount, setCount, setRules}
-use Rattle.grammar.specs.Tagged.{tagOf, valueOf}
+use Rattle.grammar.specs.Tagged.{tagOf, valueOf, highOf}
 use Rattle.grammar.specs.Zero.{zeroPlace, noRule}
 use Rattle.grammar.proofs.Setters.{rule-same, grammar-same}
 use Rattle.numbers.specs.Numbers.{byteIn, saturated, signedIn, unsignedOf}
 use Rattle.numbers.proofs.Complement.{signed-round}
-use Rattle.c_grammar.specs.Flat.{rowSymbol, recordsFrom, rowPlace, rowPlaces, rowRule, rowRules, grammarIn, ruleNumbers}
-use Rattle.c_grammar.specs.Flat.{flatPlace, flatRule, flatOf}
-use Rattle.c_grammar.specs.Fits.{DeclaredRule, DeclaredGrammar, Fits16}
+use Rattle.c_grammar.specs.Flat.{lowEnd, highEnd, rowSymbol, recordsFrom, rowPlace, rowPlaces, rowRule, rowRules, grammarIn}
+use Rattle.c_grammar.specs.Flat.{ruleNumbers, flatPlace, flatRule, flatOf}
+use Rattle.c_grammar.specs.Fits.{SymbolBytes, DeclaredRule, DeclaredGrammar, Fits16}
 
 -- ---- one place
 
-symbol-round : (s : Symbol) (t v : ℕ) → t ≡ tagOf s → v ≡ valueOf s → valueOf s < 256 → rowSymbol t v ≡ s
+symbol-round : (s : Symbol) (t v : ℕ) → t ≡ tagOf s → v ≡ valueOf s + 256 * highOf s → valueOf s < 256 → rowSymbol t v ≡ s
 unfolding rowSymbol
 symbol-round (Nonterminal k) t v e f h =
-    let d : byteIn k ≡ k = omega arith in
-    rw (e, f, d)
-symbol-round (Terminal m) t v e f h = rw (e, f, le-leb m 255 (omega arith))
+    let d : byteIn v ≡ k = omega arith in
+    rw (e, d)
+symbol-round (Terminal m) t v e f h =
+    let d : v ≡ m = omega arith in
+    rw (e, d, le-leb m 255 (omega arith))
+symbol-round (Range low high) t v e f h =
+    let d : lowEnd v ≡ low = omega arith in
+    let u : highEnd v ≡ high = omega arith in
+    rw (e, d, u)
 
 -- ---- records
 
@@ -85,20 +91,20 @@ unfolding flatRule
 rule-size ρ d = omega (arith, places-size (ρ .places), d .places)
 
 module _ (f : List ℕ) where
-  place-back : (p : Place) (at : ℕ) (rest : List ℕ) → valueOf (p .symbol) < 256 → drop at f ≡ flatPlace p ++ rest → rowPlace f at ≡ p
+  place-back : (p : Place) (at : ℕ) (rest : List ℕ) → SymbolBytes (p .symbol) → drop at f ≡ flatPlace p ++ rest → rowPlace f at ≡ p
   unfolding rowPlace flatPlace
   place-back p at rest v h =
       let t : getD f at 0 ≡ tagOf (p .symbol) = at-index f (flatPlace p ++ rest) at 0 at (omega arith) h in
-      let n : getD f (at + 1) 0 ≡ valueOf (p .symbol) = at-index f (flatPlace p ++ rest) at 1 (at + 1) refl h in
-      let e = symbol-round (p .symbol) (getD f at 0) (getD f (at + 1) 0) t n v in
+      let n : getD f (at + 1) 0 ≡ valueOf (p .symbol) + 256 * highOf (p .symbol) = at-index f (flatPlace p ++ rest) at 1 (at + 1) refl h in
+      let e = symbol-round (p .symbol) (getD f at 0) (getD f (at + 1) 0) t n (v .0) in
       λ i. record { symbol = e i }
 
   places-back : (l : List Place) (at : ℕ) (rest : List ℕ) → length l ≡ maxPlaces
-      → ((q : ℕ) → q < maxPlaces → valueOf (getD l q zeroPlace .symbol) < 256) → drop at f ≡ flatMap flatPlace l ++ rest
+      → ((q : ℕ) → q < maxPlaces → SymbolBytes (getD l q zeroPlace .symbol)) → drop at f ≡ flatMap flatPlace l ++ rest
       → rowPlaces f at ≡ l
   unfolding rowPlaces
   places-back l at rest n v h =
-      records-back zeroPlace flatPlace (λ p. p) (rowPlace f) 2 f (λ p. valueOf (p .symbol) < 256) (λ p _. place-size p) place-back l at 8
+      records-back zeroPlace flatPlace (λ p. p) (rowPlace f) 2 f (λ p. SymbolBytes (p .symbol)) (λ p _. place-size p) place-back l at 8
       rest n v h
       ∙ map-id l
 
@@ -111,7 +117,7 @@ module _ (f : List ℕ) where
       let b : signedIn (getD f (at + 1) 0) ≡ ρ .length = ap signedIn m ∙ signed-round (ρ .length) (d .magnitude) in
       let c : getD f (at + 2) 0 ≡ saturated (ρ .count) = at-index f (flatRule ρ ++ rest) at 2 (at + 2) refl h in
       let e : rowPlaces f (at + 3) ≡ ρ .places =
-      places-back (ρ .places) (at + 3) rest (d .places) (d .values)
+      places-back (ρ .places) (at + 3) rest (d .places) (d .symbols)
       (further f (ρ .left ∷ unsignedOf (ρ .length) ∷ saturated (ρ .count) ∷ []) (flatMap flatPlace (ρ .places) ++ rest) at 3 refl h)
       in
       rule-same (rowRule f at) (keptRule ρ) a b c e

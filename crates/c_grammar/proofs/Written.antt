@@ -12,7 +12,7 @@ use Rattle.sizes.specs.Sizes.{maxRules, maxPlaces}
 use Rattle.grammar.specs.declared.Place.{Place}
 use Rattle.grammar.specs.declared.Rule.{Rule}
 use Rattle.grammar.specs.declared.Grammar.{Grammar}
-use Rattle.grammar.specs.Tagged.{tagOf, valueOf}
+use Rattle.grammar.specs.Tagged.{tagOf, valueOf, highOf}
 use Rattle.numbers.specs.Numbers.{saturated, unsignedOf}
 use Rattle.c_grammar.specs.Flat.{flatPlace, flatRule, flatOf, flatSize, ruleNumbers}
 use Rattle.c_grammar.proofs.Records.{put-two, put-three, flat-step}
@@ -52,11 +52,12 @@ module _ {A : Type 0} (flat : A → List ℕ) (w b : ℕ) (l : List A) (m : ℕ)
 
 -- ---- a place
 
-pub place-done : (p : Place) (at : ℕ) (f : List ℕ) (t v : ℕ) → at + 2 ≤ flatSize → length f ≡ flatSize
-    → t ≡ tagOf (p .symbol) → v ≡ valueOf (p .symbol) → take (at + 2) (set (set f at t) (at + 1) v) ≡ take at f ++ flatPlace p
+pub place-done : (p : Place) (at : ℕ) (f : List ℕ) (t v u : ℕ) → at + 2 ≤ flatSize → length f ≡ flatSize
+    → t ≡ tagOf (p .symbol) → v ≡ valueOf (p .symbol) → u ≡ highOf (p .symbol)
+    → take (at + 2) (set (set f at t) (at + 1) (v + 256 * u)) ≡ take at f ++ flatPlace p
 unfolding flatPlace
-place-done p at f t v h n et ev =
-    put-two f at (at + 1) (at + 2) t v refl refl (omega arith) ∙ λ i. take at f ++ (et i ∷ ev i ∷ [])
+place-done p at f t v u h n et ev eu =
+    put-two f at (at + 1) (at + 2) t (v + 256 * u) refl refl (omega arith) ∙ λ i. take at f ++ (et i ∷ (ev i + 256 * eu i) ∷ [])
 
 -- ---- a rule
 

@@ -5,17 +5,22 @@ use mathlib.Core.Path.{_≡_}
 use lib.ListN.{length, getD}
 use lib.Signed.{mag}
 use Rattle.sizes.specs.Sizes.{maxRules, maxPlaces}
+use Rattle.grammar.specs.declared.Symbol.{Symbol}
 use Rattle.grammar.specs.declared.Rule.{Rule}
 use Rattle.grammar.specs.declared.Grammar.{Grammar}
-use Rattle.grammar.specs.Tagged.{valueOf}
+use Rattle.grammar.specs.Tagged.{valueOf, highOf}
 use Rattle.grammar.specs.Zero.{zeroPlace, noRule}
+
+-- the numbers of a symbol are bytes
+abbrev pub SymbolBytes : Symbol → Type 0
+SymbolBytes s = (valueOf s < 256) × (highOf s < 256)
 
 -- `mag (ρ .length) < 32768` says that the length is at least -32768 and below 32768
 pub record DeclaredRule (ρ : Rule) : Type 0 where
   pub left : ρ .left < 256
   pub magnitude : mag (ρ .length) < 32768
   pub places : length (ρ .places) ≡ maxPlaces
-  pub values : (q : ℕ) → q < maxPlaces → valueOf (getD (ρ .places) q zeroPlace .symbol) < 256
+  pub symbols : (q : ℕ) → q < maxPlaces → SymbolBytes (getD (ρ .places) q zeroPlace .symbol)
 
 pub record DeclaredGrammar (g : Grammar) : Type 0 where
   pub start : g .start < 256

@@ -1,8 +1,9 @@
 -- A flat row of 16-bit numbers: the grammar of a row, and the row of a grammar. A row has the start symbol, the number of rules used, the
 -- nullable depth, and 128 rules. A rule has its left side, its length (two's complement), the number of places used, and for each of 8
--- places a tag (0 a nonterminal, 1 a terminal) and a value. All 16 bits of a number count: one that is too large for its place is read as
--- a value that check 8 refuses where it is used. A count too large for a row is written as one that check 8 refuses. Assumes nothing.
-use Prim.Native.Nat.{ℕ, zero, suc, _+_, _*_}
+-- places a tag (0 a nonterminal, 1 a terminal, 2 a range) and a value. The value of a range is its low end and 256 times its high end. All
+-- 16 bits of a number count: one that is too large for its place is read as a value that check 8 refuses where it is used. A count too
+-- large for a row is written as one that check 8 refuses. Assumes nothing.
+use Prim.Native.Nat.{ℕ, zero, suc, _+_, _*_, _/_, _%_}
 use mathlib.Core.Bool.{cond, _&&_}
 use mathlib.Core.List.{List, [], _∷_, flatMap}
 use lib.Dec.{eqb, leb}
@@ -10,12 +11,12 @@ use lib.ListN.{getD}
 use Rattle.sizes.specs.Sizes.{maxRules, maxPlaces}
 use Rattle.numbers.specs.Numbers.{byteIn, saturated, signedIn, unsignedOf}
 use Rattle.grammar.specs.declared.Symbol.{Symbol}
-use Rattle.grammar.specs.declared.Symbol.the-variants.{Nonterminal, Terminal}
+use Rattle.grammar.specs.declared.Symbol.the-variants.{Nonterminal, Terminal, Range}
 use Rattle.grammar.specs.declared.Place.{Place}
 use Rattle.grammar.specs.declared.Rule.{Rule}
 use Rattle.grammar.specs.declared.Grammar.{Grammar}
 use Rattle.grammar.specs.Setters.{ruleWith, grammarWith}
-use Rattle.grammar.specs.Tagged.{tagOf, valueOf}
+use Rattle.grammar.specs.Tagged.{tagOf, valueOf, highOf}
 
 -- how many numbers a rule has, and how many a row has
 abbrev pub ruleNumbers : ℕ
@@ -31,10 +32,18 @@ unfoldable pub recordsFrom : {A : Type 0} → (ℕ → A) → ℕ → ℕ → �
 recordsFrom read w at zero = []
 recordsFrom read w at (suc n) = read at ∷ recordsFrom read w (at + w) n
 
--- the symbol of a tag and a value: a nonterminal, a terminal of one byte, or else the nonterminal 255
+-- the ends of a range, of which the value holds both
+abbrev pub lowEnd : ℕ → ℕ
+lowEnd value = value % 256
+
+abbrev pub highEnd : ℕ → ℕ
+highEnd value = value / 256
+
+-- the symbol of a tag and a value: a nonterminal, a terminal of one byte, a range, or else the nonterminal 255
 unfoldable pub rowSymbol : ℕ → ℕ → Symbol
 rowSymbol tag value =
-    cond (eqb tag 0) (Nonterminal (byteIn value)) (cond (eqb tag 1 && leb value 255) (Terminal value) (Nonterminal 255))
+    cond (eqb tag 0) (Nonterminal (byteIn value)) (cond (eqb tag 1 && leb value 255) (Terminal value)
+    (cond (eqb tag 2) (Range (lowEnd value) (highEnd value)) (Nonterminal 255)))
 
 -- the place at an index
 unfoldable pub rowPlace : List ℕ → ℕ → Place
@@ -60,7 +69,7 @@ grammarIn f = grammarWith (byteIn (getD f 0 0)) (getD f 1 0) (byteIn (getD f 2 0
 
 -- the two numbers of a place
 unfoldable pub flatPlace : Place → List ℕ
-flatPlace p = tagOf (p .symbol) ∷ valueOf (p .symbol) ∷ []
+flatPlace p = tagOf (p .symbol) ∷ (valueOf (p .symbol) + 256 * highOf (p .symbol)) ∷ []
 
 -- the numbers of a rule
 unfoldable pub flatRule : Rule → List ℕ

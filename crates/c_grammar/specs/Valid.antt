@@ -1,21 +1,22 @@
 -- Check 8 in terms of a flat row's own numbers, all 16 bits of each. It refuses a start symbol or a used nonterminal over 31, more than
--- 128 rules, more than 8 places, and a used place that is neither a nonterminal nor a terminal of one byte. Assumes nothing.
+-- 128 rules, more than 8 places, a used range whose low end is above its high end, and a used place that is no symbol. Assumes nothing.
 use Prim.Native.Nat.{ℕ, zero, suc, _+_, _*_}
 use mathlib.Core.Bool.{Bool, true, _&&_, _||_}
 use mathlib.Core.List.{List}
 use lib.Dec.{eqb, leb}
 use lib.ListN.{getD}
 use Rattle.sizes.specs.Sizes.{maxRules, maxPlaces}
-use Rattle.c_grammar.specs.Flat.{ruleNumbers}
+use Rattle.c_grammar.specs.Flat.{ruleNumbers, lowEnd, highEnd}
 
 -- the test holds for each number below n
 unfoldable pub each : ℕ → (ℕ → Bool) → Bool
 each zero test = true
 each (suc n) test = each n test && test n
 
--- tag 0 and a value up to 31, or tag 1 and a value up to 255
+-- tag 0 and a value up to 31, tag 1 and a value up to 255, or tag 2 and a value of two ends in their order
 abbrev pub validTagged : ℕ → ℕ → Bool
-validTagged tag value = (eqb tag 0 && leb value 31) || (eqb tag 1 && leb value 255)
+validTagged tag value =
+    (eqb tag 0 && leb value 31) || (eqb tag 1 && leb value 255) || (eqb tag 2 && leb (lowEnd value) (highEnd value))
 
 -- whether a place is valid, by the index of its tag
 unfoldable pub validPlaceAt : List ℕ → ℕ → Bool

@@ -20,7 +20,7 @@ pub fn write_place(place: Place, at: usize, f: &mut Flat)
 {
     let s = place.symbol;
     f[at] = tagged::tag_of(s) as u16;
-    f[at + 1] = tagged::value_of(s) as u16;
+    f[at + 1] = (tagged::value_of(s) as u16) + 256 * (tagged::high_of(s) as u16);
 }
 
 // Writes the numbers of a rule from index `at` on. The numbers before them stay as found.

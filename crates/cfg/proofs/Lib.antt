@@ -1,5 +1,6 @@
 -- Rows that the definitions must give, each proved by computing it or by its constructors; that a number has
--- one rule, and that a node covers no more than its forest.
+-- one rule, that a node covers no more than its forest, and what fits a terminal.
 pub mod Table
 pub mod Of
 pub mod Has
+pub mod Fits

@@ -1,19 +1,21 @@
 -- Abstract context-free grammars. Document 01 calls a grammar a book, a nonterminal a kind, and a terminal a mark. Assumes nothing.
 use Prim.Native.Nat.{ℕ}
-use mathlib.Core.Bool.{Bool}
+use mathlib.Core.Bool.{Bool, _&&_}
 use mathlib.Core.List.{List}
 use mathlib.Core.Option.{Option, none, some}
 use mathlib.Core.Path.{_≡_}
-use lib.Dec.{eqb}
+use lib.Dec.{eqb, leb}
 use lib.ListN.{getElem?}
 
--- what a place asks of one byte of the input: that it is this byte (a place of command 40)
+-- what a place asks of one byte of the input: that it is this byte (command 40), or one from low to high (command 41)
 pub data Terminal : Type 0 where
   byte : ℕ → Terminal
+  range : (low high : ℕ) → Terminal
 
 -- whether a byte fits a terminal: the only test of a byte against a place
 unfoldable pub fits : Terminal → ℕ → Bool
 fits (byte a) m = eqb a m
+fits (range low high) m = leb low m && leb m high
 
 -- what a place of a rule holds: a nonterminal (kind) or a terminal (mark)
 pub data Symbol : Type 0 where

@@ -10,17 +10,17 @@ use lib.ListN.{length, getD, length-set}
 use lib.Signed.{mag}
 use borrow.Author.Tests.{ltb-true, ltb-false}
 use Rattle.sizes.specs.Sizes.{maxRules, maxPlaces}
-use Rattle.c_grammar.specs.Fits.{DeclaredRule, Fits16}
+use Rattle.c_grammar.specs.Fits.{SymbolBytes, DeclaredRule, Fits16}
 use Rattle.grammar.specs.declared.Symbol.{Symbol}
+use Rattle.grammar.specs.declared.Symbol.the-variants.{Nonterminal, Terminal, Range}
 use Rattle.grammar.specs.declared.Place.{Place}
 use Rattle.grammar.specs.declared.Rule.{Rule}
 use Rattle.grammar.specs.declared.Grammar.{Grammar}
 use Rattle.grammar.specs.Setters.{openedRule, placedRule, setDepth}
-use Rattle.grammar.specs.Tagged.{valueOf}
 use Rattle.grammar.specs.Zero.{zeroPlace, zeroRule, zeroGrammar, noRule}
 use Rattle.grammar.proofs.Setters.{set-rule-size}
 use Rattle.results.specs.Load.{operand, signed, openRule, withStart, withRule, withPlace, loadOf}
-use Rattle.results.proofs.Loading.Commands.{Invariant, run-kept}
+use Rattle.results.proofs.Loading.Commands.{HeldIn, Invariant, run-kept}
 use Rattle.results.proofs.Loading.Lists.{set-each, replicate-each}
 
 -- ---- the grammar read so far
@@ -49,7 +49,7 @@ opened-small k z h m = record {
     left = h;
     magnitude = m;
     places = refl;
-    values = replicate-each (λ p. valueOf (p .symbol) < 256) zeroPlace zeroPlace 8 (omega arith);
+    symbols = replicate-each (λ p. SymbolBytes (p .symbol)) zeroPlace zeroPlace 8 (omega arith, omega arith);
   };
   count = omega arith;
 }
@@ -87,7 +87,7 @@ module _ (g : Grammar) (S : Small g) where
     each = set-each SmallRule noRule maxRules (g .rules) (g .count) _ (S .each) (opened-small k z h m);
   }
 
-  place-small : (s : Symbol) → valueOf s < 256 → openRule g .count ≤ 7 → Small (withPlace g s)
+  place-small : (s : Symbol) → SymbolBytes s → openRule g .count ≤ 7 → Small (withPlace g s)
   unfolding withPlace openRule
   place-small s h l =
       let R = S .each (g .count - 1) (omega (arith, S .count)) in
@@ -107,9 +107,9 @@ module _ (g : Grammar) (S : Small g) where
           left = R .declared .left;
           magnitude = R .declared .magnitude;
           places = length-set (ρ .places) (ρ .count) _ ∙ R .declared .places;
-          values =
-              set-each (λ (p : Place). valueOf (p .symbol) < 256) zeroPlace 8 (ρ .places) (ρ .count)
-              (record { symbol = s }) (R .declared .values) h;
+          symbols =
+              set-each (λ (p : Place). SymbolBytes (p .symbol)) zeroPlace 8 (ρ .places) (ρ .count)
+              (record { symbol = s }) (R .declared .symbols) h;
         };
         count = omega arith;
       }
@@ -121,13 +121,18 @@ module _ (bytes : List ℕ) (small : (i : ℕ) → getD bytes i 0 < 256) where
   unfolding operand
   operand-small at i = small (at + 1 + i)
 
+  held-small : (at : ℕ) (s : Symbol) → HeldIn bytes at s → SymbolBytes s
+  held-small at (Nonterminal k) e = (omega (arith, operand-small at 0), omega arith)
+  held-small at (Terminal m) e = (omega (arith, operand-small at 0), omega arith)
+  held-small at (Range low high) e = (omega (arith, e .0, operand-small at 0), omega (arith, e .1, operand-small at 1))
+
   small-invariant : Invariant bytes (λ at g. Small g)
   small-invariant = record {
     zero = zero-small;
     start = λ at g S e h. start-small g S (operand bytes at 0) (operand-small at 0);
     rule = λ at g S h m. rule-small g S (operand bytes at 0) _ (operand-small at 0)
         (signed-small (operand bytes at 1) (operand bytes at 2) (operand-small at 1) (operand-small at 2)) (omega arith);
-    place = λ at g S s e u m h. place-small g S s (omega (arith, e, operand-small at 0)) (omega arith);
+    place = λ at g S s e u m h. place-small g S s (held-small at s e) (omega arith);
   }
 
   pub load-fits : (d : ℕ) → d < 256 → Fits16 (loadOf bytes d .grammar)

@@ -15,7 +15,7 @@ use Rattle.laws.proofs.Bools.{and-parts, and-parts₃, clash}
 use Rattle.cfg.specs.Grammar as Abstract
 use Rattle.cfg.specs.Grammar.{joined, Of}
 use Rattle.grammar.specs.declared.Symbol.{Symbol}
-use Rattle.grammar.specs.declared.Symbol.the-variants.{Nonterminal, Terminal}
+use Rattle.grammar.specs.declared.Symbol.the-variants.{Nonterminal, Terminal, Range}
 use Rattle.grammar.specs.declared.Place.{Place}
 use Rattle.grammar.specs.declared.Rule.{Rule}
 use Rattle.grammar.specs.declared.Grammar.{Grammar}
@@ -71,6 +71,7 @@ meant (ρ ∷ l) (suc r) σ v e = meant l r σ (and-parts (validRule ρ) (all va
 symbol-bounded : (s : Symbol) (k : ℕ) → validSymbol s ≡ true → Abstract.nonterminal k ≡ symbolOf s → k < 32
 symbol-bounded (Nonterminal m) k v e = let q : k ≡ m = cc in omega (arith, leb-true m 31 v)
 symbol-bounded (Terminal m) k v e = clash cc
+symbol-bounded (Range low high) k v e = clash cc
 
 places-bounded : (l : List Place) (k : ℕ) → all validPlace l ≡ true → List·Memᴰ (Abstract.nonterminal k) (map placeOf l) → k < 32
 unfolding all

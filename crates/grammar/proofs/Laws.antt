@@ -9,7 +9,7 @@ use lib.Dec.{leb}
 use lib.ListN.{take, getD}
 use borrow.Author.Tests.{lt-leb, le-leb, not-true, not-false}
 use Rattle.sizes.specs.Sizes.{maxRules, maxPlaces}
-use Rattle.grammar.specs.declared.Symbol.the-variants.{Nonterminal}
+use Rattle.grammar.specs.declared.Symbol.the-variants.{Nonterminal, Range}
 use Rattle.grammar.specs.declared.Place.{Place}
 use Rattle.grammar.specs.declared.Rule.{Rule}
 use Rattle.grammar.specs.declared.Grammar.{Grammar}
@@ -19,6 +19,9 @@ use Rattle.grammar.proofs.All.{all-more, all-refuses}
 
 pub place-nonterminal : (p : Place) (k : ℕ) → p .symbol ≡ Nonterminal k → leb k 31 ≡ validPlace p
 place-nonterminal p k e = sym (ap validSymbol e)
+
+pub place-range : (p : Place) (low high : ℕ) → p .symbol ≡ Range low high → leb low high ≡ validPlace p
+place-range p low high e = sym (ap validSymbol e)
 
 pub noRule-valid : validRule noRule ≡ true
 unfolding validRule all

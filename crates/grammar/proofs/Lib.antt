@@ -5,4 +5,3 @@ pub mod Bounds
 pub mod RuleAt
 pub mod Setters
 pub mod Declared
-pub mod Fits

@@ -1,12 +1,13 @@
--- Check 8: start or a used nonterminal (kind) over 31, more than 128 rules, or more than 8 places is refused. Only what is used, as the
--- counts say, is checked; the nullable depth, the lengths and unused records may hold anything. Assumes nothing.
+-- Check 8: start or a used nonterminal (kind) over 31, more than 128 rules, more than 8 places, or a used range whose low end is above its
+-- high end is refused. Only what is used, as the counts say, is checked; the nullable depth, the lengths and unused records may hold
+-- anything. Assumes nothing.
 use mathlib.Core.Bool.{Bool, true, _&&_}
 use mathlib.Core.List.{List, [], _∷_}
 use lib.Dec.{leb}
 use lib.ListN.{take}
 use Rattle.sizes.specs.Sizes.{maxRules}
 use Rattle.grammar.specs.declared.Symbol.{Symbol}
-use Rattle.grammar.specs.declared.Symbol.the-variants.{Nonterminal, Terminal}
+use Rattle.grammar.specs.declared.Symbol.the-variants.{Nonterminal, Terminal, Range}
 use Rattle.grammar.specs.declared.Place.{Place}
 use Rattle.grammar.specs.declared.Rule.{Rule}
 use Rattle.grammar.specs.declared.Grammar.{Grammar}
@@ -16,10 +17,11 @@ unfoldable pub all : {A : Type 0} → (A → Bool) → List A → Bool
 all test [] = true
 all test (a ∷ l) = test a && all test l
 
--- a nonterminal is at most 31
+-- a nonterminal is at most 31, and the low end of a range at most its high end
 abbrev pub validSymbol : Symbol → Bool
 validSymbol (Nonterminal k) = leb k 31
 validSymbol (Terminal m) = true
+validSymbol (Range low high) = leb low high
 
 -- check 8 for a place
 abbrev pub validPlace : Place → Bool

@@ -6,7 +6,7 @@ use lib.IntN.{ℤ}
 use lib.ListN.{take, getD}
 use Rattle.cfg.specs.Grammar as Abstract
 use Rattle.grammar.specs.declared.Symbol.{Symbol}
-use Rattle.grammar.specs.declared.Symbol.the-variants.{Nonterminal, Terminal}
+use Rattle.grammar.specs.declared.Symbol.the-variants.{Nonterminal, Terminal, Range}
 use Rattle.grammar.specs.declared.Place.{Place}
 use Rattle.grammar.specs.declared.Rule.{Rule}
 use Rattle.grammar.specs.declared.Grammar.{Grammar}
@@ -16,6 +16,7 @@ use Rattle.grammar.specs.Zero.{noRule}
 abbrev pub symbolOf : Symbol → Abstract.Symbol
 symbolOf (Nonterminal k) = Abstract.nonterminal k
 symbolOf (Terminal m) = Abstract.terminal (Abstract.byte m)
+symbolOf (Range low high) = Abstract.terminal (Abstract.range low high)
 
 -- the symbol that a declared place means
 abbrev pub placeOf : Place → Abstract.Symbol

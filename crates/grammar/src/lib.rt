@@ -8,10 +8,11 @@ ghost use mathlib.Core.Path.{_≡_};
 ghost use Rattle.grammar.specs.Zero.{zeroPlace, zeroRule, zeroGrammar};
 ghost use Rattle.grammar.specs.Valid.{validGrammar};
 
-// What a place holds: a nonterminal (kind) or a terminal (mark).
+// What a place holds: a nonterminal (kind), a terminal (mark), or a range that any byte from its low to its high end fits.
 pub enum Symbol {
     Nonterminal(u8),
     Terminal(u8),
+    Range(u8, u8),
 }
 
 // A place of a rule.

@@ -13,6 +13,7 @@ pub fn valid_place(p: Place) -> bool
     match s {
         Symbol::Nonterminal(k) => k <= 31,
         Symbol::Terminal(_) => true,
+        Symbol::Range(low, high) => low <= high,
     }
 }
 

@@ -49,11 +49,14 @@ module _ (bytes : List ℕ) (at : ℕ) (t : Turn) (rules places : ℕ) (c : Comm
   pub rule-few : (k low high : ℕ) → c ≡ C.Rule k low high → rules < maxRules
   rule-few k low high e = bounds (C.Rule k low high) e .1
 
-  pub place-few : (s : Symbol) → c ≡ C.Place s → places < maxPlaces
-  place-few s e = bounds (C.Place s) e .1
+  pub place-some : (s : Symbol) (n : ℕ) → c ≡ C.Place s n → 0 < n
+  place-some s n e = bounds (C.Place s n) e .0
 
-  pub place-room : (s : Symbol) → c ≡ C.Place s → at + 2 ≤ length bytes
-  place-room s e = bounds (C.Place s) e .0
+  pub place-room : (s : Symbol) (n : ℕ) → c ≡ C.Place s n → at + n ≤ length bytes
+  place-room s n e = bounds (C.Place s n) e .1
+
+  pub place-few : (s : Symbol) (n : ℕ) → c ≡ C.Place s n → places < maxPlaces
+  place-few s n e = bounds (C.Place s n) e .2
 
 -- an offset that moves on within the bytes fits, and leaves fewer of them
 pub moved-fits : (len at n : ℕ) → at + n ≤ len → len < 2 ^ 64 → Fits w64 (at + n)
@@ -138,13 +141,14 @@ module _ (bytes : List ℕ) (at : ℕ) (t : Turn) (g : Grammar) (P : Progress by
         (ap (λ (m : Rule). setCount (setRule g (g .count) m) (g .count + 1)) (o ∙ ap (openedRule k) (signed-bytes low high))
         ∙ rule-set g k (signed low high))
 
-    pub progress-place : (s : Symbol) (r : Rule) → c ≡ C.Place s → r ≡ placedRule (getD (g .rules) q noRule) s
-        → Progress bytes (at + 2) t (setRule g q r)
+    pub progress-place : (s : Symbol) (n : ℕ) (r : Rule) → c ≡ C.Place s n → r ≡ placedRule (getD (g .rules) q noRule) s
+        → Progress bytes (at + n) t (setRule g q r)
     unfolding openRule
-    progress-place s r e o =
+    progress-place s n r e o =
         let b = subst (Begun t) e (R .begun) in
-        progress-next (C.Place s) _ _ _ _ e refl (bounded (C.Place s) e .0)
-        (record { started = b ∙ some (at + 2) (omega arith); opened = P .turn .opened })
+        let bound = bounded (C.Place s n) e in
+        progress-next (C.Place s n) _ _ _ _ e refl (bound .1)
+        (record { started = b ∙ some (at + n) (omega (arith, bound .0)); opened = P .turn .opened })
         (ap (setRule g q) o ∙ ap (λ (i : ℕ). setRule g i (placedRule (getD (g .rules) i noRule) s)) f ∙ place-set g s)
 
     pub loads-end : (l : Loaded) → c ≡ C.End → Accepts g l → loadingOf l ≡ loadOf bytes (l .grammar .depth)

@@ -72,9 +72,9 @@ pub fn load(bytes: &[u8]) -> Loaded
                 turn.opened = true;
                 at += 4;
             }
-            Command::Place(s) => {
+            Command::Place(s, bytes) => {
                 g.rules[q] = building::placed(open, s);
-                at += 2;
+                at += bytes;
             }
             Command::End => {
                 return accepted(g);

@@ -6,11 +6,13 @@ use mathlib.Core.Path.{_≡_, refl}
 use borrow.Author.Tests.{lt-ltb, le-ltb}
 use Rattle.sizes.specs.Sizes.{maxRules, maxPlaces}
 use Rattle.grammar.specs.declared.Symbol.{Symbol}
+use Rattle.grammar.specs.declared.Symbol.the-variants.{Range}
 use Rattle.answers.specs.declared.Refusal.the-variants as R
 use Rattle.results.specs.Load.{unknown}
 use Rattle.load_commands.specs.Class.{byteOf}
-use Rattle.load_commands.specs.Command.{ruleCommand, placeCommand, endCommand}
+use Rattle.load_commands.specs.Command.{ruleCommand, placeCommand, rangeCommand, endCommand}
 use Rattle.load_commands.specs.Turn.{late}
+use Rattle.load_commands.specs.declared.opcode.Command.{Command}
 use Rattle.load_commands.specs.declared.opcode.Command.the-variants.{Rule, Place, End, Fault}
 use Rattle.load_commands.specs.declared.opcode.Opcode.{Opcode}
 use Rattle.load_commands.specs.declared.opcode.Opcode.the-variants as O
@@ -24,6 +26,7 @@ byte-known O.Start = refl
 byte-known O.Rule = refl
 byte-known O.Nonterminal = refl
 byte-known O.Terminal = refl
+byte-known O.Range = refl
 byte-known O.End = refl
 
 -- ---- the turn of each opcode
@@ -40,6 +43,9 @@ module _ (k : Opcode) (t : Turn) where
 
   pub late-terminal : k ≡ O.Terminal → late (byteOf k) t ≡ (not (t .started) || not (t .opened))
   late-terminal e = rw e
+
+  pub late-range : k ≡ O.Range → late (byteOf k) t ≡ (not (t .started) || not (t .opened))
+  late-range e = rw e
 
   pub late-end : k ≡ O.End → not (t .started) ≡ late (byteOf k) t
   late-end e = rw (e, or-false (not (t .started)))
@@ -61,12 +67,19 @@ module _ (at : ℕ) where
     pub rule-read : rules < maxRules → Rule left low high ≡ ruleCommand at rules left low high
     rule-read h = rw (le-ltb 127 rules (omega arith))
 
-  module _ (places : ℕ) (s : Symbol) where
-    pub place-many : (m : ℕ) → m ≤ places → maxPlaces ≤ m → Fault R.TooManyPlaces at ≡ placeCommand at places s
+  module _ (places : ℕ) (s : Symbol) (bytes : ℕ) where
+    pub place-many : (m : ℕ) → m ≤ places → maxPlaces ≤ m → Fault R.TooManyPlaces at ≡ placeCommand at places s bytes
     place-many m h k = rw (lt-ltb 7 places (omega arith))
 
-    pub place-read : places < maxPlaces → Place s ≡ placeCommand at places s
+    pub place-read : places < maxPlaces → Place s bytes ≡ placeCommand at places s bytes
     place-read h = rw (le-ltb 7 places (omega arith))
+
+  module _ (places low high : ℕ) where
+    pub range-reversed : high < low → Fault R.RangeReversed at ≡ rangeCommand at places low high
+    range-reversed h = rw (lt-ltb high low h)
+
+    pub range-read : low ≤ high → (m : Command) → m ≡ placeCommand at places (Range low high) 3 → m ≡ rangeCommand at places low high
+    range-read h m e = rw (e, le-ltb high low h)
 
   pub end-more : (len : ℕ) → at < len → Fault R.FurtherByte at ≡ endCommand at len
   end-more len h = rw (lt-ltb at len h)

@@ -10,13 +10,13 @@ use borrow.Author.Tests.{lt-ltb, le-ltb, ltb-false, ne-eqb}
 use Rattle.laws.proofs.Bools.{clash}
 use Rattle.grammar.specs.declared.Grammar.{Grammar}
 use Rattle.grammar.specs.declared.Symbol.{Symbol}
-use Rattle.grammar.specs.declared.Symbol.the-variants.{Nonterminal, Terminal}
+use Rattle.grammar.specs.declared.Symbol.the-variants.{Nonterminal, Terminal, Range}
 use Rattle.answers.specs.declared.Refusal.the-variants as R
 use Rattle.results.specs.Answer.{decide}
-use Rattle.results.specs.Load.{fault, stop, next, step, operandChecks, commandChecks, carriedOut, unknown, outOfTurn}
-use Rattle.results.specs.Load.{operands, operand, after, openRule, withPlace}
+use Rattle.results.specs.Load.{fault, stop, next, step, operandChecks, commandChecks, carriedOut, unknown}
+use Rattle.results.specs.Load.{addsPlace, outOfTurn, operands, operand, after, openRule, withPlace}
 use Rattle.load_commands.specs.Class.{byteOf, Classified}
-use Rattle.load_commands.specs.Command.{tooLarge, ruleCommand, placeCommand, endCommand, stepPast, stepAfter}
+use Rattle.load_commands.specs.Command.{tooLarge, ruleCommand, placeCommand, rangeCommand, endCommand, stepPast, stepAfter}
 use Rattle.load_commands.specs.Command.{Bounded, Begun, ChecksPassed, CommandRead}
 use Rattle.load_commands.specs.Turn.{late, TurnAt}
 use Rattle.load_commands.specs.declared.opcode.Class.{Class}
@@ -36,6 +36,9 @@ module _ (bytes : List ℕ) (at : ℕ) (k : Opcode) (a rules places : ℕ) (room
   two : at + 1 + 1 ≡ at + 2
   two = omega arith
 
+  three : at + 1 + 2 ≡ at + 3
+  three = omega arith
+
   four : at + 1 + 3 ≡ at + 4
   four = omega arith
 
@@ -53,27 +56,44 @@ module _ (bytes : List ℕ) (at : ℕ) (k : Opcode) (a rules places : ℕ) (room
       go r true f = record { means = λ g p q. rw (p, f); bounded = tt }
       go r false f = record { means = λ g p q. rw (p, f, four); bounded = (omega arith, omega (arith, ltb-false 127 rules f), refl) }
 
-  -- 30 and 40: a command c of one operand, whose limit is check 6, and its symbol s
-  place-passed : (c : ℕ) (s : Symbol) → at + 1 + 1 ≤ length bytes → eqb c 0x10 ≡ false
+  -- a command c of so many bytes whose only limit is check 6, and its symbol s
+  place-passed : (c : ℕ) (s : Symbol) (size : ℕ) → 0 < size → at + size ≤ length bytes → eqb c 0x10 ≡ false
       → ((g : Grammar) → stepPast 2 bytes at c g
-      ≡ decide (fault (ltb 7 (openRule g .count)) 6 at ∷ []) stop (λ _. next (at + 2) (withPlace g s)))
-      → ChecksPassed 2 bytes at c rules places (placeCommand at places s)
+      ≡ decide (fault (ltb 7 (openRule g .count)) 6 at ∷ []) stop (λ _. next (at + size) (withPlace g s)))
+      → ChecksPassed 2 bytes at c rules places (placeCommand at places s size)
   unfolding decide
-  place-passed c s r y h = go (ltb 7 places) refl
+  place-passed c s size z r y h = go (ltb 7 places) refl
     where
-      go : (b : Bool) → ltb 7 places ≡ b → ChecksPassed 2 bytes at c rules places (cond b (Fault R.TooManyPlaces at) (Place s))
+      go : (b : Bool) → ltb 7 places ≡ b → ChecksPassed 2 bytes at c rules places (cond b (Fault R.TooManyPlaces at) (Place s size))
       go true f = record { means = λ g p q. rw (h g, q, f); bounded = tt }
-      go false f = record { means = λ g p q. rw (h g, q, f); bounded = (omega arith, omega (arith, ltb-false 7 places f), y) }
+      go false f = record { means = λ g p q. rw (h g, q, f); bounded = (z, r, omega (arith, ltb-false 7 places f), y) }
 
-  pub nonterminal-passed : k ≡ O.Nonterminal → (m : Command) → m ≡ placeCommand at places (Nonterminal a)
+  pub nonterminal-passed : k ≡ O.Nonterminal → (m : Command) → m ≡ placeCommand at places (Nonterminal a) 2
       → ChecksPassed 2 bytes at (byteOf k) rules places m
   unfolding decide operandChecks carriedOut operands after
-  nonterminal-passed e m i = let r = rw e at room in rw (e, i) (place-passed 0x30 (Nonterminal a) r refl (λ g. rw (two, first)))
+  nonterminal-passed e m i =
+      let r = rw e at room in
+      rw (e, i) (place-passed 0x30 (Nonterminal a) 2 (omega arith) (omega arith) refl (λ g. rw (two, first)))
 
-  pub terminal-passed : k ≡ O.Terminal → (m : Command) → m ≡ placeCommand at places (Terminal a)
+  pub terminal-passed : k ≡ O.Terminal → (m : Command) → m ≡ placeCommand at places (Terminal a) 2
       → ChecksPassed 2 bytes at (byteOf k) rules places m
   unfolding decide operandChecks carriedOut operands after
-  terminal-passed e m i = let r = rw e at room in rw (e, i) (place-passed 0x40 (Terminal a) r refl (λ g. rw (two, first)))
+  terminal-passed e m i =
+      let r = rw e at room in
+      rw (e, i) (place-passed 0x40 (Terminal a) 2 (omega arith) (omega arith) refl (λ g. rw (two, first)))
+
+  -- 41: check 16 before check 6
+  pub range-passed : k ≡ O.Range → (m : Command) (high : ℕ) → high ≡ operand bytes at 1 → m ≡ rangeCommand at places a high
+      → ChecksPassed 2 bytes at (byteOf k) rules places m
+  unfolding decide operandChecks carriedOut operands after
+  range-passed e m high o i = let r = rw e at room in rw (e, i, first, o) (go r (ltb (operand bytes at 1) (operand bytes at 0)) refl)
+    where
+      go : at + 1 + 2 ≤ length bytes → (b : Bool) → ltb (operand bytes at 1) (operand bytes at 0) ≡ b
+          → ChecksPassed 2 bytes at 0x41 rules places
+          (cond b (Fault R.RangeReversed at) (placeCommand at places (Range (operand bytes at 0) (operand bytes at 1)) 3))
+      go r true f = record { means = λ g p q. rw f; bounded = tt }
+      go r false f = place-passed 0x41 (Range (operand bytes at 0) (operand bytes at 1)) 3 (omega arith) (omega arith) refl
+          (λ g. rw (f, three))
 
   pub end-passed : k ≡ O.End → (m : Command) → m ≡ endCommand (at + 1) (length bytes) → ChecksPassed 2 bytes at (byteOf k) rules places m
   unfolding decide operandChecks carriedOut operands after
@@ -95,15 +115,18 @@ module _ (bytes : List ℕ) (at c n : ℕ) (N : n ≡ operands c) (rules places 
     operands-room : at + 1 + operands c ≤ length bytes
     operands-room = omega arith
 
+    operands-test : large ≡ tooLarge c (operand bytes at 0)
+    operands-test = rw first at e
+
     pub operands-large : large ≡ true → ChecksPassed 0 bytes at c rules places (Fault R.NonterminalTooLarge at)
     unfolding decide operandChecks
     operands-large f =
-        record { means = λ g p q. rw (le-ltb (length bytes) (at + 1 + operands c) operands-room, ← first, ← e, f); bounded = tt }
+        record { means = λ g p q. rw (le-ltb (length bytes) (at + 1 + operands c) operands-room, ← operands-test, f); bounded = tt }
 
     pub operands-read : large ≡ false → (m : Command) → ChecksPassed 2 bytes at c rules places m → ChecksPassed 0 bytes at c rules places m
     unfolding decide operandChecks
     operands-read f m P = record {
-      means = λ g p q. rw (le-ltb (length bytes) (at + 1 + operands c) operands-room, ← first, ← e, f) (P .means g p q);
+      means = λ g p q. rw (le-ltb (length bytes) (at + 1 + operands c) operands-room, ← operands-test, f) (P .means g p q);
       bounded = P .bounded;
     }
 
@@ -127,14 +150,14 @@ turn-step bytes at g t T = rw (turn-law (getD bytes at 0) at g t T)
 begun : (c : ℕ) (t : Turn) → late c t ≡ false → eqb c 0x10 ≡ false → t .started ≡ true
 begun c t f e = go (t .started) (rw e at f)
   where
-    go : (b : Bool) → (not b || ((eqb c 0x30 || eqb c 0x40) && not (t .opened))) ≡ false → b ≡ true
+    go : (b : Bool) → (not b || (addsPlace c && not (t .opened))) ≡ false → b ≡ true
     go true f = refl
     go false f = clash cc
 
 begun-all : (c : ℕ) (t : Turn) → late c t ≡ false → (len at rules places : ℕ) (m : Command) → Bounded len at c rules places m → Begun t m
 begun-all c t f len at rules places (Start k) B = tt
 begun-all c t f len at rules places (Rule k low high) B = begun c t f (B .2)
-begun-all c t f len at rules places (Place s) B = begun c t f (B .2)
+begun-all c t f len at rules places (Place s bytes) B = begun c t f (B .3)
 begun-all c t f len at rules places End B = tt
 begun-all c t f len at rules places (Fault r o) B = tt
 

@@ -7,6 +7,7 @@ use lib.Dec.{eqb, ltb}
 use lib.ListN.{length, getD, drop}
 use Rattle.sizes.specs.Sizes.{maxRules, maxPlaces}
 use Rattle.grammar.specs.declared.Symbol.{Symbol}
+use Rattle.grammar.specs.declared.Symbol.the-variants.{Range}
 use Rattle.grammar.specs.declared.Grammar.{Grammar}
 use Rattle.answers.specs.declared.Refusal.the-variants as R
 use Rattle.answers.specs.Number.{numberOf}
@@ -22,13 +23,19 @@ use Rattle.load_commands.specs.declared.opcode.Turn.{Turn}
 abbrev pub tooLarge : (c a : ℕ) → Bool
 tooLarge c a = (eqb c 0x10 || eqb c 0x20 || eqb c 0x30) && ltb 31 a
 
--- 20 at an offset after this many rules; 30 and 40 in a rule of this many places; 50, which ends at the offset past, in a book of len bytes
+-- 20 at an offset after this many rules
 abbrev pub ruleCommand : (at rules left low high : ℕ) → Command
 ruleCommand at rules left low high = cond (ltb 127 rules) (Fault R.TooManyRules at) (Rule left low high)
 
-abbrev pub placeCommand : (at places : ℕ) → Symbol → Command
-placeCommand at places s = cond (ltb 7 places) (Fault R.TooManyPlaces at) (Place s)
+-- a command of this many bytes that adds a place, in a rule of this many places
+abbrev pub placeCommand : (at places : ℕ) → Symbol → ℕ → Command
+placeCommand at places s bytes = cond (ltb 7 places) (Fault R.TooManyPlaces at) (Place s bytes)
 
+-- 41 in a rule of this many places
+abbrev pub rangeCommand : (at places low high : ℕ) → Command
+rangeCommand at places low high = cond (ltb high low) (Fault R.RangeReversed at) (placeCommand at places (Range low high) 3)
+
+-- 50, which ends at the offset past, in a book of len bytes
 abbrev pub endCommand : (past len : ℕ) → Command
 endCommand past len = cond (ltb past len) (Fault R.FurtherByte past) End
 
@@ -36,7 +43,7 @@ endCommand past len = cond (ltb past len) (Fault R.FurtherByte past) End
 abbrev pub stepOf : Command → ℕ → Grammar → Step
 stepOf (Start k) at g = next (at + 2) (withStart g k)
 stepOf (Rule k low high) at g = next (at + 4) (withRule g k (signed low high))
-stepOf (Place s) at g = next (at + 2) (withPlace g s)
+stepOf (Place s bytes) at g = next (at + bytes) (withPlace g s)
 stepOf End at g = done g
 stepOf (Fault r o) at g = stop (record { number = numberOf r; offset = o })
 
@@ -44,7 +51,7 @@ stepOf (Fault r o) at g = stop (record { number = numberOf r; offset = o })
 abbrev pub Bounded : (len at c rules places : ℕ) → Command → Type 0
 Bounded len at c rules places (Start k) = at + 2 ≤ len
 Bounded len at c rules places (Rule k low high) = (at + 4 ≤ len) × (rules < maxRules) × (eqb c 0x10 ≡ false)
-Bounded len at c rules places (Place s) = (at + 2 ≤ len) × (places < maxPlaces) × (eqb c 0x10 ≡ false)
+Bounded len at c rules places (Place s bytes) = (0 < bytes) × (at + bytes ≤ len) × (places < maxPlaces) × (eqb c 0x10 ≡ false)
 Bounded len at c rules places End = Unit {0}
 Bounded len at c rules places (Fault r o) = Unit {0}
 
@@ -52,7 +59,7 @@ Bounded len at c rules places (Fault r o) = Unit {0}
 abbrev pub Begun : Turn → Command → Type 0
 Begun t (Start k) = Unit {0}
 Begun t (Rule k low high) = t .started ≡ true
-Begun t (Place s) = t .started ≡ true
+Begun t (Place s bytes) = t .started ≡ true
 Begun t End = Unit {0}
 Begun t (Fault r o) = Unit {0}
 

@@ -5,7 +5,7 @@ use grammar::Symbol;
 ghost use mathlib.Core.Path.{_≡_};
 ghost use Rattle.results.specs.Load.{operands};
 ghost use Rattle.load_commands.specs.Class.{byteOf, Classified};
-ghost use Rattle.load_commands.specs.Command.{tooLarge, ruleCommand, placeCommand, endCommand};
+ghost use Rattle.load_commands.specs.Command.{tooLarge, ruleCommand, placeCommand, rangeCommand, endCommand};
 ghost use Rattle.load_commands.specs.Turn.{late};
 
 // A book has at most this many rules, and a rule this many places.
@@ -22,6 +22,7 @@ pub enum Opcode {
     Rule,
     Nonterminal,
     Terminal,
+    Range,
     End,
 }
 
@@ -31,11 +32,11 @@ pub enum Class {
     Unknown,
 }
 
-// A command with its operands, or the refusal of the command and the offset that the refusal names.
+// A command with its operands, or the refusal of the command and the offset that the refusal names. A place has the number of its bytes.
 pub enum Command {
     Start(u8),
     Rule(u8, u8, u8),
-    Place(Symbol),
+    Place(Symbol, usize),
     End,
     Fault(Refusal, usize),
 }
@@ -55,6 +56,7 @@ pub fn classify(c: u8) -> Class
         0x20 => Class::Known(Opcode::Rule),
         0x30 => Class::Known(Opcode::Nonterminal),
         0x40 => Class::Known(Opcode::Terminal),
+        0x41 => Class::Known(Opcode::Range),
         0x50 => Class::Known(Opcode::End),
         _ => Class::Unknown,
     }
@@ -69,6 +71,7 @@ pub fn operand_count(k: Opcode) -> usize
         Opcode::Rule => 3,
         Opcode::Nonterminal => 1,
         Opcode::Terminal => 1,
+        Opcode::Range => 2,
         Opcode::End => 0,
     }
 }
@@ -82,6 +85,7 @@ pub fn out_of_turn(k: Opcode, turn: Turn) -> bool
         Opcode::Rule => !turn.started,
         Opcode::Nonterminal => !turn.started || !turn.opened,
         Opcode::Terminal => !turn.started || !turn.opened,
+        Opcode::Range => !turn.started || !turn.opened,
         Opcode::End => !turn.started,
     }
 }
@@ -95,6 +99,7 @@ pub fn too_large(k: Opcode, a: u8) -> bool
         Opcode::Rule => a >= NONTERMINALS,
         Opcode::Nonterminal => a >= NONTERMINALS,
         Opcode::Terminal => false,
+        Opcode::Range => false,
         Opcode::End => false,
     }
 }
@@ -109,14 +114,24 @@ pub fn rule(at: usize, rules: usize, left: u8, low: u8, high: u8) -> Command
     Command::Rule(left, low, high)
 }
 
-// Check 6: commands 30 and 40 in an open rule of this many places.
-pub fn place(at: usize, places: usize, symbol: Symbol) -> Command
-    ensures { λ r. ⌜ r ≡ placeCommand at places symbol ⌝ }
+// Check 6: a command of this many bytes that adds a place, in an open rule of this many places.
+pub fn place(at: usize, places: usize, symbol: Symbol, bytes: usize) -> Command
+    ensures { λ r. ⌜ r ≡ placeCommand at places symbol bytes ⌝ }
 {
     if places >= PLACES {
         return Command::Fault(Refusal::TooManyPlaces, at);
     }
-    Command::Place(symbol)
+    Command::Place(symbol, bytes)
+}
+
+// Checks 16 and 6: command 41 in an open rule of this many places.
+pub fn range(at: usize, places: usize, low: u8, high: u8) -> Command
+    ensures { λ r. ⌜ r ≡ rangeCommand at places low high ⌝ }
+{
+    if low > high {
+        return Command::Fault(Refusal::RangeReversed, at);
+    }
+    place(at, places, Symbol::Range(low, high), 3)
 }
 
 // Check 7: command 50 in a book of this many bytes. The offset after the command is next.

@@ -1,5 +1,5 @@
 // The commands of a book: the command at an offset, or the fault for which it is refused. The checks of a command come in the order 2, 3,
-// 1, 4, and then 5 for a rule, 6 for a place or 7 for the end.
+// 1, 4, and then 5 for a rule, 6 for a place or 7 for the end. For a range 16 comes before 6.
 use super::opcode;
 use super::opcode::Class;
 use super::opcode::Command;
@@ -27,7 +27,7 @@ pub fn operand_at(bytes: &[u8], at: usize, i: usize) -> u8
     }
 }
 
-// Check 5, 6 or 7 of the command k at an offset. All its operands are there, and the first is a.
+// Check 5, 6 or 7 of the command k at an offset, and check 16 before 6. All its operands are there, and the first is a.
 pub fn limits_at(bytes: &[u8], at: usize, k: Opcode, a: u8, rules: usize, places: usize) -> Command
     requires { ⌜ at + 1 + operands (byteOf k) ≤ length (now bytes) ⌝ }
     requires { ⌜ a ≡ operand (now bytes) at 0 ⌝ }
@@ -40,8 +40,12 @@ pub fn limits_at(bytes: &[u8], at: usize, k: Opcode, a: u8, rules: usize, places
             let high = operand_at(bytes, at, 2);
             opcode::rule(at, rules, a, low, high)
         }
-        Opcode::Nonterminal => opcode::place(at, places, Symbol::Nonterminal(a)),
-        Opcode::Terminal => opcode::place(at, places, Symbol::Terminal(a)),
+        Opcode::Nonterminal => opcode::place(at, places, Symbol::Nonterminal(a), 2),
+        Opcode::Terminal => opcode::place(at, places, Symbol::Terminal(a), 2),
+        Opcode::Range => {
+            let high = operand_at(bytes, at, 1);
+            opcode::range(at, places, a, high)
+        }
         Opcode::End => opcode::end(at + 1, bytes.len()),
     }
 }

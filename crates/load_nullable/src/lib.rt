@@ -19,6 +19,7 @@ pub fn place_in(p: Place, known: u32) -> bool
     match s {
         Symbol::Nonterminal(k) => sets::has(known, k as usize),
         Symbol::Terminal(_) => false,
+        Symbol::Range(_, _) => false,
     }
 }
 

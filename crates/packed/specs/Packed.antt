@@ -1,5 +1,6 @@
 -- What the bytes of a packed grammar mean. Each of its 128 rules has the same number of bytes: the left side (32 or more: there is no such
--- rule), the number of places, and for each of 8 places a tag (0: nonterminal, else terminal) and a value. Assumes nothing.
+-- rule), the number of places, for each of 8 places a tag (0: nonterminal, 2: range, else terminal) and a value, and then for each place
+-- the high end of its range. Assumes nothing.
 use Prim.Native.Nat.{ℕ, zero, suc, _+_, _*_, _<_, min}
 use mathlib.Core.Bool.{Bool, false, cond}
 use mathlib.Core.List.{List, [], _∷_}
@@ -7,12 +8,16 @@ use mathlib.Core.Option.{Option, none, some}
 use lib.Dec.{eqb, ltb}
 use lib.ListN.{getD}
 use Rattle.sizes.specs.Sizes.{maxRules, maxPlaces}
-use Rattle.cfg.specs.Grammar.{Cfg, Rule, Symbol, nonterminal, terminal, Terminal, byte}
+use Rattle.cfg.specs.Grammar.{Cfg, Rule, Symbol, nonterminal, terminal, Terminal, byte, range}
 use Rattle.chart.specs.Cell.{fitsAt}
 
--- the bytes of a rule: its left side, its count, and two for each place
+-- the bytes of a rule: its left side, its count, and three for each place
 abbrev pub ruleBytes : ℕ
-ruleBytes = 2 + 2 * maxPlaces
+ruleBytes = 2 + 3 * maxPlaces
+
+-- where the high ends are in a rule: after its left side, its count, and the tags and values
+abbrev pub highsAt : ℕ
+highsAt = 2 + 2 * maxPlaces
 
 -- the bytes of a packed grammar
 abbrev pub packedSize : ℕ
@@ -38,13 +43,21 @@ tagIn p r q = getD p (ruleBytes * r + 2 + 2 * q) 0
 unfoldable pub valueIn : List ℕ → ℕ → ℕ → ℕ
 valueIn p r q = getD p (ruleBytes * r + 3 + 2 * q) 0
 
+-- the high end of place q of rule r, where it holds a range
+unfoldable pub highIn : List ℕ → ℕ → ℕ → ℕ
+highIn p r q = getD p (ruleBytes * r + highsAt + q) 0
+
 -- whether place q of rule r holds a nonterminal
 unfoldable pub isNonterminalIn : List ℕ → ℕ → ℕ → Bool
 isNonterminalIn p r q = eqb (tagIn p r q) 0
 
+-- whether place q of rule r holds a range
+unfoldable pub isRangeIn : List ℕ → ℕ → ℕ → Bool
+isRangeIn p r q = eqb (tagIn p r q) 2
+
 -- the terminal in place q of rule r, if it holds one
 unfoldable pub terminalIn : List ℕ → ℕ → ℕ → Terminal
-terminalIn p r q = byte (valueIn p r q)
+terminalIn p r q = cond (isRangeIn p r q) (range (valueIn p r q) (highIn p r q)) (byte (valueIn p r q))
 
 -- the symbol in place q of rule r
 unfoldable pub symbolIn : List ℕ → ℕ → ℕ → Symbol

@@ -4,12 +4,17 @@ ghost use mathlib.Core.Path.{_≡_};
 ghost use Prim.Native.Nat.{_<_, _≤_};
 ghost use Rattle.sizes.specs.Sizes.{maxRules, maxPlaces};
 ghost use Rattle.sets.specs.Set.{has as inSet};
-ghost use Rattle.packed.specs.Packed.{leftIn, Used, placeCount, isNonterminalIn, valueIn, symbolIn, fitsPlace, packedSize};
+ghost use Rattle.cfg.specs.Grammar.{range, fits};
+ghost use Rattle.packed.specs.Packed.{leftIn, Used, placeCount, isNonterminalIn, isRangeIn, valueIn, highIn, symbolIn, fitsPlace};
+ghost use Rattle.packed.specs.Packed.{packedSize};
 
-// The bytes of a rule (its left side, its count, and two for each place), and of a packed grammar.
-pub const RULE_BYTES: usize = 2 + 2 * sizes::MAX_PLACES;
+// The bytes of a rule (its left side, its count, two for each place, and one more for each), and of a packed grammar.
+pub const RULE_BYTES: usize = 2 + 3 * sizes::MAX_PLACES;
 
 pub const PACKED_SIZE: usize = sizes::MAX_RULES * RULE_BYTES;
+
+// Where the high ends of a rule's places are: after its left side, its count, and the tags and values.
+pub const HIGHS: usize = 2 + 2 * sizes::MAX_PLACES;
 
 pub type Packed = [u8; PACKED_SIZE];
 
@@ -75,6 +80,29 @@ pub fn value(p: &Packed, r: usize, q: usize) -> usize
     wide_byte(p[RULE_BYTES * r + 3 + 2 * q])
 }
 
+// Whether place q of rule r holds a range.
+pub fn is_range(p: &Packed, r: usize, q: usize) -> bool
+    requires { ⌜ (r < maxRules) × (q < maxPlaces) ⌝ }
+    ensures { λ b. ⌜ b ≡ isRangeIn (now (p .entry)) r q ⌝ }
+{
+    p[RULE_BYTES * r + 2 + 2 * q] == 2
+}
+
+// The high end of the range that place q of rule r holds.
+pub fn high(p: &Packed, r: usize, q: usize) -> usize
+    requires { ⌜ (r < maxRules) × (q < maxPlaces) ⌝ }
+    ensures { λ v. ⌜ v ≡ highIn (now (p .entry)) r q ⌝ }
+{
+    wide_byte(p[RULE_BYTES * r + HIGHS + q])
+}
+
+// Whether a byte is in the range from low to high, both ends included.
+pub fn in_range(low: usize, high: usize, m: usize) -> bool
+    ensures { λ b. ⌜ b ≡ fits (range low high) m ⌝ }
+{
+    if low <= m { m <= high } else { false }
+}
+
 // Whether k is in the set, for every k.
 pub fn contains(word: u32, k: usize) -> bool
     ensures { λ b. ⌜ b ≡ inSet k word ⌝ }
@@ -95,7 +123,11 @@ pub fn fits_at(p: &Packed, r: usize, q: usize, w: &[u8], i: usize) -> bool
         return false;
     }
     if i < w.len() {
-        return value(p, r, q) == wide_byte(w[i]);
+        let m = wide_byte(w[i]);
+        if is_range(p, r, q) {
+            return in_range(value(p, r, q), high(p, r, q), m);
+        }
+        return value(p, r, q) == m;
     }
     false
 }

@@ -12,24 +12,25 @@ use Rattle.sizes.specs.Sizes.{maxRules, maxPlaces}
 use Rattle.laws.proofs.Lists.{below-step}
 use Rattle.cfg.specs.Grammar as Abstract
 use Rattle.grammar.specs.declared.Symbol.{Symbol}
-use Rattle.grammar.specs.declared.Symbol.the-variants.{Nonterminal, Terminal}
+use Rattle.grammar.specs.declared.Symbol.the-variants.{Nonterminal, Terminal, Range}
 use Rattle.grammar.specs.declared.Place.{Place}
 use Rattle.grammar.specs.declared.Rule.{Rule}
-use Rattle.grammar.specs.Tagged.{tagOf, valueOf}
+use Rattle.grammar.specs.Tagged.{tagOf, valueOf, highOf}
 use Rattle.grammar.specs.Valid.{validRule}
 use Rattle.grammar.specs.View.{symbolOf, placeOf, ruleOf}
 use Rattle.grammar.specs.Zero.{zeroPlace}
 use Rattle.grammar.proofs.Bounds.{rule-parts}
-use Rattle.packed.specs.Packed.{leftIn, placeCount, isNonterminalIn, tagIn, terminalIn, valueIn, symbolIn}
-use Rattle.packed.specs.Packed.{placesFrom, placesIn, ruleIn, packedSize, ruleBytes}
+use Rattle.packed.specs.Packed.{leftIn, placeCount, isNonterminalIn, isRangeIn, tagIn, terminalIn, valueIn, highIn, symbolIn}
+use Rattle.packed.specs.Packed.{placesFrom, placesIn, ruleIn, packedSize, ruleBytes, highsAt}
 use Rattle.packed_make.specs.Place.{RulePacked}
 use Rattle.packed.proofs.Laws.{count-used, count-le, rule-used}
 
--- the two bytes of a symbol
-two-bytes : (s : Symbol) (t v : ℕ) → t ≡ tagOf s → v ≡ valueOf s
-    → cond (eqb t 0) (Abstract.nonterminal v) (Abstract.terminal (Abstract.byte v)) ≡ symbolOf s
-two-bytes (Nonterminal k) t v e f = rw (e, f)
-two-bytes (Terminal m) t v e f = rw (e, f)
+-- the three bytes of a symbol
+three-bytes : (s : Symbol) (t v u : ℕ) → t ≡ tagOf s → v ≡ valueOf s → u ≡ highOf s
+    → cond (eqb t 0) (Abstract.nonterminal v) (Abstract.terminal (cond (eqb t 2) (Abstract.range v u) (Abstract.byte v))) ≡ symbolOf s
+three-bytes (Nonterminal k) t v u e f g = rw (e, f)
+three-bytes (Terminal m) t v u e f g = rw (e, f)
+three-bytes (Range low high) t v u e f g = rw (e, f, g)
 
 -- p is p₀ except for row r, which has the left side, the count and the first q places of the rule
 pub record Row (ρ : Rule) (r q : ℕ) (p₀ p : List ℕ) : Type 0 where
@@ -53,6 +54,14 @@ module _ (p : List ℕ) (a x c y : ℕ) where
   two-length : length (set (set p a x) c y) ≡ length p
   two-length = length-set (set p a x) c y ∙ length-set p a x
 
+  -- after a third store
+  module _ (e z : ℕ) where
+    three-other : (j : ℕ) → j ≢ a → j ≢ c → j ≢ e → getD (set (set (set p a x) c y) e z) j 0 ≡ getD p j 0
+    three-other j f g h = getD-set-other (set (set p a x) c y) e j z 0 h ∙ two-other j f g
+
+    three-last : e < length p → getD (set (set (set p a x) c y) e z) e 0 ≡ z
+    three-last h = getD-set-same (set (set p a x) c y) e z 0 (omega (arith, two-length))
+
 -- the bytes with the left side and the count
 abbrev pub headed : List ℕ → ℕ → ℕ → ℕ → List ℕ
 headed p r left count = set (set p (ruleBytes * r) left) (ruleBytes * r + 1) count
@@ -73,36 +82,57 @@ module _ (ρ : Rule) (r : ℕ) (low : r < maxRules) where
     other = λ s b d h. refl;
   }
 
-  module _ (p₀ p : List ℕ) (q t v : ℕ) (few : q < maxPlaces) (row : Row ρ r q p₀ p)
-      (et : t ≡ tagOf (getD (ρ .places) q zeroPlace .symbol)) (ev : v ≡ valueOf (getD (ρ .places) q zeroPlace .symbol)) where
-    -- the bytes with one more place
-    abbrev next : List ℕ
-    next = set (set p (ruleBytes * r + 2 + 2 * q) t) (ruleBytes * r + 3 + 2 * q) v
+  module _ (p₀ p : List ℕ) (q t v u : ℕ) (few : q < maxPlaces) (row : Row ρ r q p₀ p)
+      (et : t ≡ tagOf (getD (ρ .places) q zeroPlace .symbol)) (ev : v ≡ valueOf (getD (ρ .places) q zeroPlace .symbol))
+      (eu : u ≡ highOf (getD (ρ .places) q zeroPlace .symbol)) where
+    -- where the three bytes of place k are
+    abbrev tag-at : ℕ → ℕ
+    tag-at k = ruleBytes * r + 2 + 2 * k
 
-    stays : (j : ℕ) → j ≢ ruleBytes * r + 2 + 2 * q → j ≢ ruleBytes * r + 3 + 2 * q → getD next j 0 ≡ getD p j 0
-    stays = two-other p (ruleBytes * r + 2 + 2 * q) t (ruleBytes * r + 3 + 2 * q) v
+    abbrev value-at : ℕ → ℕ
+    value-at k = ruleBytes * r + 3 + 2 * k
+
+    abbrev high-at : ℕ → ℕ
+    high-at k = ruleBytes * r + highsAt + k
+
+    -- the bytes with one more place
+    abbrev two : List ℕ
+    two = set (set p (tag-at q) t) (value-at q) v
+
+    abbrev next : List ℕ
+    next = set two (high-at q) u
+
+    stays : (j : ℕ) → j ≢ tag-at q → j ≢ value-at q → j ≢ high-at q → getD next j 0 ≡ getD p j 0
+    stays = three-other p (tag-at q) t (value-at q) v (high-at q) u
 
     place-same : symbolIn next r q ≡ placeOf (getD (ρ .places) q zeroPlace)
-    unfolding symbolIn isNonterminalIn tagIn terminalIn valueIn
+    unfolding symbolIn isNonterminalIn isRangeIn tagIn terminalIn valueIn highIn
     place-same =
-        two-bytes (getD (ρ .places) q zeroPlace .symbol) (getD next (ruleBytes * r + 2 + 2 * q) 0) (getD next (ruleBytes * r + 3 + 2 * q) 0)
-        (two-first p (ruleBytes * r + 2 + 2 * q) t (ruleBytes * r + 3 + 2 * q) v (omega arith) (omega (arith, row .long)) ∙ et)
-        (two-second p (ruleBytes * r + 2 + 2 * q) t (ruleBytes * r + 3 + 2 * q) v (omega (arith, row .long)) ∙ ev)
+        three-bytes (getD (ρ .places) q zeroPlace .symbol) (getD next (tag-at q) 0) (getD next (value-at q) 0) (getD next (high-at q) 0)
+        (getD-set-other two (high-at q) (tag-at q) u 0 (omega arith)
+        ∙ two-first p (tag-at q) t (value-at q) v (omega arith) (omega (arith, row .long)) ∙ et)
+        (getD-set-other two (high-at q) (value-at q) u 0 (omega arith)
+        ∙ two-second p (tag-at q) t (value-at q) v (omega (arith, row .long)) ∙ ev)
+        (three-last p (tag-at q) t (value-at q) v (high-at q) u (omega (arith, row .long)) ∙ eu)
 
     place-other : (k : ℕ) → k < q → symbolIn next r k ≡ symbolIn p r k
-    unfolding symbolIn isNonterminalIn tagIn terminalIn valueIn
+    unfolding symbolIn isNonterminalIn isRangeIn tagIn terminalIn valueIn highIn
     place-other k h =
-        rw (stays (ruleBytes * r + 2 + 2 * k) (omega arith) (omega arith), stays (ruleBytes * r + 3 + 2 * k) (omega arith) (omega arith))
+        rw (
+          stays (tag-at k) (omega arith) (omega arith) (omega arith),
+          stays (value-at k) (omega arith) (omega arith) (omega arith),
+          stays (high-at k) (omega arith) (omega arith) (omega arith),
+        )
 
     pub row-step : Row ρ r (q + 1) p₀ next
     unfolding leftIn
     row-step = record {
-      long = two-length p (ruleBytes * r + 2 + 2 * q) t (ruleBytes * r + 3 + 2 * q) v ∙ row .long;
-      left = stays (ruleBytes * r) (omega arith) (omega arith) ∙ row .left;
-      count = stays (ruleBytes * r + 1) (omega arith) (omega arith) ∙ row .count;
+      long = length-set two (high-at q) u ∙ two-length p (tag-at q) t (value-at q) v ∙ row .long;
+      left = stays (ruleBytes * r) (omega arith) (omega arith) (omega arith) ∙ row .left;
+      count = stays (ruleBytes * r + 1) (omega arith) (omega arith) (omega arith) ∙ row .count;
       places = below-step (λ (k : ℕ). symbolIn next r k ≡ placeOf (getD (ρ .places) k zeroPlace)) q
           (λ k l. place-other k l ∙ row .places k l) place-same;
-      other = λ s b d h. stays (ruleBytes * s + b) (omega arith) (omega arith) ∙ row .other s b d h;
+      other = λ s b d h. stays (ruleBytes * s + b) (omega arith) (omega arith) (omega arith) ∙ row .other s b d h;
     }
 
 -- ---- the places written are those of the rule
@@ -131,10 +161,11 @@ module _ (p p' : List ℕ) (s : ℕ) (same : (b : ℕ) → b < ruleBytes → get
   count-same = rw (left-same, byte-same (ruleBytes * s + 1) 1 refl (omega arith))
 
   symbol-same : (q : ℕ) → q < maxPlaces → symbolIn p s q ≡ symbolIn p' s q
-  unfolding symbolIn isNonterminalIn tagIn terminalIn valueIn
+  unfolding symbolIn isNonterminalIn isRangeIn tagIn terminalIn valueIn highIn
   symbol-same q h = rw (
     byte-same (ruleBytes * s + 2 + 2 * q) (2 + 2 * q) (omega arith) (omega arith),
     byte-same (ruleBytes * s + 3 + 2 * q) (3 + 2 * q) (omega arith) (omega arith),
+    byte-same (ruleBytes * s + highsAt + q) (highsAt + q) (omega arith) (omega arith),
   )
 
   places-same : (n q : ℕ) → q + n ≤ maxPlaces → placesFrom p s q n ≡ placesFrom p' s q n

@@ -2,6 +2,7 @@
 use grammar::Grammar;
 use grammar::Rule;
 use grammar::tagged;
+use packed::HIGHS;
 use packed::PACKED_SIZE;
 use packed::Packed;
 use packed::RULE_BYTES;
@@ -30,6 +31,7 @@ fn pack_rule(rule: Rule, r: usize, p: &mut Packed)
         let s = place.symbol;
         p[RULE_BYTES * r + 2 + 2 * q] = tagged::tag_of(s);
         p[RULE_BYTES * r + 3 + 2 * q] = tagged::value_of(s);
+        p[RULE_BYTES * r + HIGHS + q] = tagged::high_of(s);
         q += 1;
     }
 }

@@ -1,4 +1,4 @@
--- Faulty books with the number and the offset of their refusal: one for each refusal 1 to 7, and one for each order between them.
+-- Faulty books with the number and the offset of their refusal: one for each refusal 1 to 7 and 16, and one for each order between them.
 -- Assumes nothing.
 use Prim.Native.Nat.{ℕ}
 use mathlib.Core.List.{List, [], _∷_, map}
@@ -6,7 +6,7 @@ use mathlib.Core.Path.{_≡_, refl}
 use Rattle.grammar.specs.Zero.{zeroGrammar}
 use Rattle.results.specs.Answer.{refusedAt}
 use Rattle.results.specs.Load.{Loading, loadOf}
-use Rattle.results.specs.Drawer.{start, newRule, A, close, many}
+use Rattle.results.specs.Drawer.{start, newRule, A, rangePlace, close, many}
 use Rattle.results.proofs.Computing.{computing}
 
 -- a faulty book: its bytes, and the number and the offset of its refusal
@@ -35,13 +35,16 @@ faults =
     -- 2: an unknown byte, also where another command was due
     ∷ faulty (0x60 ∷ []) 2 0
     ∷ faulty (0x10 ∷ 0x00 ∷ 0x21 ∷ 0x00 ∷ []) 2 2
-    -- 3: 10 again, another command first, 30 and 40 before any 20; before 1, 4 and 7
+    -- 3: 10 again, another command first, 30, 40 and 41 before any 20; before 1, 4 and 7
     ∷ faulty (0x10 ∷ 0x00 ∷ 0x10 ∷ []) 3 2
     ∷ faulty (0x50 ∷ []) 3 0
     ∷ faulty (0x50 ∷ 0x00 ∷ []) 3 0
     ∷ faulty (0x20 ∷ 0xFF ∷ 0x00 ∷ 0x00 ∷ []) 3 0
     ∷ faulty (0x10 ∷ 0x00 ∷ 0x30 ∷ []) 3 2
     ∷ faulty (0x10 ∷ 0x00 ∷ 0x40 ∷ 0x41 ∷ []) 3 2
+    ∷ faulty (0x10 ∷ 0x00 ∷ 0x41 ∷ 0x30 ∷ 0x39 ∷ []) 3 2
+    ∷ faulty (0x10 ∷ 0x00 ∷ 0x41 ∷ []) 3 2
+    ∷ faulty (0x41 ∷ []) 3 0
     -- 4: a nonterminal over 31; after 1
     ∷ faulty (0x10 ∷ 0x20 ∷ []) 4 0
     ∷ faulty (0x10 ∷ 0x00 ∷ 0x20 ∷ 0xFF ∷ []) 1 4
@@ -54,6 +57,13 @@ faults =
     ∷ faulty (wide (A close)) 6 22
     ∷ faulty (wide (0x30 ∷ 0x20 ∷ close)) 4 22
     ∷ faulty (wide (0x40 ∷ [])) 1 23
+    ∷ faulty (wide (rangePlace 0x30 0x39 [])) 6 22
+    -- 16: the low end of a range is above its high end; after 1, and before 6
+    ∷ faulty (start 0 (newRule 0 (rangePlace 0x39 0x30 []))) 16 6
+    ∷ faulty (start 0 (newRule 0 (0x41 ∷ []))) 1 7
+    ∷ faulty (start 0 (newRule 0 (0x41 ∷ 0xFF ∷ []))) 1 8
+    ∷ faulty (wide (rangePlace 0x39 0x30 [])) 16 22
+    ∷ faulty (wide (0x41 ∷ 0x39 ∷ [])) 1 24
     -- 7: a byte after 50, whatever it is
     ∷ faulty (0x10 ∷ 0x00 ∷ 0x50 ∷ 0x00 ∷ []) 7 3
     ∷ faulty (0x10 ∷ 0x00 ∷ 0x50 ∷ 0x60 ∷ []) 7 3

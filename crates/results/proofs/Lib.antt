@@ -9,6 +9,7 @@ pub mod Table
 pub mod Faults
 pub mod NoTree
 pub mod Starred
+pub mod Requests
 pub mod Extra
 pub mod Demand3
 pub mod Loading

@@ -17,6 +17,10 @@ nonterminalPlace k rest = 0x30 ∷ k ∷ rest
 abbrev pub A : List ℕ → List ℕ
 A rest = 0x40 ∷ 0x41 ∷ rest
 
+-- a place with the range from low to high
+abbrev pub rangePlace : ℕ → ℕ → List ℕ → List ℕ
+rangePlace low high rest = 0x41 ∷ low ∷ high ∷ rest
+
 abbrev pub close : List ℕ
 close = 0x50 ∷ []
 

@@ -1,4 +1,4 @@
--- What each exported call answers and leaves, in the order of document 01; demand 3; the drawer and its starred table.
+-- What each exported call answers and leaves, in the order of document 01; demand 3; the drawer, its starred table and the requests'.
 pub mod Answer
 pub mod Load
 pub mod Recognize
@@ -11,3 +11,4 @@ pub mod History
 pub mod Demand3
 pub mod Drawer
 pub mod Starred
+pub mod Requests

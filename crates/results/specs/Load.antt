@@ -7,7 +7,7 @@ use lib.Dec.{eqb, ltb}
 use lib.IntN.{ℤ, pos, negℤ}
 use lib.ListN.{length, getD}
 use Rattle.grammar.specs.declared.Symbol.{Symbol}
-use Rattle.grammar.specs.declared.Symbol.the-variants.{Nonterminal, Terminal}
+use Rattle.grammar.specs.declared.Symbol.the-variants.{Nonterminal, Terminal, Range}
 use Rattle.grammar.specs.declared.Rule.{Rule}
 use Rattle.grammar.specs.declared.Grammar.{Grammar}
 use Rattle.grammar.specs.Setters.{openedRule, placedRule, setStart, setCount, setDepth, setRule}
@@ -16,7 +16,7 @@ use Rattle.results.specs.Answer.{LoadAnswer, refusedAt, loaded, Check, c
 
 -- how many operand bytes follow a command byte
 unfoldable pub operands : ℕ → ℕ
-operands c = cond (eqb c 0x20) 3 (cond (eqb c 0x50) 0 1)
+operands c = cond (eqb c 0x20) 3 (cond (eqb c 0x41) 2 (cond (eqb c 0x50) 0 1))
 
 -- operand number i, from 0, of the command at an offset; past the end of the book it is 0
 unfoldable pub operand : List ℕ → ℕ → ℕ → ℕ
@@ -38,7 +38,7 @@ withStart g k = setStart g k
 unfoldable pub withRule : Grammar → ℕ → ℤ → Grammar
 withRule g k hundredths = setCount (setRule g (g .count) (openedRule k hundredths)) (g .count + 1)
 
--- 30 and 40: the grammar with one place more in its open rule
+-- 30, 40 and 41: the grammar with one place more in its open rule
 unfoldable pub withPlace : Grammar → Symbol → Grammar
 withPlace g s = setRule g (g .count - 1) (placedRule (openRule g) s)
 
@@ -46,7 +46,8 @@ withPlace g s = setRule g (g .count - 1) (placedRule (openRule g) s)
 unfoldable pub after : ℕ → (ℕ → ℕ) → Grammar → Grammar
 after c x g =
     cond (eqb c 0x10) (withStart g (x 0)) (cond (eqb c 0x20) (withRule g (x 0) (signed (x 1) (x 2)))
-    (cond (eqb c 0x30) (withPlace g (Nonterminal (x 0))) (cond (eqb c 0x40) (withPlace g (Terminal (x 0))) g)))
+    (cond (eqb c 0x30) (withPlace g (Nonterminal (x 0))) (cond (eqb c 0x40) (withPlace g (Terminal (x 0)))
+    (cond (eqb c 0x41) (withPlace g (Range (x 0) (x 1))) g))))
 
 -- the number of a refusal and its offset
 pub record Fault : Type 0 where
@@ -58,20 +59,24 @@ fault b n at = check b (record { number = n; offset = at })
 
 -- 2 unknown byte
 unfoldable pub unknown : ℕ → Bool
-unknown c = not (eqb c 0x10 || eqb c 0x20 || eqb c 0x30 || eqb c 0x40 || eqb c 0x50)
+unknown c = not (eqb c 0x10 || eqb c 0x20 || eqb c 0x30 || eqb c 0x40 || eqb c 0x41 || eqb c 0x50)
 
--- 3 out of turn: 10 not first or again, another command first, 30 or 40 before any 20
+-- a command that adds a place
+abbrev pub addsPlace : ℕ → Bool
+addsPlace c = eqb c 0x30 || eqb c 0x40 || eqb c 0x41
+
+-- 3 out of turn: 10 not first or again, another command first, a place before any 20
 unfoldable pub outOfTurn : ℕ → ℕ → Grammar → Bool
-outOfTurn c at g =
-    cond (eqb c 0x10) (ltb 0 at) (eqb at 0 || ((eqb c 0x30 || eqb c 0x40) && eqb (g .count) 0))
+outOfTurn c at g = cond (eqb c 0x10) (ltb 0 at) (eqb at 0 || (addsPlace c && eqb (g .count) 0))
 
 -- the checks of the command c at an offset that come after its turn is checked, in their order
 unfoldable pub operandChecks : List ℕ → ℕ → ℕ → Grammar → List (Check Fault)
 operandChecks bytes at c g =
     fault (ltb (length bytes) (at + 1 + operands c)) 1 (length bytes)
     ∷ fault ((eqb c 0x10 || eqb c 0x20 || eqb c 0x30) && ltb 31 (operand bytes at 0)) 4 at
+    ∷ fault (eqb c 0x41 && ltb (operand bytes at 1) (operand bytes at 0)) 16 at
     ∷ fault (eqb c 0x20 && ltb 127 (g .count)) 5 at
-    ∷ fault ((eqb c 0x30 || eqb c 0x40) && ltb 7 (openRule g .count)) 6 at
+    ∷ fault (addsPlace c && ltb 7 (openRule g .count)) 6 at
     ∷ fault (eqb c 0x50 && ltb (at + 1) (length bytes)) 7 (at + 1)
     ∷ []
 

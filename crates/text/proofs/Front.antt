@@ -26,18 +26,19 @@ use Rattle.text.proofs.Near.{Near, near-invariant}
 
 operands-few : (c : ℕ) → operands c ≤ 3
 unfolding operands
-operands-few c = go (eqb c 0x20) (eqb c 0x50)
+operands-few c = go (eqb c 0x20) (eqb c 0x41) (eqb c 0x50)
   where
-    go : (t u : Bool) → cond t 3 (cond u 0 1) ≤ 3
-    go true u = omega arith
-    go false true = omega arith
-    go false false = omega arith
+    go : (t u v : Bool) → cond t 3 (cond u 2 (cond v 0 1)) ≤ 3
+    go true u v = omega arith
+    go false true v = omega arith
+    go false false true = omega arith
+    go false false false = omega arith
 
 -- ---- two long books with the same front
 
 -- no command starts at a greater offset
 abbrev farthest : ℕ
-farthest = 2580
+farthest = 3612
 
 near-bound : (at : ℕ) (g : Grammar) → Near at g → at ≤ farthest
 near-bound at g N = omega (arith, N .few, N .places, N .near)
@@ -69,9 +70,9 @@ module _ (s t : List ℕ) (long-s : bookFront ≤ length s) (long-t : bookFront 
 
     checks-agree : Agree Fault (checks s) (checks t)
     unfolding commandChecks operandChecks
-    checks-agree = rw (operand-same 0 (omega arith), further s long-s, further t long-t) (
-        agree-passed (begins s long-s) (begins t long-t) (agree-same _ (agree-same _ (
-        agree-passed (whole s long-s) (whole t long-t) (agree-same _ (agree-same _ (agree-same _ (agree-same _ agree-end))))))))
+    checks-agree = rw (operand-same 0 (omega arith), operand-same 1 (omega arith), further s long-s, further t long-t) (
+        agree-passed (begins s long-s) (begins t long-t) (agree-same _ (agree-same _ (agree-passed (whole s long-s) (whole t long-t)
+        (agree-same _ (agree-same _ (agree-same _ (agree-same _ (agree-same _ agree-end)))))))))
 
   step-same : (at : ℕ) (g : Grammar) → at ≤ farthest → step s at g ≡ step t at g
   unfolding step

@@ -14,14 +14,14 @@ use Rattle.grammar.specs.Setters.{openedRule, placedRule}
 use Rattle.grammar.specs.Zero.{zeroGrammar}
 use Rattle.grammar.proofs.Setters.{set-rule-size, set-rule-at}
 use Rattle.results.specs.Load.{operand, openRule, withStart, withRule, withPlace}
-use Rattle.results.proofs.Loading.Commands.{Invariant}
+use Rattle.results.proofs.Loading.Commands.{Invariant, placeSize, place-few}
 
--- an offset, and the grammar read before it. The start takes at most 4 bytes, a rule with its places at most 20, and a place 2
+-- an offset, and the grammar read before it. The start takes at most 4 bytes, a rule with its places at most 28, and a place at most 3
 pub record Near (at : ℕ) (g : Grammar) : Type 0 where
   pub few : g .count ≤ maxRules
   pub size : length (g .rules) ≡ maxRules
   pub places : openRule g .count ≤ maxPlaces
-  pub near : at ≤ 4 + 20 * g .count + 2 * openRule g .count
+  pub near : at ≤ 4 + 28 * g .count + 3 * openRule g .count
 
 near-zero : Near 0 zeroGrammar
 unfolding openRule
@@ -56,10 +56,11 @@ module _ (at : ℕ) (g : Grammar) (N : Near at g) where
       let z = N .size in
       ap (λ (r : Rule). r .count) (set-rule-at g (g .count - 1) (placedRule (openRule g) s) (omega arith))
 
-  place-near : (s : Symbol) → openRule g .count < maxPlaces → Near (at + 2) (withPlace g s)
+  place-near : (s : Symbol) → openRule g .count < maxPlaces → Near (at + placeSize s) (withPlace g s)
   unfolding withPlace
   place-near s h =
       let e = place-open s in
+      let few = place-few s in
       let n = N .near in
       let z = set-rule-size g (g .count - 1) (placedRule (openRule g) s) ∙ N .size in
       record { few = N .few; size = z; places = omega arith; near = omega arith }

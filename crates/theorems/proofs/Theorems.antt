@@ -5,6 +5,8 @@
 --
 --   statement                         says                                                            source
 --   starred-table                     the starred plates, from book bytes to answers                   Plates from the drawer
+--   requests-table                    plates for the requests, from book bytes to answers              document 02
+--   range-fits                        a byte fits a range exactly if it is from low to high            document 02, U1
 --   list-exact, list-rising           L holds exactly the readings, each once, in rising order         Trees and readings; The walk
 --   load-demand, load-order           a book is loaded or refused at its first fault; what is left     demand 1; Refusals
 --   open-, take-, .., next-demand     what is written, the first refusal that applies, what it leaves  demand 1
@@ -49,7 +51,7 @@ use mathlib.Core.Path.{_≡_}
 use lib.IntN.{ℤ}
 use lib.ListN.{length, getD, take, replicate}
 use Rattle.sizes.specs.Sizes.{maxInput, cells, outputSize}
-use Rattle.cfg.specs.Grammar.{Cfg}
+use Rattle.cfg.specs.Grammar.{Cfg, range, fits}
 use Rattle.cfg.specs.Tree.{HasTree}
 use Rattle.cfg.specs.Derivation.{Derivation, Rising, limit}
 use Rattle.cfg.specs.Listing.{L}
@@ -66,6 +68,7 @@ use Rattle.results.specs.Walk.{hands, noneLeft, handedOut}
 use Rattle.results.specs.History.{Made, first, AllAllowed, history}
 use Rattle.results.specs.Demand3.{Demand3, nextCalls, Larger}
 use Rattle.results.specs.Starred.{Starred}
+use Rattle.results.specs.Requests.{Requested}
 use Rattle.results.specs.Drawer.{T, As}
 use Rattle.text.specs.Text.{loadedText, textOf}
 use Rattle.text.specs.Sample.{listingOfT}
@@ -82,8 +85,10 @@ use Rattle.demands.specs.LoadOrder.{CommandOrder}
 use Rattle.demands.specs.LoadDemand.{LoadDemand}
 use Rattle.demands.specs.Taken.{Taken}
 use Rattle.demands.specs.Recognized.{Recognized}
+use Rattle.cfg.proofs.Fits as Fits
 use Rattle.theory_listing.proofs.Exact as Exact
 use Rattle.results.proofs.Starred as Starred
+use Rattle.results.proofs.Requests as Requests
 use Rattle.results.proofs.Demand3.Walk as Walk
 use Rattle.results.proofs.Demand3.Handed as Handed
 use Rattle.results.proofs.Demand3.Consequences as Consequences
@@ -103,6 +108,14 @@ use Rattle.demands.proofs.Recognized as Fed
 -- THE STARRED TABLE
 pub starred-table : Starred
 starred-table = Starred.starred
+
+-- THE TABLE OF THE REQUESTS
+pub requests-table : Requested
+requests-table = Requests.requested
+
+-- THE RANGES: a byte fits a range exactly if it is from its low to its high end, both included
+pub range-fits : (low high m : ℕ) → (fits (range low high) m ≡ true) ↔ ((low ≤ m) × (m ≤ high))
+range-fits low high m = Fits.range-fits low high m
 
 -- THE LIST L: a row is in it exactly if it is a derivation (reading) of the input, and it is strictly rising
 pub list-exact : (G : Cfg) (w e : List ℕ) → List·Memᴰ e (L G w) ↔ Derivation G limit w e

@@ -6,8 +6,14 @@ use crate::books::Rng;
 use crate::lister::grammar;
 use crate::reader::{record, FlatGrammar, PLACES, RULES};
 
-/// A number of a row that is checked: its place, the largest allowed value, its name.
-type Judged = (usize, u16, &'static str);
+/// What is checked in a row: a number, with its index, the largest allowed value and its name; or the two numbers of a
+/// place that holds a range, with the index of its tag.
+#[derive(Clone, Copy)]
+enum Judged {
+    Number(usize, u16, &'static str),
+    Range(usize),
+}
+use Judged::{Number, Range};
 
 impl Comparison<'_> {
     /// The same grammar with rubbish in unused records and places, and any depth.
@@ -21,7 +27,7 @@ impl Comparison<'_> {
                 dirty[at..at + 3].iter_mut().for_each(|any| *any = number(rng));
             }
             for p in used..PLACES {
-                dirty[at + 3 + 2 * p] = if rng.one_in(2) { rng.below(2) as u16 } else { number(rng) };
+                dirty[at + 3 + 2 * p] = if rng.one_in(2) { rng.below(3) as u16 } else { number(rng) };
                 dirty[at + 4 + 2 * p] = number(rng);
             }
         }
@@ -37,11 +43,18 @@ impl Comparison<'_> {
         }
     }
 
-    /// A grammar that check 8 refuses because of one number, with or without rubbish in unused numbers. Also which
-    /// number it is, and how it is out of range.
+    /// A grammar that check 8 refuses because of one number or one place, with or without rubbish in unused numbers.
+    /// Also which number or place it is, and how it is out of range.
     pub(super) fn out_of_range(&mut self, flat: &FlatGrammar) -> (FlatGrammar, String) {
         let mut bad = self.either(flat);
-        let (at, most, name) = self.judged_number(flat);
+        let (at, most, name) = match self.judged_number(flat) {
+            Number(at, most, name) => (at, most, name),
+            Range(tag) => {
+                let how = reverse(&mut self.rng, &mut bad[tag..tag + 2]);
+                assert!(grammar::from_flat(&bad).is_none());
+                return (bad, format!("a reversed range, {how}"));
+            }
+        };
         bad[at] = over(&mut self.rng, most, flat[at]);
         assert!(grammar::from_flat(&bad).is_none());
         let how = match bad[at] {
@@ -56,24 +69,36 @@ impl Comparison<'_> {
         (bad, format!("{name}, {how}"))
     }
 
-    /// One of the numbers that check 8 checks.
+    /// One of the numbers that check 8 checks, or a range. Any used place may be made one.
     fn judged_number(&mut self, flat: &FlatGrammar) -> Judged {
         let (rng, rules) = (&mut self.rng, usize::from(flat[1]));
-        let head = [(0, 31, "a start"), (1, RULES as u16, "a number of rules")];
+        let head = [Number(0, 31, "a start"), Number(1, RULES as u16, "a number of rules")];
         if rules == 0 || rng.one_in(4) {
             return rng.pick(&head);
         }
         let at = record(rng.below(rules));
         let places = usize::from(flat[at + 2]);
         if places == 0 || rng.one_in(3) {
-            return rng.pick(&[(at, 31, "a left side"), (at + 2, PLACES as u16, "a number of places")]);
+            return rng.pick(&[Number(at, 31, "a left side"), Number(at + 2, PLACES as u16, "a number of places")]);
         }
         let tag = at + 3 + 2 * rng.below(places);
-        match (rng.one_in(3), flat[tag]) {
-            (true, _) => (tag, 1, "a tag"),
-            (_, 0) => (tag + 1, 31, "a kind"),
-            _ => (tag + 1, 255, "a mark"),
+        match (rng.below(8), flat[tag]) {
+            (0 | 1, _) => Number(tag, 2, "a tag"),
+            (2, _) | (_, 2) => Range(tag),
+            (_, 0) => Number(tag + 1, 31, "a kind"),
+            _ => Number(tag + 1, 255, "a mark"),
         }
+    }
+}
+
+/// Makes a place a range whose low end is above its high end, and says how far.
+fn reverse(rng: &mut Rng, place: &mut [u16]) -> &'static str {
+    let low = rng.within(1, 255);
+    let high = if rng.one_in(2) { low - 1 } else { rng.below(low) };
+    place.copy_from_slice(&[2, (low + 256 * high) as u16]);
+    match low - high {
+        1 => "by one",
+        _ => "by more",
     }
 }
 

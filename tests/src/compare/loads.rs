@@ -3,7 +3,8 @@
 use super::lent::{offset, row, same, Lent};
 use super::Comparison;
 use crate::books::{damage, soup};
-use crate::lister::{grammar, Lister};
+use crate::lister::grammar::{self, Symbol};
+use crate::lister::Lister;
 use crate::reader::{Answer, FlatGrammar, Reader, FLAT};
 
 impl Comparison<'_> {
@@ -16,7 +17,7 @@ impl Comparison<'_> {
             } else {
                 bytes.truncate(self.rng.below(bytes.len() + 1));
                 for _ in 0..self.rng.below(4) {
-                    bytes.push(self.rng.pick(&[0x10, 0x20, 0x30, 0x40, 0x50, 0x00, 0x1F, 0x20, 0x41, 0xFF]));
+                    bytes.push(self.rng.pick(&[0x10, 0x20, 0x30, 0x40, 0x50, 0x00, 0x1F, 0x20, 0x41, 0x41, 0xFF]));
                 }
             }
             self.load(&bytes, "other load").map_err(|what| format!("as {bytes:02X?}: {what}"))?;
@@ -51,6 +52,12 @@ impl Comparison<'_> {
             return Err(format!("load: depth {depth} against {:?}", grammar::empty_heights(&grammar)));
         }
         self.counts.add(&format!("{name}: depth {}", if depth == 0 { "0" } else { "above 0" }));
+        for place in grammar.rules.iter().flat_map(|rule| &rule.places) {
+            if let Symbol::Range(low, high) = *place {
+                self.counts
+                    .add(&format!("{name}: a place for {}", if low == high { "one byte" } else { "several bytes" }));
+            }
+        }
         Ok(Some(got))
     }
 }

@@ -3,8 +3,8 @@
 use super::hands::{opened, taken};
 use super::lent::{self, same, Lent};
 use super::Comparison;
-use crate::lister::judged;
 use crate::lister::trees::Row;
+use crate::lister::{grammar, judged};
 use crate::reader::{Answer, FlatGrammar, Reader, HAND, OUTPUT};
 
 impl Comparison<'_> {
@@ -26,6 +26,8 @@ impl Comparison<'_> {
             same("open: the hand left", left, [0; HAND])?;
             if bad_grammar {
                 self.counts.add(&format!("refused 8: {why}"));
+            } else if grammar::unused_reversed_range(&grammar) {
+                self.counts.add("passed 8: a reversed range in an unused place");
             }
 
             let (found, what) = self.hand(which);

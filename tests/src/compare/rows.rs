@@ -3,13 +3,14 @@
 use super::firsts::First;
 use super::lent::{self, same, Lent};
 use super::{Comparison, WIDER};
-use crate::lister::grammar::Grammar;
+use crate::lister::grammar::{Grammar, Symbol};
 use crate::lister::listing::derivations;
-use crate::lister::trees::{self, Row, LIMIT};
+use crate::lister::trees::{self, Child, Node, Row, LIMIT};
 use crate::lister::walk::Walk;
 use crate::lister::{has_tree, STEPS};
 use crate::reader::{Answer, FlatGrammar, CELLS};
 use crate::text::{in_order, MOST};
+use std::collections::BTreeSet;
 
 /// How many derivations of one input are offered to each call at most.
 const MOST_OFFERED: usize = 400;
@@ -77,6 +78,7 @@ impl Comparison<'_> {
             let offer = Offer { input, filled, one: row, other: row };
             self.offered(flat, offer, "check", if yes { Answer::Yes } else { Answer::No }, None)?;
             if yes {
+                self.ranges_read(grammar, input, row);
                 self.offered(flat, offer, "length", Answer::Yes, Some(trees::tenths(grammar, row)))?;
             } else if self.rng.one_in(4) {
                 self.offered(flat, offer, "length", Answer::Refused(12), None)?;
@@ -177,10 +179,23 @@ impl Comparison<'_> {
         Ok(())
     }
 
+    /// Counts a derivation that reads marks through ranges, and where in a range they are.
+    fn ranges_read(&mut self, grammar: &Grammar, input: &[u8], row: &[u16]) {
+        let (tree, _) = trees::tree_of(grammar, grammar.start, input, row).expect("a derivation");
+        let mut read = BTreeSet::new();
+        marks_in_ranges(grammar, &tree, &mut read);
+        if !read.is_empty() {
+            self.counts.add("a reading through a range");
+        }
+        for at in read {
+            self.counts.add(&format!("a reading through a range: {at}"));
+        }
+    }
+
     /// Why a row is no derivation, if it is the row of a tree of the input: whether the
     /// tree has superfluous recursion.
     fn classify(&mut self, grammar: &Grammar, input: &[u8], row: &[u16], yes: bool) -> bool {
-        if let (false, Some((tree, _))) = (yes, trees::tree_of(grammar, grammar.start, row)) {
+        if let (false, Some((tree, _))) = (yes, trees::tree_of(grammar, grammar.start, input, row)) {
             if tree.terminals() == input && tree.row() == row {
                 if tree.nodes > LIMIT {
                     self.counts.add("offered: a tree over the limit");
@@ -192,5 +207,23 @@ impl Comparison<'_> {
             }
         }
         false
+    }
+}
+
+/// Where the marks below a node are in the ranges that they fit.
+fn marks_in_ranges(grammar: &Grammar, node: &Node, read: &mut BTreeSet<&'static str>) {
+    for (place, child) in grammar.rules[node.rule].places.iter().zip(&node.children) {
+        match (place, child) {
+            (_, Child::Below(node)) => marks_in_ranges(grammar, node, read),
+            (Symbol::Range(low, high), Child::Leaf(mark)) => {
+                read.insert(match (mark == low, mark == high) {
+                    (true, true) => "of one byte",
+                    (true, false) => "at its low end",
+                    (false, true) => "at its high end",
+                    (false, false) => "between its ends",
+                });
+            }
+            _ => (),
+        }
     }
 }

@@ -92,7 +92,7 @@ fn random_tree(
     let mut at = i;
     for (p, place) in places.iter().enumerate() {
         match *place {
-            Symbol::Terminal(_) => at += 1,
+            Symbol::Terminal(_) | Symbol::Range(..) => at += 1,
             Symbol::Nonterminal(child) => {
                 let fits = |b: &usize| derives[at][usize::from(child)] >> b & 1 == 1 && reaches(&places[p + 1..], *b);
                 let ends: Vec<usize> = (at..=j).filter(fits).collect();

@@ -32,10 +32,10 @@ pub fn ends_of_row(places: &[Symbol], i: usize, input: &[u8], ends: &Ends) -> u1
         let mut next = 0;
         for a in members(here) {
             match *place {
-                Symbol::Terminal(t) if a < input.len() && input[a] == t => next |= 1 << (a + 1),
-                Symbol::Terminal(_) => (),
                 Symbol::Nonterminal(k) if only_blank && ends[a][usize::from(k)] >> a & 1 == 1 => next |= 1 << a,
                 Symbol::Nonterminal(k) => next |= ends[a][usize::from(k)],
+                place if a < input.len() && place.fits(input[a]) => next |= 1 << (a + 1),
+                _ => (),
             }
         }
         here = next;

@@ -4,11 +4,30 @@
 use crate::reader::{record, FlatGrammar, FLAT, PLACES, RULES};
 use crate::switches::{fault, low_byte, Fault};
 
-/// What a place holds: in document 01 a kind or a mark.
+/// What a place holds: in document 01 a kind or a mark; since request U1 of document 02 also a range, which is any mark
+/// from low to high. `Terminal(a)` and `Range(a, a)` are two symbols that the same mark fits.
 #[derive(Clone, Copy, PartialEq, Eq, Debug)]
 pub enum Symbol {
     Nonterminal(u8),
     Terminal(u8),
+    Range(u8, u8),
+}
+
+impl Symbol {
+    /// Whether the mark fits a place with this symbol. No mark fits a nonterminal.
+    pub fn fits(self, mark: u8) -> bool {
+        match self {
+            Symbol::Nonterminal(_) => false,
+            Symbol::Terminal(t) => mark == t,
+            Symbol::Range(low, high) => {
+                let from_low = low < mark || (low == mark && !fault(Fault::LowerEndExcluded));
+                let to_high = mark < high || (mark == high && !fault(Fault::UpperEndExcluded));
+                from_low
+                    && (to_high || fault(Fault::UpperEndUnread))
+                    && (mark == low || !fault(Fault::OnlyTheLowEndFits))
+            }
+        }
+    }
 }
 
 /// A rule. Its length is in hundredths of a millimetre.
@@ -39,6 +58,7 @@ pub fn load(book: &[u8]) -> Result<Grammar, (u8, usize)> {
         // 2: an unknown byte.
         let operands = match command {
             0x10 | 0x30 | 0x40 => 1,
+            0x41 => 2,
             0x20 => 3,
             0x50 => 0,
             _ => return Err((2, at)),
@@ -49,10 +69,12 @@ pub fn load(book: &[u8]) -> Result<Grammar, (u8, usize)> {
         if fault(Fault::OneBeforeThree) && cut {
             return Err((1, book.len()));
         }
-        // 3: out of turn. 10 is the first command and occurs only there; 30 and 40 need an open rule.
+        let reversed = || command == 0x41 && book[at + 1] > book.get(at + 2).copied().unwrap_or(0);
+        // 3: out of turn. 10 is the first command and occurs only there; 30, 40 and 41 need an open rule.
         let in_turn = match command {
             0x10 => at == 0,
             0x50 if fault(Fault::EndAcceptedFirst) => true,
+            0x41 if fault(Fault::RangeBeforeAnyRuleAccepted) => at > 0,
             0x20 | 0x50 => at > 0,
             _ => at > 0 && !grammar.rules.is_empty(),
         };
@@ -62,6 +84,9 @@ pub fn load(book: &[u8]) -> Result<Grammar, (u8, usize)> {
         if fault(Fault::FourBeforeOne) && kind_over(31) {
             return Err((4, at));
         }
+        if fault(Fault::SixteenBeforeOne) && at + 1 < book.len() && reversed() {
+            return Err((16, at));
+        }
         // 1: the book ends inside the command.
         if cut {
             return Err((1, book.len()));
@@ -69,6 +94,10 @@ pub fn load(book: &[u8]) -> Result<Grammar, (u8, usize)> {
         // 4: a kind over 31.
         if kind_over(31 + u8::from(fault(Fault::Kind32Accepted))) {
             return Err((4, at + usize::from(fault(Fault::OffsetOfTheOperand))));
+        }
+        // 16: a range whose low end is above its high end.
+        if reversed() && !fault(Fault::SixAskedBeforeSixteen) && !fault(Fault::ReversedRangeLoaded) {
+            return Err((16, at + usize::from(fault(Fault::SixteenAtTheOperand))));
         }
         match command {
             0x10 => grammar.start = book[at + 1],
@@ -80,14 +109,24 @@ pub fn load(book: &[u8]) -> Result<Grammar, (u8, usize)> {
                 let length = i16::from_le_bytes([book[at + 2], book[at + 3]]);
                 grammar.rules.push(Rule { left: book[at + 1], length: i32::from(length), places: Vec::new() });
             }
-            0x30 | 0x40 => {
+            0x41 if grammar.rules.is_empty() => (), // only with a fault
+            0x30 | 0x40 | 0x41 => {
                 // 6: the ninth place of a rule.
                 let places = &mut grammar.rules.last_mut().expect("a rule is open").places;
                 if places.len() == PLACES + usize::from(fault(Fault::NinthPlaceAccepted)) {
                     return Err((6, at));
                 }
+                if fault(Fault::SixAskedBeforeSixteen) && reversed() {
+                    return Err((16, at));
+                }
                 let value = book[at + 1];
-                places.push(if command == 0x30 { Symbol::Nonterminal(value) } else { Symbol::Terminal(value) });
+                places.push(match command {
+                    0x30 => Symbol::Nonterminal(value),
+                    0x41 if !fault(Fault::RangeOfOneLoadedAsAMark) || value != book[at + 2] => {
+                        Symbol::Range(value, book[at + 2])
+                    }
+                    _ => Symbol::Terminal(value),
+                });
             }
             _ => {
                 // 7: a further byte after 50.
@@ -112,19 +151,21 @@ pub fn to_flat(grammar: &Grammar, depth: u16) -> FlatGrammar {
         flat[at + 2] = rule.places.len() as u16;
         for (p, place) in rule.places.iter().enumerate().take(PLACES) {
             let (tag, value) = match *place {
-                Symbol::Nonterminal(k) => (0, k),
-                Symbol::Terminal(t) => (1, t),
+                Symbol::Nonterminal(k) => (0, u16::from(k)),
+                Symbol::Terminal(t) => (1, u16::from(t)),
+                Symbol::Range(low, high) if fault(Fault::RangeEndsExchanged) => (2, u16::from_be_bytes([low, high])),
+                Symbol::Range(low, high) => (2, u16::from(low) + 256 * u16::from(high)),
             };
             flat[at + 3 + 2 * p] = tag;
-            flat[at + 4 + 2 * p] = u16::from(value);
+            flat[at + 4 + 2 * p] = value;
         }
     }
     flat
 }
 
 /// Check 8 on any row. None if the start or a used kind is over 31, there are more than 128 rules, or a used rule has
-/// more than 8 places. Also None if a used place holds no symbol: its tag is not 0 or 1, or its mark is over 255.
-/// Unused records, unused places and the depth are ignored.
+/// more than 8 places. Also None if a used place holds no symbol: its tag is over 2, its mark is over 255, or its
+/// range has the low end above the high end. Unused records, unused places and the depth are ignored.
 pub fn from_flat(flat: &FlatGrammar) -> Option<Grammar> {
     let start = low_byte(flat[0], Fault::StartByItsLowByte);
     let rules = usize::from(low_byte(flat[1], Fault::RulesByTheirLowByte));
@@ -139,7 +180,7 @@ pub fn from_flat(flat: &FlatGrammar) -> Option<Grammar> {
         if (left > 31 && !fault(Fault::Check8ForgetsLeftSides)) || places > PLACES {
             return None;
         }
-        if fault(Fault::Check8ReadsUnusedPlaces) && (places..PLACES).any(|p| flat[at + 3 + 2 * p] > 1) {
+        if fault(Fault::Check8ReadsUnusedPlaces) && (places..PLACES).any(|p| flat[at + 3 + 2 * p] > 2) {
             return None;
         }
         let mut rule = Rule { left: left as u8 & 31, length: i32::from(length), places: Vec::new() };
@@ -151,8 +192,10 @@ pub fn from_flat(flat: &FlatGrammar) -> Option<Grammar> {
             rule.places.push(match tag {
                 0 if low_byte(value, Fault::KindByItsLowByte) <= 31 => Symbol::Nonterminal(value as u8),
                 1 if low_byte(value, Fault::MarkByItsLowByte) <= 255 => Symbol::Terminal(value as u8),
-                2 if fault(Fault::Tag2ATerminal) && value <= 255 => Symbol::Terminal(value as u8),
-                2.. if fault(Fault::EveryOtherTagATerminal) && value <= 255 => Symbol::Terminal(value as u8),
+                2 if fault(Fault::Tag2ATerminal) => Symbol::Terminal(value as u8),
+                2 if !reversed(value) || fault(Fault::ReversedRangePassesCheck8) => range(value),
+                3 if fault(Fault::Tag3ARange) && !reversed(value) => range(value),
+                3.. if fault(Fault::EveryOtherTagATerminal) && value <= 255 => Symbol::Terminal(value as u8),
                 _ => return None,
             });
         }
@@ -161,10 +204,30 @@ pub fn from_flat(flat: &FlatGrammar) -> Option<Grammar> {
     Some(grammar)
 }
 
-/// Two faults of check 8: it reads the depth, or unused records.
+/// The range of a value: low + 256 * high.
+fn range(value: u16) -> Symbol {
+    Symbol::Range((value % 256) as u8, (value / 256) as u8)
+}
+
+/// Whether the low end of the range of a value is above its high end.
+fn reversed(value: u16) -> bool {
+    value % 256 > value / 256
+}
+
+/// Three faults of check 8: it reads the depth, unused records, or reversed ranges in unused places.
 fn unused_number_read(flat: &FlatGrammar) -> bool {
     (fault(Fault::Check8ReadsTheDepth) && flat[2] > 32)
         || (fault(Fault::Check8ReadsUnusedRecords) && (0..RULES).any(|rule| flat[record(rule)] > 31))
+        || (fault(Fault::UnusedReversedRangeRefused) && unused_reversed_range(flat))
+}
+
+/// Whether an unused place of a row has tag 2 and a value whose low end is above its high end.
+pub fn unused_reversed_range(flat: &FlatGrammar) -> bool {
+    (0..RULES).any(|rule| {
+        let at = record(rule);
+        let used = if rule < usize::from(flat[1]) { usize::from(flat[at + 2]) } else { 0 };
+        (used..PLACES).any(|p| flat[at + 3 + 2 * p] == 2 && reversed(flat[at + 4 + 2 * p]))
+    })
 }
 
 /// For each nonterminal the height of its lowest empty tree; None if it is not nullable (blank). Round h finds the
@@ -182,7 +245,7 @@ pub fn heights_in(grammar: &Grammar, rounds: u16) -> [Option<u16>; 32] {
         for rule in &grammar.rules {
             let empty = rule.places.iter().all(|place| match place {
                 Symbol::Nonterminal(k) => lower[usize::from(*k)].is_some(),
-                Symbol::Terminal(_) => false,
+                Symbol::Terminal(_) | Symbol::Range(..) => false,
             });
             let known = &mut heights[usize::from(rule.left)];
             if empty && known.is_none() {

@@ -115,6 +115,19 @@ impl Builder<'_> {
         Ok(useful)
     }
 
+    /// A fault: whether the rule is taken to be an earlier one, because `Range(a, a)` is taken to be `Terminal(a)`.
+    fn merged(&self, number: usize) -> bool {
+        let rules = &self.grammar.rules;
+        let one = |place: &Symbol| match *place {
+            Symbol::Range(low, high) if low == high => Symbol::Terminal(low),
+            place => place,
+        };
+        let places = |rule: usize| rules[rule].places.iter().map(one);
+        let same = |other: usize| rules[other].left == rules[number].left && places(other).eq(places(number));
+        let merged = |other: usize| same(other) && rules[other].places != rules[number].places;
+        fault(Fault::TwinsWithARangeMerged) && (0..number).any(merged)
+    }
+
     /// Uses up one step of the budget.
     fn step(&mut self) -> Result<(), TooLarge> {
         self.steps_left = self.steps_left.checked_sub(1).ok_or(TooLarge)?;
@@ -133,7 +146,7 @@ impl Builder<'_> {
         for level in 1.. {
             let mut found = Vec::new();
             for (number, rule) in self.grammar.rules.iter().enumerate() {
-                if useful[i][usize::from(rule.left)] >> j & 1 == 0 {
+                if useful[i][usize::from(rule.left)] >> j & 1 == 0 || self.merged(number) {
                     continue;
                 }
                 for row in self.rows(&rule.places, i, j)? {
@@ -171,10 +184,10 @@ impl Builder<'_> {
                         continue;
                     }
                     match *place {
-                        Symbol::Terminal(t) => {
-                            if b == row.at + 1 && self.input[row.at] == t {
+                        Symbol::Terminal(_) | Symbol::Range(..) => {
+                            if b == row.at + 1 && place.fits(self.input[row.at]) {
                                 let mut more = row.clone();
-                                more.children.push(Child::Leaf(t));
+                                more.children.push(Child::Leaf(self.input[row.at]));
                                 more.at = b;
                                 longer.push(more);
                             }

@@ -104,24 +104,27 @@ impl Node {
     }
 }
 
-/// The tree that an offered row may describe: follows the rules in preorder and ignores the covers. None if a rule
-/// does not exist or does not fit its place, or if the row is too short. Also returns the rest of the row.
-pub fn tree_of<'a>(grammar: &Grammar, nonterminal: u8, row: &'a [u16]) -> Option<(Node, &'a [u16])> {
+/// The tree that an offered row may describe at the front of the input: follows the rules in preorder and ignores the
+/// covers. A row does not say which mark is in a range, so the marks are those of the input. None if a rule does not
+/// exist or does not fit its place, if a mark does not fit its place, or if the row or the input is too short. Also
+/// returns the rest of the row.
+pub fn tree_of<'a>(grammar: &Grammar, nonterminal: u8, input: &[u8], row: &'a [u16]) -> Option<(Node, &'a [u16])> {
     let number = usize::from(*row.get(1)?);
     let rule = grammar.rules.get(number)?;
     if rule.left != nonterminal {
         return None;
     }
-    let mut rest = &row[2..];
+    let (mut rest, mut marks) = (&row[2..], input);
     let mut children = Vec::new();
     for place in &rule.places {
-        match *place {
-            Symbol::Terminal(t) => children.push(Child::Leaf(t)),
-            Symbol::Nonterminal(k) => {
-                let (node, after) = tree_of(grammar, k, rest)?;
-                children.push(Child::Below(Rc::new(node)));
-                rest = after;
-            }
+        if let Symbol::Nonterminal(k) = *place {
+            let (node, after) = tree_of(grammar, k, marks, rest)?;
+            (rest, marks) = (after, &marks[node.cover..]);
+            children.push(Child::Below(Rc::new(node)));
+        } else {
+            let (mark, after) = marks.split_first().filter(|(mark, _)| place.fits(**mark))?;
+            children.push(Child::Leaf(*mark));
+            marks = after;
         }
     }
     Some((Node::new(grammar, number, children), rest))
@@ -134,7 +137,7 @@ pub fn is_derivation(grammar: &Grammar, input: &[u8], row: &[u16]) -> bool {
     if row.len() > 2 * limit || fault(Fault::CheckAlwaysNo) {
         return false; // two numbers for each node: more than 512 nodes, or no tree's row
     }
-    match tree_of(grammar, root(grammar, row), row) {
+    match tree_of(grammar, root(grammar, row), input, row) {
         None => false,
         Some((tree, _)) => {
             covers(&tree, input) && tree.nodes <= limit && !tree.has_superfluous_recursion() && written(&tree, row)

@@ -75,7 +75,8 @@ impl Search<'_> {
             let filled = |at: usize| Some(Rc::new(Open { place: top.place + 1, at, after: top.after.clone(), ..*top }));
             match places.get(top.place) {
                 None => open = top.after.clone(),
-                Some(Symbol::Terminal(_)) => open = filled(top.at + 1), // it fits: the places reach the end
+                // it fits: the places reach the end
+                Some(Symbol::Terminal(_) | Symbol::Range(..)) => open = filled(top.at + 1),
                 Some(Symbol::Nonterminal(k)) => {
                     let ends = self.derives[top.at][usize::from(*k)];
                     for end in members(ends).filter(|end| *end <= top.end) {

@@ -13,6 +13,16 @@ fn some(random: &mut Random, bounds: [usize; 3]) -> usize {
     random.below(bound)
 }
 
+/// A, B or C, or once in three times a range that begins or ends with it.
+fn terminal(random: &mut Random) -> Symbol {
+    let mark = b'A' + random.below(3) as u8;
+    match random.below(6) {
+        0 => Symbol::Range(b'A', mark),
+        1 => Symbol::Range(mark, 255),
+        _ => Symbol::Terminal(mark),
+    }
+}
+
 fn grammar(random: &mut Random) -> Grammar {
     let kinds = 1 + some(random, [3, 8, 32]);
     let cap = 1 + random.below(8);
@@ -22,11 +32,8 @@ fn grammar(random: &mut Random) -> Grammar {
     for rule in &mut g.rules[..g.count] {
         *rule = Rule { left: random.below(kinds) as u8, count: random.below(cap + 1), ..Rule::ZERO };
         for place in &mut rule.places[..rule.count] {
-            *place = if random.below(rare) == 0 {
-                Symbol::Terminal(b'A' + random.below(3) as u8)
-            } else {
-                Symbol::Nonterminal(random.below(kinds) as u8)
-            };
+            *place =
+                if random.below(rare) == 0 { terminal(random) } else { Symbol::Nonterminal(random.below(kinds) as u8) };
         }
     }
     g
@@ -76,7 +83,7 @@ fn the_books_of_the_benchmark_are_filled_alike() {
         (books::worst_mixed(), a.clone()),
         (books::unit_graph(), a.clone()),
         books::random_full(&mut random),
-        books::random_full(&mut random),
+        books::random_full_of_ranges(&mut random),
     ] {
         fills_alike(&Packed::new(&loader::load(&book).unwrap()), &input);
     }

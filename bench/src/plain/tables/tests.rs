@@ -23,6 +23,16 @@ fn alike(g: &Grammar, w: &[u8]) -> usize {
     a.iter().filter(|&&number| number < NONE).count()
 }
 
+/// A, B or C, or once in three times a range that begins or ends with it.
+fn terminal(random: &mut Random) -> Symbol {
+    let mark = b'A' + random.below(3) as u8;
+    match random.below(6) {
+        0 => Symbol::Range(b'A', mark),
+        1 => Symbol::Range(mark, 255),
+        _ => Symbol::Terminal(mark),
+    }
+}
+
 fn grammar(random: &mut Random) -> Grammar {
     let kinds = 1 + random.below(8);
     let cap = 1 + random.below(8);
@@ -32,11 +42,8 @@ fn grammar(random: &mut Random) -> Grammar {
     for rule in &mut g.rules[..g.count] {
         *rule = Rule { left: random.below(kinds) as u8, count: random.below(cap + 1), ..Rule::ZERO };
         for place in &mut rule.places[..rule.count] {
-            *place = if random.below(rare) == 0 {
-                Symbol::Terminal(b'A' + random.below(3) as u8)
-            } else {
-                Symbol::Nonterminal(random.below(kinds) as u8)
-            };
+            *place =
+                if random.below(rare) == 0 { terminal(random) } else { Symbol::Nonterminal(random.below(kinds) as u8) };
         }
     }
     g

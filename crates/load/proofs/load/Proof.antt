@@ -5,7 +5,7 @@ use native.Mathlib.Omega.{arith}
 use borrow.Author.Needs.{needs}
 use lib.Dec.{lit<}
 use lib.ListN.{length}
-use Rattle.load.proofs.Progress.{start-room, rule-room, rule-few, place-room, place-few, moved-fits, moved-less}
+use Rattle.load.proofs.Progress.{start-room, rule-room, rule-few, place-some, place-room, place-few, moved-fits, moved-less}
 use Rattle.load.proofs.Progress.{Progress, progress-first, progress-start, progress-rule, progress-place}
 use Rattle.load.proofs.Progress.{loads-end, loads-fault}
 use Rattle.load.proofs.load.Statement.{statement}
@@ -29,7 +29,7 @@ load-spec = tie.close (tie.spec
     (λ c. search (moved-fits, rule-room)) (λ c. search (moved-less, rule-room, lit<)) (λ c. search progress-rule)
     -- a place
     (λ c. omega arith) (λ c κs. search place-few) (λ c. omega arith) (λ c. omega arith) (λ c. search (moved-fits, place-room))
-    (λ c. search (moved-less, place-room, lit<)) (λ c. search progress-place)
+    (λ c. search (moved-less, place-room, place-some)) (λ c. search progress-place)
     -- the end, and a fault
     (λ c. omega arith) (λ c κs. search needs) (λ c. (search loads-end, c .accepted .ensures .depth))
     (λ c. omega arith) (λ c κs. omega arith) (λ c. (search loads-fault, c .refused .ensures .depth)))

@@ -17,12 +17,13 @@ abbrev μ-loop : tie.MeasureT-loop
 
 loop-again : tie.Need-loop-again Inv-loop μ-loop
 loop-again c =
-    let at-tag = c .before in
+    let at-value = c .before in
+    let at-tag = at-value .before in
     let in-loop = at-tag .before .before .before in (
       omega arith,
       omega arith,
-      row-step _ _ (in-loop .before .pre .0) _ _ _ _ _ (omega arith) (in-loop .loop .inv .2) (at-tag .tag-of .ensures)
-          (c .value-of .ensures),
+      row-step _ _ (in-loop .before .pre .0) _ _ _ _ _ _ (omega arith) (in-loop .loop .inv .2) (at-tag .tag-of .ensures)
+          (at-value .value-of .ensures) (c .high-of .ensures),
     )
 
 returns : tie.Need-returns Inv-loop μ-loop
@@ -43,5 +44,7 @@ pack-rule-spec = tie.close (tie.spec
     (λ c κs. omega arith) (λ c. omega arith) (λ c. omega arith) (λ c. omega arith) (λ c. omega arith) (λ c. omega arith)
     -- the store of its value
     (λ c κs. omega arith) (λ c. omega arith) (λ c. omega arith) (λ c. omega arith) (λ c. omega arith) (λ c. omega arith)
+    -- the store of its high end
+    (λ c κs. omega arith) (λ c. omega arith) (λ c. omega arith) (λ c. omega arith) (λ c. omega arith)
     -- the next place, and the end
     (λ c. omega arith) (λ c. omega arith) loop-again returns)

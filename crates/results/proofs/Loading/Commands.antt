@@ -14,14 +14,13 @@ use borrow.Author.Tests.{ltb-true, ltb-false, le-leb, eqb-false, ne-eqb, not-fal
 use Rattle.sizes.specs.Sizes.{maxRules, maxPlaces}
 use Rattle.laws.proofs.Bools.{true-false, or-neither}
 use Rattle.grammar.specs.declared.Symbol.{Symbol}
-use Rattle.grammar.specs.declared.Symbol.the-variants.{Nonterminal, Terminal}
+use Rattle.grammar.specs.declared.Symbol.the-variants.{Nonterminal, Terminal, Range}
 use Rattle.grammar.specs.declared.Grammar.{Grammar}
 use Rattle.grammar.specs.Setters.{openedRule, placedRule, setStart, setCount, setDepth, setRule}
-use Rattle.grammar.specs.Tagged.{valueOf}
 use Rattle.grammar.specs.Valid.{validSymbol}
 use Rattle.grammar.specs.Zero.{zeroGrammar}
-use Rattle.results.specs.Load.{operands, operand, signed, openRule, withStart, withRule, withPlace, after, unknown, outOfTurn}
-use Rattle.results.specs.Load.{Fault, Step, stop, next, done, operandChecks, commandChecks, carriedOut, step}
+use Rattle.results.specs.Load.{operands, operand, signed, openRule, withStart, withRule, withPlace, after, unknown}
+use Rattle.results.specs.Load.{addsPlace, outOfTurn, Fault, Step, stop, next, done, operandChecks, commandChecks, carriedOut, step}
 use Rattle.results.specs.Load.{refusedLoad, acceptedLoad, run}
 use Rattle.results.proofs.Decide.{decide-either}
 use Rattle.results.proofs.Loading.Run.{run-stop, run-next, run-done}
@@ -43,19 +42,22 @@ module _ (g : Grammar) where
 
 -- ---- which commands there are
 
-pub unknown-other : (c : ℕ) → (c ≡ 0x10 → ⊥) → (c ≡ 0x20 → ⊥) → (c ≡ 0x30 → ⊥) → (c ≡ 0x40 → ⊥) → (c ≡ 0x50 → ⊥) → unknown c ≡ true
+pub unknown-other : (c : ℕ) → (c ≡ 0x10 → ⊥) → (c ≡ 0x20 → ⊥) → (c ≡ 0x30 → ⊥) → (c ≡ 0x40 → ⊥) → (c ≡ 0x41 → ⊥) → (c ≡ 0x50 → ⊥)
+    → unknown c ≡ true
 unfolding unknown
-unknown-other c n₁ n₂ n₃ n₄ n₅ = rw (ne-eqb c 0x10 n₁, ne-eqb c 0x20 n₂, ne-eqb c 0x30 n₃, ne-eqb c 0x40 n₄, ne-eqb c 0x50 n₅)
+unknown-other c n₁ n₂ n₃ n₄ n₅ n₆ =
+    rw (ne-eqb c 0x10 n₁, ne-eqb c 0x20 n₂, ne-eqb c 0x30 n₃, ne-eqb c 0x40 n₄, ne-eqb c 0x41 n₅, ne-eqb c 0x50 n₆)
 
 -- what holds of each command holds of each byte that is not unknown
-pub each-command : (K : ℕ → Type 0) → K 0x10 → K 0x20 → K 0x30 → K 0x40 → K 0x50 → (c : ℕ) → unknown c ≡ false → K c
-each-command K start rule nonterminal terminal end c k =
+pub each-command : (K : ℕ → Type 0) → K 0x10 → K 0x20 → K 0x30 → K 0x40 → K 0x41 → K 0x50 → (c : ℕ) → unknown c ≡ false → K c
+each-command K start rule nonterminal terminal range end c k =
     dite (ℕ-discrete c 0x10) (λ e. subst K (sym e) start) (λ n₁.
     dite (ℕ-discrete c 0x20) (λ e. subst K (sym e) rule) (λ n₂.
     dite (ℕ-discrete c 0x30) (λ e. subst K (sym e) nonterminal) (λ n₃.
     dite (ℕ-discrete c 0x40) (λ e. subst K (sym e) terminal) (λ n₄.
-    dite (ℕ-discrete c 0x50) (λ e. subst K (sym e) end) (λ n₅.
-    absurd (true-false (unknown-other c n₁ n₂ n₃ n₄ n₅) k))))))
+    dite (ℕ-discrete c 0x41) (λ e. subst K (sym e) range) (λ n₅.
+    dite (ℕ-discrete c 0x50) (λ e. subst K (sym e) end) (λ n₆.
+    absurd (true-false (unknown-other c n₁ n₂ n₃ n₄ n₅ n₆) k)))))))
 
 -- ---- what the checks let through
 
@@ -66,8 +68,9 @@ pub record LetThrough (bytes : List ℕ) (at c : ℕ) (g : Grammar) : Type 0 whe
   pub turn : outOfTurn c at g ≡ false
   pub whole : at + 1 + operands c ≤ length bytes
   pub nonterminal : (eqb c 0x10 || eqb c 0x20 || eqb c 0x30) ≡ true → operand bytes at 0 ≤ 31
+  pub rising : eqb c 0x41 ≡ true → operand bytes at 0 ≤ operand bytes at 1
   pub rules : eqb c 0x20 ≡ true → g .count ≤ 127
-  pub places : (eqb c 0x30 || eqb c 0x40) ≡ true → openRule g .count ≤ 7
+  pub places : addsPlace c ≡ true → openRule g .count ≤ 7
   pub last : eqb c 0x50 ≡ true → length bytes ≤ at + 1
 
 -- a limit that applies is kept
@@ -80,17 +83,18 @@ module _ (bytes : List ℕ) (at : ℕ) (g : Grammar) where
   Case P c = getD bytes at 0 ≡ c → LetThrough bytes at c g → P (carriedOut bytes at c g)
 
   -- what holds of each fault, and of each command that its checks let through, holds of a step
-  step-cases : (P : Step → Type 0) → ((f : Fault) → P (stop f)) → Case P 0x10 → Case P 0x20 → Case P 0x30 → Case P 0x40 → Case P 0x50
-      → P (step bytes at g)
+  step-cases : (P : Step → Type 0) → ((f : Fault) → P (stop f)) → Case P 0x10 → Case P 0x20 → Case P 0x30 → Case P 0x40 → Case P 0x41
+      → Case P 0x50 → P (step bytes at g)
   unfolding step commandChecks operandChecks
-  step-cases P faulty start rule nonterminal terminal end = decide-either stop _ P _ faulty
-      (λ p. let (begins, (known, (turn, (whole, (small, (rules, (places, (last, u)))))))) = p in
-      each-command (Case P) start rule nonterminal terminal end (getD bytes at 0) known refl (record {
+  step-cases P faulty start rule nonterminal terminal range end = decide-either stop _ P _ faulty
+      (λ p. let (begins, (known, (turn, (whole, (small, (rising, (rules, (places, (last, u))))))))) = p in
+      each-command (Case P) start rule nonterminal terminal range end (getD bytes at 0) known refl (record {
         begins = ltb-true at (length bytes) (not-false (ltb at (length bytes)) begins);
         known = known;
         turn = turn;
         whole = ltb-false (length bytes) (at + 1 + operands (getD bytes at 0)) whole;
         nonterminal = kept-to _ 31 (operand bytes at 0) small;
+        rising = kept-to _ (operand bytes at 1) (operand bytes at 0) rising;
         rules = kept-to _ 127 (g .count) rules;
         places = kept-to _ 7 (openRule g .count) places;
         last = kept-to _ (at + 1) (length bytes) last;
@@ -120,7 +124,7 @@ module _ (bytes : List ℕ) (at : ℕ) (g : Grammar) where
 
   step-ends : Ends (step bytes at g)
   unfolding carriedOut
-  step-ends = step-cases bytes at g Ends (λ f. tt) (λ e L. tt) (λ e L. tt) (λ e L. tt) (λ e L. tt)
+  step-ends = step-cases bytes at g Ends (λ f. tt) (λ e L. tt) (λ e L. tt) (λ e L. tt) (λ e L. tt) (λ e L. tt)
       (λ e L. record { command = e; last = omega (arith, L .begins, L .last refl); same = refl })
 
   pub step-done : (g′ : Grammar) → step bytes at g ≡ done g′ → Ended bytes at g g′
@@ -128,14 +132,31 @@ module _ (bytes : List ℕ) (at : ℕ) (g : Grammar) where
 
 -- ---- what a step keeps
 
+-- the bytes of the command that adds a place with this symbol
+abbrev pub placeSize : Symbol → ℕ
+placeSize (Nonterminal k) = 2
+placeSize (Terminal m) = 2
+placeSize (Range low high) = 3
+
+pub place-few : (s : Symbol) → placeSize s ≤ 3
+place-few (Nonterminal k) = omega arith
+place-few (Terminal m) = omega arith
+place-few (Range low high) = omega arith
+
+-- the numbers of the symbol are operands of the command at an offset
+abbrev pub HeldIn : List ℕ → ℕ → Symbol → Type 0
+HeldIn bytes at (Nonterminal k) = k ≡ operand bytes at 0
+HeldIn bytes at (Terminal m) = m ≡ operand bytes at 0
+HeldIn bytes at (Range low high) = (low ≡ operand bytes at 0) × (high ≡ operand bytes at 1)
+
 -- P holds of the grammar of no rules at the start of the book, and each command that its checks let through keeps it
 pub record Invariant (bytes : List ℕ) (P : ℕ → Grammar → Type 0) : Type 0 where
   pub zero : P 0 zeroGrammar
   pub start : (at : ℕ) (g : Grammar) → P at g → at ≡ 0 → operand bytes at 0 ≤ 31 → P (at + 2) (withStart g (operand bytes at 0))
   pub rule : (at : ℕ) (g : Grammar) → P at g → operand bytes at 0 ≤ 31 → g .count < maxRules
       → P (at + 4) (withRule g (operand bytes at 0) (signed (operand bytes at 1) (operand bytes at 2)))
-  pub place : (at : ℕ) (g : Grammar) → P at g → (s : Symbol) → valueOf s ≡ operand bytes at 0 → validSymbol s ≡ true → 0 < g .count
-      → openRule g .count < maxPlaces → P (at + 2) (withPlace g s)
+  pub place : (at : ℕ) (g : Grammar) → P at g → (s : Symbol) → HeldIn bytes at s → validSymbol s ≡ true → 0 < g .count
+      → openRule g .count < maxPlaces → P (at + placeSize s) (withPlace g s)
 
 module _ {bytes : List ℕ} {P : ℕ → Grammar → Type 0} (I : Invariant bytes P) where
   module _ (at : ℕ) (g : Grammar) (H : P at g) where
@@ -151,11 +172,11 @@ module _ {bytes : List ℕ} {P : ℕ → Grammar → Type 0} (I : Invariant byte
     four : (h : Grammar) → P (at + 4) h → P (at + 1 + 3) h
     four h = subst (λ (n : ℕ). P n h) (omega arith)
 
-    placed : (s : Symbol) → valueOf s ≡ operand bytes at 0 → validSymbol s ≡ true → (eqb at 0 || eqb (g .count) 0) ≡ false
-        → openRule g .count ≤ 7 → P (at + 1 + 1) (withPlace g s)
-    placed s e v o p =
-        let n = eqb-false (g .count) 0 (or-neither (eqb at 0) (eqb (g .count) 0) o .1) in
-        two _ (I .place at g H s e v (omega arith) (omega arith))
+    placed : (s : Symbol) → HeldIn bytes at s → validSymbol s ≡ true → (eqb at 0 || eqb (g .count) 0) ≡ false
+        → openRule g .count ≤ 7 → (n : ℕ) → at + placeSize s ≡ n → P n (withPlace g s)
+    placed s e v o p n f =
+        let m = eqb-false (g .count) 0 (or-neither (eqb at 0) (eqb (g .count) 0) o .1) in
+        subst (λ (x : ℕ). P x (withPlace g s)) f (I .place at g H s e v (omega arith) (omega arith))
 
     step-holds : Kept (step bytes at g)
     unfolding carriedOut operands after outOfTurn
@@ -163,8 +184,10 @@ module _ {bytes : List ℕ} {P : ℕ → Grammar → Type 0} (I : Invariant byte
         (λ e L. two _ (I .start at g H (omega (arith, ltb-false 0 at (L .turn))) (L .nonterminal refl)))
         (λ e L. four _ (I .rule at g H (L .nonterminal refl) (omega (arith, L .rules refl))))
         (λ e L. placed (Nonterminal (operand bytes at 0)) refl (le-leb (operand bytes at 0) 31 (L .nonterminal refl)) (L .turn)
-        (L .places refl))
-        (λ e L. placed (Terminal (operand bytes at 0)) refl refl (L .turn) (L .places refl))
+        (L .places refl) _ (omega arith))
+        (λ e L. placed (Terminal (operand bytes at 0)) refl refl (L .turn) (L .places refl) _ (omega arith))
+        (λ e L. placed (Range (operand bytes at 0) (operand bytes at 1)) (refl, refl)
+        (le-leb (operand bytes at 0) (operand bytes at 1) (L .rising refl)) (L .turn) (L .places refl) _ (omega arith))
         (λ e L. tt)
 
     pub step-kept : (at′ : ℕ) (g′ : Grammar) → step bytes at g ≡ next at′ g′ → P at′ g′

@@ -7,5 +7,9 @@ use Rattle.c_grammar.proofs.write.write_place.Tie as tie
 
 pub write-place-spec : {M : Type 1} → statement M
 write-place-spec = tie.close (tie.spec
-    (λ c κs. omega arith) (λ c. omega arith) (λ c. omega arith) (λ c. omega arith) (λ c κs. omega arith) (λ c. omega arith)
-    (λ c. omega arith) (λ c. omega arith) (λ c. omega arith) (λ c. (search place-done, simp length-set (c .before .before .pre .1))))
+    -- the store of the tag
+    (λ c κs. omega arith) (λ c. omega arith) (λ c. omega arith) (λ c. omega arith)
+    -- the two calls of the value, and their sum
+    (λ c κs. omega arith) (λ c. omega arith) (λ c κs. omega arith) (λ c. omega arith) (λ c. omega arith) (λ c. omega arith)
+    -- the store of the value
+    (λ c. omega arith) (λ c. omega arith) (λ c. omega arith) (λ c. (search place-done, simp length-set (c .before .before .before .pre .1))))

@@ -6,4 +6,5 @@ use Rattle.grammar.proofs.tagged.tag_of.Statement.{statement}
 use Rattle.grammar.proofs.tagged.tag_of.Tie as tie
 
 pub tag-of-spec : {M : Type 1} → statement M
-tag-of-spec = tie.close (tie.spec (λ c. omega arith) (λ c. omega arith) (λ c. search needs) (λ c. search needs))
+tag-of-spec = tie.close (tie.spec
+    (λ c. omega arith) (λ c. omega arith) (λ c. omega arith) (λ c. search needs) (λ c. search needs) (λ c. search needs))
