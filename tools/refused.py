@@ -113,7 +113,9 @@ def obligations(edit, path):
                 os.symlink(os.path.abspath(name), f"{top}/{name}")
             subprocess.run(["rt", "goals", crate], cwd=top, stdout=subprocess.DEVNULL, stderr=subprocess.DEVNULL, check=False)
         tie = read(f"target/goals/{crate}/Rattle.{crate}.proofs/{os.path.dirname(path)}/Tie.antt")
-        names = re.findall(r"\(\S+ : (\S+?)[ )]", re.search(r"pub spec :(.*?)\bLts\.Closed", tie, re.S)[1])
+        # The Tie of functions that call each other has no such line: their answers have no numbers here.
+        spec = re.search(r"pub spec :(.*?)\bLts\.Closed", tie, re.S)
+        names = re.findall(r"\(\S+ : (\S+?)[ )]", spec[1]) if spec else []
         with open(kept, "w", encoding="utf-8") as needs:
             needs.write("\n".join([path, *names, ""]))
     of, *names = read(kept).split()
@@ -128,6 +130,8 @@ def unnamed(edit, path, place, text):
         return "returns"
     source = read(f"target/must-fail/{edit}/{path}")
     names = obligations(edit, path)
+    if not names:
+        return ""
     whole, _ = answers(source, len(source) - 1)
     if whole != len(names):
         raise Shape(f"{path} has {whole} answers, and the edited code asks for {len(names)}")
@@ -161,6 +165,7 @@ def refused(edit):
         return f"the {'computed result' if computed else 'law'} `{name[1]}` (`{path}`)"
     function, rest = owner(path, name[1])
     if rest.endswith("spec"):
-        return in_words(function, unnamed(edit, path, place, text))
+        need = unnamed(edit, path, place, text)
+        return in_words(function, need) if need else f"a fact in the proof of `{function}` (`{path}`)"
     answer = re.search(rf"^{re.escape(name[1])} :.*?\bNeed-([\w-]+)", source, re.M)
     return in_words(function, answer[1]) if answer else f"the law `{name[1]}` in the proof of `{function}` (`{path}`)"
