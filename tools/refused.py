@@ -89,6 +89,7 @@ def in_words(function, need):
 
 def answers(source, end):
     """How many answers of `.. (tie.spec ANSWER ANSWER ..)` begin up to a place of a proof, and whether it has not ended there."""
+    source = re.sub(r"--[^\n]*", lambda comment: " " * len(comment[0]), source)
     begin = re.search(r"\btie\.spec(?=\s)", source).end()
     number = depth = 0
     for at in range(begin, end + 1):

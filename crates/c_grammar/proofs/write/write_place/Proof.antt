@@ -12,4 +12,5 @@ write-place-spec = tie.close (tie.spec
     -- the two calls of the value, and their sum
     (λ c κs. omega arith) (λ c. omega arith) (λ c κs. omega arith) (λ c. omega arith) (λ c. omega arith) (λ c. omega arith)
     -- the store of the value
-    (λ c. omega arith) (λ c. omega arith) (λ c. omega arith) (λ c. (search place-done, simp length-set (c .before .before .before .pre .1))))
+    (λ c. omega arith) (λ c. omega arith) (λ c. omega arith)
+    (λ c. (search place-done, simp length-set (c .before .before .before .pre .1))))
