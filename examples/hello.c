@@ -5,7 +5,7 @@
 
 static const uint8_t book[] = {0x10, 0x00, 0x20, 0x00, 0xF8, 0x11, 0x30, 0x01, 0x30, 0x01, 0x20,
                                0x01, 0x00, 0x00, 0x20, 0x01, 0x19, 0x00, 0x40, 0x41, 0x50};
-static const uint8_t plate[] = {'A'};
+static const uint8_t plate[] = {'A'}, long_plate[FILBOZSEG_BYTES + 1];
 static uint16_t grammar[FILBOZSEG_ROW];
 static uint32_t chart[FILBOZSEG_CELLS];
 static uint16_t reading[FILBOZSEG_OUTPUT], offered[FILBOZSEG_OUTPUT];
@@ -58,7 +58,10 @@ int main(void)
     print(nodes);
     printf("counted: %u,", filbozseg_count(grammar, plate, 1, chart, FILBOZSEG_CELLS, &count));
     printf(" %zu\n", count);
-    code = filbozseg_count(grammar, plate, 0, chart, FILBOZSEG_CELLS, &count);
-    printf("a plate without marks: refusal %u\n", FILBOZSEG_REFUSED(code));
+    /* the length is 0, the pointer is not NULL */
+    printf("a plate without marks: %u,", filbozseg_first(grammar, plate, 0, chart, FILBOZSEG_CELLS, reading, FILBOZSEG_OUTPUT, &nodes));
+    print(nodes);
+    code = filbozseg_count(grammar, long_plate, sizeof long_plate, chart, FILBOZSEG_CELLS, &count);
+    printf("a plate of %zu marks: refusal %u\n", sizeof long_plate, FILBOZSEG_REFUSED(code));
     return FILBOZSEG_REFUSED(code) == FILBOZSEG_REFUSAL_INPUT_LENGTH ? 0 : 1;
 }

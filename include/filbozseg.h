@@ -18,7 +18,7 @@
  *
  * Arrays and slices. An array such as `grammar[FILBOZSEG_ROW]` is a plain pointer to that many elements. A slice is a pointer, followed by
  * its length in elements. A slice may have any length, even 0: a function checks the lengths that it needs, and answers with a refusal. No
- * pointer may be NULL, even if the length is 0, and each must be aligned as C aligns its type.
+ * pointer may be NULL, even if the length is 0 as for an input of no bytes, and each must be aligned as C aligns its type.
  *
  * Overlap. What is lent for writing (every pointer to non-const) must not overlap anything else that is lent to the same call, and nobody
  * else may read or write it until the call returns. What is lent for reading may overlap.
@@ -47,7 +47,7 @@ extern "C" {
 
 /* The version of this header and of the library that it describes. */
 #define FILBOZSEG_VERSION_MAJOR 0
-#define FILBOZSEG_VERSION_MINOR 2
+#define FILBOZSEG_VERSION_MINOR 3
 #define FILBOZSEG_VERSION_PATCH 0
 
 /* Sizes: the numbers in a grammar's row, the numbers in a hand's row, the used cells of a chart, the maximum number of bytes of an input,
@@ -80,7 +80,7 @@ enum filbozseg_refusal {
     FILBOZSEG_REFUSAL_TOO_MANY_PLACES = 6,        /* a rule of the book has more than 8 places */
     FILBOZSEG_REFUSAL_FURTHER_BYTE = 7,           /* a byte follows the end of the book */
     FILBOZSEG_REFUSAL_INVALID_GRAMMAR = 8,        /* the grammar has a used number out of its range */
-    FILBOZSEG_REFUSAL_INPUT_LENGTH = 9,           /* the input has no bytes, or more than 64 */
+    FILBOZSEG_REFUSAL_INPUT_LENGTH = 9,           /* the input has more than 64 bytes */
     FILBOZSEG_REFUSAL_CHART_TOO_SHORT = 10,       /* the chart has fewer than 4225 cells */
     FILBOZSEG_REFUSAL_OUTPUT_TOO_SHORT = 11,      /* the output has fewer than 1024 numbers */
     FILBOZSEG_REFUSAL_NOT_A_DERIVATION = 12,      /* what is offered is no derivation of the input */
@@ -149,8 +149,8 @@ uint32_t filbozseg_take(const uint16_t grammar[FILBOZSEG_ROW], uint16_t hand[FIL
 
 /*
  * Returns whether the offered row is a derivation of the input: for each node, in preorder, how many bytes it covers and the number of
- * its rule. Refusals, in this order: 8 the grammar; 9 an input of no bytes or of more than 64; 10 a chart of fewer than 4225 cells. If
- * refused, it leaves the chart as found; otherwise the chart is filled for the input.
+ * its rule. An input of no bytes is read like any other. Refusals, in this order: 8 the grammar; 9 an input of more than 64 bytes; 10 a
+ * chart of fewer than 4225 cells. If refused, it leaves the chart as found; otherwise the chart is filled for the input.
  * Stack: FILBOZSEG_CHECK_STACK.
  */
 uint32_t filbozseg_check(const uint16_t grammar[FILBOZSEG_ROW], const uint8_t *input, size_t input_length,

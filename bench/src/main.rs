@@ -242,13 +242,14 @@ fn overheads(list: &[Case]) {
                 || sink(Plain::take(black_box(&c.flat), &mut k, 65, &mut y)),
             ),
         );
-        assert_eq!(Proved::check(&c.flat, &[], &[], &mut x), Refusal::InputLength.code());
-        assert_eq!(Plain::check(&c.flat, &[], &[], &mut y), Refusal::InputLength.code());
+        let long = [65; 65];
+        assert_eq!(Proved::check(&c.flat, &long, &[], &mut x), Refusal::InputLength.code());
+        assert_eq!(Plain::check(&c.flat, &long, &[], &mut y), Refusal::InputLength.code());
         line(
             &format!("check refused 9: {}", c.name),
             pair(
-                || sink(Proved::check(black_box(&c.flat), &[], &[], &mut x)),
-                || sink(Plain::check(black_box(&c.flat), &[], &[], &mut y)),
+                || sink(Proved::check(black_box(&c.flat), &long, &[], &mut x)),
+                || sink(Plain::check(black_box(&c.flat), &long, &[], &mut y)),
             ),
         );
         assert_eq!(Proved::open(&c.flat, &mut h, &mut x), Plain::open(&c.flat, &mut k, &mut y));

@@ -5,8 +5,15 @@ use outside_tests::lister::{grammar, listed, trees};
 use std::path::PathBuf;
 
 /// Each sample, with the number of parts of its first reading and the number of its readings.
-const SAMPLES: &[(&str, usize, usize)] =
-    &[("T", 3, 2), ("pairs", 5, 2), ("bush", 512, 1), ("expressions", 19, 1), ("ambiguous", 7, 5), ("bores", 6, 2)];
+const SAMPLES: &[(&str, usize, usize)] = &[
+    ("T", 3, 2),
+    ("pairs", 5, 2),
+    ("bush", 512, 1),
+    ("expressions", 19, 1),
+    ("ambiguous", 7, 5),
+    ("bores", 6, 2),
+    ("service", 3, 6),
+];
 
 /// Book T of document 01, in full.
 const T: [u8; 21] = [
@@ -98,6 +105,16 @@ fn bores_are_two_digits() {
         assert_eq!(readings(&plate), if figures == 16 { 2 } else { 1 }, "{plate}");
     }
     assert_eq!(["V0", "V0/", "V:0", "V000", "W06", "VV0"].map(readings), [0; 6]);
+}
+
+/// The service block has a plate of no marks: every part covers nothing, and all readings are the same build.
+#[test]
+fn the_service_block_has_no_marks() {
+    assert_eq!(held("service", "plate"), b"");
+    let grammar = grammar::load(&to_bytes(&text("service")).expect("a text")).expect("a book");
+    let (list, _) = listed(&grammar, b"");
+    assert!(list.iter().all(|row| row.chunks(2).all(|part| part[0] == 0) && trees::same_build(row, &list[0])));
+    assert_eq!(listed(&grammar, b"\n").0.len(), 0);
 }
 
 /// Every file of the folder belongs to a sample that is tested here.

@@ -40,6 +40,7 @@ pub fn load(book: &[u8]) -> Result<Grammar, LoadError> {
 /// let (grammar, mut chart) = (load(b"\x10\x00\x20\x00\x19\x00\x40A\x50")?, vec![0; CELLS]); // 0 -> A
 /// assert!(check(&grammar, b"A", &[1, 0], &mut chart)?);
 /// assert!(!check(&grammar, b"A", &[], &mut chart)?);
+/// assert!(!check(&grammar, b"", &[], &mut chart)?); // each derivation has a node, also one of an input of no bytes
 /// # Ok(())
 /// # }
 /// ```

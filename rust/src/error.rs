@@ -56,7 +56,7 @@ impl error::Error for LoadError {
 /// }
 /// assert_eq!(readings(b"\x10\x00\x20\x00\x00\x00\x40A\x50", b"A").unwrap(), ["1.0"]);
 /// assert_eq!(readings(b"", b"A").unwrap_err().refusal().number(), 1);
-/// assert_eq!(readings(b"\x10\x00\x50", b"").unwrap_err().refusal().number(), 9);
+/// assert_eq!(readings(b"\x10\x00\x50", &[b'A'; 65]).unwrap_err().refusal().number(), 9);
 /// ```
 #[derive(Clone, Debug, PartialEq, Eq, Hash)]
 #[non_exhaustive]

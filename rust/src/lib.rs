@@ -1,6 +1,6 @@
 //! The proved plate reader for safe Rust.
 //!
-//! A book is loaded into a [`Grammar`]. With it, an input of 1 to 64 bytes has [readings](Grammar::readings), each a [`Reading`] with
+//! A book is loaded into a [`Grammar`]. With it, an input of 0 to 64 bytes has [readings](Grammar::readings), each a [`Reading`] with
 //! nodes:
 //!
 //! ```

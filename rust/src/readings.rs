@@ -20,7 +20,8 @@ use std::iter::FusedIterator;
 ///     println!("{}", reading?); // 3.0 1.1 2.0 1.1 1.1, then 3.0 2.0 1.1 1.1 1.1
 /// }
 /// assert_eq!(grammar.readings(b"B").next(), None);
-/// assert_eq!(grammar.readings(b"").collect::<Vec<_>>(), [Err(Refusal::InputLength)]);
+/// assert_eq!(grammar.readings(b"").next(), None); // an input of no bytes is read like any other
+/// assert_eq!(grammar.readings(&[b'A'; 65]).collect::<Vec<_>>(), [Err(Refusal::InputLength)]);
 ///
 /// let plate = [b'A'; 64]; // some 10^35 readings
 /// let three: Vec<Reading> = grammar.readings(&plate).take(3).collect::<Result<_, _>>()?;

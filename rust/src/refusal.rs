@@ -7,9 +7,9 @@ use std::fmt;
 /// ```
 /// use filbozseg::{load, Refusal};
 /// let grammar = load(b"\x10\x00\x50").unwrap();
-/// let refusal = grammar.readings(b"").next().unwrap().unwrap_err();
+/// let refusal = grammar.readings(&[b'A'; 65]).next().unwrap().unwrap_err();
 /// assert_eq!((refusal, refusal.number()), (Refusal::InputLength, 9));
-/// assert_eq!(refusal.to_string(), "the input has no bytes, or more than 64 (refusal 9)");
+/// assert_eq!(refusal.to_string(), "the input has more than 64 bytes (refusal 9)");
 /// ```
 #[derive(Clone, Copy, Debug, PartialEq, Eq, Hash)]
 #[non_exhaustive]
@@ -31,7 +31,7 @@ pub enum Refusal {
     FurtherByte = 7,
     /// A used number of the grammar is out of its range.
     InvalidGrammar = 8,
-    /// The input has no bytes, or more than 64.
+    /// The input has more than 64 bytes.
     InputLength = 9,
     /// The chart has fewer than 4,225 cells.
     ChartTooShort = 10,
@@ -105,7 +105,7 @@ impl Refusal {
             TooManyPlaces => "a rule of the book has more than 8 places",
             FurtherByte => "a byte follows the end of the book",
             InvalidGrammar => "the grammar has a used number out of its range",
-            InputLength => "the input has no bytes, or more than 64",
+            InputLength => "the input has more than 64 bytes",
             ChartTooShort => "the chart has fewer than 4,225 cells",
             OutputTooShort => "the output has fewer than 1,024 numbers",
             NotADerivation => "what is offered is no reading of the input",

@@ -135,7 +135,7 @@ fn a_taken_byte_is_left_in_the_recognizer() {
 fn offered_rows_are_checked_measured_and_compared() {
     let (grammar, mut chart) = (load(T).unwrap(), chart());
     let (a, b, two) = ([1, 0, 0, 1, 1, 2], [1, 0, 1, 2, 0, 1], [2, 0, 1, 2, 1, 2]);
-    assert_eq!(check(&grammar, b"", &a, &mut chart), Err(Refusal::InputLength));
+    assert_eq!(check(&grammar, &[b'A'; 65], &a, &mut chart), Err(Refusal::InputLength));
     assert_eq!(check(&grammar, &[b'A'; 65], &a, &mut []), Err(Refusal::InputLength));
     assert_eq!(check(&grammar, b"A", &a, &mut []), Err(Refusal::ChartTooShort));
     assert_eq!(chart, self::chart());
@@ -182,9 +182,8 @@ fn the_first_derivation_is_handed_out_or_none() {
 fn a_refused_first_leaves_the_output() {
     let (grammar, mut chart, mut output) = (load(T).unwrap(), chart(), UNWRITTEN);
     let short = OUTPUT - 1;
-    assert_eq!(first(&changed(0, 32), b"", &mut [], &mut []), Err(Refusal::InvalidGrammar));
-    assert_eq!(first(&grammar, b"", &mut [], &mut []), Err(Refusal::InputLength));
-    assert_eq!(first(&grammar, b"", &mut chart, &mut output), Err(Refusal::InputLength));
+    assert_eq!(first(&changed(0, 32), &[b'A'; 65], &mut [], &mut []), Err(Refusal::InvalidGrammar));
+    assert_eq!(first(&grammar, &[b'A'; 65], &mut [], &mut []), Err(Refusal::InputLength));
     assert_eq!(first(&grammar, &[b'A'; 65], &mut chart, &mut output), Err(Refusal::InputLength));
     assert_eq!(first(&grammar, b"A", &mut chart[..CELLS - 1], &mut []), Err(Refusal::ChartTooShort));
     assert_eq!(first(&grammar, b"A", &mut chart, &mut output[..short]), Err(Refusal::OutputTooShort));
@@ -233,8 +232,8 @@ fn the_next_derivation_is_handed_out_or_none() {
 fn a_refused_next_leaves_the_output() {
     let (grammar, mut chart, mut output) = (load(T).unwrap(), chart(), UNWRITTEN);
     let (good, short) = ([1, 0, 0, 1, 1, 2], OUTPUT - 1);
-    assert_eq!(next(&changed(0, 32), b"", &[], &mut [], &mut []), Err(Refusal::InvalidGrammar));
-    assert_eq!(next(&grammar, b"", &[], &mut [], &mut []), Err(Refusal::InputLength));
+    assert_eq!(next(&changed(0, 32), &[b'A'; 65], &[], &mut [], &mut []), Err(Refusal::InvalidGrammar));
+    assert_eq!(next(&grammar, &[b'A'; 65], &[], &mut [], &mut []), Err(Refusal::InputLength));
     assert_eq!(next(&grammar, &[b'A'; 65], &good, &mut chart, &mut output), Err(Refusal::InputLength));
     assert_eq!(next(&grammar, b"A", &[], &mut chart[..CELLS - 1], &mut []), Err(Refusal::ChartTooShort));
     assert_eq!(next(&grammar, b"A", &[], &mut chart, &mut output[..short]), Err(Refusal::OutputTooShort));
@@ -253,8 +252,8 @@ fn a_refused_next_leaves_the_output() {
 #[test]
 fn derivations_are_counted_up_to_4096() {
     let (grammar, pairs, mut chart) = (load(T).unwrap(), load(PAIRS).unwrap(), chart());
-    assert_eq!(count(&changed(0, 32), b"", &mut []), Err(Refusal::InvalidGrammar));
-    assert_eq!(count(&grammar, b"", &mut []), Err(Refusal::InputLength));
+    assert_eq!(count(&changed(0, 32), &[b'A'; 65], &mut []), Err(Refusal::InvalidGrammar));
+    assert_eq!(count(&grammar, &[b'A'; 65], &mut []), Err(Refusal::InputLength));
     assert_eq!(count(&grammar, &[b'A'; 65], &mut chart), Err(Refusal::InputLength));
     assert_eq!(count(&grammar, b"A", &mut chart[..CELLS - 1]), Err(Refusal::ChartTooShort));
     assert_eq!(chart, self::chart());

@@ -37,7 +37,7 @@ fn one_error_holds_both() {
         Ok(load(book)?)
     }
     assert_eq!(listed(PAIRS, b"AAAA"), Ok(5));
-    let (book, input) = (listed(b"\x99", b"A").unwrap_err(), listed(T, b"").unwrap_err());
+    let (book, input) = (listed(b"\x99", b"A").unwrap_err(), listed(T, &[b'A'; 65]).unwrap_err());
     assert_eq!((book.to_string(), book.refusal()), ("the book is refused at offset 0".into(), Refusal::UnknownCommand));
     assert_eq!(book.source().unwrap().to_string(), "a byte of the book is no command (refusal 2)");
     assert_eq!((input.to_string(), &input), (Refusal::InputLength.to_string(), &Error::Refused(Refusal::InputLength)));

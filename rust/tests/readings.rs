@@ -37,8 +37,9 @@ fn a_refusal_is_the_only_item() {
     bad[0] = 32;
     let (bad, larger) = (Grammar::from_row(&bad), wide(4));
     let refused = [
-        (&t, &b""[..], Refusal::InputLength),
-        (&t, &[b'A'; 65], Refusal::InputLength),
+        (&t, &[b'A'; 65][..], Refusal::InputLength),
+        (&t, &[b'A'; 1000], Refusal::InputLength),
+        (&bad, b"", Refusal::InvalidGrammar),
         (&bad, b"A", Refusal::InvalidGrammar),
         (&larger, b"A", Refusal::OnlyLargerTrees),
     ];
@@ -48,7 +49,7 @@ fn a_refusal_is_the_only_item() {
         assert!((0..3).all(|_| readings.next().is_none()));
         assert_eq!(grammar.readings(input).collect::<Result<Vec<_>, _>>(), Err(refusal));
     }
-    assert_eq!(t.readings(b"").next().unwrap().unwrap_err().number(), 9);
+    assert_eq!(t.readings(&[b'A'; 65]).next().unwrap().unwrap_err().number(), 9);
 }
 
 #[test]
@@ -81,7 +82,8 @@ fn a_reading_is_made_from_its_numbers_only_if_it_is_one() {
         let again = t.reading(b"A", reading.numbers()).unwrap();
         assert_eq!((&again, again.as_ref()), (&reading, reading.numbers()));
         assert_eq!(t.reading(b"AA", reading.numbers()), Err(Refusal::NotADerivation));
-        assert_eq!(t.reading(b"", reading.numbers()), Err(Refusal::InputLength));
+        assert_eq!(t.reading(b"", reading.numbers()), Err(Refusal::NotADerivation));
+        assert_eq!(t.reading(&[b'A'; 65], reading.numbers()), Err(Refusal::InputLength));
     }
     for stranger in [&[][..], &[1], &[1, 0], &[1, 0, 0, 1, 1, 3], &[1, 0, 0, 1, 1, 2, 0], &[9; OUTPUT + 2]] {
         assert_eq!(t.reading(b"A", stranger), Err(Refusal::NotADerivation));

@@ -289,6 +289,28 @@ fn core(rng: &mut Rng, draft: &mut Draft) {
     }
 }
 
+/// Blank options, as the books of service blocks with a bare plate have them: a row of options, each of which may be
+/// empty in several ways, often around the next one. In half of the books a bush leaves them 1 to 8 of the 512 nodes.
+fn blank_options(rng: &mut Rng, draft: &mut Draft) {
+    let options = rng.within(2, 4);
+    let row: Vec<Sym> = (0..rng.within(1, 5)).map(|_| N(rng.within(1, options) as u8)).collect();
+    draft.rule(0, &row);
+    for k in 1..=options {
+        draft.rule(k as u8, if rng.one_in(8) { &[T(A)] } else { &[] });
+        for _ in 0..rng.within(1, 2) {
+            let (next, any) = (k % options + 1, rng.below(options + 1));
+            let around: Vec<Sym> = (0..rng.below(3)).map(|_| N(rng.pick(&[next, next, any]) as u8)).collect();
+            draft.rule(k as u8, &around);
+        }
+    }
+    if rng.one_in(2) {
+        let left = rng.within(1, 8);
+        draft.start = 23;
+        let bush = bush(draft, 511 - left);
+        draft.rule(23, &rng.pick(&[[N(0), bush], [bush, N(0)]]));
+    }
+}
+
 /// The rules of one style.
 fn draft(rng: &mut Rng, style: usize) -> (&'static str, Draft) {
     let mut d = Draft::new(0);
@@ -391,7 +413,7 @@ fn draft(rng: &mut Rng, style: usize) -> (&'static str, Draft) {
             plain(rng, &mut d, kinds, rules, 8, 9, 5);
             "dense"
         }
-        _ => {
+        12 => {
             // a book of expressions, which reads long inputs
             d.rule(0, &[N(0), T(B), N(1)]);
             d.rule(0, &[N(1)]);
@@ -400,6 +422,10 @@ fn draft(rng: &mut Rng, style: usize) -> (&'static str, Draft) {
             d.rule(2, &[T(A)]);
             d.rule(2, &[]);
             "expressions"
+        }
+        _ => {
+            blank_options(rng, &mut d);
+            "blank options"
         }
     };
     (name, d)
@@ -449,7 +475,7 @@ fn dress(rng: &mut Rng, draft: &mut Draft) -> [u8; 2] {
     marks
 }
 
-/// Cuts, changes, inserts or appends bytes.
+/// Cuts, changes, inserts, exchanges or appends bytes.
 pub fn damage(rng: &mut Rng, book: &mut Vec<u8>) {
     for _ in 0..rng.within(1, 2) {
         let byte = match rng.below(3) {
@@ -458,14 +484,24 @@ pub fn damage(rng: &mut Rng, book: &mut Vec<u8>) {
             _ => rng.draw() as u8,
         };
         let at = rng.below(book.len() + 1);
-        match rng.below(8) {
+        match rng.below(9) {
             0 => book.truncate(at),
             1 | 2 if at < book.len() => book[at] = byte,
             3 => book.insert(at, byte),
             4 if at < book.len() => drop(book.remove(at)),
             5 => drop(book.splice(at..at, range(rng))),
+            6 => exchange(rng, book),
             _ => book.push(byte),
         }
+    }
+}
+
+/// Exchanges the two bytes after a byte 41: mostly the ends of a range.
+fn exchange(rng: &mut Rng, book: &mut [u8]) {
+    let ranges: Vec<usize> = (2..book.len()).filter(|at| book[at - 2] == 0x41).collect();
+    if !ranges.is_empty() {
+        let at = rng.pick(&ranges);
+        book.swap(at - 1, at);
     }
 }
 
@@ -502,8 +538,8 @@ pub fn soup(rng: &mut Rng) -> Vec<u8> {
     book
 }
 
-/// Inputs for a draft whose marks are a and b, of 0 to 8 terminals, some of 9 to 64: derived, derived with one terminal
-/// changed, or random. Changed ones are often right beside a and b, where a range may end.
+/// Inputs for a draft whose marks are a and b, of 1 to 8 terminals, some of 9 to 64: derived, derived with one terminal
+/// changed, or random. Changed ones are often right beside a and b, where a range may end. The last input is empty.
 fn inputs(rng: &mut Rng, draft: &Draft, style: &str, [a, b]: [u8; 2]) -> Vec<Vec<u8>> {
     let mut all = Vec::new();
     for number in 0..5 {
@@ -521,7 +557,7 @@ fn inputs(rng: &mut Rng, draft: &Draft, style: &str, [a, b]: [u8; 2]) -> Vec<Vec
             }
         }
         if row.is_empty() || rng.one_in(5) {
-            let length = if long { rng.within(9, 64) } else { rng.below(9) };
+            let length = if long { rng.within(9, 64) } else { rng.within(1, 8) };
             row = (0..length).map(|_| rng.pick(&[a, a, a, b])).collect();
         } else if rng.one_in(5) {
             let at = rng.below(row.len());
@@ -530,19 +566,20 @@ fn inputs(rng: &mut Rng, draft: &Draft, style: &str, [a, b]: [u8; 2]) -> Vec<Vec
         all.push(row);
     }
     if style == "expressions" {
-        let length = rng.within(9, 64);
-        all.push((0..length).map(|i| if i % 2 == 0 { a } else { b }).collect());
+        let length = if rng.one_in(3) { 64 } else { rng.within(9, 63) };
+        all.push((0..length).map(|i| if i % 2 == 0 || i == 63 { a } else { b }).collect());
     }
+    all.push(Vec::new());
     all
 }
 
-/// The book of a seed. About one in seven is damaged, and some were never books.
+/// The book of a seed. One in fourteen has blank options, about one in seven is damaged, and some were never books.
 pub fn book(seed: u64) -> Book {
     let rng = &mut Rng::new(seed);
     if seed % 28 == 5 {
-        return Book { style: "soup", bytes: soup(rng), inputs: vec![vec![A], vec![A, A]] };
+        return Book { style: "soup", bytes: soup(rng), inputs: vec![vec![A], vec![A, A], vec![]] };
     }
-    let (mut style, mut rules) = draft(rng, seed as usize % 13);
+    let (mut style, mut rules) = draft(rng, if seed % 14 == 12 { 13 } else { seed as usize % 13 });
     rules.ranges(rng);
     let marks = dress(rng, &mut rules);
     let inputs = inputs(rng, &rules, style, marks);

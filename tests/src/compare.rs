@@ -55,6 +55,14 @@ impl Comparison<'_> {
         Ok(())
     }
 
+    /// Counts what came up with an input. What comes up with the empty input is also counted by itself.
+    fn add(&mut self, input: &[u8], what: &str) {
+        self.counts.add(what);
+        if input.is_empty() {
+            self.counts.add(&format!("empty input, {what}"));
+        }
+    }
+
     /// A chart that is long enough, filled with rubbish, with further words after its cells.
     fn chart(&mut self) -> Lent<u32> {
         let length = CELLS + self.rng.pick(&[0, 0, 1, 40]);
@@ -90,14 +98,11 @@ impl Comparison<'_> {
         self.counts.add(match input.len() {
             0 => "input: empty",
             1..=8 => "input: 1 to 8 terminals",
-            _ => "input: 9 to 64 terminals",
+            9..=63 => "input: 9 to 63 terminals",
+            _ => "input: 64 terminals",
         });
         let filled = self.takes(flat, &grammar, input)?;
         self.spoilt_takes(flat, &grammar, input)?;
-        if !input.is_empty() {
-            let filled = &filled.part()[..CELLS];
-            self.rows(flat, &grammar, input, filled)?;
-        }
-        Ok(())
+        self.rows(flat, &grammar, input, &filled.part()[..CELLS])
     }
 }

@@ -1,5 +1,5 @@
-//! The simple reference, written from document 01 and request U1 of document 02 alone: explicit trees, the definitions
-//! word by word, no cleverness.
+//! The simple reference, written from document 01 and requests U1 and U2 of document 02 alone: explicit trees, the
+//! definitions word by word, no cleverness.
 //! As a `Reader` it can be the code under test. Read each `fault(..)` as "no": only tests/faults.rs compiles these
 //! files with faults that can be switched on.
 
@@ -43,7 +43,10 @@ fn filled(flat: &FlatGrammar, input: &[u8], chart: &mut [u32]) -> Result<Grammar
 
 /// Checks 8 to 11, in order.
 pub fn judged(flat: &FlatGrammar, input: &[u8], cells: usize, output: usize) -> Result<Grammar, Answer> {
-    let (nine, ten) = (input.is_empty() || input.len() > INPUT, cells < CELLS);
+    // Request U2 of document 02: 9 is for more than 64 terminals only.
+    let nine = input.len() > INPUT - usize::from(fault(Fault::SixtyFourRefused))
+        || (fault(Fault::EmptyInputRefused) && input.is_empty());
+    let ten = cells < CELLS;
     let eleven = output < OUTPUT - usize::from(fault(Fault::ElevenPasses1023));
     if fault(Fault::NineBeforeEight) && nine {
         return Err(Answer::Refused(9));
@@ -64,7 +67,12 @@ pub fn judged(flat: &FlatGrammar, input: &[u8], cells: usize, output: usize) -> 
 /// All derivations of an input, and whether it has a tree of any size.
 pub fn listed(grammar: &Grammar, input: &[u8]) -> (Vec<trees::Row>, bool) {
     let list = listing::derivations(grammar, input, trees::LIMIT, MANY_STEPS).expect("small enough to list");
-    (list, has_tree(grammar, input))
+    let tree = match () {
+        _ if fault(Fault::ThirteenForgottenOnTheEmptyInput) && input.is_empty() => false,
+        _ if fault(Fault::ThirteenOnTheEmptyInputWithoutATree) && input.is_empty() => true,
+        _ => has_tree(grammar, input),
+    };
+    (list, tree)
 }
 
 /// Whether the input has a parse tree of the start nonterminal, of any size.

@@ -1,4 +1,4 @@
-//! What the listing program must print for the bytes of a book and of a plate, from document 01 alone.
+//! What the listing program must print for the bytes of a book and of a plate, from documents 01 and 02 alone.
 
 mod in_order;
 
@@ -31,7 +31,7 @@ pub fn text(book: &[u8], plate: &[u8]) -> Result<Vec<u8>, TooLarge> {
 pub fn judged(book: &[u8], plate: &[u8]) -> Result<Grammar, u8> {
     let grammar = grammar::load(book).map_err(|(number, _)| number)?;
     match plate.len() {
-        1..=INPUT => Ok(grammar),
+        0..=INPUT => Ok(grammar),
         _ => Err(9),
     }
 }

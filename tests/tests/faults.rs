@@ -65,7 +65,7 @@ fn all_caught<T: Sync>(cases: &[(String, T)], try_one: impl Fn(&T) -> Option<(u6
 #[test]
 fn every_fault_is_caught() {
     let faults: Vec<(String, Fault)> = Fault::ALL.iter().map(|fault| (format!("{fault:?}"), *fault)).collect();
-    assert!(faults.len() >= 154);
+    assert!(faults.len() >= 169);
     all_caught(&faults, |fault| {
         switch_on(Some(*fault));
         caught(&Faulty::default())
@@ -118,6 +118,13 @@ fn the_walk_alone_catches_what_it_has_to() {
         Fault::FewerTerminalsSuperfluous,
         Fault::ChildOfItsOwnKindLetThrough,
         Fault::EmptySiblingsSuperfluous,
+        Fault::EmptyInputRefused,
+        Fault::EmptyInputRefusedByNext,
+        Fault::EmptyCopyOfTheEmptyInputGoesOn,
+        Fault::ThirteenForgottenOnTheEmptyInput,
+        Fault::ThirteenOnTheEmptyInputWithoutATree,
+        Fault::EmptyRootRecursionListed,
+        Fault::EmptyInputLeavesTheChart,
     ];
     all_caught(&faults.map(|fault| (format!("{fault:?}"), fault)), |fault| {
         switch_on(Some(*fault));

@@ -166,12 +166,14 @@ fn refusals_in_their_order() {
     let (good, mut bad) = (loaded(&book(0, &["0:", "0: A"])), loaded(&book(0, &["0:", "0: A"])));
     bad[0] = 32;
     let long = [b'A'; 65];
-    let cases: [(&FlatGrammar, &[u8], usize, usize, Answer); 9] = [
+    let cases: [(&FlatGrammar, &[u8], usize, usize, Answer); 11] = [
         (&bad, &[], CELLS - 1, OUTPUT - 1, Answer::Refused(8)),
-        (&good, &[], CELLS - 1, OUTPUT - 1, Answer::Refused(9)),
+        (&bad, &long, CELLS - 1, OUTPUT - 1, Answer::Refused(8)),
         (&good, &long, CELLS - 1, OUTPUT - 1, Answer::Refused(9)),
-        (&good, &[], CELLS, OUTPUT, Answer::Refused(9)),
         (&good, &long, CELLS, OUTPUT, Answer::Refused(9)),
+        (&good, &[], CELLS - 1, OUTPUT - 1, Answer::Refused(10)),
+        (&good, &[], CELLS, OUTPUT - 1, Answer::Refused(11)),
+        (&good, &[], CELLS, OUTPUT, Answer::Nodes(1)),
         (&good, b"A", CELLS - 1, OUTPUT - 1, Answer::Refused(10)),
         (&good, b"A", CELLS, OUTPUT - 1, Answer::Refused(11)),
         (&good, b"A", CELLS, 0, Answer::Refused(11)),

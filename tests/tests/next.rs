@@ -229,11 +229,12 @@ fn refusals_in_their_order() {
     let (good, mut bad) = (loaded(&book(0, &rules)), loaded(&book(0, &rules)));
     bad[0] = 32;
     let (long, reading, other) = ([b'A'; 65], row("1.0 0.1 1.2"), row("1.0 0.1 0.1"));
-    let cases: [Case<'_>; 11] = [
+    let cases: [Case<'_>; 12] = [
         (&bad, &[], &other, CELLS - 1, OUTPUT - 1, Answer::Refused(8)),
         (&bad, b"A", &reading, CELLS, OUTPUT, Answer::Refused(8)),
-        (&good, &[], &other, CELLS - 1, OUTPUT - 1, Answer::Refused(9)),
         (&good, &long, &other, CELLS - 1, OUTPUT - 1, Answer::Refused(9)),
+        (&good, &long, &other, CELLS, OUTPUT, Answer::Refused(9)),
+        (&good, &[], &other, CELLS - 1, OUTPUT - 1, Answer::Refused(10)),
         (&good, b"A", &other, CELLS - 1, OUTPUT - 1, Answer::Refused(10)),
         (&good, b"A", &reading, CELLS - 1, OUTPUT, Answer::Refused(10)),
         (&good, b"A", &other, CELLS, OUTPUT - 1, Answer::Refused(11)),

@@ -14,12 +14,12 @@ use outside_tests::lister::grammar::Grammar;
 use outside_tests::lister::listing::TooLarge;
 use outside_tests::lister::{has_tree, trees};
 use outside_tests::text::{judged, line, text, MOST};
-use process::Folder;
+use process::{prints, Folder};
 use std::time::Instant;
 
 /// Books compared in a run.
 const BOOKS: u64 = 1300;
-/// Plates of each.
+/// Plates of each, beside the one of no marks and, for one book in eight, one of more than 64.
 const PLATES: usize = 3;
 
 /// How often each outcome must come up at least.
@@ -32,7 +32,7 @@ const DUE: &[(&str, u64)] = &[
     ("REFUSED 5", 10),
     ("REFUSED 6", 15),
     ("REFUSED 7", 20),
-    ("REFUSED 9", 50),
+    ("REFUSED 9", 80),
     ("REFUSED 13", 30),
     ("REFUSED 16", 3),
     ("NO READING", 500),
@@ -40,6 +40,10 @@ const DUE: &[(&str, u64)] = &[
     ("two or more", 500),
     ("more than 4,096", 30),
     ("a negative length", 500),
+    ("no marks: NO READING", 400),
+    ("no marks: REFUSED 13", 12),
+    ("no marks: one reading", 120),
+    ("no marks: two or more", 80),
 ];
 
 /// Full books compared in a run.
@@ -99,17 +103,31 @@ fn outcome(text: &[u8]) -> String {
     }
 }
 
-/// Compares the program with the lister on a book and three of its plates; a refused book gets one plate.
+/// Three of the book's plates, the one of no marks and, for one book in eight, one of more than 64.
+fn plates(book: &Book, seed: u64) -> Vec<Vec<u8>> {
+    let marked: Vec<&Vec<u8>> = book.inputs.iter().filter(|plate| !plate.is_empty()).collect();
+    let drawn = marked.iter().cycle().skip(seed as usize % marked.len());
+    let mut plates: Vec<Vec<u8>> = drawn.take(marked.len().min(PLATES)).map(|plate| plate.to_vec()).collect();
+    plates.push(Vec::new());
+    if seed % 8 == 3 {
+        plates.push(vec![b'A'; [65, 66, 1000][seed as usize / 8 % 3]]);
+    }
+    plates
+}
+
+/// Compares the program with the lister on a book and its plates; a refused book gets one plate.
 fn compare(folder: &Folder, book: &Book, seed: u64, counts: &mut Counts) -> Result<(), String> {
     folder.put(&book.bytes);
     counts.add("book");
-    let drawn = book.inputs.iter().cycle().skip(seed as usize % book.inputs.len());
-    for plate in drawn.take(book.inputs.len().min(PLATES)) {
+    for plate in &plates(book, seed) {
         let said = |what: String| format!("({}), book {:02X?}, plate {plate:?}: {what}", book.style, book.bytes);
         match text(&book.bytes, plate) {
             Ok(due) => {
                 folder.prints(plate, &due).map_err(said)?;
                 counts.add(&outcome(&due));
+                if plate.is_empty() {
+                    counts.add(&format!("no marks: {}", outcome(&due)));
+                }
                 if due.windows(3).any(|three| three == b"= -") {
                     counts.add("a negative length");
                 }
@@ -154,12 +172,6 @@ fn random_books() {
     for (name, due) in DUE {
         assert!(counts.get(name) >= *due, "{name}: came up {} times, due {due}", counts.get(name));
     }
-}
-
-/// The program prints exactly this for a book and a plate, and so does the lister.
-fn prints(book: &[u8], plate: &[u8], due: &str) {
-    assert_eq!(String::from_utf8(text(book, plate).expect("small enough")).expect("ASCII"), due);
-    Folder::with(book).prints(plate, due.as_bytes()).expect("no difference");
 }
 
 /// The program prints what the lister does: this many readings, and this last line.

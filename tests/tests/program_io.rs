@@ -6,10 +6,10 @@
 mod calls;
 mod process;
 
-use calls::book;
+use calls::{book, T};
 use outside_tests::books::{Draft, Sym};
 use outside_tests::text::text;
-use process::{ended, given, program, Folder};
+use process::{ended, given, prints, program, Folder};
 use std::fs::{self, File};
 use std::io::{Read, Write};
 use std::os::unix::process::ExitStatusExt;
@@ -24,12 +24,6 @@ const SIGPIPE: i32 = 13;
 
 fn pairs() -> Vec<u8> {
     book(0, &["0: 0 0", "0: A"])
-}
-
-/// The program prints what the lister does, and it is this text.
-fn prints(book: &[u8], plate: &[u8], due: &str) {
-    assert_eq!(String::from_utf8(text(book, plate).expect("small enough")).expect("ASCII"), due);
-    Folder::with(book).prints(plate, due.as_bytes()).expect("no difference");
 }
 
 #[test]
@@ -99,17 +93,20 @@ fn books_of_100_000_bytes() {
 
 #[test]
 fn plates_of_every_length() {
-    let line = book(0, &["0: A 0", "0: A"]);
-    let folder = Folder::with(&line);
-    for length in 0..=70 {
-        let plate = vec![b'A'; length];
-        let due = text(&line, &plate).expect("small enough");
-        assert_eq!(due == b"REFUSED 9\n", length == 0 || length > 64);
-        assert_eq!(due.ends_with(b" 1.1 = 0\nREADINGS 1\n"), (1..=64).contains(&length));
-        folder.prints(&plate, &due).expect("no difference");
-    }
-    for length in [4096, 8192, 65_536, MANY] {
-        folder.prints(&vec![b'A'; length], b"REFUSED 9\n").expect("no difference");
+    for (last, least, end) in [("0: A", 1, " 1.1 = 0\nREADINGS 1\n"), ("0:", 0, " 0.1 = 0\nREADINGS 1\n")] {
+        let line = book(0, &["0: A 0", last]);
+        let folder = Folder::with(&line);
+        for length in 0..=70 {
+            let plate = vec![b'A'; length];
+            let due = text(&line, &plate).expect("small enough");
+            assert_eq!(due == b"NO READING\n", length < least);
+            assert_eq!(due.ends_with(end.as_bytes()), (least..=64).contains(&length));
+            assert_eq!(due == b"REFUSED 9\n", length > 64);
+            folder.prints(&plate, &due).expect("no difference");
+        }
+        for length in [4096, 8192, 65_536, MANY] {
+            folder.prints(&vec![b'A'; length], b"REFUSED 9\n").expect("no difference");
+        }
     }
 }
 
@@ -141,7 +138,8 @@ fn plates_from_everywhere() {
         assert_eq!(folder.written("stdout"), due, "marks in pieces of {pieces:?}");
     }
     for none in ["</dev/null", "<&-"] {
-        assert_eq!(shell(&folder, none, b"").1, b"REFUSED 9\n", "{none}");
+        assert_eq!(shell(&folder, none, b"").1, b"NO READING\n", "{none}");
+        assert_eq!(shell(&Folder::with(&T), none, b"").1, b"1: 0.0 0.1 0.1 = 460\nREADINGS 1\n", "{none}");
     }
 }
 

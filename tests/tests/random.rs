@@ -45,15 +45,44 @@ const DUE: &[(&str, u64)] = &[
     ("refused 8: a reversed range, by more", 200),
     ("passed 8: a reversed range in an unused place", 2500),
     // Inputs and what they have.
-    ("input: empty", 100),
+    ("input: empty", 800),
     ("input: 1 to 8 terminals", 3000),
-    ("input: 9 to 64 terminals", 150),
+    ("input: 9 to 63 terminals", 150),
+    ("input: 64 terminals", 15),
     ("no tree", 1000),
     ("only trees over the limit", 50),
     ("one derivation", 1000),
     ("two or more", 1000),
     ("the limit cuts some", 60),
     ("the forbidden ancestor", 800),
+    // The empty input: what it has, and what each call answers.
+    ("empty input, no tree", 400),
+    ("empty input, only trees over the limit", 12),
+    ("empty input, one derivation", 120),
+    ("empty input, two or more", 100),
+    ("empty input, the limit cuts some", 7),
+    ("empty input, check: Yes", 4000),
+    ("empty input, check: No", 5000),
+    ("empty input, offered: a tree over the limit", 150),
+    ("empty input, offered: superfluous recursion", 300),
+    ("empty input, length: Yes", 4000),
+    ("empty input, length: refused 12", 2000),
+    ("empty input, same build: two derivations, yes", 500),
+    ("empty input, same build: a derivation and itself", 1000),
+    ("empty input, same build: refused 12", 4000),
+    ("empty input, first: handed out", 200),
+    ("empty input, first: no reading", 400),
+    ("empty input, first: refused 13", 12),
+    ("empty input, next: handed out", 120),
+    ("empty input, next: none", 200),
+    ("empty input, next: refused 12", 1500),
+    ("empty input, count: counted", 200),
+    ("empty input, count: 0", 400),
+    ("empty input, count: refused 13", 10),
+    ("empty input, walk: First", 800),
+    ("empty input, walk: NextWithCopy", 1500),
+    ("empty input, walk: NextWithNoDerivation", 200),
+    ("empty input, walk: Count", 200),
     // Opening and taking.
     ("complete: yes", 5000),
     ("complete: no", 5000),
@@ -131,6 +160,7 @@ const DUE: &[(&str, u64)] = &[
     ("style: near the limits", 40),
     ("style: dense", 40),
     ("style: expressions", 40),
+    ("style: blank options", 40),
     ("style: soup", 30),
     ("style: damaged", 100),
 ];
@@ -150,6 +180,23 @@ const OUT_OF_RANGE: &[(&str, u64)] = &[
 /// Impossible: a mark up to 255 is in range, and so is any low byte; one over the largest mark is 256.
 const NO_SUCH: &[&str] = &["a mark, up to 255", "a mark, 256", "a mark, low byte out of range"];
 
+/// The calls on an input, and how often each is refused with 8 to 11 at the bounds of an input's length; 0 means never.
+const ON_AN_INPUT: &[&str] = &["check", "length", "same build", "first", "next", "count"];
+const AT_THE_BOUNDS: &[(&str, u8, u64)] = &[
+    ("empty input", 8, 1200),
+    ("empty input", 9, 0),
+    ("empty input", 10, 600),
+    ("empty input", 11, 350),
+    ("64 bytes", 8, 700),
+    ("64 bytes", 9, 0),
+    ("64 bytes", 10, 600),
+    ("64 bytes", 11, 60),
+    ("65 bytes", 8, 500),
+    ("65 bytes", 9, 600),
+    ("65 bytes", 10, 0),
+    ("65 bytes", 11, 0),
+];
+
 /// The same for a reader that does not make the whole list for first, next and count.
 const DUE_UNLISTED: &[(&str, u64)] = &[
     ("first, too many to list: handed out", 5),
@@ -159,6 +206,22 @@ const DUE_UNLISTED: &[(&str, u64)] = &[
     ("next: every derivation offered", 3000),
     ("next: some offered", 80),
 ];
+
+/// The empty input came up with each loaded book. At the bounds, each call was refused as due; 11 is of first and next.
+fn due_at_the_bounds(counts: &Counts, usual: impl Fn(u64) -> u64) {
+    let loaded = counts.get("load: depth 0") + counts.get("load: depth above 0");
+    assert_eq!(counts.get("input: empty"), loaded);
+    for (call, (input, refusal, due)) in
+        ON_AN_INPUT.iter().flat_map(|call| AT_THE_BOUNDS.iter().map(move |at| (call, at)))
+    {
+        let name = format!("{input}, {call}: refused {refusal}");
+        let due = if *refusal < 11 || matches!(*call, "first" | "next") { usual(*due) } else { 0 };
+        let count = counts.get(&name);
+        assert!(count >= due && (count == 0 || due > 0), "{name}: came up {count} times, due {due}");
+    }
+    // No node covers anything, so all derivations of the empty input are the same build.
+    assert_eq!(counts.get("empty input, same build: No"), 0);
+}
 
 #[test]
 fn random_books() {
@@ -195,6 +258,7 @@ fn random_books() {
         let (count, possible) = (counts.get(&format!("refused 8: {name}")), !NO_SUCH.contains(&name.as_str()));
         assert!(count >= usual(*due) || !possible, "{name}: came up {count} times, due {due}");
     }
+    due_at_the_bounds(&counts, usual);
     let skipped = counts.get("skipped: too large to list");
     assert!(skipped * 10 < counts.get("one derivation") + counts.get("two or more"), "{skipped} inputs skipped");
 }

@@ -4,7 +4,7 @@
 #[allow(dead_code)] // not all of it is called from here
 mod calls;
 
-use calls::{book, deepest, deepest_row, T};
+use calls::{blank_bush, book, deepest, deepest_row, T};
 use outside_tests::books::{self, boundary, Draft, Sym};
 use outside_tests::lister::listing::{derivations, TooLarge};
 use outside_tests::lister::trees::LIMIT;
@@ -45,7 +45,6 @@ fn refusals_are_printed() {
         assert_eq!(printed(&[0x60], plate), "REFUSED 2\n");
         assert_eq!(printed(&[&T[..], &[0]].concat(), plate), "REFUSED 7\n");
     }
-    assert_eq!(printed(&T, b""), "REFUSED 9\n");
     assert_eq!(printed(&T, &[b'A'; 64]), "NO READING\n");
     assert_eq!(printed(&T, &[b'A'; 65]), "REFUSED 9\n");
     let rules = ["0: A 1 1 1 1 1 1 1", "1: 2 2 2 2 2 2 2 2", "2: 3 3 3 3 3 3 3 3", "3:"];
@@ -54,6 +53,19 @@ fn refusals_are_printed() {
     assert_eq!(printed(&deepest(), &[b'A'; 17]), "REFUSED 13\n");
     let row: String = deepest_row(16).chunks(2).map(|part| format!("{}.{} ", part[0], part[1])).collect();
     assert_eq!(printed(&deepest(), &[b'A'; 16]), format!("1: {row}= 0\nREADINGS 1\n"));
+}
+
+/// A plate of no marks is read like any other: request U2 of document 02.
+#[test]
+fn the_lines_of_an_empty_plate() {
+    assert_eq!(printed(&T, b""), "1: 0.0 0.1 0.1 = 460\nREADINGS 1\n");
+    assert_eq!(printed(&T, b"\n"), "NO READING\n"); // a newline is a mark
+    let twins = "1: 0.0 0.1 0.1 = 0\n2: 0.0 0.1 0.2 = 0\n3: 0.0 0.2 0.1 = 0\n4: 0.0 0.2 0.2 = 0\nREADINGS 4\n";
+    assert_eq!(printed(&book(0, &["0: 1 1", "1:", "1:"]), b""), twins);
+    assert_eq!(printed(&book(0, &["0: A"]), b""), "NO READING\n");
+    assert_eq!(printed(&[0x10, 0x00, 0x50], b""), "NO READING\n");
+    assert!(printed(&blank_bush(0), b"").ends_with("0.3 0.3 = 0\nREADINGS 1\n"));
+    assert_eq!(printed(&blank_bush(4), b""), "REFUSED 13\n");
 }
 
 /// The lines of a text, with the last one separate.

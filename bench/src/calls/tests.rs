@@ -72,15 +72,21 @@ fn random_book(random: &mut Random, number: usize) -> (Vec<u8>, Vec<u8>) {
     }
 }
 
+/// The input, its front of 5 bytes, of one and of none, and 65 bytes, which are refused; each with the length of an
+/// output, of which one is too short.
+fn lengths(input: &[u8]) -> [(&[u8], usize); 5] {
+    [(input, 1024), (&input[..5], 1030), (&input[..1], 1023), (&[], 1024), (&[65; 65], 1024)]
+}
+
 #[test]
 fn both_sides_hand_out_the_same_first_reading() {
     let mut random = Random::new(11);
-    let mut seen = [0; 3];
+    let (mut seen, mut empty) = ([0; 3], [0; 3]);
     for number in 0..24 {
         let (book, input) = random_book(&mut random, number);
         let (mut row, mut offset) = ([9; FLAT], 9);
         assert_eq!(Proved::load(&book, &mut row, &mut offset), 1);
-        for (input, numbers) in [(&input[..], 1024), (&input[..5], 1030), (&input[..1], 1023), (&[], 1024)] {
+        for (input, numbers) in lengths(&input) {
             let (mut x, mut y, mut m, mut n) = (chart(), chart(), 9, 9);
             let (mut a, mut b) = (vec![7u16; numbers], vec![7u16; numbers]);
             let code = Proved::first(&row, input, &mut x, &mut a, &mut m);
@@ -90,9 +96,11 @@ fn both_sides_hand_out_the_same_first_reading() {
             );
             assert!(code == 1 || m == 9);
             seen[code.min(2) as usize] += 1;
+            empty[code.min(2) as usize] += usize::from(input.is_empty());
         }
     }
     assert!(seen[0] > 5 && seen[1] > 5 && seen[2] >= 48, "{seen:?}");
+    assert!(empty[0] > 5 && empty[1] > 1, "{empty:?}");
 }
 
 #[test]
@@ -103,7 +111,7 @@ fn both_sides_hand_out_the_same_next_reading_and_count_alike() {
         let (book, input) = random_book(&mut random, number);
         let (mut row, mut offset) = ([9; FLAT], 9);
         assert_eq!(Proved::load(&book, &mut row, &mut offset), 1);
-        for (input, numbers) in [(&input[..], 1024), (&input[..5], 1030), (&input[..1], 1023), (&[], 1024)] {
+        for (input, numbers) in lengths(&input) {
             let (mut offered, mut m) = (vec![7; 1024], 9);
             Proved::first(&row, input, &mut chart(), &mut offered, &mut m);
             for _ in 0..4 {

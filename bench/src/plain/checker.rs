@@ -66,7 +66,7 @@ pub fn judge(g: &Grammar, input: &[u8], chart: &[u32]) -> Result<(), Refusal> {
     if !g.valid() {
         return Err(Refusal::InvalidGrammar);
     }
-    if input.is_empty() || input.len() > INPUT {
+    if input.len() > INPUT {
         return Err(Refusal::InputLength);
     }
     if chart.len() < CHART {

@@ -162,10 +162,10 @@ impl Lister<'_> {
 #[test]
 fn readings_are_checked_yes_and_damaged_rows_as_trees_say() {
     let mut random = Random::new(3);
-    let (mut yes, mut no, mut skipped) = (0, 0, 0);
+    let (mut yes, mut no, mut empty, mut skipped) = (0, 0, 0, 0);
     for _ in 0..2000 {
         let g = small_grammar(&mut random);
-        let w: Vec<u8> = (0..1 + random.below(3)).map(|_| b'A' + random.below(2) as u8).collect();
+        let w: Vec<u8> = (0..random.below(4)).map(|_| b'A' + random.below(2) as u8).collect();
         let mut lister = Lister { g: &g, w: &w, steps: 0 };
         let list = lister.trees(0, 0, w.len(), &[]);
         if lister.steps > 20_000 {
@@ -176,6 +176,7 @@ fn readings_are_checked_yes_and_damaged_rows_as_trees_say() {
         for e in list.iter().filter(|e| e.len() <= 1024).take(20) {
             assert_eq!(checker::check(&g, &w, e, &mut chart), Ok(true), "{g:?} {w:?} {e:?}");
             yes += 1;
+            empty += w.is_empty() as u32;
             let mut f = e.clone();
             let at = random.below(f.len());
             f[at] = random.below(6) as u16;
@@ -184,7 +185,10 @@ fn readings_are_checked_yes_and_damaged_rows_as_trees_say() {
             no += !listed as u32;
         }
     }
-    assert!(yes > 2000 && no > 1000 && skipped < 1000, "{yes} yes, {no} no, {skipped} skipped");
+    assert!(
+        yes > 2000 && no > 1000 && empty > 400 && skipped < 1000,
+        "{yes} yes, {no} no, {empty} empty, {skipped} skipped"
+    );
 }
 
 #[test]
@@ -269,7 +273,8 @@ fn readings_are_counted_up_to_4096() {
     );
     assert_eq!((count(&books::boundary(false), 12), count(&books::boundary(true), 12)), (Ok(Some(4096)), Ok(None)));
     assert_eq!((count(&books::deepest().0, 16), count(&books::bush().0, 1)), (Ok(Some(1)), Ok(Some(1))));
-    assert_eq!((count(&books::unit_graph(), 1), count(&books::pairs(), 0)), (Ok(Some(1)), Err(Refusal::InputLength)));
+    assert_eq!((count(&books::unit_graph(), 1), count(&books::pairs(), 0)), (Ok(Some(1)), Ok(Some(0))));
+    assert_eq!(count(&books::pairs(), 65), Err(Refusal::InputLength));
     assert_eq!(count(&books::deepest().0, 17), Err(Refusal::OnlyLargerTrees));
     let (book, reading) = books::last_of_many();
     let g = loader::load(&book).unwrap();
@@ -341,7 +346,9 @@ fn the_listing_program_prints_the_lines_of_document_01() {
     let t = b"\x10\x00\x20\x00\xF8\x11\x30\x01\x30\x01\x20\x01\x00\x00\x20\x01\x19\x00\x40\x41\x50";
     assert_eq!(text(t, b"A"), "1: 1.0 0.1 1.2 = 463\n2: 1.0 1.2 0.1 = 463\nREADINGS 2\n");
     assert_eq!(text(t, b"AAA"), "NO READING\n");
-    assert_eq!(text(t, b""), "REFUSED 9\n");
+    assert_eq!(text(t, b""), "1: 0.0 0.1 0.1 = 460\nREADINGS 1\n");
+    assert_eq!((text(t, &[b'A'; 64]), text(t, &[b'A'; 65])), ("NO READING\n".into(), "REFUSED 9\n".into()));
+    assert_eq!(text(b"\x10\x00\x50", b""), "NO READING\n");
     assert_eq!(text(&t[..20], b""), "REFUSED 1\n");
     assert_eq!(text(b"\x10\x00\x20\x00\xE7\xFF\x40\x41\x50", b"A"), "1: 1.0 = -3\nREADINGS 1\n");
     assert_eq!(text(b"\x10\x00\x20\x00\xFC\xFF\x40\x41\x50", b"A"), "1: 1.0 = 0\nREADINGS 1\n");

@@ -52,6 +52,11 @@ pub unit-listed : listOf (grammar (0 ⇒ (nonterminal 0 ∷ []) ∷ 0 ⇒ (A ∷
 unfolding listOf
 unit-listed = refl
 
+-- 0 → 0, 0 → nothing: so it is over no bytes, also at the root
+pub empty-unit-listed : listOf (grammar (0 ⇒ (nonterminal 0 ∷ []) ∷ 0 ⇒ [] ∷ [])) 0 ≡ (0 ∷ 1 ∷ []) ∷ []
+unfolding listOf
+empty-unit-listed = refl
+
 -- 0 → 0 A, 0 → A: the same nonterminal over fewer bytes is not
 pub nested-listed : listOf (grammar (0 ⇒ (nonterminal 0 ∷ A ∷ []) ∷ 0 ⇒ (A ∷ []) ∷ [])) 3 ≡ (3 ∷ 0 ∷ 2 ∷ 0 ∷ 1 ∷ 1 ∷ []) ∷ []
 unfolding listOf

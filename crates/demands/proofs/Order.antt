@@ -1,9 +1,8 @@
 -- Opening, taking and the calls on an input: of the refusals 8 to 11, 14 and 15 the first that applies is given, and none without a cause.
 -- Assumes nothing.
 use Prim.Native.Nat.{ℕ, _<_}
-use mathlib.Core.Bool.{Bool, true, false, _||_, not}
+use mathlib.Core.Bool.{not}
 use mathlib.Core.List.{List}
-use mathlib.Core.Logic.{_⊎_, inl, inr, ⊎-map}
 use mathlib.Core.Path.{_≡_, refl, ap}
 use lib.Dec.{eqb, ltb}
 use lib.ListN.{length}
@@ -21,7 +20,6 @@ use Rattle.results.specs.Enumerate.{Enumeration, onOutput, firstOf, nextOf, cou
 use Rattle.demands.specs.Cause.{cause}
 use Rattle.demands.specs.Order.{cause8, cause9, NoRefusal, OnlyLater, OpenOrder, TakeOrder, InputOrder, OutputOrder}
 use Rattle.results.proofs.Answers.{answered-apart}
-use Rattle.results.proofs.Passed.{input-fails}
 use Rattle.demands.proofs.Decided.{Tells, decided}
 use Rattle.demands.proofs.Later.{length-later, same-build-later, count-later, first-later, next-later}
 
@@ -37,14 +35,7 @@ tells8 : (g : Grammar) → Tells (grammarCheck g) (cause8 g)
 tells8 g = record { exact = (not-true (validGrammar g), ap not); same = refl }
 
 tells9 : (w : List ℕ) → Tells (inputCheck w) (cause9 w)
-tells9 w = record {
-  exact = (λ e. ⊎-map (eqb-true (length w) 0) (ltb-true maxInput (length w)) (either _ _ e), input-fails w);
-  same = refl;
-}
-  where
-    either : (a b : Bool) → (a || b) ≡ true → (a ≡ true) ⊎ (b ≡ true)
-    either true b e = inl refl
-    either false b e = inr e
+tells9 w = less maxInput (length w) 9
 
 -- ---- opening and taking
 

@@ -33,15 +33,15 @@ pub first-thirteen : (g : Grammar) (w chart out : List ℕ)
     → TreesOrder (ReadyOut g w chart out) (grammarOf g) w (firstOf g w chart out .answer)
 first-thirteen g w chart out = record {
   thirteen = λ r t f. let i = r .input in
-      larger-exact g (i .valid) w (i .nonempty) (i .short) chart (i .room) out (r .space) .1 (none→larger g w t f);
+      larger-exact g (i .valid) w (i .short) chart (i .room) out (r .space) .1 (none→larger g w t f);
   passed = λ r c n. let i = r .input in
-      first-by g (i .valid) w (i .nonempty) (i .short) chart (i .room) out (r .space) (λ a. a ≡ refused n → ⊥)
+      first-by g (i .valid) w (i .short) chart (i .room) out (r .space) (λ a. a ≡ refused n → ⊥)
       (λ k l e. answered-apart e) (λ l e. not-larger g w c l) (λ f e. answered-apart e);
 }
 
 pub count-thirteen : (g : Grammar) (w chart : List ℕ) → TreesOrder (Ready g w chart) (grammarOf g) w (countOf g w chart .answer)
 count-thirteen g w chart = record {
-  thirteen = λ r t f. count-larger g (r .valid) w (r .nonempty) (r .short) chart (r .room) .1 (none→larger g w t f);
-  passed = λ r c n. count-by g (r .valid) w (r .nonempty) (r .short) chart (r .room) (λ a. a ≡ refused n → ⊥)
+  thirteen = λ r t f. count-larger g (r .valid) w (r .short) chart (r .room) .1 (none→larger g w t f);
+  passed = λ r c n. count-by g (r .valid) w (r .short) chart (r .room) (λ a. a ≡ refused n → ⊥)
       (λ l h e. answered-apart e) (λ l e. answered-apart e) (λ l e. not-larger g w c l) (λ f e. answered-apart e);
 }

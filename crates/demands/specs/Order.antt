@@ -3,7 +3,6 @@
 use Prim.Native.Nat.{ℕ, _<_}
 use mathlib.Core.Bool.{Bool, false}
 use mathlib.Core.List.{List, [], _∷_}
-use mathlib.Core.Logic.{_⊎_}
 use mathlib.Core.Path.{_≡_}
 use lib.ListN.{length}
 use Rattle.sizes.specs.Sizes.{cells, maxInput, outputSize}
@@ -17,9 +16,9 @@ use Rattle.demands.specs.Cause.{Cause, cause, Decided}
 abbrev pub cause8 : Grammar → Cause ℕ
 cause8 g = cause (validGrammar g ≡ false) 8
 
--- the input: no bytes, or more than 64
+-- the input has more than 64 bytes
 abbrev pub cause9 : List ℕ → Cause ℕ
-cause9 w = cause ((length w ≡ 0) ⊎ (maxInput < length w)) 9
+cause9 w = cause (maxInput < length w) 9
 
 -- the chart is shorter than 4,225 cells
 abbrev pub cause10 : List ℕ → Cause ℕ

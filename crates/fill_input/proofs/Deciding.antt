@@ -2,7 +2,6 @@
 use Prim.Native.Nat.{ℕ}
 use mathlib.Core.Bool.{not}
 use mathlib.Core.List.{List, [], _∷_, _++_}
-use mathlib.Core.Logic.{inl, inr}
 use mathlib.Core.Path.{_≡_, sym, ap, ap₂, subst, _∙_}
 use lib.ListN.{length}
 use borrow.Author.Tests.{lt-ltb}
@@ -22,23 +21,21 @@ use Rattle.results.proofs.Passed.{input-fails, input-passes, ready→pass, read
 use Rattle.fill_input.specs.declared.Judged.{Judged}
 use Rattle.fill_input.specs.declared.Judged.the-variants.{Passed, Refused}
 use Rattle.fill_input.specs.Given.{checkingOf}
-use Rattle.fill_input.specs.Judging.{Judging, passed, invalid, no-input, long-input, no-room}
+use Rattle.fill_input.specs.Judging.{Judging, passed, invalid, long-input, no-room}
 use Rattle.fill_input.specs.Judging.{JudgingOutput, all-passed, before, no-space}
 
 ready : (g : Grammar) (w chart : List ℕ) → Judging g (length w) (length chart) Passed → Ready g w chart
-ready g w chart (passed v a b l) = record { valid = v; nonempty = a; short = b; room = l }
+ready g w chart (passed v b l) = record { valid = v; short = b; room = l }
 
 module _ (g : Grammar) (w chart : List ℕ) {B : Type 0} (refuse : ℕ → B) (go : Unit {0} → B) where
   -- 8, 9 or 10, whatever checks come after them
   first-fails : (rest : List (Check ℕ)) {r : Refusal} → Judging g (length w) (length chart) (Refused r)
       → decide (inputChecks g w chart ++ rest) refuse go ≡ refuse (numberOf r)
   first-fails rest (invalid v) = decide-first refuse go [] (grammarCheck g) (inputCheck w ∷ chartCheck chart ∷ rest) tt (ap not v)
-  first-fails rest (no-input v e) =
-      decide-first refuse go (grammarCheck g ∷ []) (inputCheck w) (chartCheck chart ∷ rest) (ap not v, tt) (input-fails w (inl e))
   first-fails rest (long-input v l) =
-      decide-first refuse go (grammarCheck g ∷ []) (inputCheck w) (chartCheck chart ∷ rest) (ap not v, tt) (input-fails w (inr l))
-  first-fails rest (no-room v a b l) =
-      decide-first refuse go (grammarCheck g ∷ inputCheck w ∷ []) (chartCheck chart) rest (ap not v, (input-passes w a b, tt))
+      decide-first refuse go (grammarCheck g ∷ []) (inputCheck w) (chartCheck chart ∷ rest) (ap not v, tt) (input-fails w l)
+  first-fails rest (no-room v b l) =
+      decide-first refuse go (grammarCheck g ∷ inputCheck w ∷ []) (chartCheck chart) rest (ap not v, (input-passes w b, tt))
       (lt-ltb (length chart) cells l)
 
   -- ---- checks 8, 9 and 10

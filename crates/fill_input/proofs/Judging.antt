@@ -2,7 +2,6 @@
 use Prim.Native.Nat.{ℕ, _≤_, _<_}
 use mathlib.Core.Bool.{Bool, true, false, not}
 use mathlib.Core.Path.{_≡_, refl, sym, subst, _∙_}
-use native.Mathlib.Omega.{arith}
 use borrow.Author.Tests.{not-true, not-false}
 use Rattle.sizes.specs.Sizes.{cells, outputSize, maxInput}
 use Rattle.grammar.specs.declared.Grammar.{Grammar}
@@ -11,7 +10,7 @@ use Rattle.answers.specs.declared.Refusal.{Refusal}
 use Rattle.answers.specs.declared.Refusal.the-variants.{InvalidGrammar, InputLength, ChartTooShort, OutputTooShort}
 use Rattle.fill_input.specs.declared.Judged.{Judged}
 use Rattle.fill_input.specs.declared.Judged.the-variants.{Passed, Refused}
-use Rattle.fill_input.specs.Judging.{Judging, passed, invalid, no-input, long-input, no-room}
+use Rattle.fill_input.specs.Judging.{Judging, passed, invalid, long-input, no-room}
 use Rattle.fill_input.specs.Judging.{JudgingOutput, all-passed, before, no-space}
 
 -- ---- checks 8, 9 and 10
@@ -24,20 +23,17 @@ module _ (g : Grammar) (n m : ℕ) (v : Bool) (valid : v ≡ validGrammar g) whe
     fine : validGrammar g ≡ true
     fine = sym valid ∙ not-false v h
 
-    pub judge-empty : n ≡ 0 → Judging g n m (Refused InputLength)
-    judge-empty e = no-input fine e
-
     pub judge-long : maxInput < n → Judging g n m (Refused InputLength)
     judge-long l = long-input fine l
 
-    pub judge-room : (n ≡ 0 → ⊥) → n ≤ maxInput → m < cells → Judging g n m (Refused ChartTooShort)
-    judge-room e l r = no-room fine (omega arith) l r
+    pub judge-room : n ≤ maxInput → m < cells → Judging g n m (Refused ChartTooShort)
+    judge-room l r = no-room fine l r
 
-    pub judge-passed : (n ≡ 0 → ⊥) → n ≤ maxInput → cells ≤ m → Judging g n m Passed
-    judge-passed e l r = passed fine (omega arith) l r
+    pub judge-passed : n ≤ maxInput → cells ≤ m → Judging g n m Passed
+    judge-passed l r = passed fine l r
 
 -- for `search`: one law for each test that ends a path through the code
-pub ruleset judge-laws = (judge-invalid, judge-empty, judge-long, judge-room, judge-passed)
+pub ruleset judge-laws = (judge-invalid, judge-long, judge-room, judge-passed)
 
 -- once the checks are passed, what filling requires
 pub judged-ready : (g : Grammar) (n m : ℕ) (j : Judged) → Judging g n m j → j ≡ Passed
@@ -45,7 +41,7 @@ pub judged-ready : (g : Grammar) (n m : ℕ) (j : Judged) → Judging g n m j �
 judged-ready g n m j judging h = go (subst (Judging g n m) h judging)
   where
     go : Judging g n m Passed → (validGrammar g ≡ true) × (n ≤ maxInput) × (cells ≤ m)
-    go (passed v a b l) = (v, b, l)
+    go (passed v b l) = (v, b, l)
 
 -- ---- and check 11
 

@@ -16,11 +16,10 @@ Fillable g n m = (validGrammar g ≡ true) × (n ≤ maxInput) × (cells ≤ m)
 
 -- checks 8, 9 and 10, for an input of n bytes and a chart of m cells
 pub data Judging (g : Grammar) (n m : ℕ) : Judged → Type 0 where
-  passed : validGrammar g ≡ true → 0 < n → n ≤ maxInput → cells ≤ m → Judging g n m Passed
+  passed : validGrammar g ≡ true → n ≤ maxInput → cells ≤ m → Judging g n m Passed
   invalid : validGrammar g ≡ false → Judging g n m (Refused InvalidGrammar)
-  no-input : validGrammar g ≡ true → n ≡ 0 → Judging g n m (Refused InputLength)
   long-input : validGrammar g ≡ true → maxInput < n → Judging g n m (Refused InputLength)
-  no-room : validGrammar g ≡ true → 0 < n → n ≤ maxInput → m < cells → Judging g n m (Refused ChartTooShort)
+  no-room : validGrammar g ≡ true → n ≤ maxInput → m < cells → Judging g n m (Refused ChartTooShort)
 
 -- and then check 11, for an output of k numbers
 pub data JudgingOutput (g : Grammar) (n m k : ℕ) : Judged → Type 0 where

@@ -26,14 +26,11 @@ pub fn judge(g: Grammar, n: usize, m: usize) -> Judged
     if !grammar::valid(g) {
         return Judged::Refused(Refusal::InvalidGrammar);
     }
-    if n == 0 {
-        return Judged::Refused(Refusal::InputLength); // none
-    }
     if n > sizes::MAX_INPUT {
-        return Judged::Refused(Refusal::InputLength); // too many
+        return Judged::Refused(Refusal::InputLength);
     }
     if m < sizes::CELLS {
-        return Judged::Refused(Refusal::ChartTooShort); // too short
+        return Judged::Refused(Refusal::ChartTooShort);
     }
     Judged::Passed
 }

@@ -2,7 +2,6 @@
 use Prim.Native.Nat.{ℕ, suc, _≤_}
 use mathlib.Core.Bool.{true, true≢false, cond}
 use mathlib.Core.List.{List, [], _∷_, _++_, map}
-use mathlib.Core.Logic.{inl, inr}
 use mathlib.Core.Path.{_≡_, refl, sym, ap, ap₂, subst, _∙_}
 use native.Mathlib.Omega.{arith}
 use lib.IntN.{ℤ}
@@ -24,7 +23,7 @@ use Rattle.answers.specs.Number.{numberOf}
 use Rattle.packed.specs.Packed.{cfgIn}
 use Rattle.fill_input.specs.declared.Judged.{Judged}
 use Rattle.fill_input.specs.declared.Judged.the-variants.{Passed, Refused}
-use Rattle.fill_input.specs.Judging.{Judging, passed, invalid, no-input, long-input, no-room}
+use Rattle.fill_input.specs.Judging.{Judging, invalid, long-input, no-room}
 use Rattle.fill_input.proofs.Judging.{judged-ready}
 use Rattle.fill_input.proofs.Packing.{list-packed}
 use Rattle.results.specs.Check.{inputCheck}
@@ -47,9 +46,8 @@ module _ (g : Grammar) (w chart : List ℕ) (valid : validGrammar g ≡ true) (r
   -- of the three checks only 9 can fail
   nine : {r : Refusal} → Judging g (length w) (length chart) (Refused r) → (numberOf r ≡ 9) × (inputCheck w .fails ≡ true)
   nine (invalid v) = absurd (true≢false (sym valid ∙ v))
-  nine (no-input v e) = (refl, input-fails w (inl e))
-  nine (long-input v l) = (refl, input-fails w (inr l))
-  nine (no-room v a b l) = absurd (omega arith)
+  nine (long-input v l) = (refl, input-fails w l)
+  nine (no-room v b l) = absurd (omega arith)
 
   pub input-refused : (j : Judged) → Judging g (length w) (length chart) j → (r : Refusal) → j ≡ Refused r → (b n : ℕ)
       → b ≡ numberOf r → n ≡ b
@@ -83,12 +81,6 @@ module _ (f h : ℕ → ℤ) (same : (e : List ℕ) → sum f e ≡ sum h e) whe
 
 -- ---- the checks are passed
 
-judged-some : (g : Grammar) (n m : ℕ) (j : Judged) → Judging g n m j → j ≡ Passed → 1 ≤ n
-judged-some g n m j judging h = go (subst (Judging g n m) h judging)
-  where
-    go : Judging g n m Passed → 1 ≤ n
-    go (passed v a b l) = a
-
 -- without a derivation the line is the same over every chart that is long enough
 empty-any : (g : Grammar) → validGrammar g ≡ true → (w : List ℕ) → length w ≤ maxInput → (chart : List ℕ) → cells ≤ length chart
     → cond (treeIn (grammarOf g) w chart) (refusedLine 13) noReadingLine ∷ [] ≡ emptyText (grammarOf g) w
@@ -120,7 +112,7 @@ module _ (g : Grammar) (w chart : List ℕ) (j : Judged) (judging : Judging g (l
         let (v, a, b) = judged-ready g (length w) (length chart) j judging is in
         text-same (lengthsIn l) (lengthsOf g) (sum-row g l lengths) _ _
         ∙ ap₂ (textBy (lengthsOf g)) empty-same (list-packed g p w (filling .1) s start)
-        ∙ sym (decide-passed _ _ (inputCheck w ∷ []) (input-passes w (judged-some g (length w) (length chart) j judging is) a, tt))
+        ∙ sym (decide-passed _ _ (inputCheck w ∷ []) (input-passes w a, tt))
 
     pub input-begun : length (g .rules) ≡ maxRules → (fits tables buf₀ buf : List ℕ) (d : Due)
         → FilledBegun p s w chart' fits tables buf₀ buf d

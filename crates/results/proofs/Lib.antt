@@ -11,5 +11,6 @@ pub mod NoTree
 pub mod Starred
 pub mod Requests
 pub mod Extra
+pub mod EmptyInput
 pub mod Demand3
 pub mod Loading

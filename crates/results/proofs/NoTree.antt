@@ -1,4 +1,4 @@
--- The rows of the table that say "no reading": these inputs have no parse tree of any size. Assumes nothing.
+-- The rows of the tables that say "no reading": these inputs have no parse tree of any size. Assumes nothing.
 use Prim.Native.Nat.{ℕ, _≤_}
 use mathlib.Core.Bool.{true, false, true≢false}
 use mathlib.Core.List.{List, [], _∷_}
@@ -15,6 +15,7 @@ use Rattle.grammar.specs.View.{grammarOf}
 use Rattle.grammar.proofs.Bounds.{valid-bounded}
 use Rattle.results.specs.Drawer.{T, bare, As}
 use Rattle.results.specs.Starred.{grammarFrom}
+use Rattle.results.specs.Requests.{onlyA}
 use Rattle.results.proofs.Computing.{computing}
 
 -- if the chart of an input is not complete, the input has no tree
@@ -37,3 +38,13 @@ no-tree-T-B = incomplete-no-tree (grammarFrom T) (0x42 ∷ []) refl (omega arith
 pub no-tree-bare : HasTree (grammarOf (grammarFrom bare)) (As 1) → ⊥
 unfolding computing
 no-tree-bare = incomplete-no-tree (grammarFrom bare) (As 1) refl (omega arith) refl
+
+-- ---- the input of no bytes
+
+pub no-tree-onlyA-empty : HasTree (grammarOf (grammarFrom onlyA)) [] → ⊥
+unfolding computing
+no-tree-onlyA-empty = incomplete-no-tree (grammarFrom onlyA) [] refl (omega arith) refl
+
+pub no-tree-bare-empty : HasTree (grammarOf (grammarFrom bare)) [] → ⊥
+unfolding computing
+no-tree-bare-empty = incomplete-no-tree (grammarFrom bare) [] refl (omega arith) refl

@@ -1,9 +1,10 @@
--- The plates of the requests: every line of the table, computed. Assumes nothing.
+-- The plates of the requests: every line of the table, computed, and the inputs without a tree. Assumes nothing.
 use mathlib.Core.Path.{refl}
 use Rattle.results.specs.Starred.{found, absent}
 use Rattle.results.specs.Requests.{requests, Requested}
 use Rattle.results.proofs.Computing.{computing}
+use Rattle.results.proofs.NoTree.{no-tree-onlyA-empty, no-tree-bare-empty}
 
 pub requested : Requested
 unfolding computing found absent requests
-requested = record { lines = refl }
+requested = record { lines = refl; no-tree-terminal = no-tree-onlyA-empty; no-tree-rules = no-tree-bare-empty }

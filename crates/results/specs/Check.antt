@@ -25,9 +25,9 @@ unfoldable pub listed : List ℕ → List (List ℕ) → Bool
 listed e [] = false
 listed e (d ∷ l) = same e d || listed e l
 
--- 9: no bytes, or more than 64
+-- 9: more than 64 bytes
 abbrev pub inputCheck : List ℕ → Check ℕ
-inputCheck w = check (eqb (length w) 0 || ltb maxInput (length w)) 9
+inputCheck w = check (ltb maxInput (length w)) 9
 
 -- 8, 9, 10: the checks of every call on an input
 abbrev pub inputChecks : Grammar → List ℕ → List ℕ → List (Check ℕ)

@@ -54,11 +54,14 @@ nullablePairs = start 0 (newRule 0 (nonterminalPlace 0 (nonterminalPlace 0 (newR
 abbrev pub emptyUnit : List ℕ
 emptyUnit = start 1 (newRule 1 (nonterminalPlace 0 (A (newRule 0 (nonterminalPlace 0 (newRule 0 close))))))
 
+-- seven places with 1 for the open rule; 1 → eight of 2; 2 → eight of 3; 3 → nothing; and what `more` adds to these
+abbrev pub branches : List ℕ → List ℕ
+branches more =
+    many 7 (nonterminalPlace 1) (newRule 1 (many 8 (nonterminalPlace 2) (newRule 2 (many 8 (nonterminalPlace 3) (newRule 3 more)))))
+
 -- start k; 0 → A and seven of 1; 1 → eight of 2; 2 → eight of 3; 3 → nothing; and what `more` adds to these
 abbrev pub bush : ℕ → List ℕ → List ℕ
-bush k more =
-    start k (newRule 0 (A (many 7 (nonterminalPlace 1)
-    (newRule 1 (many 8 (nonterminalPlace 2) (newRule 2 (many 8 (nonterminalPlace 3) (newRule 3 more))))))))
+bush k more = start k (newRule 0 (A (branches more)))
 
 -- 0 → A, of length -25
 abbrev pub recess : List ℕ

@@ -12,9 +12,7 @@ use Rattle.grammar.specs.Valid.{validGrammar}
 pub record Ready (g : Grammar) (w chart : List ℕ) : Type 0 where
   -- 8
   pub valid : validGrammar g ≡ true
-  -- 9: at least one byte
-  pub nonempty : 1 ≤ length w
-  -- 9: at most 64 bytes
+  -- 9
   pub short : length w ≤ maxInput
   -- 10
   pub room : cells ≤ length chart

@@ -115,7 +115,7 @@ load-front book d = dite (decLt bookFront (length book))
 -- a plate of more than 64 bytes is refused
 input-long : (g : Grammar) (w : List ℕ) → plateFront ≤ length w → inputText g w ≡ refusedLine 9 ∷ []
 unfolding inputText decide
-input-long g w h = rw (ne-eqb (length w) 0 (omega arith), lt-ltb maxInput (length w) (omega arith))
+input-long g w h = rw (lt-ltb maxInput (length w) (omega arith))
 
 input-front : (g : Grammar) (w : List ℕ) → inputText g (take plateFront w) ≡ inputText g w
 input-front g w = dite (decLt plateFront (length w))

@@ -204,46 +204,46 @@ pub check-no : (g : Grammar) (w chart : List ℕ) → Ready g w chart → (e : L
 check-no = Check.check-no
 
 -- DEMAND 3, for every grammar that check 8 lets through, every input that check 9 lets through and every list of allowed calls
-module _ (g : Grammar) (valid : validGrammar g ≡ true) (w : List ℕ) (low : 1 ≤ length w) (high : length w ≤ maxInput) where
+module _ (g : Grammar) (valid : validGrammar g ≡ true) (w : List ℕ) (high : length w ≤ maxInput) where
   pub demand-3 : (tree : Dec (HasTree (grammarOf g) w)) (calls : List Made) → AllAllowed (grammarOf g) w calls → Demand3 g w tree calls
-  demand-3 = Handed.demand-3 g valid w low high
+  demand-3 = Handed.demand-3 g valid w high
 
   -- whether the input has a tree is decided, so the claim is not empty
   pub tree-decided : Dec (HasTree (grammarOf g) w)
-  tree-decided = Walk.tree-decided g valid w low high
+  tree-decided = Walk.tree-decided g valid w high
 
   -- first, and then next with the copy at least N times, hand out exactly L, one row after the other, and then say "none"
   pub first-then-next : (chart out : List ℕ) (lent : List (List ℕ × List ℕ)) → AllAllowed (grammarOf g) w (first chart out ∷ nextCalls lent)
       → length (L (grammarOf g) w) ≤ length lent → handedOut (history g w [] (first chart out ∷ nextCalls lent)) ≡ L (grammarOf g) w
-  first-then-next = Consequences.first-then-next g valid w low high
+  first-then-next = Consequences.first-then-next g valid w high
 
   pub first-then-next-said : (chart out : List ℕ) (lent : List (List ℕ × List ℕ))
       → AllAllowed (grammarOf g) w (first chart out ∷ nextCalls lent)
       → 1 ≤ length (L (grammarOf g) w) → length (L (grammarOf g) w) ≤ suc (length lent)
       → history g w [] (first chart out ∷ nextCalls lent)
       ≡ map hands (L (grammarOf g) w) ++ replicate (suc (length lent) - length (L (grammarOf g) w)) noneLeft
-  first-then-next-said = Consequences.first-then-next-said g valid w low high
+  first-then-next-said = Consequences.first-then-next-said g valid w high
 
   module _ (chart : List ℕ) (room : cells ≤ length chart) where
     -- count is N up to 4,096, if N is not 0 or the input has no tree; it is "more" exactly above
     pub count-exact : length (L (grammarOf g) w) ≤ 4096 → (1 ≤ length (L (grammarOf g) w)) ⊎ (HasTree (grammarOf g) w → ⊥)
         → countOf g w chart .answer ≡ answered (counted (length (L (grammarOf g) w)))
-    count-exact = Consequences.count-exact g valid w low high chart room
+    count-exact = Consequences.count-exact g valid w high chart room
 
     pub count-more : (countOf g w chart .answer ≡ answered more) ↔ (4096 < length (L (grammarOf g) w))
-    count-more = Consequences.count-more g valid w low high chart room
+    count-more = Consequences.count-more g valid w high chart room
 
     -- refusal 13 exactly if the input has trees, all of more than 512 nodes
     pub count-larger : (countOf g w chart .answer ≡ refused 13) ↔ Larger g w
-    count-larger = Consequences.count-larger g valid w low high chart room
+    count-larger = Consequences.count-larger g valid w high chart room
 
     module _ (out : List ℕ) (space : outputSize ≤ length out) where
       -- "no reading" exactly if the input has no tree of any size
       pub no-derivation-exact : (firstOf g w chart out .answer ≡ answered nothing) ↔ (HasTree (grammarOf g) w → ⊥)
-      no-derivation-exact = Consequences.no-derivation-exact g valid w low high chart room out space
+      no-derivation-exact = Consequences.no-derivation-exact g valid w high chart room out space
 
       pub first-larger : (firstOf g w chart out .answer ≡ refused 13) ↔ Larger g w
-      first-larger = Consequences.larger-exact g valid w low high chart room out space
+      first-larger = Consequences.larger-exact g valid w high chart room out space
 
 -- THE LISTING PROGRAM: document 01's listing, byte for byte
 pub listing-of-T : textOf T (As 1) ≡ listingOfT

@@ -19,6 +19,9 @@ pub const RANGES: &[u8] =
     b"\x10\x00\x20\x00\x00\x00\x30\x01\x30\x00\x20\x00\x00\x00\x30\x01\x20\x01\x00\x00\x40V\x4109\x4109\
     \x20\x01\x00\x00\x40V\x401\x30\x02\x20\x02\x00\x00\x41\x00\xff\x50";
 
+/// 0 -> 1 1, 1 -> nothing (25), 1 -> nothing (-10): an input of no bytes has four derivations.
+pub const BLANK_TWINS: &[u8] = b"\x10\x00\x20\x00\x00\x00\x30\x01\x30\x01\x20\x01\x19\x00\x20\x01\xf6\xff\x50";
+
 /// k -> k+1 for k = 0..30, 31 -> A A A A 0, 31 -> A A A A: the reading of 64 bytes has 512 nodes, each but the last with one child.
 pub fn deep() -> Grammar {
     let mut book = vec![0x10, 0];

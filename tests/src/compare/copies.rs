@@ -38,7 +38,7 @@ fn compared(reader: &dyn Reader, drafts: [&Draft; 2], input: &[u8], counts: &mut
     same("the chart", chart == other_chart, true)?;
     counts.add(if answers.last() == Some(&Answer::Yes) { "complete" } else { "not complete" });
     let small = |flat| derivations(&grammar::from_flat(flat).expect("loaded"), input, LIMIT, STEPS / 10).is_ok();
-    if input.is_empty() || (reader.by_listing() && !(small(&one) && small(&other))) {
+    if reader.by_listing() && !(small(&one) && small(&other)) {
         return Ok(());
     }
     let count = counted(reader, &one, input);

@@ -38,11 +38,11 @@ impl Comparison<'_> {
         let mut out = Lent::filled(length, || self.rng.draw() as u16);
         let (mut due_chart, mut due_out, mut nodes) = (chart.clone(), out.clone(), found);
         due_chart.part_mut()[..CELLS].copy_from_slice(filled);
-        let (input, before) = (Lent::of(input, 0x41), Lent::of(input, 0x41));
-        let answer = self.reader.first(&mine, input.part(), chart.part_mut(), out.part_mut(), &mut nodes);
+        let (lent, before) = (Lent::of(input, 0x41), Lent::of(input, 0x41));
+        let answer = self.reader.first(&mine, lent.part(), chart.part_mut(), out.part_mut(), &mut nodes);
         let given = match listed {
             Some(list) => walk::first(list, known.tree),
-            None => self.unlisted(flat, grammar, input.part(), &known, answer, out.part())?,
+            None => self.unlisted(flat, grammar, input, &known, answer, out.part())?,
         };
         let due = match &given {
             Given::Row(row) => {
@@ -55,13 +55,14 @@ impl Comparison<'_> {
         same("first: answer and nodes", (answer, nodes), due)?;
         chart.against(&due_chart, "first: chart")?;
         out.against(&due_out, "first: output")?;
-        input.against(&before, "first: the input lent")?;
+        lent.against(&before, "first: the input lent")?;
         let which = if listed.is_some() { "first" } else { "first, too many to list" };
-        self.counts.add(&match given {
-            Given::Row(_) => format!("{which}: handed out"),
-            Given::Refused(number) => format!("{which}: refused {number}"),
-            _ => format!("{which}: no reading"),
-        });
+        let what = match given {
+            Given::Row(_) => "handed out".to_string(),
+            Given::Refused(number) => format!("refused {number}"),
+            _ => "no reading".to_string(),
+        };
+        self.add(input, &format!("{which}: {what}"));
         Ok(())
     }
 

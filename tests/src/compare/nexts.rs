@@ -115,10 +115,9 @@ impl Comparison<'_> {
         let mut out = Lent::filled(length, || self.rng.draw() as u16);
         let (mut due_chart, mut due_out, mut nodes) = (chart.clone(), out.clone(), found);
         due_chart.part_mut()[..CELLS].copy_from_slice(filled);
-        let (input, offered) = (Lent::of(input, 0x41), Lent::of(offered, 0));
-        let before = (input.clone(), offered.clone());
-        let answer =
-            self.reader.next(&mine, input.part(), offered.part(), chart.part_mut(), out.part_mut(), &mut nodes);
+        let (lent, offered) = (Lent::of(input, 0x41), Lent::of(offered, 0));
+        let before = (lent.clone(), offered.clone());
+        let answer = self.reader.next(&mine, lent.part(), offered.part(), chart.part_mut(), out.part_mut(), &mut nodes);
         let (given, due) = match answer {
             Answer::Nodes(n) if (1..=LIMIT).contains(&n) => {
                 let row = out.part()[..2 * n].to_vec();
@@ -132,13 +131,14 @@ impl Comparison<'_> {
         same("next: nodes", nodes, due)?;
         chart.against(&due_chart, "next: chart")?;
         out.against(&due_out, "next: output")?;
-        input.against(&before.0, "next: the input lent")?;
+        lent.against(&before.0, "next: the input lent")?;
         offered.against(&before.1, "next: the row lent")?;
-        self.counts.add(&match &given {
+        let what = match &given {
             Given::Row(_) => "next: handed out".to_string(),
             Given::Refused(number) => format!("next: refused {number}"),
             _ => "next: none".to_string(),
-        });
+        };
+        self.add(input, &what);
         Ok(given)
     }
 
@@ -162,12 +162,13 @@ impl Comparison<'_> {
         judge(&given)?;
         same("count: the number lent", count, due)?;
         chart.against(&due_chart, "count: chart")?;
-        self.counts.add(&match given {
+        let what = match given {
             Given::Count(0) => "count: 0".to_string(),
             Given::Count(_) => "count: counted".to_string(),
             Given::Refused(number) => format!("count: refused {number}"),
             _ => "count: more".to_string(),
-        });
+        };
+        self.add(input, &what);
         Ok(())
     }
 }

@@ -5,7 +5,7 @@ use super::lent::{self, same, Lent};
 use super::Comparison;
 use crate::lister::trees::Row;
 use crate::lister::{grammar, judged};
-use crate::reader::{Answer, FlatGrammar, Reader, HAND, OUTPUT};
+use crate::reader::{Answer, FlatGrammar, Reader, HAND, INPUT, OUTPUT};
 
 impl Comparison<'_> {
     /// Refusals 8, 9, 10, 12, 14 and 15 in all combinations: their order, and that
@@ -42,15 +42,23 @@ impl Comparison<'_> {
                 self.counts.add(&format!("refused 14: {what}"));
             }
 
-            let input: Vec<u8> = match which {
-                0 => inputs.iter().find(|input| !input.is_empty()).cloned().unwrap_or(vec![65]),
-                1 => Vec::new(),
-                _ => vec![65; self.rng.pick(&[65, 66, 128, 320, 1000])],
-            };
+            let input = self.input_of(which, inputs, &grammar, short);
             self.refused_rows(&grammar, &input, &chart)?;
             self.listing_refusals(&grammar, &input, &chart)?;
         }
         Ok(())
+    }
+
+    /// An input of the book, no bytes, 64 bytes, or more. Check 9 refuses only the last.
+    fn input_of(&mut self, which: usize, inputs: &[Vec<u8>], flat: &FlatGrammar, short: bool) -> Vec<u8> {
+        // a call that is not refused fills the chart, which takes long with many rules
+        let quick = short || (flat[1] <= 12 && self.rng.one_in(4));
+        match which {
+            0 => inputs.iter().find(|input| !input.is_empty()).cloned().unwrap_or(vec![65]),
+            1 => Vec::new(),
+            2 if quick => vec![65; INPUT],
+            _ => vec![65; self.rng.pick(&[65, 65, 66, 128, 320, 1000])],
+        }
     }
 
     /// Refusals 8, 9, 10 and 12 of check, length and same build.
@@ -69,6 +77,7 @@ impl Comparison<'_> {
             };
             let ((answer, left), after) = self.both(name, flat, chart, call)?;
             self.seen(name, answer, chart, &after)?;
+            self.seen_with(input, name, answer)?;
             if matches!(answer, Answer::Refused(_)) {
                 same(&format!("{name} refused: the tenths"), left, found)?;
             }
@@ -97,7 +106,21 @@ impl Comparison<'_> {
             };
             let ((answer, nodes, left), after) = self.both(name, flat, chart, call)?;
             self.seen(name, answer, chart, &after)?;
+            self.seen_with(input, name, answer)?;
             same(&format!("{name} refused: number and output as found"), nodes == found && left == out.all, true)?;
+        }
+        Ok(())
+    }
+
+    /// Counts which input a call was refused with. Refusal 9 is for more than 64 bytes only; this checks the lister.
+    fn seen_with(&mut self, input: &[u8], call: &str, answer: Answer) -> Result<(), String> {
+        let Answer::Refused(number) = answer else { return Ok(()) };
+        same("refused 9: so many bytes", number != 9 || input.len() > INPUT, true)?;
+        match input.len() {
+            0 => self.counts.add(&format!("empty input, {call}: refused {number}")),
+            INPUT => self.counts.add(&format!("64 bytes, {call}: refused {number}")),
+            65 => self.counts.add(&format!("65 bytes, {call}: refused {number}")),
+            _ => (),
         }
         Ok(())
     }

@@ -40,16 +40,17 @@ impl Comparison<'_> {
         let wider = derivations(grammar, input, WIDER, STEPS).ok();
         let tree = has_tree(grammar, input);
         match &list {
-            _ if !tree => self.counts.add("no tree"),
-            None if front.is_some() => self.counts.add("more than 4,096"),
-            None => self.counts.add("skipped: too large to list"),
+            _ if !tree => self.add(input, "no tree"),
+            None if front.is_some() => self.add(input, "more than 4,096"),
+            None => self.add(input, "skipped: too large to list"),
             Some(list) => {
-                self.counts.add(["only trees over the limit", "one derivation", "two or more"][list.len().min(2)]);
+                let which = ["only trees over the limit", "one derivation", "two or more"][list.len().min(2)];
+                self.add(input, which);
                 if list.len() > MOST {
-                    self.counts.add("more than 4,096");
+                    self.add(input, "more than 4,096");
                 }
                 if !list.is_empty() && wider.as_ref().is_some_and(|wider| wider.len() > list.len()) {
-                    self.counts.add("the limit cuts some");
+                    self.add(input, "the limit cuts some");
                 }
             }
         }
@@ -95,12 +96,13 @@ impl Comparison<'_> {
                 true if trees::same_build(one, other) => Answer::Yes,
                 true => Answer::No,
             };
-            self.counts.add(match due {
+            let what = match due {
                 Answer::Yes if one == other => "same build: a derivation and itself",
                 Answer::Yes => "same build: two derivations, yes",
                 Answer::No => "same build: two derivations, no",
                 _ => "same build: refused 12",
-            });
+            };
+            self.add(input, what);
             self.offered(flat, Offer { input, filled, one, other }, "same build", due, None)?;
         }
         let known = First { list: list.as_deref(), front: front.as_deref(), tree, offered: &offered };
@@ -172,10 +174,11 @@ impl Comparison<'_> {
             other.against(&before.2, "the other row lent")
         };
         all_same().map_err(|what| format!("{name} of {:?} and {:?}: {what}", one.part(), other.part()))?;
-        self.counts.add(&match due {
+        let what = match due {
             Answer::Refused(number) => format!("{name}: refused {number}"),
             answer => format!("{name}: {answer:?}"),
-        });
+        };
+        self.add(offer.input, &what);
         Ok(())
     }
 
@@ -198,10 +201,10 @@ impl Comparison<'_> {
         if let (false, Some((tree, _))) = (yes, trees::tree_of(grammar, grammar.start, input, row)) {
             if tree.terminals() == input && tree.row() == row {
                 if tree.nodes > LIMIT {
-                    self.counts.add("offered: a tree over the limit");
+                    self.add(input, "offered: a tree over the limit");
                 }
                 if tree.has_superfluous_recursion() {
-                    self.counts.add("offered: superfluous recursion");
+                    self.add(input, "offered: superfluous recursion");
                     return true;
                 }
             }

@@ -26,8 +26,10 @@ impl Comparison<'_> {
         wider.truncate(4);
         rows.extend(wider);
         // The derivations of a similar input, and of the front of the input.
-        for near in [self.near(input), input[..self.rng.below(input.len())].to_vec()] {
-            let mut others = derivations(grammar, &near, LIMIT, STEPS / 4).unwrap_or_default();
+        let near = if input.is_empty() { self.one_terminal(grammar) } else { self.near(input) };
+        let front = input[..self.rng.below(input.len().max(1))].to_vec();
+        for near in [near, front].iter().filter(|near| *near != input) {
+            let mut others = derivations(grammar, near, LIMIT, STEPS / 4).unwrap_or_default();
             self.thin(&mut others, 12);
             rows.extend(others);
         }
@@ -53,7 +55,22 @@ impl Comparison<'_> {
         let odd =
             [vec![], vec![n], vec![n, 0], vec![n, 128], vec![u16::MAX; 2], vec![n; 1024], vec![0; 1026], vec![n, 0, 7]];
         rows.extend((0..2).map(|_| odd[self.rng.below(odd.len())].clone()));
+        if input.is_empty() {
+            rows.push(vec![]); // it covers as much as the input, and is no derivation: each tree has a node
+        }
         rows
+    }
+
+    /// An input of one terminal, which fits a place of the grammar if there is one.
+    fn one_terminal(&mut self, grammar: &Grammar) -> Vec<u8> {
+        let places = grammar.rules.iter().flat_map(|rule| &rule.places);
+        let fitting: Vec<u8> = places
+            .filter_map(|place| match *place {
+                Symbol::Terminal(mark) | Symbol::Range(mark, _) => Some(mark),
+                Symbol::Nonterminal(_) => None,
+            })
+            .collect();
+        vec![if fitting.is_empty() { 65 } else { self.rng.pick(&fitting) }]
     }
 
     /// The input with one terminal changed, dropped or added.

@@ -14,7 +14,7 @@ pub fn play_book(reader: &dyn Reader, book: &Book, seed: u64, calls: usize, coun
     let mut comparison = Comparison { reader, rng: Rng::new(seed ^ 0x3A1C), counts };
     let Some(flat) = comparison.load(&book.bytes, "load")? else { return Ok(()) };
     let grammar = grammar::from_flat(&flat).expect("a loaded grammar passes check 8");
-    for input in book.inputs.iter().filter(|input| !input.is_empty()) {
+    for input in &book.inputs {
         let Ok(list) = derivations(&grammar, input, LIMIT, STEPS / 10) else { continue };
         let wider = derivations(&grammar, input, WIDER, STEPS / 10).unwrap_or_default();
         let offered = comparison.strangers(&grammar, input, &list[..list.len().min(400)], wider);
@@ -89,12 +89,13 @@ impl Comparison<'_> {
             }
             caller.nexts += usize::from(call == Call::NextWithCopy && walk.place > 0);
             caller.judged(&walk)?;
-            self.counts.add(&format!("walk: {call:?}"));
-            self.counts.add(&match given {
-                Given::Row(_) => format!("walk, {call:?}: handed out"),
-                Given::Count(_) => format!("walk, {call:?}: counted"),
-                given => format!("walk, {call:?}: {given:?}"),
-            });
+            self.add(input, &format!("walk: {call:?}"));
+            let what = match given {
+                Given::Row(_) => "handed out".to_string(),
+                Given::Count(_) => "counted".to_string(),
+                given => format!("{given:?}"),
+            };
+            self.add(input, &format!("walk, {call:?}: {what}"));
         }
         Ok(())
     }
@@ -127,7 +128,7 @@ impl Comparison<'_> {
         same(&format!("walk, {call:?}, too short: answer and number"), (got, number), (due, found))?;
         chart.against(&due_chart, &format!("walk, {call:?}, too short: chart"))?;
         out.against(&due_out, &format!("walk, {call:?}, too short: output"))?;
-        self.counts.add("walk: too short");
+        self.add(input, "walk: too short");
         Ok(())
     }
 

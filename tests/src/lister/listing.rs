@@ -128,6 +128,12 @@ impl Builder<'_> {
         fault(Fault::TwinsWithARangeMerged) && (0..number).any(merged)
     }
 
+    /// A fault: whether the node is the root of a tree of the empty input, with superfluous recursion right below it.
+    fn let_through(&self, node: &Node, level: usize) -> bool {
+        let root = self.input.is_empty() && node.nonterminal == self.grammar.start;
+        fault(Fault::EmptyRootRecursionListed) && root && level == 2
+    }
+
     /// Uses up one step of the budget.
     fn step(&mut self) -> Result<(), TooLarge> {
         self.steps_left = self.steps_left.checked_sub(1).ok_or(TooLarge)?;
@@ -157,7 +163,7 @@ impl Builder<'_> {
                     // It is enough to look at the children: no tree with such a node deeper down was kept.
                     let whole = i == 0 && j == self.input.len();
                     let root_below = whole && node.below().any(|n| n.nonterminal == self.grammar.start && n.cover == j);
-                    if !node.recurs() && !root_below {
+                    if (!node.recurs() && !root_below) || self.let_through(&node, level) {
                         found.push(Built { node: Rc::new(node), level });
                     }
                 }

@@ -137,11 +137,15 @@ pub fn is_derivation(grammar: &Grammar, input: &[u8], row: &[u16]) -> bool {
     if row.len() > 2 * limit || fault(Fault::CheckAlwaysNo) {
         return false; // two numbers for each node: more than 512 nodes, or no tree's row
     }
+    if fault(Fault::EmptyRowOfTheEmptyInputAccepted) && input.is_empty() && row.is_empty() {
+        return true;
+    }
+    let superfluous = |tree: &Node| {
+        tree.has_superfluous_recursion() && !(fault(Fault::EmptyRootRecursionAccepted) && input.is_empty())
+    };
     match tree_of(grammar, root(grammar, row), input, row) {
         None => false,
-        Some((tree, _)) => {
-            covers(&tree, input) && tree.nodes <= limit && !tree.has_superfluous_recursion() && written(&tree, row)
-        }
+        Some((tree, _)) => covers(&tree, input) && tree.nodes <= limit && !superfluous(&tree) && written(&tree, row),
     }
 }
 
@@ -169,8 +173,16 @@ fn written(tree: &Node, row: &[u16]) -> bool {
 /// The stack length in tenths: the sum of the rule lengths of all nodes of a row, including empty ones. Halves are
 /// rounded away from zero.
 pub fn tenths(grammar: &Grammar, row: &[u16]) -> i32 {
+    if fault(Fault::EmptyInputHasNoLength) && of_the_empty_input(row) {
+        return 0;
+    }
     let measured = row.chunks(2).filter(|node| node[0] > 0 || !fault(Fault::EmptyLengthsLeftOut));
     round(measured.map(|node| grammar.rules[usize::from(node[1])].length).sum())
+}
+
+/// Whether the root covers nothing. Only faults ask.
+fn of_the_empty_input(row: &[u16]) -> bool {
+    row.first() == Some(&0)
 }
 
 /// Hundredths rounded to tenths, with halves away from zero.
@@ -189,7 +201,9 @@ pub fn round(sum: i32) -> i32 {
 /// Same build: the rules of the non-empty nodes are the same, as bags.
 pub fn same_build(one: &[u16], other: &[u16]) -> bool {
     let bag = |row: &[u16]| {
-        let counts = |node: &&[u16]| node[0] > 0 || fault(Fault::EmptyNodesInTheBuild);
+        let all = fault(Fault::EmptyNodesInTheBuild)
+            || (fault(Fault::BuildsOfTheEmptyInputDiffer) && of_the_empty_input(row));
+        let counts = |node: &&[u16]| node[0] > 0 || all;
         let mut rules: Vec<u16> = row.chunks_exact(2).filter(counts).map(|node| node[1]).collect();
         if !fault(Fault::BuildInOrder) {
             rules.sort();

@@ -43,6 +43,9 @@ pub fn next(list: &[Row], offered: &[u16]) -> Given {
     match list.iter().position(|row| row == offered) {
         None if fault(Fault::TwelveForgotten) => Given::NoneLeft,
         None if fault(Fault::TwelveForTheEmptyRowForgotten) && offered.is_empty() && !list.is_empty() => row(0),
+        None if fault(Fault::EmptyCopyOfTheEmptyInputGoesOn) && offered.is_empty() && of_the_empty_input(list) => {
+            row(0)
+        }
         None if fault(Fault::TwelveFindsTheLater) => {
             list.iter().position(|row| row[..] > *offered).map_or(Given::Refused(12), row)
         }
@@ -56,6 +59,11 @@ pub fn next(list: &[Row], offered: &[u16]) -> Given {
         Some(place) if place + 1 < list.len() => row(place + 1),
         Some(_) => Given::NoneLeft,
     }
+}
+
+/// Whether the derivations cover nothing. Only a fault asks.
+fn of_the_empty_input(list: &[Row]) -> bool {
+    list.first().is_some_and(|row| row[0] == 0)
 }
 
 /// Count.

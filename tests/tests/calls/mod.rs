@@ -50,6 +50,18 @@ pub fn deepest_row(n: u16) -> Vec<u16> {
         .collect()
 }
 
+/// 0 -> seven of 1, 1 -> eight of 2, 2 -> eight of 3, 3 -> nothing, 4 -> 0: the tree over no marks has 512 nodes from 0
+/// and 513 from 4.
+pub fn blank_bush(start: u8) -> Vec<u8> {
+    book(start, &["0: 1 1 1 1 1 1 1", "1: 2 2 2 2 2 2 2 2", "2: 3 3 3 3 3 3 3 3", "3:", "4: 0"])
+}
+
+/// The row of that tree from 0.
+pub fn blank_bush_row() -> Vec<u16> {
+    let leaves = [&[0, 2][..], &[0, 3].repeat(8)].concat();
+    [&[0, 0][..], &[&[0, 1][..], &leaves.repeat(8)].concat().repeat(7)].concat()
+}
+
 /// The number and offset of a book's refusal, None if it is loaded; and the row that is left.
 pub fn fault(book: &[u8]) -> (Option<(u8, usize)>, FlatGrammar) {
     let (mut flat, mut offset) = ([FOUND; FLAT], FOUND_AT);

@@ -7,7 +7,7 @@ pub mod large;
 pub mod switches;
 
 use crate::lister::chart::cell;
-use crate::lister::{hand, judged, listed, Lister};
+use crate::lister::{grammar, hand, judged, listed, Lister};
 use outside_tests::lister::trees::Row;
 use outside_tests::reader::{Answer, FlatGrammar, Hand, Reader, CELLS, FLAT, INPUT, OUTPUT};
 use std::cell::RefCell;
@@ -59,6 +59,20 @@ impl Faulty {
         }
         answer
     }
+}
+
+/// The input as a call reads it: a fault leaves the 65th terminal out.
+fn read(input: &[u8]) -> &[u8] {
+    if fault(Fault::SixtyFiveReadAs64) && input.len() == INPUT + 1 {
+        &input[..INPUT]
+    } else {
+        input
+    }
+}
+
+/// Whether the call with this fault refuses the input with 9, because it is empty.
+fn refused_as_empty(which: Fault, flat: &FlatGrammar, input: &[u8]) -> bool {
+    fault(which) && input.is_empty() && grammar::from_flat(flat).is_some()
 }
 
 impl Reader for Faulty {
@@ -118,7 +132,14 @@ impl Reader for Faulty {
         answer
     }
 
+    fn check(&self, flat: &FlatGrammar, input: &[u8], offered: &[u16], chart: &mut [u32]) -> Answer {
+        Lister.check(flat, read(input), offered, chart)
+    }
+
     fn length(&self, flat: &FlatGrammar, input: &[u8], offered: &[u16], chart: &mut [u32], tenths: &mut i32) -> Answer {
+        if refused_as_empty(Fault::EmptyInputRefusedByLength, flat, input) {
+            return Answer::Refused(9);
+        }
         let answer = Lister.length(flat, input, offered, chart, tenths);
         match answer {
             Answer::Refused(12) if fault(Fault::TwelveSpoilsTheChart) => chart[0] ^= 1,
@@ -127,6 +148,13 @@ impl Reader for Faulty {
             _ => (),
         }
         answer
+    }
+
+    fn same_build(&self, flat: &FlatGrammar, input: &[u8], one: &[u16], other: &[u16], chart: &mut [u32]) -> Answer {
+        if refused_as_empty(Fault::EmptyInputRefusedByBuild, flat, input) {
+            return Answer::Refused(9);
+        }
+        Lister.same_build(flat, input, one, other, chart)
     }
 
     fn first(&self, flat: &FlatGrammar, input: &[u8], chart: &mut [u32], out: &mut [u16], nodes: &mut usize) -> Answer {
@@ -151,6 +179,9 @@ impl Reader for Faulty {
         out: &mut [u16],
         nodes: &mut usize,
     ) -> Answer {
+        if refused_as_empty(Fault::EmptyInputRefusedByNext, flat, input) {
+            return Answer::Refused(9);
+        }
         let found = chart.to_vec();
         let mut answer = Lister.next(flat, input, offered, chart, out, nodes);
         if fault(Fault::NextKeepsItsOwnPlace) && matches!(answer, Answer::Nodes(_)) {

@@ -1,5 +1,6 @@
 //! The built listing program, run as a process in a folder of its own.
 
+use outside_tests::text::text;
 use std::fs::{self, File};
 use std::io::{self, Write};
 use std::path::{Path, PathBuf};
@@ -108,6 +109,12 @@ impl Drop for Folder {
     fn drop(&mut self) {
         let _ = fs::remove_dir_all(&self.0); // a folder left over is no fault of the program
     }
+}
+
+/// The program prints exactly this for a book and a plate, and so does the lister.
+pub fn prints(book: &[u8], plate: &[u8], due: &str) {
+    assert_eq!(String::from_utf8(text(book, plate).expect("small enough")).expect("ASCII"), due);
+    Folder::with(book).prints(plate, due.as_bytes()).expect("no difference");
 }
 
 /// Gives a child its plate, closes the pipe and waits for its end. The child need not read all of the plate.

@@ -6,5 +6,4 @@ use Rattle.fill_input.proofs.judge.Tie as tie
 
 pub judge-spec : {M : Type 1} → statement M
 judge-spec = tie.close (tie.spec
-    (λ c κs. omega arith) (λ c. search judge-laws) (λ c. search judge-laws) (λ c. search judge-laws) (λ c. search judge-laws)
-    (λ c. search judge-laws))
+    (λ c κs. omega arith) (λ c. search judge-laws) (λ c. search judge-laws) (λ c. search judge-laws) (λ c. search judge-laws))

@@ -55,7 +55,7 @@ larger-none g w l = dite (decLt 0 (N (grammarOf g) w))
     (λ h. let s = L-some (grammarOf g) w h in let k = l .1 (s .0) (s .1) in absurd (omega arith))
     (λ h. omega arith)
 
-module _ (g : Grammar) (valid : validGrammar g ≡ true) (w : List ℕ) (low : 1 ≤ length w) (high : length w ≤ maxInput) where
+module _ (g : Grammar) (valid : validGrammar g ≡ true) (w : List ℕ) (high : length w ≤ maxInput) where
   -- ---- a first and n nexts that are offered the copy
 
   module _ (chart out : List ℕ) (lent : List (List ℕ × List ℕ)) (a : AllAllowed (grammarOf g) w (first chart out ∷ nextCalls lent)) where
@@ -64,8 +64,8 @@ module _ (g : Grammar) (valid : validGrammar g ≡ true) (w : List ℕ) (low : 1
         → history g w [] (first chart out ∷ nextCalls lent)
         ≡ map hands (L (grammarOf g) w) ++ replicate (suc (length lent) - N (grammarOf g) w) Walk.noneLeft
     first-then-next-said l h =
-        let tree = tree-decided g valid w low high in
-        walk-holds g valid w low high tree (first chart out ∷ nextCalls lent) a
+        let tree = tree-decided g valid w high in
+        walk-holds g valid w high tree (first chart out ∷ nextCalls lent) a
         ∙ ap (λ (c : List Call). Walk.walked (grammarOf g) w tree (Walk.first ∷ c) 0) (nextCalls-which lent)
         ∙ first-nexts (grammarOf g) w tree (length lent) 0 l h
 
@@ -73,11 +73,11 @@ module _ (g : Grammar) (valid : validGrammar g ≡ true) (w : List ℕ) (low : 1
     pub first-then-next : N (grammarOf g) w ≤ length lent
         → handedOut (history g w [] (first chart out ∷ nextCalls lent)) ≡ L (grammarOf g) w
     first-then-next h =
-        let tree = tree-decided g valid w low high in
+        let tree = tree-decided g valid w high in
         let n = nextCalls-nexts lent in
         let f = last-of-first chart out lent in
         let e : min (N (grammarOf g) w) (1 + nexts (map which (nextCalls lent))) ≡ N (grammarOf g) w = omega arith in
-        let d = demand-3 g valid w low high tree (first chart out ∷ nextCalls lent) a in
+        let d = demand-3 g valid w high tree (first chart out ∷ nextCalls lent) a in
         d .handed-since f ∙ ap (λ (k : ℕ). take k (L (grammarOf g) w)) (d .place-since f ∙ e) ∙ take-length (L (grammarOf g) w)
 
   -- ---- what count answers
@@ -87,7 +87,7 @@ module _ (g : Grammar) (valid : validGrammar g ≡ true) (w : List ℕ) (low : 1
     bounded = valid-bounded g valid
 
     count-in : countOf g w chart .answer ≡ countIn (grammarOf g) w chart .answer
-    count-in = ap (λ (k : Checking Figure). k .answer) (count-passed g w chart (ready g valid w low high chart c))
+    count-in = ap (λ (k : Checking Figure). k .answer) (count-passed g w chart (ready g valid w high chart c))
 
     count-some : 0 < N (grammarOf g) w → countOf g w chart .answer ≡ answered (figure (N (grammarOf g) w))
     count-some l = count-in ∙ countIn-some (grammarOf g) w chart l
@@ -105,7 +105,7 @@ module _ (g : Grammar) (valid : validGrammar g ≡ true) (w : List ℕ) (low : 1
         (λ l. subst P (sym (count-some l)) (dite (decLe (N (grammarOf g) w) most)
         (λ h. rw (figure-counted (N (grammarOf g) w) h) (some l h))
         (λ h. let m : most < N (grammarOf g) w = omega arith in rw (figure-more (N (grammarOf g) w) m) (above m))))
-        (λ l. let z : N (grammarOf g) w ≡ 0 = omega arith in by z (tree-decided g valid w low high))
+        (λ l. let z : N (grammarOf g) w ≡ 0 = omega arith in by z (tree-decided g valid w high))
       where
         by : N (grammarOf g) w ≡ 0 → Dec (HasTree (grammarOf g) w) → P (countOf g w chart .answer)
         by z (yes t) = subst P (sym (count-none z (yes t))) (larger (t, L-none (grammarOf g) w z))
@@ -138,7 +138,7 @@ module _ (g : Grammar) (valid : validGrammar g ≡ true) (w : List ℕ) (low : 1
 
     module _ (out : List ℕ) (o : outputSize ≤ length out) where
       first-in : firstOf g w chart out .answer ≡ firstIn (grammarOf g) w chart out .answer
-      first-in = ap (λ (r : Enumeration). r .answer) (first-passed g w chart out (ready-out g valid w low high chart out c o))
+      first-in = ap (λ (r : Enumeration). r .answer) (first-passed g w chart out (ready-out g valid w high chart out c o))
 
       first-none : N (grammarOf g) w ≡ 0 → (tree : Dec (HasTree (grammarOf g) w))
           → firstOf g w chart out .answer ≡ ite tree (refused 13) (answered nothing)
@@ -148,7 +148,7 @@ module _ (g : Grammar) (valid : validGrammar g ≡ true) (w : List ℕ) (low : 1
           → (Larger g w → P (refused 13)) → ((HasTree (grammarOf g) w → ⊥) → P (answered nothing)) → P (firstOf g w chart out .answer)
       first-by P some larger none = dite (decLt 0 (N (grammarOf g) w))
           (λ l. subst P (sym (first-in ∙ firstIn-some (grammarOf g) w chart out l)) (some _ l))
-          (λ l. let z : N (grammarOf g) w ≡ 0 = omega arith in by z (tree-decided g valid w low high))
+          (λ l. let z : N (grammarOf g) w ≡ 0 = omega arith in by z (tree-decided g valid w high))
         where
           by : N (grammarOf g) w ≡ 0 → Dec (HasTree (grammarOf g) w) → P (firstOf g w chart out .answer)
           by z (yes t) = subst P (sym (first-none z (yes t))) (larger (t, L-none (grammarOf g) w z))

@@ -40,7 +40,7 @@ last-first (nextCopy chart out ∷ calls) = elim (last-first calls) [ inl n ↦ 
 last-first (nextOther e chart out ∷ calls) = elim (last-first calls) [ inl n ↦ inl n | inr r ↦ inr (later-first (nextOther e chart out) r) ]
 last-first (count chart ∷ calls) = elim (last-first calls) [ inl n ↦ inl n | inr r ↦ inr (later-first (count chart) r) ]
 
-module _ (g : Grammar) (valid : validGrammar g ≡ true) (w : List ℕ) (low : 1 ≤ length w) (high : length w ≤ maxInput)
+module _ (g : Grammar) (valid : validGrammar g ≡ true) (w : List ℕ) (high : length w ≤ maxInput)
     (tree : Dec (HasTree (grammarOf g) w)) where
   pub demand-3 : (calls : List Made) → AllAllowed (grammarOf g) w calls → Demand3 g w tree calls
   demand-3 calls a = record {
@@ -57,7 +57,7 @@ module _ (g : Grammar) (valid : validGrammar g ≡ true) (w : List ℕ) (low : 1
   }
     where
       same : history g w [] calls ≡ walked (grammarOf g) w tree (map which calls) 0
-      same = walk-holds g valid w low high tree calls a
+      same = walk-holds g valid w high tree calls a
 
       split-which : (f : LastFirst calls) → map which calls ≡ map which (f .before) ++ Walk.first ∷ map which (f .after)
       split-which f = ap (map which) (f .split) ∙ map-append which (f .before) (first (f .chart) (f .out) ∷ f .after)

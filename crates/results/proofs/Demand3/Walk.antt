@@ -48,9 +48,9 @@ module _ (G : Cfg) (bounded : Bounded G) (w : List ℕ) (high : length w ≤ max
   pub walk-holds-in : (calls : List Made) → AllAllowed G w calls → historyIn G w [] calls ≡ walked G w tree (map which calls) 0
   walk-holds-in calls a = walk-from calls a 0 (omega arith) [] refl
 
-module _ (g : Grammar) (valid : validGrammar g ≡ true) (w : List ℕ) (low : 1 ≤ length w) (high : length w ≤ maxInput) where
+module _ (g : Grammar) (valid : validGrammar g ≡ true) (w : List ℕ) (high : length w ≤ maxInput) where
   pub ready : (chart : List ℕ) → cells ≤ length chart → Ready g w chart
-  ready chart c = record { valid = valid; nonempty = low; short = high; room = c }
+  ready chart c = record { valid = valid; short = high; room = c }
 
   pub ready-out : (chart out : List ℕ) → cells ≤ length chart → outputSize ≤ length out → ReadyOut g w chart out
   ready-out chart out c o = record { input = ready chart c; space = o }
