@@ -88,7 +88,7 @@ fn wide(marks: bool) -> Vec<u8> {
 
 #[test]
 fn a_wide_rule_for_each_kind() {
-    for n in [1, 2, 8, 64] {
+    for n in [0, 1, 2, 8, 64] {
         assert_eq!(handed(&wide(false), &vec![b'A'; n]), Given::Refused(13));
     }
     assert_eq!(handed(&wide(true), b"A"), Given::Row(row("1.33")));
@@ -136,6 +136,7 @@ fn full_books() {
             if given == Given::NoDerivation {
                 assert!(!has_tree(&grammar::from_flat(&flat).expect("loaded"), input));
             }
+            judged(&flat, b"", &timed(&flat, b"").0);
             slowest = slowest.max(took);
         }
         (seen, slowest)

@@ -5,7 +5,7 @@
 #[allow(dead_code)] // not all of it is called from here
 mod calls;
 
-use calls::{book, check, count, deepest, deepest_row, first, loaded, next, row};
+use calls::{blank_boundary, book, check, count, deepest, deepest_row, first, loaded, next, row};
 use outside_tests::books::{boundary, full_book, Rng};
 use outside_tests::compare::{rubbish, Lent};
 use outside_tests::lister::walk::{self, Given};
@@ -188,6 +188,18 @@ fn small_books_to_their_end() {
     all_of(&book(0, &rules), b"A");
     // Hidden left recursion and unit cycles.
     all_of(&book(0, &["0: 1 0 A", "0: A", "0: 2", "2: 0", "1:", "1: A"]), &[b'A'; 6]);
+}
+
+#[test]
+fn books_over_nothing_to_their_end() {
+    assert_eq!(all_of(&book(0, &["0: 1 1 1", "1:", "1: 2", "2:", "2: 3", "3:"]), b""), 3 * 3 * 3);
+    // Every path from 0 to 4 that meets no kind twice.
+    let steps = (0..5).flat_map(|i| (0..5).filter(move |j| *j != i).map(move |j| format!("{i}: {j}")));
+    let rules: Vec<String> = steps.chain(["4:".to_string()]).collect();
+    assert_eq!(all_of(&book(0, &texts(&rules)), b""), 1 + 3 + 3 * 2 + 3 * 2);
+    // Exactly 4,096, and one more.
+    assert_eq!(all_of(&blank_boundary(false), b""), 4096);
+    assert_eq!(counted(&loaded(&blank_boundary(true)), b""), Given::More);
 }
 
 /// The list of a full book is too large: the lister checks what is handed out.

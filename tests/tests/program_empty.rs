@@ -7,9 +7,10 @@ mod calls;
 #[allow(dead_code)] // not all of it is called from here
 mod process;
 
-use calls::{blank_bush, book, T};
+use calls::{blank_boundary, blank_bush, book, T};
 use outside_tests::books::{Draft, Sym};
-use process::prints;
+use outside_tests::text::text;
+use process::{prints, Folder};
 
 #[test]
 fn the_table_of_the_request() {
@@ -28,6 +29,17 @@ fn the_limit_of_512() {
     let parts = ["0.0", &format!(" 0.1{}", format!(" 0.2{}", " 0.3".repeat(8)).repeat(8)).repeat(7)].concat();
     prints(&blank_bush(0), b"", &format!("1: {parts} = 0\nREADINGS 1\n"));
     prints(&blank_bush(4), b"", "REFUSED 13\n");
+}
+
+#[test]
+fn exactly_4096_and_one_more() {
+    for (more, last) in [(false, "READINGS 4096"), (true, "READINGS more")] {
+        let book = blank_boundary(more);
+        let due = text(&book, b"").expect("small enough");
+        let lines: Vec<&str> = std::str::from_utf8(&due).expect("ASCII").lines().collect();
+        assert_eq!((lines.len(), lines[4096]), (4097, last));
+        Folder::with(&book).prints(b"", &due).expect("no difference");
+    }
 }
 
 /// A newline is a mark, so a plate of one newline is not empty. The book is judged before the plate.

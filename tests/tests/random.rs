@@ -180,6 +180,16 @@ const OUT_OF_RANGE: &[(&str, u64)] = &[
 /// Impossible: a mark up to 255 is in range, and so is any low byte; one over the largest mark is 256.
 const NO_SUCH: &[&str] = &["a mark, up to 255", "a mark, 256", "a mark, low byte out of range"];
 
+/// The same for a reader that does not make the whole list for first, next and count.
+const DUE_UNLISTED: &[(&str, u64)] = &[
+    ("first, too many to list: handed out", 5),
+    ("next, too many to list", 5),
+    ("more than 4,096", 60),
+    ("count: more", 60),
+    ("next: every derivation offered", 3000),
+    ("next: some offered", 80),
+];
+
 /// The calls on an input, and how often each is refused with 8 to 11 at the bounds of an input's length; 0 means never.
 const ON_AN_INPUT: &[&str] = &["check", "length", "same build", "first", "next", "count"];
 const AT_THE_BOUNDS: &[(&str, u8, u64)] = &[
@@ -195,16 +205,6 @@ const AT_THE_BOUNDS: &[(&str, u8, u64)] = &[
     ("65 bytes", 9, 600),
     ("65 bytes", 10, 0),
     ("65 bytes", 11, 0),
-];
-
-/// The same for a reader that does not make the whole list for first, next and count.
-const DUE_UNLISTED: &[(&str, u64)] = &[
-    ("first, too many to list: handed out", 5),
-    ("next, too many to list", 5),
-    ("more than 4,096", 60),
-    ("count: more", 60),
-    ("next: every derivation offered", 3000),
-    ("next: some offered", 80),
 ];
 
 /// The empty input came up with each loaded book. At the bounds, each call was refused as due; 11 is of first and next.

@@ -62,6 +62,13 @@ pub fn blank_bush_row() -> Vec<u16> {
     [&[0, 0][..], &[&[0, 1][..], &leaves.repeat(8)].concat().repeat(7)].concat()
 }
 
+/// 0 -> 1 1, 1 -> six of 2, 2 -> nothing, 2 -> nothing: no marks have exactly 4,096 derivations. With 0 -> 3,
+/// 3 -> nothing, they have one more.
+pub fn blank_boundary(more: bool) -> Vec<u8> {
+    let rules = ["0: 1 1", "1: 2 2 2 2 2 2", "2:", "2:", "0: 3", "3:"];
+    book(0, &rules[..if more { 6 } else { 4 }])
+}
+
 /// The number and offset of a book's refusal, None if it is loaded; and the row that is left.
 pub fn fault(book: &[u8]) -> (Option<(u8, usize)>, FlatGrammar) {
     let (mut flat, mut offset) = ([FOUND; FLAT], FOUND_AT);
