@@ -1,18 +1,18 @@
 -- The search for nullable nonterminals in trees: what a rule over nullable nonterminals adds is nullable, and a set to which no rule adds
--- anything has every nullable nonterminal. Assumes nothing.
-use Prim.Native.Nat.{ℕ, _<_}
+-- anything has every nullable nonterminal. The laws are about any list of declared rules. Assumes nothing.
+use Prim.Native.Nat.{ℕ, _≤_, _<_}
 use native.Mathlib.Decide.{ℕ-discrete, decLt}
 use native.Mathlib.Omega.{arith}
 use mathlib.Core.Bool.{Bool, true, _&&_}
 use mathlib.Core.List.{List, [], _∷_, _++_, map, append-nil, cons-ne-nil}
 use mathlib.Core.Logic.{dite}
-use mathlib.Core.Option.{Option·some-injective, Option·some-ne-none}
+use mathlib.Core.Option.{none, Option·some-injective, Option·some-ne-none}
 use mathlib.Core.Path.{_≡_, refl, sym, ap, ap₂, _∙_, subst}
 use lib.ListN.{length, take, getD}
-use Rattle.sizes.specs.Sizes.{maxRules}
+use lib.Seq.{take-length}
 use Rattle.laws.proofs.Bools.{true-false, and-parts, and-both}
 use Rattle.cfg.specs.Grammar as Abstract
-use Rattle.cfg.specs.Grammar.{Symbol, nonterminal, terminal, Cfg, Of}
+use Rattle.cfg.specs.Grammar.{Symbol, nonterminal, terminal, Cfg, joined, rule, Of}
 use Rattle.cfg.specs.Tree.{Forest, end, node, yield, Fits, fits-end, fits-leaf, fits-node}
 use Rattle.cfg.specs.Nullable.{Nullable}
 use Rattle.theory_shrinking.proofs.Nullable.{append-empty-left, append-empty-right}
@@ -20,11 +20,10 @@ use Rattle.sets.specs.Set.{has}
 use Rattle.sets.proofs.Laws.{has-insert-other}
 use Rattle.grammar.specs.declared.Place.{Place}
 use Rattle.grammar.specs.declared.Rule.{Rule}
-use Rattle.grammar.specs.declared.Grammar.{Grammar}
-use Rattle.grammar.specs.Valid.{all, validGrammar}
-use Rattle.grammar.specs.View.{placeOf, wholeOf}
+use Rattle.grammar.specs.Valid.{all}
+use Rattle.grammar.specs.View.{placeOf, ruleOf}
 use Rattle.grammar.specs.Zero.{noRule}
-use Rattle.grammar.proofs.RuleAt.{rule-at, rule-past}
+use Rattle.grammar.proofs.RuleAt.{getElem-map-take, getElem-map-past}
 use Rattle.load_nullable.specs.Nullable.{symbolKnown, placeKnown, ruleKnown, widen}
 use Rattle.load_nullable.proofs.Pass.{widen-cases}
 
@@ -64,54 +63,66 @@ unfolding all
 places-known known [] = refl
 places-known known (p ∷ l) = ap (λ (b : Bool). placeKnown known p && b) (places-known known l)
 
-module _ (g : Grammar) (size : length (g .rules) ≡ maxRules) (valid : validGrammar g ≡ true) where
+-- the abstract grammar of a list of declared rules; `wholeOf` is that of the used ones
+abbrev pub cfgBy : ℕ → List Rule → Cfg
+cfgBy start l = record { start = start; rules = map ruleOf l }
+
+-- its rules by their numbers
+list-at : (start : ℕ) (l : List Rule) (i : ℕ) → i < length l → rule (cfgBy start l) i ≡ ruleOf (getD l i noRule)
+unfolding joined
+list-at start l i h = ap joined (rw take-length at (getElem-map-take ruleOf l noRule (length l) i h h))
+
+list-past : (start : ℕ) (l : List Rule) (i : ℕ) → length l ≤ i → rule (cfgBy start l) i ≡ none
+unfolding joined
+list-past start l i h = ap joined (rw take-length at (getElem-map-past ruleOf l (length l) i h))
+
+module _ (start : ℕ) (l : List Rule) where
   -- the left side of a rule whose places hold members is nullable
-  rule-nullable : (known i : ℕ) → Sound (wholeOf g) known → i < g .count → ruleKnown known (getD (g .rules) i noRule) ≡ true
-      → Nullable (wholeOf g) (getD (g .rules) i noRule .left)
+  rule-nullable : (known i : ℕ) → Sound (cfgBy start l) known → i < length l → ruleKnown known (getD l i noRule) ≡ true
+      → Nullable (cfgBy start l) (getD l i noRule .left)
   unfolding ruleKnown yield
   rule-nullable known i sound h e =
-      let r = getD (g .rules) i noRule in
-      let t = places-row (wholeOf g) known sound (take (r .count) (r .places)) e in
-      let o : Of (wholeOf g) i (r .left) = record {
+      let r = getD l i noRule in
+      let t = places-row (cfgBy start l) known sound (take (r .count) (r .places)) e in
+      let o : Of (cfgBy start l) i (r .left) = record {
         the = record { left = r .left; places = map placeOf (take (r .count) (r .places)) };
-        here = rule-at g i size valid h;
+        here = list-at start l i h;
         left = refl;
       } in
       (node i (t .0) end, (fits-node o (t .1) fits-end, append-nil (yield (t .0)) ∙ t .2))
 
-  pub widen-sound : (known i : ℕ) → Sound (wholeOf g) known → i < g .count → Sound (wholeOf g) (widen (getD (g .rules) i noRule) known)
+  pub widen-sound : (known i : ℕ) → Sound (cfgBy start l) known → i < length l → Sound (cfgBy start l) (widen (getD l i noRule) known)
   widen-sound known i sound h =
-      let r = getD (g .rules) i noRule in
-      widen-cases known r (Sound (wholeOf g)) sound (λ e k m. dite (ℕ-discrete k (r .left))
-      (λ p. subst (Nullable (wholeOf g)) (sym p) (rule-nullable known i sound h e))
+      let r = getD l i noRule in
+      widen-cases known r (Sound (cfgBy start l)) sound (λ e k m. dite (ℕ-discrete k (r .left))
+      (λ p. subst (Nullable (cfgBy start l)) (sym p) (rule-nullable known i sound h e))
       (λ n. sound k (sym (has-insert-other k (r .left) known n) ∙ m)))
 
   -- each rule whose places hold members has its left side in the set
   abbrev pub Closed : ℕ → Type 0
-  Closed known = (i : ℕ) → i < g .count → ruleKnown known (getD (g .rules) i noRule) ≡ true
-      → has (getD (g .rules) i noRule .left) known ≡ true
+  Closed known = (i : ℕ) → i < length l → ruleKnown known (getD l i noRule) ≡ true → has (getD l i noRule .left) known ≡ true
 
   module _ (known : ℕ) (closed : Closed known) where
-    of-closed : {r k : ℕ} (o : Of (wholeOf g) r k) → all (symbolKnown known) (o .the .places) ≡ true → has k known ≡ true
+    of-closed : {r k : ℕ} (o : Of (cfgBy start l) r k) → all (symbolKnown known) (o .the .places) ≡ true → has k known ≡ true
     unfolding ruleKnown
-    of-closed {r} {k} o e = dite (decLt r (g .count)) inside outside
+    of-closed {r} {k} o e = dite (decLt r (length l)) inside outside
       where
         ρ : Rule
-        ρ = getD (g .rules) r noRule
+        ρ = getD l r noRule
 
-        inside : r < g .count → has k known ≡ true
+        inside : r < length l → has k known ≡ true
         inside h =
             let m : record { left = ρ .left; places = map placeOf (take (ρ .count) (ρ .places)) } ≡ o .the =
-            Option·some-injective _ (o .the) (sym (rule-at g r size valid h) ∙ o .here) in
+            Option·some-injective _ (o .the) (sym (list-at start l r h) ∙ o .here) in
             let a : all (symbolKnown known) (map placeOf (take (ρ .count) (ρ .places))) ≡ true =
             ap (λ (σ : Abstract.Rule). all (symbolKnown known) (σ .places)) m ∙ e in
             let b : ruleKnown known ρ ≡ true = sym (places-known known (take (ρ .count) (ρ .places))) ∙ a in
             ap (λ (j : ℕ). has j known) (sym (ap (λ (σ : Abstract.Rule). σ .left) m ∙ o .left)) ∙ closed r h b
 
-        outside : ¬ (r < g .count) → has k known ≡ true
-        outside n = absurd (Option·some-ne-none (o .the) (sym (o .here) ∙ rule-past g r (omega arith)))
+        outside : ¬ (r < length l) → has k known ≡ true
+        outside n = absurd (Option·some-ne-none (o .the) (sym (o .here) ∙ list-past start l r (omega arith)))
 
-    row-closed : {places : List Symbol} {t : Forest} → Fits (wholeOf g) places t → yield t ≡ []
+    row-closed : {places : List Symbol} {t : Forest} → Fits (cfgBy start l) places t → yield t ≡ []
         → all (symbolKnown known) places ≡ true
     unfolding all yield
     row-closed fits-end e = refl
@@ -121,6 +132,6 @@ module _ (g : Grammar) (size : length (g .rules) ≡ maxRules) (valid : validGra
         let y = row-closed s (append-empty-right (yield below) (yield rest) e) in
         and-both (has k known) (all (symbolKnown known) places) (of-closed o x) y
 
-    pub closed-complete : (k : ℕ) → Nullable (wholeOf g) k → has k known ≡ true
+    pub closed-complete : (k : ℕ) → Nullable (cfgBy start l) k → has k known ≡ true
     unfolding all
     closed-complete k n = and-parts (has k known) true (row-closed (n .1 .0) (n .1 .1)) .0
