@@ -47,7 +47,7 @@ extern "C" {
 
 /* The version of this header and of the library that it describes. */
 #define FILBOZSEG_VERSION_MAJOR 0
-#define FILBOZSEG_VERSION_MINOR 3
+#define FILBOZSEG_VERSION_MINOR 4
 #define FILBOZSEG_VERSION_PATCH 0
 
 /* Sizes: the numbers in a grammar's row, the numbers in a hand's row, the used cells of a chart, the maximum number of bytes of an input,

@@ -10,6 +10,7 @@ mod loads;
 mod nexts;
 mod refusals;
 mod rows;
+mod searches;
 mod strangers;
 mod takes;
 mod walks;
@@ -17,6 +18,7 @@ mod walks;
 pub use copies::compare_copies;
 pub use lent::{rubbish, Counts, Lent};
 pub use nexts::compare_boundary;
+pub use searches::compare_searches;
 pub use walks::play_book;
 
 use crate::books::{Book, Rng};
@@ -52,7 +54,7 @@ impl Comparison<'_> {
         for input in &book.inputs {
             self.input(&flat, input).map_err(|what| format!("input {input:?}: {what}"))?;
         }
-        Ok(())
+        self.searches(&flat)
     }
 
     /// Counts what came up with an input. What comes up with the empty input is also counted by itself.

@@ -1,4 +1,4 @@
-//! The simple reference, written from document 01 and requests U1 and U2 of document 02 alone: explicit trees, the
+//! The simple reference, written from document 01 and requests U1 to U3 of document 02 alone: explicit trees, the
 //! definitions word by word, no cleverness.
 //! As a `Reader` it can be the code under test. Read each `fault(..)` as "no": only tests/faults.rs compiles these
 //! files with faults that can be switched on.
@@ -7,6 +7,7 @@ pub mod chart;
 pub mod grammar;
 pub mod hand;
 pub mod listing;
+pub mod search;
 pub mod trees;
 pub mod walk;
 

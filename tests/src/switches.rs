@@ -19,11 +19,28 @@ macro_rules! faults {
             $($name,)*
             /// No fault: the depth is the one result left open.
             OtherLegalDepth,
+            // of the search, which no call shows
+            SearchOfOnePass,
+            SearchFromTheLastRule,
+            SearchWithoutTheFirstRule,
+            FindsCountInTheNextPass,
+            LastPassUncounted,
+            SearchEndsWithAllFound,
         }
 
         impl Fault {
-            /// All faults that must be caught.
+            /// All faults of calls, which the comparison must catch.
             pub const ALL: &'static [Fault] = &[$(Fault::$name),*];
+
+            /// The faults of the lister's search, which its table must catch.
+            pub const OF_THE_SEARCH: &'static [Fault] = &[
+                Fault::SearchOfOnePass,
+                Fault::SearchFromTheLastRule,
+                Fault::SearchWithoutTheFirstRule,
+                Fault::FindsCountInTheNextPass,
+                Fault::LastPassUncounted,
+                Fault::SearchEndsWithAllFound,
+            ];
         }
     };
 }

@@ -6,9 +6,11 @@ mod calls;
 mod plates;
 
 use calls::{book, check, complete, deepest, deepest_row, fault, length, loaded, row, same_build, T};
-use outside_tests::books::{Draft, Sym};
-use outside_tests::lister::trees;
-use outside_tests::reader::{record, Answer, FLAT};
+use outside_tests::books::{Draft, Rng, Sym};
+use outside_tests::compare::{compare_searches, rubbish};
+use outside_tests::lister::{self, search::search, trees};
+use outside_tests::reader::{record, Answer, Reader, CELLS, FLAT, HAND};
+use outside_tests::reader_under_test;
 use plates::{compared, listed, plate};
 
 #[test]
@@ -210,6 +212,20 @@ fn faulty_books() {
     assert_eq!(loaded(&with(&nine, &[0x50]))[record(0) + 2], 8);
     let ranges = loaded(&with(rule, &[0x41, 0x00, 0xFF, 0x41, 0x41, 0x41, 0x41, 0x30, 0x39, 0x50]));
     assert_eq!(ranges[record(0)..record(0) + 11], [0, 0, 3, 2, 0xFF00, 2, 0x4141, 2, 0x3930, 0, 0]);
+}
+
+/// The books of request U3 (document 02): what the lister's search finds and in how many passes. What it finds is the word
+/// (0, 0) of the opening.
+#[test]
+fn the_books_of_the_search() {
+    let searched = |book: &[u8]| {
+        let (flat, mut chart) = (loaded(book), rubbish(&mut Rng::new(3), CELLS));
+        reader_under_test().open(&flat, &mut [0; HAND], chart.part_mut());
+        let sought = search(&lister::grammar::from_flat(&flat).expect("loaded"));
+        assert_eq!(chart.part()[0], sought.set);
+        (sought.set, sought.passes)
+    };
+    compare_searches(searched).expect("no difference");
 }
 
 /// Which marks complete a book with one rule and this place.

@@ -14,7 +14,7 @@ use faulty::forgetful::Forgets;
 use faulty::switches::{self, switch_on, Fault};
 use faulty::Faulty;
 use outside_tests::books::book;
-use outside_tests::compare::{compare_book, compare_boundary, compare_copies, play_book, Counts};
+use outside_tests::compare::{compare_book, compare_boundary, compare_copies, compare_searches, play_book, Counts};
 use outside_tests::reader::{self, Reader};
 use std::sync::atomic::{AtomicUsize, Ordering};
 
@@ -155,6 +155,22 @@ fn the_copied_rules_alone_catch_what_they_have_to() {
             difference.err().map(|text| (seed, text))
         })
     });
+}
+
+/// The faults of the lister's search. No call shows it, so only the table of request U3 can catch them.
+#[test]
+fn every_fault_of_the_search_is_caught() {
+    let faults: Vec<(String, Fault)> = Fault::OF_THE_SEARCH.iter().map(|of| (format!("{of:?}"), *of)).collect();
+    let searched = |book: &[u8]| {
+        let sought = lister::search::search(&lister::grammar::load(book).expect("the book loads"));
+        (sought.set, sought.passes)
+    };
+    all_caught(&faults, |fault| {
+        switch_on(Some(*fault));
+        compare_searches(searched).err().map(|text| (0, text))
+    });
+    switch_on(None);
+    compare_searches(searched).expect("no difference");
 }
 
 /// There is no difference over this many books.

@@ -33,6 +33,12 @@ const DUE: &[(&str, u64)] = &[
     ("other load: refused 6", 150),
     ("other load: refused 7", 2000),
     ("other load: refused 16", 800),
+    // The search for the nullable nonterminals, in loaded books.
+    ("search: 1 pass", 120),
+    ("search: 2 passes", 350),
+    ("search: 3 passes", 80),
+    ("search: 4 or more passes", 120),
+    ("search: two or more finds, one in each pass", 15),
     // Ranges: places of loaded books, and the marks that derivations read through them.
     ("load: a place for one byte", 1000),
     ("load: a place for several bytes", 2000),

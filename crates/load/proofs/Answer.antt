@@ -16,7 +16,8 @@ use Rattle.answers.specs.declared.Outcome.the-variants.{Accepted, Refused}
 use Rattle.answers.specs.Number.{numberOf}
 use Rattle.results.specs.Load.{acceptedLoad, refusedLoad}
 use Rattle.load.specs.Answer.{Refuses, Accepts}
-use Rattle.load_nullable.specs.Nullable.{ExactNullable}
+use Rattle.load_nullable.specs.declared.Sought.{Sought}
+use Rattle.load_nullable.specs.Nullable.{Searched}
 use Rattle.load_nullable.proofs.Depth.{exact-depth}
 
 -- a grammar of no rules has no nullable nonterminal
@@ -33,7 +34,7 @@ refuses r at g e =
     subst (λ (h : Grammar). Refuses (record { number = numberOf r; offset = at }) (record { outcome = Refused r at; grammar = h }))
     (sym e) (record { book = refl; depth = zero-depth })
 
-pub accepts : (g : Grammar) (set d : ℕ) → ExactNullable g set → d ≡ card set
+pub accepts : (g : Grammar) (s : Sought) (d : ℕ) → Searched g s → d ≡ card (s .set)
     → Accepts g (record { outcome = Accepted; grammar = setDepth g d })
 unfolding acceptedLoad
-accepts g set d E e = record { book = refl; depth = subst (Depth (wholeOf g)) (sym e) (exact-depth g set E) }
+accepts g s d S e = record { book = refl; depth = subst (Depth (wholeOf g)) (sym e) (exact-depth g (s .set) (S .exact)) }

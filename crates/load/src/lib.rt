@@ -35,9 +35,9 @@ fn accepted(g: Grammar) -> Loaded
     requires { ⌜ validGrammar g ≡ true ⌝ }
     ensures { λ l. ⌜ Accepts g l ⌝ }
 {
-    let set = load_nullable::nullable_set(g);
+    let found = load_nullable::search(g);
     let mut h = g;
-    h.depth = load_nullable::nullable_depth(set);
+    h.depth = load_nullable::nullable_depth(found.set);
     Loaded {
         outcome: Outcome::Accepted,
         grammar: h,

@@ -1,18 +1,20 @@
--- The search for nullable nonterminals as numbers. A pass keeps the members and the width, and if it adds nothing, no rule adds anything.
--- Then the steps of the loops, with the premises that the code gives. Assumes nothing.
+-- The search for nullable nonterminals as numbers. A pass keeps the members and the width; it adds nothing, and then no rule adds anything,
+-- or the set has more members. Then the steps of the loops, with the premises that the code gives. Assumes nothing.
 use Prim.Native.Nat.{ℕ, zero, suc, _+_, _^_, _≤_, _<_}
 use native.Mathlib.Nat.{le-refl, le-trans, le-antisymm, le-of-suc-le-suc, not-suc-le-zero}
 use native.Mathlib.Numerals.{add-one}
 use native.Mathlib.Omega.{arith}
 use mathlib.Core.Bool.{Bool, true, false, cond, not, and-false}
 use mathlib.Core.List.{List, [], _∷_}
-use mathlib.Core.Path.{_≡_, refl, sym, ap, _∙_}
+use mathlib.Core.Logic.{_⊎_, inl, inr}
+use mathlib.Core.Path.{_≡_, refl, sym, ap, _∙_, subst}
 use lib.ListN.{length, take, getD}
 use borrow.Author.Tests.{not-true, leb-true}
 use Rattle.sizes.specs.Sizes.{maxRules, maxPlaces}
-use Rattle.laws.proofs.Bools.{and-parts}
-use Rattle.sets.specs.Set.{has, insert}
-use Rattle.sets.proofs.Laws.{insert-le, insert-lt, insert-same→has}
+use Rattle.laws.proofs.Bools.{by-test, and-parts}
+use Rattle.sets.specs.Set.{has, insert, card}
+use Rattle.sets.proofs.Laws.{has-insert, has-insert-same, insert-old, insert-le, insert-lt, insert-same→has}
+use Rattle.sets.proofs.Card.{card-strict}
 use Rattle.grammar.specs.declared.Symbol.{Symbol}
 use Rattle.grammar.specs.declared.Symbol.the-variants.{Nonterminal}
 use Rattle.grammar.specs.declared.Place.{Place}
@@ -135,3 +137,30 @@ pass-same (r ∷ l) known e zero h = omega (arith, widen-le known r, pass-le l (
 pass-same (r ∷ l) known e (suc i) h =
     let w : widen r known ≡ known = omega (arith, widen-le known r, pass-le l (widen r known)) in
     pass-same l known (ap (pass l) (sym w) ∙ e) i (le-of-suc-le-suc h)
+
+-- ---- a pass adds nothing, or the set has more members
+
+-- w is v, or it has more members
+abbrev pub Grown : ℕ → ℕ → Type 0
+Grown v w = (w ≡ v) ⊎ (card v < card w)
+
+insert-grown : (k w : ℕ) → k < 32 → Grown w (insert k w)
+insert-grown k w h = by-test (has k w)
+    (λ e. inl (insert-old k w e))
+    (λ e. inr (card-strict w (insert k w) k h (λ j m. has-insert j k w m) e (has-insert-same k w)))
+
+widen-grown : (known : ℕ) (r : Rule) → r .left ≤ 31 → Grown known (widen r known)
+widen-grown known r h = widen-cases known r (Grown known) (inl refl) (λ e. insert-grown (r .left) known (omega arith))
+
+grown-twice : (u v w : ℕ) → Grown u v → Grown v w → Grown u w
+grown-twice u v w (inl e) q = subst (λ (x : ℕ). Grown x w) e q
+grown-twice u v w (inr h) (inl e) = inr (subst (λ (x : ℕ). card u < card x) (sym e) h)
+grown-twice u v w (inr h) (inr k) = inr (omega arith)
+
+pub pass-grown : (l : List Rule) (known : ℕ) → all validRule l ≡ true → Grown known (pass l known)
+unfolding pass all
+pass-grown [] known v = inl refl
+pass-grown (r ∷ l) known v =
+    let p = and-parts (validRule r) (all validRule l) v in
+    grown-twice known (widen r known) (pass l (widen r known))
+    (widen-grown known r (rule-parts r (p .0) .0)) (pass-grown l (widen r known) (p .1))

@@ -1,2 +1,3 @@
--- What the search for nullable nonterminals computes.
+-- What the search for nullable nonterminals computes, and books for it.
 pub mod Nullable
+pub mod Table

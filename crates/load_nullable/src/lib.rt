@@ -1,4 +1,4 @@
-// The nullable nonterminals of a grammar, as a set, and the nullable depth.
+// The search for the nullable nonterminals of a grammar, and the nullable depth.
 use grammar::Grammar;
 use grammar::Place;
 use grammar::Rule;
@@ -8,7 +8,7 @@ ghost use mathlib.Core.Path.{_≡_};
 ghost use lib.ListN.{take};
 ghost use Rattle.sets.specs.Set.{card};
 ghost use Rattle.grammar.specs.Valid.{validPlace, validRule, validGrammar};
-ghost use Rattle.load_nullable.specs.Nullable.{placeKnown, ruleKnown, widen, pass, ExactNullable};
+ghost use Rattle.load_nullable.specs.Nullable.{placeKnown, ruleKnown, widen, pass, Searched};
 
 // Whether the place holds a known nonterminal.
 pub fn place_in(p: Place, known: u32) -> bool
@@ -69,18 +69,29 @@ pub fn nullable_pass(g: Grammar, known: u32) -> u32
     s
 }
 
-// The nullable nonterminals, found by passes until one adds nothing.
-pub fn nullable_set(g: Grammar) -> u32
+// What the search gives back: the nonterminals that it found, as a set, and how many passes it made.
+pub struct Sought {
+    pub set: u32,
+    pub passes: u8,
+}
+
+// The nullable nonterminals, found by passes until one adds nothing. That pass is counted too.
+pub fn search(g: Grammar) -> Sought
     requires { ⌜ validGrammar g ≡ true ⌝ }
-    ensures { λ r. ⌜ ExactNullable g r ⌝ }
+    ensures { λ r. ⌜ Searched g r ⌝ }
 {
     let mut known = 0;
     let mut next = nullable_pass(g, known);
+    let mut passes = 1u8;
     while next != known {
         known = next;
         next = nullable_pass(g, known);
+        passes += 1;
     }
-    known
+    Sought {
+        set: known,
+        passes: passes,
+    }
 }
 
 // A nullable depth: how many nonterminals are nullable.

@@ -1,12 +1,14 @@
 -- The final theorems over the definitions, each proved by citation. The demands are the customer's three (README gives them in short); the
 -- other sources are sections of document 01, his scope (docs/REFERENCE.md says what it fixes). The definitions are in `cfg/specs`,
--- `chart/specs`, `grammar/specs`, `results/specs`, `text/specs`, `demands/specs`, `print_begin/specs` and `print_page/specs`, and none is
--- in a `proofs/` folder.
+-- `chart/specs`, `grammar/specs`, `results/specs`, `load_nullable/specs`, `text/specs`, `demands/specs`, `print_begin/specs` and
+-- `print_page/specs`, and none is in a `proofs/` folder.
 --
 --   statement                         says                                                            source
 --   starred-table                     the starred plates, from book bytes to answers                   Plates from the drawer
 --   requests-table                    plates for the requests, from book bytes to answers              document 02
 --   range-fits                        a byte fits a range exactly if it is from low to high            document 02, U1
+--   search-exact, search-few          the search finds exactly the blank kinds; how many passes        document 02, U3
+--   search-table                      books for the search, from book bytes to set and passes          document 02, U3
 --   list-exact, list-rising           L holds exactly the readings, each once, in rising order         Trees and readings; The walk
 --   load-demand, load-order           a book is loaded or refused at its first fault; what is left     demand 1; Refusals
 --   open-, take-, .., next-demand     what is written, the first refusal that applies, what it leaves  demand 1
@@ -51,13 +53,15 @@ use mathlib.Core.Path.{_≡_}
 use lib.IntN.{ℤ}
 use lib.ListN.{length, getD, take, replicate}
 use Rattle.sizes.specs.Sizes.{maxInput, cells, outputSize}
+use Rattle.sets.specs.Set.{has, card}
 use Rattle.cfg.specs.Grammar.{Cfg, range, fits}
 use Rattle.cfg.specs.Tree.{HasTree}
 use Rattle.cfg.specs.Derivation.{Derivation, Rising, limit}
 use Rattle.cfg.specs.Listing.{L}
+use Rattle.cfg.specs.Nullable.{Nullable}
 use Rattle.grammar.specs.declared.Grammar.{Grammar}
 use Rattle.grammar.specs.Valid.{validGrammar}
-use Rattle.grammar.specs.View.{grammarOf}
+use Rattle.grammar.specs.View.{wholeOf, grammarOf}
 use Rattle.results.specs.Answer.{refused, answered, nothing, counted, more}
 use Rattle.results.specs.Load.{step, loadOf}
 use Rattle.results.specs.Recognize.{State, openOf, takeOf, fed}
@@ -70,6 +74,8 @@ use Rattle.results.specs.Demand3.{Demand3, nextCalls, Larger}
 use Rattle.results.specs.Starred.{Starred}
 use Rattle.results.specs.Requests.{Requested}
 use Rattle.results.specs.Drawer.{T, As}
+use Rattle.load_nullable.specs.Nullable.{searchOf}
+use Rattle.load_nullable.specs.Table.{SearchTable}
 use Rattle.text.specs.Text.{loadedText, textOf}
 use Rattle.text.specs.Sample.{listingOfT}
 use Rattle.text.specs.Front.{bookFront, plateFront}
@@ -89,6 +95,8 @@ use Rattle.cfg.proofs.Fits as Fits
 use Rattle.theory_listing.proofs.Exact as Exact
 use Rattle.results.proofs.Starred as Starred
 use Rattle.results.proofs.Requests as Requests
+use Rattle.load_nullable.proofs.Exact as Search
+use Rattle.load_nullable.proofs.Table as Searches
 use Rattle.results.proofs.Demand3.Walk as Walk
 use Rattle.results.proofs.Demand3.Handed as Handed
 use Rattle.results.proofs.Demand3.Consequences as Consequences
@@ -116,6 +124,18 @@ requests-table = Requests.requested
 -- THE RANGES: a byte fits a range exactly if it is from its low to its high end, both included
 pub range-fits : (low high m : ℕ) → (fits (range low high) m ≡ true) ↔ ((low ≤ m) × (m ≤ high))
 range-fits low high m = Fits.range-fits low high m
+
+-- THE REQUEST U3, for every grammar that check 8 lets through: the search finds exactly the nullable nonterminals (blank kinds)
+pub search-exact : (g : Grammar) → validGrammar g ≡ true → (k : ℕ) → (has k (searchOf g .set) ≡ true) ↔ Nullable (wholeOf g) k
+search-exact g valid k = (Search.searched g valid .exact .sound k, Search.searched g valid .exact .complete k)
+
+-- its passes are at most one more than these
+pub search-few : (g : Grammar) → validGrammar g ≡ true → searchOf g .passes ≤ card (searchOf g .set) + 1
+search-few g valid = Search.searched g valid .few
+
+-- books for the search, from their bytes to the set that is found and the number of passes
+pub search-table : SearchTable
+search-table = Searches.search-table
 
 -- THE LIST L: a row is in it exactly if it is a derivation (reading) of the input, and it is strictly rising
 pub list-exact : (G : Cfg) (w e : List ℕ) → List·Memᴰ e (L G w) ↔ Derivation G limit w e
