@@ -1,7 +1,7 @@
 -- Rows for the input of no bytes beyond the table of the requests: the pair of 512 and 513 nodes, next, and builds. Each is proved by
 -- computing it. Assumes nothing.
 use Prim.Native.Nat.{ℕ}
-use mathlib.Core.Bool.{Bool, true}
+use mathlib.Core.Bool.{true}
 use mathlib.Core.List.{List, [], _∷_, map}
 use mathlib.Core.Path.{_≡_, refl}
 use lib.ListN.{replicate}
