@@ -47,7 +47,7 @@ extern "C" {
 
 /* The version of this header and of the library that it describes. */
 #define FILBOZSEG_VERSION_MAJOR 0
-#define FILBOZSEG_VERSION_MINOR 4
+#define FILBOZSEG_VERSION_MINOR 5
 #define FILBOZSEG_VERSION_PATCH 0
 
 /* Sizes: the numbers in a grammar's row, the numbers in a hand's row, the used cells of a chart, the maximum number of bytes of an input,
@@ -102,6 +102,9 @@ static inline uint32_t filbozseg_refused(uint32_t code)
  * 128 rules. These are the left side, the length in hundredths of a millimetre (two's complement), the number of places, and for each of 8
  * places a tag and a value. Tag 0 is a nonterminal and 1 a terminal. Tag 2 is a range, whose value is low + 256 * high: any byte from low
  * to high fits such a place, both ends included, and no other.
+ *
+ * The nullable depth of a loaded grammar is 0 to 32: the greatest, over all nonterminals that have an empty tree, of the height of the
+ * lowest one, and 0 if none has any. A rule without places makes a tree of height 1.
  *
  * A row may hold anything, and all 16 bits of each number are checked. Refusal 8: a start over 31; more than 128 rules; in a used rule a
  * left side over 31, or more than 8 places; in a used place a tag over 2, a nonterminal over 31, a terminal over 255, or a range with low

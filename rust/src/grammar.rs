@@ -51,8 +51,16 @@ impl Grammar {
         byte(self.row[0])
     }
 
-    /// The nullable depth (blank depth). In a loaded grammar it is 0 to 32: the lowest empty tree of each nullable nonterminal is at most
-    /// that high, and the depth is 0 if no nonterminal is nullable.
+    /// The nullable depth (blank depth). In a loaded grammar it is 0 to 32: the greatest, over all nonterminals that have an empty tree, of
+    /// the height of the lowest one, and 0 if none has any. A rule without places makes a tree of height 1.
+    ///
+    /// ```
+    /// # fn main() -> Result<(), filbozseg::LoadError> {
+    /// // 0 -> 1 1, 1 -> nothing: nonterminal 1 has height 1, and 0 has 2
+    /// assert_eq!(filbozseg::load(b"\x10\x00\x20\x00\x00\x00\x30\x01\x30\x01\x20\x01\x00\x00\x50")?.nullable_depth(), 2);
+    /// # Ok(())
+    /// # }
+    /// ```
     pub fn nullable_depth(&self) -> u8 {
         byte(self.row[2])
     }

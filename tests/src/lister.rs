@@ -1,9 +1,10 @@
-//! The simple reference, written from document 01 and requests U1 to U3 of document 02 alone: explicit trees, the
+//! The simple reference, written from document 01 and requests U1 to U3 and U13 of document 02 alone: explicit trees, the
 //! definitions word by word, no cleverness.
 //! As a `Reader` it can be the code under test. Read each `fault(..)` as "no": only tests/faults.rs compiles these
 //! files with faults that can be switched on.
 
 pub mod chart;
+pub mod depth;
 pub mod grammar;
 pub mod hand;
 pub mod listing;
@@ -127,8 +128,7 @@ impl Reader for Lister {
                 Answer::Refused(number)
             }
             Ok(grammar) => {
-                let depth = grammar::empty_heights(&grammar).iter().flatten().copied().max().unwrap_or(0);
-                *flat = grammar::to_flat(&grammar, depth);
+                *flat = grammar::to_flat(&grammar, depth::nullable_depth(&grammar));
                 Answer::Yes
             }
         }

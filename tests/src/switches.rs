@@ -17,8 +17,6 @@ macro_rules! faults {
         #[derive(Clone, Copy, PartialEq, Eq, Debug)]
         pub enum Fault {
             $($name,)*
-            /// No fault: the depth is the one result left open.
-            OtherLegalDepth,
             // of the search, which no call shows
             SearchOfOnePass,
             SearchFromTheLastRule,
@@ -225,4 +223,10 @@ faults! {
     BuildsOfTheEmptyInputDiffer,
     EmptyInputHasNoLength,
     EmptyInputLeavesTheChart,
+    // the nullable depth
+    DepthThatDocument01Allows,
+    DepthCountsTheNullable,
+    DepthCountsOneRoundMore,
+    DepthInPlace,
+    DepthOfWhatTheStartReaches,
 }

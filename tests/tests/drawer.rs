@@ -30,10 +30,9 @@ fn book_t() {
     assert_eq!(same_build(&flat, b"A", &one, &row("2.0 1.2 1.2")), Answer::Refused(12));
     assert_eq!(check(&flat, b"B", &one), Answer::No);
     assert!(complete(&flat, b""), "0 -> 1 1 with 1 blank derives the empty row");
-    assert_eq!(flat[..3], [0, 3, flat[2]]);
+    assert_eq!(flat[..3], [0, 3, 2]);
     assert_eq!(flat[record(0)..record(0) + 7], [0, 4600, 2, 0, 1, 0, 1]);
     assert_eq!(flat[record(2)..record(2) + 5], [1, 25, 1, 1, 0x41]);
-    assert!((2..=32).contains(&flat[2]), "kind 0's lowest empty tree has height 2");
 }
 
 #[test]
@@ -226,6 +225,32 @@ fn the_books_of_the_search() {
         (sought.set, sought.passes)
     };
     compare_searches(searched).expect("no difference");
+}
+
+/// The books of request U13 (document 02): the greatest, over the blank kinds, of the height of the lowest empty tree.
+#[test]
+fn the_nullable_depth() {
+    let depth = |rules: &[&str]| loaded(&book(0, rules))[2];
+    assert_eq!(depth(&[]), 0);
+    assert_eq!(depth(&["0: A"]), 0);
+    assert_eq!(depth(&["0: 0"]), 0);
+    assert_eq!(loaded(&T)[2], 2);
+    // three blank kinds, each of height 1
+    assert_eq!(depth(&["0:", "1:", "2:"]), 1);
+    // 32 kinds of heights 1 to 32, with the rules in both orders
+    let chain: Vec<String> = (1..32).map(|k| format!("{k}: {}", k - 1)).collect();
+    let mut chain: Vec<&str> = std::iter::once("0:").chain(chain.iter().map(String::as_str)).collect();
+    assert_eq!(depth(&chain), 32);
+    chain.reverse();
+    assert_eq!(depth(&chain), 32);
+    // kind 1 has height 1, kind 0 height 2, kind 2 height 3
+    assert_eq!(depth(&["0: 1 1", "1: 2", "1:", "2: 0"]), 3);
+    // kinds 5 and 6 are not reached from 0
+    assert_eq!(depth(&["0: A", "5: 6 6", "6:"]), 2);
+    // a kind's lowest tree counts, not its first rule's
+    assert_eq!(depth(&["0: 1", "0:", "1: 2", "2:"]), 2);
+    // a refused book has none, though its first rule is blank
+    assert_eq!(fault(&[0x10, 0x00, 0x20, 0x00, 0, 0, 0x60]), (Some((2, 6)), [0; FLAT]));
 }
 
 /// Which marks complete a book with one rule and this place.

@@ -24,7 +24,11 @@ const DUE: &[(&str, u64)] = &[
     ("load: refused 7", 20),
     ("load: refused 16", 8),
     ("load: depth 0", 100),
-    ("load: depth above 0", 500),
+    ("load: depth 1", 250),
+    ("load: depth 2", 80),
+    ("load: depth 3", 25),
+    ("load: depth 4 or more", 200),
+    ("load: depth below the number of nullable kinds", 350),
     ("other load: refused 1", 5000),
     ("other load: refused 2", 5000),
     ("other load: refused 3", 2000),
@@ -215,7 +219,8 @@ const AT_THE_BOUNDS: &[(&str, u8, u64)] = &[
 
 /// The empty input came up with each loaded book. At the bounds, each call was refused as due; 11 is of first and next.
 fn due_at_the_bounds(counts: &Counts, usual: impl Fn(u64) -> u64) {
-    let loaded = counts.get("load: depth 0") + counts.get("load: depth above 0");
+    let depths = ["0", "1", "2", "3", "4 or more"];
+    let loaded: u64 = depths.iter().map(|depth| counts.get(&format!("load: depth {depth}"))).sum();
     assert_eq!(counts.get("input: empty"), loaded);
     for (call, (input, refusal, due)) in
         ON_AN_INPUT.iter().flat_map(|call| AT_THE_BOUNDS.iter().map(move |at| (call, at)))

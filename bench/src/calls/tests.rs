@@ -1,7 +1,7 @@
 //! Both sides check all 16 bits of each number, and leave the same in what is lent.
 
 use super::{chart, hand, Plain, Proved, Reader, Refusal, FLAT};
-use crate::books::{random_full, random_full_of_ranges};
+use crate::books::{chain, random_full, random_full_of_ranges};
 use crate::random::Random;
 
 /// Opens with a row in which one number is changed: both sides give this answer and leave the same hand and chart.
@@ -76,6 +76,25 @@ fn random_book(random: &mut Random, number: usize) -> (Vec<u8>, Vec<u8>) {
 /// output, of which one is too short.
 fn lengths(input: &[u8]) -> [(&[u8], usize); 5] {
     [(input, 1024), (&input[..5], 1030), (&input[..1], 1023), (&[], 1024), (&[65; 65], 1024)]
+}
+
+#[test]
+fn both_sides_load_the_same_row() {
+    let (mut random, mut depths) = (Random::new(13), [0; 33]);
+    let mut compared = |book: &[u8]| {
+        let (mut row, mut other, mut at, mut to) = ([9; FLAT], [8; FLAT], 9, 9);
+        let code = Proved::load(book, &mut row, &mut at);
+        assert_eq!((code, at), (Plain::load(book, &mut other, &mut to), to), "{book:02x?}");
+        assert!(row == other, "{book:02x?}");
+        depths[usize::from(row[2])] += usize::from(code == 1);
+    };
+    for number in 0..200 {
+        let (book, _) = random_book(&mut random, number);
+        compared(&book);
+        compared(&book[..random.below(book.len())]);
+    }
+    compared(&chain(&[&[]]));
+    assert!(depths[0] > 10 && depths[1] > 40 && depths[2] > 40 && depths[3] > 10 && depths[32] == 1, "{depths:?}");
 }
 
 #[test]

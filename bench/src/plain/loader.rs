@@ -1,5 +1,5 @@
 //! Loading a book: one command after the other, by a match over its first byte; then the nullable kinds, by passes
-//! until one adds nothing.
+//! until one adds nothing; then their depth, level by level.
 
 use super::{Grammar, Refusal, Rule, Symbol, PLACES, RULES};
 
@@ -73,14 +73,18 @@ fn command(bytes: &[u8], at: usize, rules: usize, places: usize) -> Result<Comma
     }
 }
 
-fn nullable_set(g: &Grammar) -> u32 {
+/// Whether each place of the rule holds a known kind.
+fn rule_in(rule: &Rule, known: u32) -> bool {
+    rule.places[..rule.count].iter().all(|s| matches!(s, Symbol::Nonterminal(k) if known >> k & 1 == 1))
+}
+
+/// The nullable kinds. In a pass a find counts at once.
+pub(super) fn nullable_set(g: &Grammar) -> u32 {
     let mut set = 0u32;
     loop {
         let before = set;
         for rule in &g.rules[..g.count] {
-            let all =
-                rule.places[..rule.count].iter().all(|s| matches!(s, Symbol::Nonterminal(k) if set >> k & 1 == 1));
-            if all {
+            if rule_in(rule, set) {
                 set |= 1 << rule.left;
             }
         }
@@ -88,6 +92,21 @@ fn nullable_set(g: &Grammar) -> u32 {
             return set;
         }
     }
+}
+
+/// The level above a level: the left sides of the rules over it. A find does not count at once.
+fn level_above(g: &Grammar, level: u32) -> u32 {
+    g.rules[..g.count].iter().filter(|rule| rule_in(rule, level)).fold(0, |above, rule| above | 1 << rule.left)
+}
+
+/// How many levels there are above the empty one, up to that of all nullable kinds.
+pub(super) fn nullable_depth(g: &Grammar, set: u32) -> u8 {
+    let (mut level, mut depth) = (0, 0);
+    while level != set {
+        level = level_above(g, level);
+        depth += 1;
+    }
+    depth
 }
 
 pub fn load(bytes: &[u8]) -> Result<Grammar, (Refusal, usize)> {
@@ -113,7 +132,7 @@ pub fn load(bytes: &[u8]) -> Result<Grammar, (Refusal, usize)> {
                 at += 1 + operands;
             }
             Command::End => {
-                g.depth = nullable_set(&g).count_ones() as u8;
+                g.depth = nullable_depth(&g, nullable_set(&g));
                 return Ok(g);
             }
         }

@@ -323,6 +323,29 @@ fn faulty_books_have_the_numbers_and_offsets_of_the_design() {
     assert_eq!(fault(&[0x10, 0, 0x50]), Ok(()));
 }
 
+/// Whether kind k has an empty tree of at most this height.
+fn has_empty_tree(g: &Grammar, k: u8, height: u8) -> bool {
+    let low = |place: &Symbol| matches!(place, Symbol::Nonterminal(k) if has_empty_tree(g, *k, height - 1));
+    let mut rules = g.rules[..g.count].iter().filter(|rule| rule.left == k);
+    height > 0 && rules.any(|rule| rule.places[..rule.count].iter().all(low))
+}
+
+#[test]
+fn the_depth_is_the_height_of_the_highest_of_the_lowest_empty_trees() {
+    let mut random = Random::new(7);
+    let mut seen = [0; 6];
+    for _ in 0..4000 {
+        // no tree of a kind needs to be higher than there are kinds
+        let g = small_grammar(&mut random);
+        let due = (0..5).filter_map(|k| (1..=5).find(|height| has_empty_tree(&g, k, *height))).max().unwrap_or(0);
+        assert_eq!(loader::nullable_depth(&g, loader::nullable_set(&g)), due, "{g:?}");
+        seen[usize::from(due)] += 1;
+    }
+    assert!(seen[0] > 500 && seen[1] > 1000 && seen[2] > 300 && seen[3] > 25, "{seen:?}");
+    let depth = |book: &[u8]| loader::load(book).unwrap().depth;
+    assert_eq!((depth(&books::chain(&[&[]])), depth(&books::pairs())), (32, 0));
+}
+
 #[test]
 fn the_flat_row_is_read_as_it_was_written() {
     let mut random = Random::new(4);

@@ -1,16 +1,19 @@
--- Rows that the abstract definitions must give: what L holds and in which order, what superfluous recursion is and is not, and where
--- the limit of 512 nodes lies. The tables from the bytes of books to the answers are those of crate `results`. Assumes nothing.
-use Prim.Native.Nat.{ℕ}
+-- Rows that the abstract definitions must give: what L holds and in which order, what superfluous recursion is and is not, where the
+-- limit of 512 nodes lies, and how deep empty trees are. The tables from the bytes of books to the answers are those of crate `results`.
+-- Assumes nothing.
+use Prim.Native.Nat.{ℕ, zero, suc}
 use mathlib.Core.List.{List, [], _∷_, map}
 use mathlib.Core.Option.{Option, none, some, Option·some-injective}
 use mathlib.Core.Path.{_≡_, refl, sym, ap}
 use native.Mathlib.Omega.{arith}
 use lib.ListN.{length, replicate}
+use Rattle.sets.specs.Set.{has, insert}
 use Rattle.cfg.specs.Grammar.{Cfg, Rule, Symbol, nonterminal, terminal, byte, fits, joined, Of}
 use Rattle.cfg.specs.Tree.{end, leaf, node, yield}
 use Rattle.cfg.specs.Derivation.{Has, has-here, has-below, has-beside, has-after, first-less, first-same}
 use Rattle.cfg.specs.Derivation.{Superfluous, super-here, super-below, super-beside, super-after, Rising, rising-one, rising-more}
 use Rattle.cfg.specs.Listing.{L, over, when, from, among, keep, rulesFrom, items, upTo, listing, derivations}
+use Rattle.cfg.specs.Nullable.{symbolsIn, heads, level, firstHeight, depthOf}
 
 abbrev pub A : Symbol
 A = terminal (byte 65)
@@ -135,3 +138,43 @@ other-plain (super-below (super-here o h)) = no-node h
 other-plain (super-below (super-below h)) = leaves-plain h
 other-plain (super-below (super-beside h)) = elim h [ ]
 other-plain (super-beside h) = elim h [ ]
+
+-- ---- the nullable depth
+
+-- the levels of these heights and the depth, with all definitions that they use unfolded
+unfoldable pub levelsOf : List (Option Rule) → List ℕ → List ℕ
+unfolding has insert symbolsIn heads level
+levelsOf rules heights = map (level (grammar rules)) heights
+
+unfoldable pub depthBy : List (Option Rule) → ℕ
+unfolding has insert symbolsIn heads level firstHeight depthOf
+depthBy rules = depthOf (grammar rules)
+
+-- 1 → 0, 2 → 1, .., n → n - 1, and further rules
+abbrev pub units : ℕ → List (Option Rule) → List (Option Rule)
+units zero rest = rest
+units (suc n) rest = units n (suc n ⇒ (nonterminal n ∷ []) ∷ rest)
+
+-- 0 → nothing, 1 → 0, 2 → 1: each level has one member more, although one pass over the rules would find all
+pub levels-rise : levelsOf (0 ⇒ [] ∷ units 2 []) (0 ∷ 1 ∷ 2 ∷ 3 ∷ 4 ∷ []) ≡ 0b000 ∷ 0b001 ∷ 0b011 ∷ 0b111 ∷ 0b111 ∷ []
+unfolding levelsOf
+levels-rise = refl
+
+pub three-deep : depthBy (0 ⇒ [] ∷ units 2 []) ≡ 3
+unfolding depthBy
+three-deep = refl
+
+-- the same with all 32 nonterminals: no depth is greater
+pub deepest : depthBy (0 ⇒ [] ∷ units 31 []) ≡ 32
+unfolding depthBy
+deepest = refl
+
+-- three nullable nonterminals, each of height 1
+pub three-flat : depthBy (0 ⇒ [] ∷ 1 ⇒ [] ∷ 2 ⇒ [] ∷ []) ≡ 1
+unfolding depthBy
+three-flat = refl
+
+-- 0 → 0: it has no tree, so the depth is 0
+pub none-nullable : depthBy (0 ⇒ (nonterminal 0 ∷ []) ∷ []) ≡ 0
+unfolding depthBy
+none-nullable = refl

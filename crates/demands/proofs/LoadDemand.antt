@@ -6,8 +6,10 @@ use mathlib.Core.List.{List}
 use mathlib.Core.Logic.{inl, inr}
 use mathlib.Core.Path.{_≡_, refl, sym, ap, _∙_, subst}
 use lib.ListN.{length, getD}
+use Rattle.cfg.specs.Nullable.{depthOf}
 use Rattle.grammar.specs.declared.Grammar.{Grammar}
 use Rattle.grammar.specs.Setters.{setDepth}
+use Rattle.grammar.specs.View.{wholeOf}
 use Rattle.grammar.specs.Zero.{zeroGrammar}
 use Rattle.grammar.proofs.Setters.{set-depth-valid}
 use Rattle.results.specs.Load.{Fault, Step, stop, next, done, step, refusedLoad, acceptedLoad, run, loadOf}
@@ -40,47 +42,46 @@ module _ (bytes : List ℕ) where
     order = subst (CommandOrder bytes at (getD bytes at 0) g) e (step-order bytes at g);
   }
 
-  module _ (d : ℕ) where
-    -- another nullable depth does not change this
-    depth-tidy : (g : Grammar) → Tidy g → Tidy (setDepth g d)
-    depth-tidy g T = record {
-      valid = set-depth-valid g (T .valid) d;
-      behind = record { size = T .behind .size; unused = T .behind .unused; places = T .behind .places };
-    }
+  -- another nullable depth does not change this
+  depth-tidy : (g : Grammar) (d : ℕ) → Tidy g → Tidy (setDepth g d)
+  depth-tidy g d T = record {
+    valid = set-depth-valid g (T .valid) d;
+    behind = record { size = T .behind .size; unused = T .behind .unused; places = T .behind .places };
+  }
 
-    accepted : (at : ℕ) (g g′ : Grammar) → Reached bytes at g → step bytes at g ≡ done g′ → LoadAccepted bytes d (acceptedLoad d g′)
-    unfolding acceptedLoad
-    accepted at g g′ R e =
-        let E = step-done bytes at g g′ e in
-        let T = depth-tidy g′ (subst Tidy (sym (E .same)) (reached-kept (tidy-invariant bytes) R)) in
-        record {
-          answer = refl;
-          at = at;
-          read = g;
-          reached = R;
-          ends = e ∙ ap done (E .same);
-          fifty = E .command;
-          last = omega (arith, E .last);
-          grammar = ap (λ (h : Grammar). setDepth h d) (E .same);
-          valid = T .valid;
-          behind = T .behind;
-        }
+  accepted : (at : ℕ) (g g′ : Grammar) → Reached bytes at g → step bytes at g ≡ done g′ → LoadAccepted bytes (acceptedLoad g′)
+  unfolding acceptedLoad
+  accepted at g g′ R e =
+      let E = step-done bytes at g g′ e in
+      let T = depth-tidy g′ (depthOf (wholeOf g′)) (subst Tidy (sym (E .same)) (reached-kept (tidy-invariant bytes) R)) in
+      record {
+        answer = refl;
+        at = at;
+        read = g;
+        reached = R;
+        ends = e ∙ ap done (E .same);
+        fifty = E .command;
+        last = omega (arith, E .last);
+        grammar = ap (λ (h : Grammar). setDepth h (depthOf (wholeOf h))) (E .same);
+        valid = T .valid;
+        behind = T .behind;
+      }
 
-    -- from each offset that is reached, if at least as many commands are allowed as bytes are left
-    run-demand : (n at : ℕ) (g : Grammar) → length bytes - at ≤ n → Reached bytes at g → LoadDemand bytes d (run d bytes n at g)
-    unfolding run
-    run-demand zero at g h R = inl (refused at g _ R (step-past bytes at g (omega arith)))
-    run-demand (suc n) at g h R = go (step bytes at g) refl (run-demand n)
-      where
-        go : (s : Step) → step bytes at g ≡ s
-            → ((at′ : ℕ) (g′ : Grammar) → length bytes - at′ ≤ n → Reached bytes at′ g′ → LoadDemand bytes d (run d bytes n at′ g′))
-            → LoadDemand bytes d (run d bytes (suc n) at g)
-        go (stop f) e r = subst (LoadDemand bytes d) (sym (run-stop d n bytes at g f e)) (inl (refused at g f R e))
-        go (next at′ g′) e r =
-            let l = step-forward bytes at g at′ g′ e in
-            subst (LoadDemand bytes d) (sym (run-next d n bytes at g at′ g′ e)) (r at′ g′ (omega arith) (further R e))
-        go (done g′) e r = subst (LoadDemand bytes d) (sym (run-done d n bytes at g g′ e)) (inr (accepted at g g′ R e))
+  -- from each offset that is reached, if at least as many commands are allowed as bytes are left
+  run-demand : (n at : ℕ) (g : Grammar) → length bytes - at ≤ n → Reached bytes at g → LoadDemand bytes (run bytes n at g)
+  unfolding run
+  run-demand zero at g h R = inl (refused at g _ R (step-past bytes at g (omega arith)))
+  run-demand (suc n) at g h R = go (step bytes at g) refl (run-demand n)
+    where
+      go : (s : Step) → step bytes at g ≡ s
+          → ((at′ : ℕ) (g′ : Grammar) → length bytes - at′ ≤ n → Reached bytes at′ g′ → LoadDemand bytes (run bytes n at′ g′))
+          → LoadDemand bytes (run bytes (suc n) at g)
+      go (stop f) e r = subst (LoadDemand bytes) (sym (run-stop n bytes at g f e)) (inl (refused at g f R e))
+      go (next at′ g′) e r =
+          let l = step-forward bytes at g at′ g′ e in
+          subst (LoadDemand bytes) (sym (run-next n bytes at g at′ g′ e)) (r at′ g′ (omega arith) (further R e))
+      go (done g′) e r = subst (LoadDemand bytes) (sym (run-done n bytes at g g′ e)) (inr (accepted at g g′ R e))
 
-pub load-demand : (bytes : List ℕ) (d : ℕ) → LoadDemand bytes d (loadOf bytes d)
+pub load-demand : (bytes : List ℕ) → LoadDemand bytes (loadOf bytes)
 unfolding loadOf
-load-demand bytes d = run-demand bytes d (length bytes) 0 zeroGrammar (omega arith) begin
+load-demand bytes = run-demand bytes (length bytes) 0 zeroGrammar (omega arith) begin

@@ -6,10 +6,12 @@ use mathlib.Core.Logic.{_⊎_}
 use mathlib.Core.Path.{_≡_}
 use lib.ListN.{length, getD, drop, replicate}
 use Rattle.sizes.specs.Sizes.{maxRules}
+use Rattle.cfg.specs.Nullable.{depthOf}
 use Rattle.grammar.specs.declared.Rule.{Rule}
 use Rattle.grammar.specs.declared.Grammar.{Grammar}
 use Rattle.grammar.specs.Setters.{setDepth}
 use Rattle.grammar.specs.Valid.{validGrammar}
+use Rattle.grammar.specs.View.{wholeOf}
 use Rattle.grammar.specs.Zero.{zeroPlace, zeroRule, zeroGrammar, noRule}
 use Rattle.results.specs.Answer.{refusedAt, loaded}
 use Rattle.results.specs.Load.{next, done, step, Loading}
@@ -58,8 +60,8 @@ pub record LoadRefused (bytes : List ℕ) (r : Loading) : Type 0 where
   -- of the faults that apply there it is the first in document 01's order
   pub order : CommandOrder bytes at (getD bytes at 0) before (stopped number offset)
 
--- a book that is read to its end, with d as its nullable depth
-pub record LoadAccepted (bytes : List ℕ) (d : ℕ) (r : Loading) : Type 0 where
+-- a book that is read to its end
+pub record LoadAccepted (bytes : List ℕ) (r : Loading) : Type 0 where
   pub answer : r .answer ≡ loaded
   -- no command has a fault, and the last one is 50, the book's last byte
   pub at : ℕ
@@ -68,11 +70,11 @@ pub record LoadAccepted (bytes : List ℕ) (d : ℕ) (r : Loading) : Type 0 wher
   pub ends : step bytes at read ≡ done read
   pub fifty : getD bytes at 0 ≡ 0x50
   pub last : at + 1 ≡ length bytes
-  -- the grammar is what the commands say, check 8 lets it through, and what is unused in it is zero
-  pub grammar : r .grammar ≡ setDepth read d
+  -- the grammar is what the commands say with its nullable depth, check 8 lets it through, and what is unused in it is zero
+  pub grammar : r .grammar ≡ setDepth read (depthOf (wholeOf read))
   pub valid : validGrammar (r .grammar) ≡ true
   pub behind : ZeroBehind (r .grammar)
 
 -- what loading these bytes gives is one or the other
-abbrev pub LoadDemand : List ℕ → ℕ → Loading → Type 0
-LoadDemand bytes d r = LoadRefused bytes r ⊎ LoadAccepted bytes d r
+abbrev pub LoadDemand : List ℕ → Loading → Type 0
+LoadDemand bytes r = LoadRefused bytes r ⊎ LoadAccepted bytes r

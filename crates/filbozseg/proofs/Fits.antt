@@ -10,6 +10,7 @@ use lib.ListN.{length, getD, length-set}
 use lib.Signed.{mag}
 use borrow.Author.Tests.{ltb-true, ltb-false}
 use Rattle.sizes.specs.Sizes.{maxRules, maxPlaces}
+use Rattle.theory_shrinking.proofs.Depth.{depth-small}
 use Rattle.c_grammar.specs.Fits.{SymbolBytes, DeclaredRule, Fits16}
 use Rattle.grammar.specs.declared.Symbol.{Symbol}
 use Rattle.grammar.specs.declared.Symbol.the-variants.{Nonterminal, Terminal, Range}
@@ -17,9 +18,10 @@ use Rattle.grammar.specs.declared.Place.{Place}
 use Rattle.grammar.specs.declared.Rule.{Rule}
 use Rattle.grammar.specs.declared.Grammar.{Grammar}
 use Rattle.grammar.specs.Setters.{openedRule, placedRule, setDepth}
+use Rattle.grammar.specs.View.{wholeOf}
 use Rattle.grammar.specs.Zero.{zeroPlace, zeroRule, zeroGrammar, noRule}
 use Rattle.grammar.proofs.Setters.{set-rule-size}
-use Rattle.results.specs.Load.{operand, signed, openRule, withStart, withRule, withPlace, loadOf}
+use Rattle.results.specs.Load.{operand, signed, openRule, withStart, withRule, withPlace, acceptedLoad, loadOf}
 use Rattle.results.proofs.Loading.Commands.{HeldIn, Invariant, run-kept}
 use Rattle.results.proofs.Loading.Lists.{set-each, replicate-each}
 
@@ -135,7 +137,8 @@ module _ (bytes : List ℕ) (small : (i : ℕ) → getD bytes i 0 < 256) where
     place = λ at g S s e u m h. place-small g S s (held-small at s e) (omega arith);
   }
 
-  pub load-fits : (d : ℕ) → d < 256 → Fits16 (loadOf bytes d .grammar)
-  unfolding loadOf
-  load-fits d h = run-kept small-invariant d Fits16 (small-fits zeroGrammar 0 zero-small (omega arith)) (λ at g S. small-fits g d S h)
-      (length bytes) 0 zeroGrammar zero-small
+  pub load-fits : Fits16 (loadOf bytes .grammar)
+  unfolding loadOf acceptedLoad
+  load-fits =
+      run-kept small-invariant Fits16 (small-fits zeroGrammar 0 zero-small (omega arith))
+      (λ at g S. small-fits g _ S (omega (arith, depth-small (wholeOf g)))) (length bytes) 0 zeroGrammar zero-small

@@ -1,17 +1,14 @@
 -- What the exported functions return and leave, from what the functions that they call ensure. Assumes nothing.
 use Prim.Native.Nat.{ℕ, _<_}
-use native.Mathlib.Omega.{arith}
 use mathlib.Core.Bool.{Bool}
 use mathlib.Core.List.{List}
 use mathlib.Core.Path.{_≡_, refl, sym, ap, _∙_, subst}
 use lib.IntN.{ℤ}
 use lib.ListN.{getD}
-use Rattle.cfg.specs.Nullable.{Depth}
 use Rattle.c_grammar.specs.Fits.{Fits16}
 use Rattle.c_grammar.specs.Flat.{grammarIn, flatOf}
 use Rattle.c_grammar.proofs.Round.{read-write}
 use Rattle.grammar.specs.declared.Grammar.{Grammar}
-use Rattle.grammar.specs.View.{wholeOf}
 use Rattle.answers.specs.Answers.{outcomeOf}
 use Rattle.c_hand.specs.Hand.{rowOf, stateOfRow}
 use Rattle.load.specs.declared.Loaded.{Loaded}
@@ -29,12 +26,10 @@ use Rattle.filbozseg.proofs.Fits.{load-fits}
 
 -- ---- loading
 
-module _ (book : List ℕ) (small : (i : ℕ) → getD book i 0 < 256) (l : Loaded) (loads : loadingOf l ≡ loadOf book (l .grammar .depth))
-    (D : Depth (wholeOf (l .grammar)) (l .grammar .depth)) where
+module _ (book : List ℕ) (small : (i : ℕ) → getD book i 0 < 256) (l : Loaded) (loads : loadingOf l ≡ loadOf book) where
   read-back : grammarIn (flatOf (l .grammar)) ≡ l .grammar
   read-back =
-      read-write (l .grammar)
-      (subst (λ (x : Loading). Fits16 (x .grammar)) (sym loads) (load-fits book small (l .grammar .depth) (omega (arith, D .small))))
+      read-write (l .grammar) (subst (λ (x : Loading). Fits16 (x .grammar)) (sym loads) (load-fits book small))
 
   -- the row of the grammar that was loaded
   row-loads : (found : ℕ)
@@ -45,7 +40,6 @@ module _ (book : List ℕ) (small : (i : ℕ) → getD book i 0 < 256) (l : Load
     grammar = ap (λ (x : Loading). flatOf (x .grammar)) loads;
     at = ap (λ (x : Loading). offsetLeft (x .answer) found) loads;
     read = read-back ∙ ap (λ (x : Loading). x .grammar) loads;
-    depth = subst (λ (g : Grammar). Depth (wholeOf g) (l .grammar .depth)) (sym read-back) D;
   }
 
   pub loads-of : (found code offset : ℕ) (row : List ℕ) → row ≡ flatOf (l .grammar) → code ≡ loadCode (outcomeOf (l .outcome))

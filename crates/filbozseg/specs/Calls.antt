@@ -5,10 +5,7 @@ use mathlib.Core.Bool.{Bool}
 use mathlib.Core.List.{List}
 use mathlib.Core.Path.{_≡_}
 use lib.IntN.{ℤ}
-use lib.ListN.{getD}
-use Rattle.cfg.specs.Nullable.{Depth}
 use Rattle.c_grammar.specs.Flat.{grammarIn, flatOf}
-use Rattle.grammar.specs.View.{wholeOf}
 use Rattle.c_hand.specs.Hand.{rowOf}
 use Rattle.results.specs.Answer.{Figure}
 use Rattle.results.specs.Check.{Checking}
@@ -18,17 +15,12 @@ use Rattle.results.specs.Recognize.{Recognition}
 use Rattle.c_answer.specs.Code.{codeOf, leftOf, verdictCode, rowLeft, lengthCode, tenthsLeft, handingCode, nodesLeft}
 use Rattle.c_answer.specs.Code.{figureCode, figureLeft, loadCode, offsetLeft}
 
--- the nullable depth in a row
-abbrev pub depthIn : List ℕ → ℕ
-depthIn f = getD f 2 0
-
 -- loading a book: what is returned, the row left, the offset left, and that the row is read back as the grammar that was loaded
 pub record Loads (book : List ℕ) (found : ℕ) (code : ℕ) (row : List ℕ) (offset : ℕ) : Type 0 where
-  pub returned : code ≡ loadCode (loadOf book (depthIn row) .answer)
-  pub grammar : row ≡ flatOf (loadOf book (depthIn row) .grammar)
-  pub at : offset ≡ offsetLeft (loadOf book (depthIn row) .answer) found
-  pub read : grammarIn row ≡ loadOf book (depthIn row) .grammar
-  pub depth : Depth (wholeOf (grammarIn row)) (depthIn row)
+  pub returned : code ≡ loadCode (loadOf book .answer)
+  pub grammar : row ≡ flatOf (loadOf book .grammar)
+  pub at : offset ≡ offsetLeft (loadOf book .answer) found
+  pub read : grammarIn row ≡ loadOf book .grammar
 
 -- opening: what is returned, the row of the state left and the chart left
 pub record Opens (r : Recognition) (code : ℕ) (row : List ℕ) (chart : List ℕ) : Type 0 where

@@ -21,11 +21,11 @@ use Rattle.grammar.specs.Zero.{zeroGrammar, noRule}
 use Rattle.grammar.proofs.Bounds.{valid-count}
 use Rattle.answers.specs.declared.Refusal.{Refusal}
 use Rattle.answers.specs.Number.{numberOf}
-use Rattle.results.specs.Load.{signed, next, step, run, loadOf, openRule}
+use Rattle.results.specs.Load.{signed, next, step, refusedLoad, acceptedLoad, run, loadOf, openRule}
 use Rattle.results.proofs.Loading.Run.{run-stop, run-next, run-done, step-forward, run-fuel}
 use Rattle.results.proofs.Loading.Commands.{start-set, rule-set, place-set, step-kept}
 use Rattle.results.proofs.Loading.Valid.{valid-invariant, size-invariant}
-use Rattle.load.specs.Answer.{loadingOf, Refuses, Accepts}
+use Rattle.load.specs.Answer.{loadingOf}
 use Rattle.load_commands.specs.Command.{stepOf, Bounded, Begun, CommandRead}
 use Rattle.load_commands.specs.Turn.{TurnAt}
 use Rattle.load_commands.proofs.Steps.{turn-step}
@@ -70,7 +70,7 @@ moved-less len at n z h = omega arith
 -- before the command at an offset: reading on from here gives what loading gives, t has been read, and the grammar read so far is valid
 pub record Progress (bytes : List ℕ) (at : ℕ) (t : Turn) (g : Grammar) : Type 0 where
   pub within : at ≤ length bytes
-  pub reached : (d : ℕ) → run d bytes (suc (length bytes - at)) at g ≡ loadOf bytes d
+  pub reached : run bytes (suc (length bytes - at)) at g ≡ loadOf bytes
   pub turn : TurnAt at g t
   pub valid : validGrammar g ≡ true
   pub few : g .count ≤ maxRules
@@ -80,7 +80,7 @@ pub progress-first : (bytes : List ℕ) (g : Grammar) → g ≡ zeroGrammar → 
 unfolding loadOf
 progress-first bytes g e = subst (Progress bytes 0 (record { started = false; opened = false })) (sym e) (record {
   within = omega arith;
-  reached = λ d. run-fuel d bytes (suc (length bytes - 0)) (length bytes) 0 zeroGrammar (omega arith) (omega arith);
+  reached = run-fuel bytes (suc (length bytes - 0)) (length bytes) 0 zeroGrammar (omega arith) (omega arith);
   turn = record { started = refl; opened = refl };
   valid = valid-invariant bytes .zero;
   few = omega arith;
@@ -107,8 +107,8 @@ module _ (bytes : List ℕ) (at : ℕ) (t : Turn) (g : Grammar) (P : Progress by
         → TurnAt at′ h t′ → h ≡ g′ → Progress bytes at′ t′ h
     progress-next m at′ t′ g′ h e s l T i = subst (λ (x : Grammar). TurnAt at′ x t′ → Progress bytes at′ t′ x) (sym i) (λ T. record {
       within = l;
-      reached = λ d. run-fuel d bytes (suc (length bytes - at′)) (length bytes - at) at′ g′ (omega arith) fewer
-          ∙ sym (run-next d (length bytes - at) bytes at g at′ g′ goes) ∙ P .reached d;
+      reached = run-fuel bytes (suc (length bytes - at′)) (length bytes - at) at′ g′ (omega arith) fewer
+          ∙ sym (run-next (length bytes - at) bytes at g at′ g′ goes) ∙ P .reached;
       turn = T;
       valid = valid;
       few = valid-count g′ valid;
@@ -151,13 +151,13 @@ module _ (bytes : List ℕ) (at : ℕ) (t : Turn) (g : Grammar) (P : Progress by
         (record { started = b ∙ some (at + n) (omega (arith, bound .0)); opened = P .turn .opened })
         (ap (setRule g q) o ∙ ap (λ (i : ℕ). setRule g i (placedRule (getD (g .rules) i noRule) s)) f ∙ place-set g s)
 
-    pub loads-end : (l : Loaded) → c ≡ C.End → Accepts g l → loadingOf l ≡ loadOf bytes (l .grammar .depth)
+    pub loads-end : (l : Loaded) → c ≡ C.End → loadingOf l ≡ acceptedLoad g → loadingOf l ≡ loadOf bytes
     loads-end l e A =
-        let r = run-done (l .grammar .depth) (length bytes - at) bytes at g g (sym means ∙ ap (λ (m : Command). stepOf m at g) e) in
-        A .book ∙ sym r ∙ P .reached (l .grammar .depth)
+        let r = run-done (length bytes - at) bytes at g g (sym means ∙ ap (λ (m : Command). stepOf m at g) e) in
+        A ∙ sym r ∙ P .reached
 
-    pub loads-fault : (l : Loaded) (r : Refusal) (o : ℕ) → c ≡ C.Fault r o → Refuses (record { number = numberOf r; offset = o }) l
-        → loadingOf l ≡ loadOf bytes (l .grammar .depth)
+    pub loads-fault : (l : Loaded) (r : Refusal) (o : ℕ) → c ≡ C.Fault r o
+        → loadingOf l ≡ refusedLoad (record { number = numberOf r; offset = o }) → loadingOf l ≡ loadOf bytes
     loads-fault l r o e F =
-        let s = run-stop (l .grammar .depth) (length bytes - at) bytes at g _ (sym means ∙ ap (λ (m : Command). stepOf m at g) e) in
-        F .book ∙ sym s ∙ P .reached (l .grammar .depth)
+        let s = run-stop (length bytes - at) bytes at g _ (sym means ∙ ap (λ (m : Command). stepOf m at g) e) in
+        F ∙ sym s ∙ P .reached

@@ -7,12 +7,10 @@ use load_commands::opcode::Command;
 use load_commands::opcode::Turn;
 ghost use mathlib.Core.Bool.{true};
 ghost use mathlib.Core.Path.{_≡_};
-ghost use Rattle.cfg.specs.Nullable.{Depth};
 ghost use Rattle.grammar.specs.Valid.{validGrammar};
-ghost use Rattle.grammar.specs.View.{wholeOf};
 ghost use Rattle.answers.specs.Number.{numberOf};
-ghost use Rattle.results.specs.Load.{loadOf};
-ghost use Rattle.load.specs.Answer.{loadingOf, Refuses, Accepts};
+ghost use Rattle.results.specs.Load.{refusedLoad, acceptedLoad, loadOf};
+ghost use Rattle.load.specs.Answer.{loadingOf};
 
 // What loading answers, and the grammar: that of the book, or zeros if the book is refused.
 pub struct Loaded {
@@ -22,7 +20,7 @@ pub struct Loaded {
 
 // The answer for a book that is refused at an offset.
 fn refused(r: Refusal, at: usize) -> Loaded
-    ensures { λ l. ⌜ Refuses (record { number = numberOf r; offset = at }) l ⌝ }
+    ensures { λ l. ⌜ loadingOf l ≡ refusedLoad (record { number = numberOf r; offset = at }) ⌝ }
 {
     Loaded {
         outcome: Outcome::Refused(r, at),
@@ -33,11 +31,11 @@ fn refused(r: Refusal, at: usize) -> Loaded
 // The answer for a book read to its end as the grammar g, to which the nullable depth is added.
 fn accepted(g: Grammar) -> Loaded
     requires { ⌜ validGrammar g ≡ true ⌝ }
-    ensures { λ l. ⌜ Accepts g l ⌝ }
+    ensures { λ l. ⌜ loadingOf l ≡ acceptedLoad g ⌝ }
 {
     let found = load_nullable::search(g);
     let mut h = g;
-    h.depth = load_nullable::nullable_depth(found.set);
+    h.depth = load_nullable::nullable_depth(g, found.set);
     Loaded {
         outcome: Outcome::Accepted,
         grammar: h,
@@ -46,8 +44,7 @@ fn accepted(g: Grammar) -> Loaded
 
 // Loads a book. Each turn of the loop reads one command and adds it to the grammar in place.
 pub fn load(bytes: &[u8]) -> Loaded
-    ensures { λ r. ⌜ loadingOf r ≡ loadOf (now (bytes .entry)) (r .grammar .depth) ⌝ }
-    ensures depth { λ r. ⌜ Depth (wholeOf (r .grammar)) (r .grammar .depth) ⌝ }
+    ensures { λ r. ⌜ loadingOf r ≡ loadOf (now (bytes .entry)) ⌝ }
 {
     let mut g = grammar::zero_grammar();
     let mut turn = Turn {

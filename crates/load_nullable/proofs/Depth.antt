@@ -1,115 +1,110 @@
--- The number of nullable nonterminals is a nullable depth: a lowest empty tree has no nonterminal twice on a path down, and each of its
--- nodes is nullable. Assumes nothing.
-use Prim.Native.Nat.{ℕ, zero, suc, _+_, _≤_, _<_}
-use native.Mathlib.Decide.{ℕ-discrete, decLt}
-use native.Mathlib.Nat.{not-suc-le-zero, le-antisymm}
+-- The levels of a declared grammar, rule by rule, and the steps of the loop that goes up to the nullable depth, with the premises that the
+-- code gives. Assumes nothing.
+use Prim.Native.Nat.{ℕ, suc, _+_, _-_, _≤_, _<_}
+use native.Mathlib.Decide.{decLt}
+use native.Mathlib.Nat.{le-antisymm}
 use native.Mathlib.Numerals.{add-one}
 use native.Mathlib.Omega.{arith}
-use mathlib.Core.Bool.{Bool, true, false, cond}
-use mathlib.Core.List.{List, [], _∷_, append-nil, List·Memᴰ, List·Memᴰ·head, List·Memᴰ·tail}
+use mathlib.Core.Bool.{Bool, true, cond}
+use mathlib.Core.List.{List, _∷_, map}
 use mathlib.Core.Logic.{dite}
-use mathlib.Core.Path.{_≡_, refl, sym, ap, _∙_, subst}
-use lib.ListN.{length}
-use Rattle.laws.proofs.Bools.{true-false}
-use Rattle.cfg.specs.Grammar.{Cfg, Symbol}
-use Rattle.cfg.specs.Tree.{Forest, end, node, yield, height, Fits, fits-end, fits-node, Parse}
-use Rattle.cfg.specs.Nullable.{Nullable, Depth}
-use Rattle.cfg.specs.Derivation.{Has}
-use Rattle.theory_shrinking.proofs.Extract.{extract}
-use Rattle.theory_shrinking.proofs.Shrink.{shrink}
-use Rattle.theory_shrinking.proofs.Nullable.{empty-low}
-use Rattle.sets.specs.Set.{has, countBelow, card}
-use Rattle.sets.proofs.Laws.{has-high}
-use Rattle.sets.proofs.Card.{card-le}
+use mathlib.Core.Path.{_≡_, refl, sym, ap, ap₂, _∙_}
+use lib.ListN.{length, take, getD}
+use Rattle.sizes.specs.Sizes.{maxRules}
+use Rattle.laws.proofs.Bools.{bool-ext}
+use Rattle.sets.specs.Set.{insert}
+use Rattle.sets.proofs.Laws.{set-ext}
+use Rattle.cfg.specs.Grammar.{Of}
+use Rattle.cfg.specs.Nullable.{heads, levelAbove, level, firstHeight, depthOf}
+use Rattle.theory_shrinking.proofs.Levels.{level-word, level-sound}
+use Rattle.theory_shrinking.proofs.Depth.{height-here, height-above, level-all}
+use Rattle.grammar.specs.declared.Rule.{Rule}
 use Rattle.grammar.specs.declared.Grammar.{Grammar}
-use Rattle.grammar.specs.View.{wholeOf}
-use Rattle.load_nullable.specs.Nullable.{ExactNullable}
+use Rattle.grammar.specs.Valid.{validGrammar}
+use Rattle.grammar.specs.View.{ruleOf, wholeOf}
+use Rattle.grammar.specs.Zero.{noRule}
+use Rattle.grammar.proofs.Bounds.{valid-bounded}
+use Rattle.load_nullable.specs.Nullable.{ruleKnown, addHead, ExactNullable}
+use Rattle.load_nullable.proofs.Pass.{rules-next}
+use Rattle.load_nullable.proofs.Empty.{places-known}
 
--- ---- the members of a set, as a list
+-- ---- a level, rule by rule
 
-members : ℕ → ℕ → List ℕ
-members zero w = []
-members (suc n) w = cond (has n w) (n ∷ members n w) (members n w)
+-- the left sides that a list of declared rules adds
+abbrev pub headsBy : ℕ → List Rule → ℕ → ℕ
+headsBy known l found = heads known (map ruleOf l) found
 
-members-length : (n w : ℕ) → length (members n w) ≡ countBelow n w
-unfolding members countBelow
-members-length zero w = refl
-members-length (suc n) w = go (has n w) (members-length n w)
-  where
-    go : (b : Bool) → length (members n w) ≡ countBelow n w
-        → length (cond b (n ∷ members n w) (members n w)) ≡ cond b (suc (countBelow n w)) (countBelow n w)
-    go true e = ap suc e
-    go false e = e
+heads-one : (known : ℕ) (r : Rule) (l : List Rule) (found : ℕ) → headsBy known (r ∷ l) found ≡ headsBy known l (addHead r known found)
+unfolding heads addHead ruleKnown
+heads-one known r l found =
+    ap (λ (b : Bool). headsBy known l (cond b (insert (r .left) found) found)) (places-known known (take (r .count) (r .places)))
 
-members-mem : (n w k : ℕ) → k < n → has k w ≡ true → List·Memᴰ k (members n w)
-unfolding members
-members-mem zero w k h e = absurd (not-suc-le-zero h)
-members-mem (suc n) w k h e = go (has n w) refl (λ l. members-mem n w k l e) (ℕ-discrete k n)
-  where
-    go : (b : Bool) → has n w ≡ b → (k < n → List·Memᴰ k (members n w)) → Dec (k ≡ n) → List·Memᴰ k (cond b (n ∷ members n w) (members n w))
-    go true f below (yes p) = List·Memᴰ·head p
-    go true f below (no d) = List·Memᴰ·tail (below (omega arith))
-    go false f below (yes p) = absurd (true-false e (ap (λ (j : ℕ). has j w) p ∙ f))
-    go false f below (no d) = below (omega arith)
+-- the steps of the loop over the rules of g
+pub heads-first : (l : List Rule) (known : ℕ) → 0 ≡ headsBy known (take 0 l) 0
+unfolding heads
+heads-first l known = refl
 
-count-none : (n w : ℕ) → ((k : ℕ) → has k w ≡ true → ⊥) → countBelow n w ≡ 0
-unfolding countBelow
-count-none zero w f = refl
-count-none (suc n) w f = go (has n w) refl (count-none n w f)
-  where
-    go : (b : Bool) → has n w ≡ b → countBelow n w ≡ 0 → cond b (suc (countBelow n w)) (countBelow n w) ≡ 0
-    go true e c = absurd (f n e)
-    go false e c = c
+pub heads-again : (l : List Rule) (i n known s t : ℕ) → s ≡ headsBy known (take i l) 0 → t ≡ addHead (getD l i noRule) known s → i < n
+    → n ≤ maxRules → length l ≡ maxRules → t ≡ headsBy known (take (i + 1) l) 0
+unfolding heads
+heads-again l i n known s t e f h m k =
+    f ∙ ap (addHead (getD l i noRule) known) e
+    ∙ sym (rules-next (headsBy known) (λ r x. addHead r known x) (λ x. refl) (heads-one known) l i 0 (omega arith))
 
--- ---- counting
+pub heads-last : (g : Grammar) (i n known s : ℕ) → n ≡ g .count → s ≡ headsBy known (take i (g .rules)) 0 → i ≤ n → n ≤ i
+    → s ≡ levelAbove (wholeOf g) known
+heads-last g i n known s e f h k = f ∙ ap (λ (m : ℕ). headsBy known (take m (g .rules)) 0) (le-antisymm h k ∙ e)
 
-pub count-first : (w : ℕ) → 0 ≡ countBelow 0 w
-unfolding countBelow
-count-first w = refl
+-- ---- up to the depth
 
-module _ (n m k w : ℕ) (b : Bool) (e : b ≡ has k w) (h : n ≡ countBelow k w) where
-  pub count-member : b ≡ true → m ≡ n + 1 → m ≡ countBelow (k + 1) w
-  unfolding countBelow
-  count-member t s = rw (s, add-one n, add-one k, sym e ∙ t) (ap suc h)
+-- d levels were made, and going on from there gives the depth
+pub record Rising (g : Grammar) (set lev d : ℕ) : Type 0 where
+  pub valid : validGrammar g ≡ true
+  pub is : lev ≡ level (wholeOf g) d
+  pub few : d ≤ 32
+  pub top : set ≡ level (wholeOf g) 32
+  pub ahead : firstHeight (wholeOf g) set (32 - d) d lev ≡ depthOf (wholeOf g)
 
-  pub count-other : b ≡ false → m ≡ n → m ≡ countBelow (k + 1) w
-  unfolding countBelow
-  count-other t s = rw (s, add-one k, sym e ∙ t) h
+module _ (g : Grammar) (set : ℕ) where
+  -- the nullable nonterminals are level 32
+  exact-top : validGrammar g ≡ true → ExactNullable g set → set ≡ level (wholeOf g) 32
+  exact-top valid E =
+      let low : (r j : ℕ) → Of (wholeOf g) r j → j < 32 = valid-bounded g valid in
+      set-ext set (level (wholeOf g) 32) (E .word) (level-word (wholeOf g) low 32) (λ k h. bool-ext _ _
+      (λ e. level-all (wholeOf g) low k (E .sound k e))
+      (λ e. let (t, p, l) = level-sound (wholeOf g) 32 k e in E .complete k (t, p)))
 
-pub count-last : (n k w : ℕ) → n ≡ countBelow k w → k ≤ 32 → 32 ≤ k → n ≡ card w
-unfolding card
-count-last n k w h l m = h ∙ ap (λ (j : ℕ). countBelow j w) (le-antisymm l m)
+  pub rising-first : (validGrammar g ≡ true) × ExactNullable g set → Rising g set 0 0
+  unfolding level depthOf
+  rising-first (valid, E) =
+      let top = exact-top valid E in
+      record { valid = valid; is = refl; few = omega arith; top = top; ahead = ap (λ (x : ℕ). firstHeight (wholeOf g) x 32 0 0) top }
 
--- ---- the nodes of an empty tree
+  module _ (lev d : ℕ) (R : Rising g set lev d) where
+    pub rising-valid : validGrammar g ≡ true
+    rising-valid = R .valid
 
--- the nonterminal of a node that covers nothing is nullable
-node-nullable : (G : Cfg) {places : List Symbol} {t : Forest} {j : ℕ} → Fits G places t → Has G j 0 t → Nullable G j
-unfolding yield
-node-nullable G f h =
-    let F = extract G f h in
-    let e : yield (F .below) ≡ [] = nothing (yield (F .below)) (F .cover) in
-    (node (F .number) (F .below) end, (fits-node (F .of) (F .fitted) fits-end, append-nil (yield (F .below)) ∙ e))
-  where
-    nothing : (w : List ℕ) → length w ≡ 0 → w ≡ []
-    nothing [] e = refl
-    nothing (a ∷ w) e = absurd (omega arith)
+    -- a level that is not the top is below it
+    rising-below : (lev ≡ set → ⊥) → d < 32
+    rising-below n = dite (decLt d 32) (λ l. l)
+        (λ l. let e : d ≡ 32 = omega (arith, R .few) in absurd (n (R .is ∙ ap (level (wholeOf g)) e ∙ sym (R .top))))
 
-pub exact-depth : (g : Grammar) (known : ℕ) → ExactNullable g known → Depth (wholeOf g) (card known)
-unfolding card
-exact-depth g known E = record { small = card-le known; zero = none; reached = reached }
-  where
-    none : ((k : ℕ) → Nullable (wholeOf g) k → ⊥) → countBelow 32 known ≡ 0
-    none f = count-none 32 known (λ k e. f k (E .sound k e))
+    pub rising-less : (lev ≡ set → ⊥) → 32 - (d + 1) < 32 - d
+    rising-less n = omega (arith, rising-below n)
 
-    member : (j : ℕ) → Nullable (wholeOf g) j → List·Memᴰ j (members 32 known)
-    member j n = dite (decLt j 32)
-        (λ l. members-mem 32 known j l (E .complete j n))
-        (λ l. absurd (true-false (E .complete j n) (has-high j known (E .word) (omega arith))))
+    pub rising-next : (lev′ : ℕ) → (lev ≡ set → ⊥) → lev′ ≡ levelAbove (wholeOf g) lev → Rising g set lev′ (d + 1)
+    unfolding level
+    rising-next lev′ n e =
+        let m : suc (32 - (d + 1)) ≡ 32 - d = omega (arith, rising-below n) in
+        record {
+          valid = R .valid;
+          is = e ∙ ap (levelAbove (wholeOf g)) (R .is) ∙ ap (level (wholeOf g)) (sym (add-one d));
+          few = omega (arith, rising-below n);
+          top = R .top;
+          ahead = ap₂ (firstHeight (wholeOf g) set (32 - (d + 1))) (add-one d) e
+              ∙ sym (height-above (wholeOf g) set (32 - (d + 1)) d lev n)
+              ∙ ap (λ (x : ℕ). firstHeight (wholeOf g) set x d lev) m ∙ R .ahead;
+        }
 
-    reached : (k : ℕ) → Nullable (wholeOf g) k → (t : Forest) × Parse (wholeOf g) k [] t × (height t ≤ countBelow 32 known)
-    reached k n =
-        let S = shrink (wholeOf g) (n .1 .0) in
-        let e : yield (S .row) ≡ [] = S .same ∙ n .1 .1 in
-        let low = empty-low (wholeOf g) (members 32 known) (S .fitted) e (S .plain)
-        (λ j h. member j (node-nullable (wholeOf g) (S .fitted) h)) in
-        (S .row, (S .fitted, e), subst (λ (m : ℕ). height (S .row) ≤ m) (members-length 32 known) low)
+    pub rising-last : lev ≡ set → d ≡ depthOf (wholeOf g)
+    rising-last e = sym (height-here (wholeOf g) set (32 - d) d lev e) ∙ R .ahead

@@ -4,18 +4,19 @@ use Prim.Native.Nat.{ℕ, _≤_, _<_}
 use native.Mathlib.Decide.{ℕ-discrete, decLt}
 use native.Mathlib.Omega.{arith}
 use mathlib.Core.Bool.{Bool, true, _&&_}
-use mathlib.Core.List.{List, [], _∷_, _++_, map, append-nil, cons-ne-nil}
+use mathlib.Core.List.{List, [], _∷_, map, append-nil, cons-ne-nil}
 use mathlib.Core.Logic.{dite}
 use mathlib.Core.Option.{none, Option·some-injective, Option·some-ne-none}
-use mathlib.Core.Path.{_≡_, refl, sym, ap, ap₂, _∙_, subst}
+use mathlib.Core.Path.{_≡_, refl, sym, ap, _∙_, subst}
 use lib.ListN.{length, take, getD}
 use lib.Seq.{take-length}
-use Rattle.laws.proofs.Bools.{true-false, and-parts, and-both}
+use Rattle.laws.proofs.Bools.{and-parts, and-both}
 use Rattle.cfg.specs.Grammar as Abstract
 use Rattle.cfg.specs.Grammar.{Symbol, nonterminal, terminal, Cfg, joined, rule, Of}
 use Rattle.cfg.specs.Tree.{Forest, end, node, yield, Fits, fits-end, fits-leaf, fits-node}
-use Rattle.cfg.specs.Nullable.{Nullable}
+use Rattle.cfg.specs.Nullable.{Nullable, symbolsIn}
 use Rattle.theory_shrinking.proofs.Nullable.{append-empty-left, append-empty-right}
+use Rattle.theory_shrinking.proofs.Levels.{empty-forest}
 use Rattle.sets.specs.Set.{has}
 use Rattle.sets.proofs.Laws.{has-insert-other}
 use Rattle.grammar.specs.declared.Place.{Place}
@@ -31,37 +32,18 @@ use Rattle.load_nullable.proofs.Pass.{widen-cases}
 abbrev pub Sound : Cfg → ℕ → Type 0
 Sound G known = (k : ℕ) → has k known ≡ true → Nullable G k
 
--- a forest that covers nothing
-abbrev EmptyForest : Cfg → List Symbol → Type 0
-EmptyForest G places = (t : Forest) × Fits G places t × (yield t ≡ [])
+symbol-known : (known : ℕ) (s : Symbol) (places : List Symbol)
+    → symbolsIn known (s ∷ places) ≡ (symbolKnown known s && symbolsIn known places)
+unfolding symbolsIn
+symbol-known known (nonterminal k) places = refl
+symbol-known known (terminal t) places = refl
 
--- an empty tree before an empty forest
-join : (G : Cfg) {k : ℕ} {u : Forest} {places : List Symbol} → Fits G (nonterminal k ∷ []) u → yield u ≡ [] → EmptyForest G places
-    → EmptyForest G (nonterminal k ∷ places)
-unfolding yield
-join G (fits-node {r} {below} {rest} o b s) e t = (
-  node r below (t .0),
-  fits-node o b (t .1),
-  ap₂ (λ (x y : List ℕ). x ++ y) (append-empty-left (yield below) (yield rest) e) (t .2),
-)
-
--- places that hold members have an empty forest
-symbol-row : (G : Cfg) (known : ℕ) → Sound G known → (s : Symbol) → symbolKnown known s ≡ true → {places : List Symbol}
-    → EmptyForest G places → EmptyForest G (s ∷ places)
-symbol-row G known sound (nonterminal k) e t = let n = sound k e in join G (n .1 .0) (n .1 .1) t
-symbol-row G known sound (terminal t) e row = absurd (true-false e refl)
-
-places-row : (G : Cfg) (known : ℕ) → Sound G known → (l : List Place) → all (placeKnown known) l ≡ true → EmptyForest G (map placeOf l)
-unfolding all yield
-places-row G known sound [] e = (end, fits-end, refl)
-places-row G known sound (p ∷ l) e =
-    let h = and-parts (placeKnown known p) (all (placeKnown known) l) e in
-    symbol-row G known sound (placeOf p) (h .0) (places-row G known sound l (h .1))
-
-places-known : (known : ℕ) (l : List Place) → all (symbolKnown known) (map placeOf l) ≡ all (placeKnown known) l
-unfolding all
+-- the places of a declared rule
+pub places-known : (known : ℕ) (l : List Place) → symbolsIn known (map placeOf l) ≡ all (placeKnown known) l
+unfolding symbolsIn all
 places-known known [] = refl
-places-known known (p ∷ l) = ap (λ (b : Bool). placeKnown known p && b) (places-known known l)
+places-known known (p ∷ l) =
+    symbol-known known (placeOf p) (map placeOf l) ∙ ap (λ (b : Bool). placeKnown known p && b) (places-known known l)
 
 -- the abstract grammar of a list of declared rules; `wholeOf` is that of the used ones
 abbrev pub cfgBy : ℕ → List Rule → Cfg
@@ -83,7 +65,8 @@ module _ (start : ℕ) (l : List Rule) where
   unfolding ruleKnown yield
   rule-nullable known i sound h e =
       let r = getD l i noRule in
-      let t = places-row (cfgBy start l) known sound (take (r .count) (r .places)) e in
+      let t = empty-forest (cfgBy start l) (λ t. Unit {0}) tt (λ _ _ _ _ _ _. tt) known (λ k m. (sound k m .0, sound k m .1, tt))
+      (map placeOf (take (r .count) (r .places))) (places-known known (take (r .count) (r .places)) ∙ e) in
       let o : Of (cfgBy start l) i (r .left) = record {
         the = record { left = r .left; places = map placeOf (take (r .count) (r .places)) };
         here = list-at start l i h;
@@ -103,7 +86,7 @@ module _ (start : ℕ) (l : List Rule) where
   Closed known = (i : ℕ) → i < length l → ruleKnown known (getD l i noRule) ≡ true → has (getD l i noRule .left) known ≡ true
 
   module _ (known : ℕ) (closed : Closed known) where
-    of-closed : {r k : ℕ} (o : Of (cfgBy start l) r k) → all (symbolKnown known) (o .the .places) ≡ true → has k known ≡ true
+    of-closed : {r k : ℕ} (o : Of (cfgBy start l) r k) → symbolsIn known (o .the .places) ≡ true → has k known ≡ true
     unfolding ruleKnown
     of-closed {r} {k} o e = dite (decLt r (length l)) inside outside
       where
@@ -114,8 +97,8 @@ module _ (start : ℕ) (l : List Rule) where
         inside h =
             let m : record { left = ρ .left; places = map placeOf (take (ρ .count) (ρ .places)) } ≡ o .the =
             Option·some-injective _ (o .the) (sym (list-at start l r h) ∙ o .here) in
-            let a : all (symbolKnown known) (map placeOf (take (ρ .count) (ρ .places))) ≡ true =
-            ap (λ (σ : Abstract.Rule). all (symbolKnown known) (σ .places)) m ∙ e in
+            let a : symbolsIn known (map placeOf (take (ρ .count) (ρ .places))) ≡ true =
+            ap (λ (σ : Abstract.Rule). symbolsIn known (σ .places)) m ∙ e in
             let b : ruleKnown known ρ ≡ true = sym (places-known known (take (ρ .count) (ρ .places))) ∙ a in
             ap (λ (j : ℕ). has j known) (sym (ap (λ (σ : Abstract.Rule). σ .left) m ∙ o .left)) ∙ closed r h b
 
@@ -123,15 +106,15 @@ module _ (start : ℕ) (l : List Rule) where
         outside n = absurd (Option·some-ne-none (o .the) (sym (o .here) ∙ list-past start l r (omega arith)))
 
     row-closed : {places : List Symbol} {t : Forest} → Fits (cfgBy start l) places t → yield t ≡ []
-        → all (symbolKnown known) places ≡ true
-    unfolding all yield
+        → symbolsIn known places ≡ true
+    unfolding symbolsIn yield
     row-closed fits-end e = refl
     row-closed (fits-leaf {m} {rest} f s) e = absurd (cons-ne-nil m (yield rest) e)
     row-closed (fits-node {k} {places} {below} {rest} o b s) e =
         let x = row-closed b (append-empty-left (yield below) (yield rest) e) in
         let y = row-closed s (append-empty-right (yield below) (yield rest) e) in
-        and-both (has k known) (all (symbolKnown known) places) (of-closed o x) y
+        and-both (has k known) (symbolsIn known places) (of-closed o x) y
 
     pub closed-complete : (k : ℕ) → Nullable (cfgBy start l) k → has k known ≡ true
-    unfolding all
+    unfolding symbolsIn
     closed-complete k n = and-parts (has k known) true (row-closed (n .1 .0) (n .1 .1)) .0

@@ -24,7 +24,7 @@ use Rattle.grammar.specs.View.{symbolOf}
 use Rattle.grammar.specs.Zero.{zeroPlace, noRule}
 use Rattle.grammar.proofs.All.{all-at}
 use Rattle.grammar.proofs.Bounds.{rule-parts}
-use Rattle.load_nullable.specs.Nullable.{symbolKnown, placeKnown, ruleKnown, widen, pass}
+use Rattle.load_nullable.specs.Nullable.{symbolKnown, placeKnown, ruleKnown, addHead, widen, pass}
 
 -- ---- a place
 
@@ -60,20 +60,21 @@ module _ (known : ℕ) (r : Rule) where
   unfolding ruleKnown
   rule-whole q h k e = rw (le-antisymm k h) (sym e)
 
-  pub widen-in : (b : Bool) → b ≡ ruleKnown known r → b ≡ true → insert (r .left) known ≡ widen r known
-  unfolding widen
-  widen-in b e t = rw (sym e ∙ t)
+  module _ (found : ℕ) (b : Bool) (e : b ≡ ruleKnown known r) where
+    head-in : b ≡ true → insert (r .left) found ≡ addHead r known found
+    unfolding addHead
+    head-in t = rw (sym e ∙ t)
 
-  pub widen-with : (b : Bool) (s : ℕ) → b ≡ ruleKnown known r → b ≡ true → s ≡ insert (r .left) known → s ≡ widen r known
-  widen-with b s e t h = h ∙ widen-in b e t
+    pub head-with : (s : ℕ) → b ≡ true → s ≡ insert (r .left) found → s ≡ addHead r known found
+    head-with s t h = h ∙ head-in t
 
-  pub widen-out : (b : Bool) → b ≡ ruleKnown known r → b ≡ false → known ≡ widen r known
-  unfolding widen
-  widen-out b e t = rw (sym e ∙ t)
+    pub head-out : b ≡ false → found ≡ addHead r known found
+    unfolding addHead
+    head-out t = rw (sym e ∙ t)
 
   -- what holds of the set, and of the set with the left side if the places are known, holds of the result
   pub widen-cases : (P : ℕ → Type 0) → P known → (ruleKnown known r ≡ true → P (insert (r .left) known)) → P (widen r known)
-  unfolding widen
+  unfolding addHead
   widen-cases P old new = go (ruleKnown known r) refl
     where
       go : (b : Bool) → ruleKnown known r ≡ b → P (cond b (insert (r .left) known) known)
@@ -88,7 +89,7 @@ module _ (known : ℕ) (r : Rule) where
 
   -- a rule that adds nothing has its left side in the set if its places are
   pub widen-same : widen r known ≡ known → ruleKnown known r ≡ true → has (r .left) known ≡ true
-  widen-same s e = insert-same→has (r .left) known (widen-in true (sym e) refl ∙ s)
+  widen-same s e = insert-same→has (r .left) known (head-in known true (sym e) refl ∙ s)
 
 pub rule-left-bound : (r : Rule) → validRule r ≡ true → r .left < 32
 rule-left-bound r v = omega (arith, rule-parts r v .0)
@@ -107,15 +108,21 @@ pass-word (r ∷ l) known v h =
     let p = and-parts (validRule r) (all validRule l) v in
     pass-word l (widen r known) (p .1) (widen-word known r (rule-parts r (p .0) .0) h)
 
-pass-suc : (l : List Rule) (i known : ℕ) → i < length l → pass (take (suc i) l) known ≡ widen (getD l i noRule) (pass (take i l) known)
-unfolding pass
-pass-suc [] i known h = absurd (not-suc-le-zero h)
-pass-suc (r ∷ l) zero known h = refl
-pass-suc (r ∷ l) (suc i) known h = pass-suc l i (widen r known) (le-of-suc-le-suc h)
+-- what the rules of a list make of a set, one after the other: one rule more
+module _ (F : List Rule → ℕ → ℕ) (f : Rule → ℕ → ℕ) (none : (x : ℕ) → F [] x ≡ x)
+    (one : (r : Rule) (l : List Rule) (x : ℕ) → F (r ∷ l) x ≡ F l (f r x)) where
+  rules-suc : (l : List Rule) (i x : ℕ) → i < length l → F (take (suc i) l) x ≡ f (getD l i noRule) (F (take i l) x)
+  rules-suc [] i x h = absurd (not-suc-le-zero h)
+  rules-suc (r ∷ l) zero x h = one r [] x ∙ none (f r x) ∙ ap (f r) (sym (none x))
+  rules-suc (r ∷ l) (suc i) x h =
+      one r (take (suc i) l) x ∙ rules-suc l i (f r x) (le-of-suc-le-suc h) ∙ ap (f (getD l i noRule)) (sym (one r (take i l) x))
 
--- one rule more
+  pub rules-next : (l : List Rule) (i x : ℕ) → i < length l → F (take (i + 1) l) x ≡ f (getD l i noRule) (F (take i l) x)
+  rules-next l i x h = rw add-one (rules-suc l i x h)
+
 pub pass-next : (l : List Rule) (i known : ℕ) → i < length l → pass (take (i + 1) l) known ≡ widen (getD l i noRule) (pass (take i l) known)
-pass-next l i known h = rw add-one (pass-suc l i known h)
+unfolding pass
+pass-next = rules-next pass widen (λ x. refl) (λ r l x. refl)
 
 -- the steps of the loop over the rules of g
 pub pass-first : (l : List Rule) (known : ℕ) → known ≡ pass (take 0 l) known

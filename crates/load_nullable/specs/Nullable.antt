@@ -29,9 +29,13 @@ placeKnown known p = symbolKnown known (placeOf p)
 unfoldable pub ruleKnown : ℕ → Rule → Bool
 ruleKnown known r = all (placeKnown known) (take (r .count) (r .places))
 
--- the known nonterminals, and the rule's left side if each place of the rule holds a known one
-unfoldable pub widen : Rule → ℕ → ℕ
-widen r known = cond (ruleKnown known r) (insert (r .left) known) known
+-- what was found so far, and the rule's left side if each place of the rule holds a known nonterminal
+unfoldable pub addHead : Rule → ℕ → ℕ → ℕ
+addHead r known found = cond (ruleKnown known r) (insert (r .left) found) found
+
+-- the same where what was found so far is what is known
+abbrev pub widen : Rule → ℕ → ℕ
+widen r known = addHead r known known
 
 -- one pass: the same for each rule of a list in turn, so that a find counts at once
 unfoldable pub pass : List Rule → ℕ → ℕ

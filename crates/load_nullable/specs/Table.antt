@@ -1,12 +1,12 @@
 -- Books for the search, as one table: from the bytes of a book to the set that is found and the number of passes. `SearchTable` is what is
 -- proved of it. Assumes nothing.
-use Prim.Native.Nat.{ℕ, zero, suc}
+use Prim.Native.Nat.{ℕ}
 use mathlib.Core.List.{List, [], _∷_, map}
 use mathlib.Core.Path.{_≡_}
 use Rattle.results.specs.Answer.{loaded}
 use Rattle.results.specs.Load.{loadOf}
 use Rattle.results.specs.Drawer.{start, newRule, nonterminalPlace, A, close, bare}
-use Rattle.results.specs.Requests.{onlyA}
+use Rattle.results.specs.Requests.{onlyA, chain, reversedChain}
 use Rattle.results.specs.Starred.{grammarFrom}
 use Rattle.load_nullable.specs.declared.Sought.{Sought}
 use Rattle.load_nullable.specs.Nullable.{searchOf}
@@ -18,24 +18,6 @@ unitAlone = start 0 (newRule 0 (nonterminalPlace 0 close))
 -- 0 → nothing
 abbrev pub nothingAlone : List ℕ
 nothingAlone = start 0 (newRule 0 close)
-
--- 1 → 0, 2 → 1, .., n → n - 1, and what comes after these
-abbrev pub upward : ℕ → List ℕ → List ℕ
-upward zero rest = rest
-upward (suc n) rest = upward n (newRule (suc n) (nonterminalPlace n rest))
-
--- the same rules from the last to the first
-abbrev pub downward : ℕ → List ℕ → List ℕ
-downward zero rest = rest
-downward (suc n) rest = newRule (suc n) (nonterminalPlace n (downward n rest))
-
--- 0 → nothing, 1 → 0, .., 31 → 30: each rule after the one that it needs
-abbrev pub chain : List ℕ
-chain = start 0 (newRule 0 (upward 31 close))
-
--- 31 → 30, .., 1 → 0, 0 → nothing: each rule before the one that it needs
-abbrev pub reversedChain : List ℕ
-reversedChain = start 0 (downward 31 (newRule 0 close))
 
 -- 1 → 0 0, 0 → 2, 2 → nothing
 abbrev pub doubled : List ℕ
@@ -70,5 +52,5 @@ searches =
 
 -- every book loads, and the search of its grammar gives what the table says
 pub record SearchTable : Type 0 where
-  pub loads : map (λ (l : SearchLine). loadOf (l .bytes) 0 .answer) searches ≡ map (λ (l : SearchLine). loaded) searches
+  pub loads : map (λ (l : SearchLine). loadOf (l .bytes) .answer) searches ≡ map (λ (l : SearchLine). loaded) searches
   pub lines : map (λ (l : SearchLine). searchOf (grammarFrom (l .bytes))) searches ≡ map (λ (l : SearchLine). l .gives) searches

@@ -6,9 +6,10 @@ use grammar::Symbol;
 ghost use mathlib.Core.Bool.{true};
 ghost use mathlib.Core.Path.{_≡_};
 ghost use lib.ListN.{take};
-ghost use Rattle.sets.specs.Set.{card};
+ghost use Rattle.cfg.specs.Nullable.{levelAbove, depthOf};
 ghost use Rattle.grammar.specs.Valid.{validPlace, validRule, validGrammar};
-ghost use Rattle.load_nullable.specs.Nullable.{placeKnown, ruleKnown, widen, pass, Searched};
+ghost use Rattle.grammar.specs.View.{wholeOf};
+ghost use Rattle.load_nullable.specs.Nullable.{placeKnown, ruleKnown, addHead, pass, ExactNullable, Searched};
 
 // Whether the place holds a known nonterminal.
 pub fn place_in(p: Place, known: u32) -> bool
@@ -40,16 +41,16 @@ pub fn rule_in(rule: Rule, known: u32) -> bool
     true
 }
 
-// The known nonterminals, and the rule's left side if each place of the rule holds a known one.
-pub fn widened(rule: Rule, known: u32) -> u32
+// What was found so far, and the rule's left side if each place of the rule holds a known nonterminal.
+pub fn with_head(rule: Rule, known: u32, found: u32) -> u32
     requires { ⌜ validRule rule ≡ true ⌝ }
-    ensures { λ r. ⌜ r ≡ widen rule known ⌝ }
+    ensures { λ r. ⌜ r ≡ addHead rule known found ⌝ }
 {
     let k = rule.left;
     if rule_in(rule, known) {
-        sets::with(known, k as usize)
+        sets::with(found, k as usize)
     } else {
-        known
+        found
     }
 }
 
@@ -63,7 +64,7 @@ pub fn nullable_pass(g: Grammar, known: u32) -> u32
     let mut i = 0;
     while i < n {
         let rule = g.rules[i];
-        s = widened(rule, s);
+        s = with_head(rule, s, s);
         i += 1;
     }
     s
@@ -94,17 +95,33 @@ pub fn search(g: Grammar) -> Sought
     }
 }
 
-// A nullable depth: how many nonterminals are nullable.
-pub fn nullable_depth(known: u32) -> u8
-    ensures { λ r. ⌜ r ≡ card known ⌝ }
+// The level above a level: the left sides of the rules each of whose places holds a nonterminal of the level. A find does not count at
+// once.
+pub fn level_above(g: Grammar, level: u32) -> u32
+    requires { ⌜ validGrammar g ≡ true ⌝ }
+    ensures { λ r. ⌜ r ≡ levelAbove (wholeOf g) level ⌝ }
 {
-    let mut n = 0u8;
-    let mut k = 0;
-    while k < sizes::NONTERMINALS {
-        if sets::has(known, k) {
-            n += 1;
-        }
-        k += 1;
+    let n = g.count;
+    let mut s = 0;
+    let mut i = 0;
+    while i < n {
+        let rule = g.rules[i];
+        s = with_head(rule, level, s);
+        i += 1;
     }
-    n
+    s
+}
+
+// The nullable depth: how many levels there are above the empty one, up to that of all nullable nonterminals.
+pub fn nullable_depth(g: Grammar, nullable: u32) -> u8
+    requires { ⌜ (validGrammar g ≡ true) × ExactNullable g nullable ⌝ }
+    ensures { λ r. ⌜ r ≡ depthOf (wholeOf g) ⌝ }
+{
+    let mut level = 0;
+    let mut d = 0u8;
+    while level != nullable {
+        level = level_above(g, level);
+        d += 1;
+    }
+    d
 }

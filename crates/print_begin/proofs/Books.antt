@@ -21,7 +21,6 @@ use Rattle.load.specs.Answer.{loadingOf}
 use Rattle.results.specs.Answer.{refusedAt, loaded}
 use Rattle.results.specs.Load.{Loading, loadOf}
 use Rattle.text.specs.Text.{inputText, loadedText, textOf}
-use Rattle.text.proofs.Depth.{text-depth}
 use Rattle.print_begin.specs.declared.Due.{Due}
 use Rattle.print_begin.specs.declared.Due.the-variants.{Refusal as RefusalDue}
 use Rattle.print_begin.specs.Due.{Ahead}
@@ -30,10 +29,11 @@ use Rattle.print_begin.specs.Begun.{InputBegun, BookBegun}
 refused-apart : {n at : ℕ} → refusedAt n at ≡ loaded → ⊥
 refused-apart e = clash cc
 
-module _ (book w : List ℕ) (b : Loaded) (load : loadingOf b ≡ loadOf book (b .grammar .depth)) where
+module _ (book w : List ℕ) (b : Loaded) (load : loadingOf b ≡ loadOf book) where
   -- the text, by the result of loading
   text-loaded : loadedText (loadingOf b) w ≡ textOf book w
-  text-loaded = ap (λ (x : Loading). loadedText x w) load ∙ text-depth book w (b .grammar .depth)
+  unfolding textOf
+  text-loaded = ap (λ (x : Loading). loadedText x w) load
 
   pub book-refused : (r : Refusal) (at : ℕ) → b .outcome ≡ Refused r at → (k n : ℕ) → k ≡ numberOf r → n ≡ k → n < 256
       → (p : List ℕ) (lengths : List ℤ) → length lengths ≡ maxRules → (chart fits tables buf : List ℕ)
@@ -49,9 +49,9 @@ module _ (book w : List ℕ) (b : Loaded) (load : loadingOf b ≡ loadOf book (b
 
   module _ (is : b .outcome ≡ Accepted) where
     pub book-valid : validGrammar (b .grammar) ≡ true
-    book-valid = go (subst (LoadDemand book (b .grammar .depth)) (sym load) (load-demand book (b .grammar .depth)))
+    book-valid = go (subst (LoadDemand book) (sym load) (load-demand book))
       where
-        go : LoadDemand book (b .grammar .depth) (loadingOf b) → validGrammar (b .grammar) ≡ true
+        go : LoadDemand book (loadingOf b) → validGrammar (b .grammar) ≡ true
         go (inl R) = absurd (refused-apart (sym (R .answer) ∙ ap outcomeOf is))
         go (inr A) = A .valid
 

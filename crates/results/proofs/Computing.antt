@@ -1,6 +1,7 @@
 -- All that has to be unfolded to prove a row of a table by computing it: `unfolding computing`. Assumes nothing.
 use Rattle.cfg.specs.Grammar.{fits, joined}
 use Rattle.cfg.specs.Listing.{over, when, from, among, keep, rulesFrom, items, upTo, listing, derivations}
+use Rattle.cfg.specs.Nullable.{symbolsIn, heads, level, firstHeight, depthOf}
 use Rattle.sets.specs.Set.{has, insert}
 use Rattle.chart.specs.Cell.{fitsAt, piece, someFrom, cuts, derived}
 use Rattle.chart.specs.Column as Column
@@ -15,6 +16,7 @@ use Rattle.results.specs.Starred.{outcome}
 
 unfoldable pub computing : Unit {0}
 unfolding fits joined over when from among keep rulesFrom items upTo listing derivations has insert fitsAt piece someFrom cuts derived
+    symbolsIn heads level firstHeight depthOf
     Column.seen Column.times Column.least Column.column Column.putColumn Column.written Column.opened Column.extended Column.extendedBy
     Column.filled Column.complete all validRule validGrammar decide Load.operands Load.operand Load.signed Load.openRule Load.withStart
     Load.withRule Load.withPlace Load.after Load.unknown Load.outOfTurn Load.operandChecks Load.commandChecks Load.carriedOut Load.step

@@ -61,7 +61,7 @@ abbrev pub gapRules : List Rule
 gapRules = setPlaceCount (setPlaces (openedRule 0 (pos 100)) gapPlaces) 2 ∷ openedRule 1 (negℤ (pos 30)) ∷ replicate 126 zeroRule
 
 -- the whole of a loaded grammar: what the book does not set is zero
-pub loaded-gap : loadOf gap 1 .grammar ≡ setDepth (setCount (setRules zeroGrammar gapRules) 2) 1
+pub loaded-gap : loadOf gap .grammar ≡ setDepth (setCount (setRules zeroGrammar gapRules) 2) 1
 unfolding computing
 loaded-gap = refl
 

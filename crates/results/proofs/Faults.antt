@@ -73,6 +73,6 @@ faults =
 unfoldable pub refusal : Faulty → Loading
 refusal f = record { answer = refusedAt (f .number) (f .offset); grammar = zeroGrammar }
 
-pub faults-refused : map (λ f. loadOf (f .bytes) 5) faults ≡ map refusal faults
+pub faults-refused : map (λ f. loadOf (f .bytes)) faults ≡ map refusal faults
 unfolding computing faults refusal
 faults-refused = refl

@@ -7,4 +7,11 @@ use Rattle.results.proofs.NoTree.{no-tree-onlyA-empty, no-tree-bare-emp
 
 pub requested : Requested
 unfolding computing found absent requests
-requested = record { lines = refl; no-tree-terminal = no-tree-onlyA-empty; no-tree-rules = no-tree-bare-empty }
+requested = record {
+  lines = refl;
+  no-tree-terminal = no-tree-onlyA-empty;
+  no-tree-rules = no-tree-bare-empty;
+  depths-none = refl;
+  depth-T = refl;
+  depths = refl;
+}

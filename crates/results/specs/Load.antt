@@ -6,11 +6,13 @@ use mathlib.Core.List.{List, [], _∷_}
 use lib.Dec.{eqb, ltb}
 use lib.IntN.{ℤ, pos, negℤ}
 use lib.ListN.{length, getD}
+use Rattle.cfg.specs.Nullable.{depthOf}
 use Rattle.grammar.specs.declared.Symbol.{Symbol}
 use Rattle.grammar.specs.declared.Symbol.the-variants.{Nonterminal, Terminal, Range}
 use Rattle.grammar.specs.declared.Rule.{Rule}
 use Rattle.grammar.specs.declared.Grammar.{Grammar}
 use Rattle.grammar.specs.Setters.{openedRule, placedRule, setStart, setCount, setDepth, setRule}
+use Rattle.grammar.specs.View.{wholeOf}
 use Rattle.grammar.specs.Zero.{zeroGrammar, noRule}
 use Rattle.results.specs.Answer.{LoadAnswer, refusedAt, loaded, Check, check, decide}
 
@@ -109,16 +111,16 @@ pub record Loading : Type 0 where
 unfoldable pub refusedLoad : Fault → Loading
 refusedLoad f = record { answer = refusedAt (f .number) (f .offset); grammar = zeroGrammar }
 
--- a loaded book, with d as its nullable depth (blank depth)
-unfoldable pub acceptedLoad : ℕ → Grammar → Loading
-acceptedLoad d g = record { answer = loaded; grammar = setDepth g d }
+-- a loaded book, with its nullable depth (blank depth)
+unfoldable pub acceptedLoad : Grammar → Loading
+acceptedLoad g = record { answer = loaded; grammar = setDepth g (depthOf (wholeOf g)) }
 
 -- at most n commands, from an offset and a grammar on. A book has at most as many commands as bytes, so after these it has ended
-unfoldable pub run : ℕ → List ℕ → ℕ → ℕ → Grammar → Loading
-run d bytes zero at g = refusedLoad (record { number = 1; offset = length bytes })
-run d bytes (suc n) at g =
-    elim (step bytes at g) [ stop f ↦ refusedLoad f | next at′ g′ ↦ run d bytes n at′ g′ | done g′ ↦ acceptedLoad d g′ ]
+unfoldable pub run : List ℕ → ℕ → ℕ → Grammar → Loading
+run bytes zero at g = refusedLoad (record { number = 1; offset = length bytes })
+run bytes (suc n) at g =
+    elim (step bytes at g) [ stop f ↦ refusedLoad f | next at′ g′ ↦ run bytes n at′ g′ | done g′ ↦ acceptedLoad g′ ]
 
--- loading. The nullable depth d is the only result that the definitions leave open: `Depth` says what holds of it
-unfoldable pub loadOf : List ℕ → ℕ → Loading
-loadOf bytes d = run d bytes (length bytes) 0 zeroGrammar
+-- loading
+unfoldable pub loadOf : List ℕ → Loading
+loadOf bytes = run bytes (length bytes) 0 zeroGrammar

@@ -1,6 +1,6 @@
 -- Plates for the requests of document 02, as one table with the columns of the starred one. `Requested` is what is proved of it.
 -- Assumes nothing.
-use Prim.Native.Nat.{ℕ}
+use Prim.Native.Nat.{ℕ, zero, suc}
 use mathlib.Core.List.{List, [], _∷_, map}
 use mathlib.Core.Path.{_≡_}
 use lib.IntN.{pos}
@@ -46,6 +46,42 @@ emptyTwinsList =
 abbrev pub onlyA : List ℕ
 onlyA = start 0 (newRule 0 (A close))
 
+-- U13: 0 → nothing, 1 → nothing, 2 → nothing
+abbrev pub threeEmpty : List ℕ
+threeEmpty = start 0 (newRule 0 (newRule 1 (newRule 2 close)))
+
+-- U3, U13: 1 → 0, 2 → 1, .., n → n - 1, and what comes after these
+abbrev pub upward : ℕ → List ℕ → List ℕ
+upward zero rest = rest
+upward (suc n) rest = upward n (newRule (suc n) (nonterminalPlace n rest))
+
+-- U3, U13: the same rules from the last to the first
+abbrev pub downward : ℕ → List ℕ → List ℕ
+downward zero rest = rest
+downward (suc n) rest = newRule (suc n) (nonterminalPlace n (downward n rest))
+
+-- U3, U13: 0 → nothing, 1 → 0, .., 31 → 30: each rule after the one that it needs
+abbrev pub chain : List ℕ
+chain = start 0 (newRule 0 (upward 31 close))
+
+-- U3, U13: 31 → 30, .., 1 → 0, 0 → nothing: each rule before the one that it needs
+abbrev pub reversedChain : List ℕ
+reversedChain = start 0 (downward 31 (newRule 0 close))
+
+-- U13: 0 → 1 1, 1 → 2, 1 → nothing, 2 → 0
+abbrev pub around : List ℕ
+around =
+    start 0 (newRule 0 (nonterminalPlace 1 (nonterminalPlace 1
+    (newRule 1 (nonterminalPlace 2 (newRule 1 (newRule 2 (nonterminalPlace 0 close))))))))
+
+-- U13: 0 → A, 5 → 6 6, 6 → nothing: 5 and 6 are not reached from 0
+abbrev pub unreached : List ℕ
+unreached = start 0 (newRule 0 (A (newRule 5 (nonterminalPlace 6 (nonterminalPlace 6 (newRule 6 close))))))
+
+-- the nullable depth that loading a book gives
+abbrev pub depthFrom : List ℕ → ℕ
+depthFrom bytes = grammarFrom bytes .depth
+
 -- the table, in the order of the requests
 unfoldable pub requests : List Line
 requests =
@@ -75,3 +111,8 @@ pub record Requested : Type 0 where
   -- U2: where the table says "no reading" of an input of no bytes, it has no tree of any size
   pub no-tree-terminal : HasTree (grammarOf (grammarFrom onlyA)) [] → ⊥
   pub no-tree-rules : HasTree (grammarOf (grammarFrom bare)) [] → ⊥
+  -- U13: the depths of the book of no rules, of 0 → A, of a refused book (that of no bytes), and of T
+  pub depths-none : map depthFrom (bare ∷ onlyA ∷ [] ∷ []) ≡ 0 ∷ 0 ∷ 0 ∷ []
+  pub depth-T : depthFrom T ≡ 2
+  -- U13: three nullable nonterminals of height 1; 32 of heights 1 to 32, in both orders of the rules; heights 1, 2 and 3; not reached
+  pub depths : map depthFrom (threeEmpty ∷ chain ∷ reversedChain ∷ around ∷ unreached ∷ []) ≡ 1 ∷ 32 ∷ 32 ∷ 3 ∷ 2 ∷ []

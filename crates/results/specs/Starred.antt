@@ -28,7 +28,7 @@ pub record Outcome : Type 0 where
 
 -- the grammar of a book
 abbrev pub grammarFrom : List ℕ → Grammar
-grammarFrom bytes = loadOf bytes 0 .grammar
+grammarFrom bytes = loadOf bytes .grammar
 
 -- the outcome of a book and an input, over a chart and an output that hold other numbers
 unfoldable pub outcome : List ℕ → List ℕ → Outcome
@@ -36,7 +36,7 @@ outcome bytes w =
     let g = grammarFrom bytes in
     let chart : List ℕ = replicate cells 7 in
     record {
-      loads = loadOf bytes 0 .answer;
+      loads = loadOf bytes .answer;
       first = firstOf g w chart (replicate outputSize 9) .answer;
       count = countOf g w chart .answer;
       list = L (grammarOf g) w;
@@ -101,6 +101,6 @@ pub record Starred : Type 0 where
   pub no-tree-other : HasTree (grammarOf (grammarFrom T)) (0x42 ∷ []) → ⊥
   pub no-tree-rules : HasTree (grammarOf (grammarFrom bare)) (As 1) → ⊥
   -- the empty book: 1 at offset 0
-  pub no-bytes : loadOf [] 0 ≡ record { answer = refusedAt 1 0; grammar = zeroGrammar }
+  pub no-bytes : loadOf [] ≡ record { answer = refusedAt 1 0; grammar = zeroGrammar }
   -- the sums 4,625, -25 and 24 in tenths
   pub sums : (rounded (pos 4625) ≡ pos 463) × (rounded (negℤ (pos 25)) ≡ negℤ (pos 3)) × (rounded (pos 24) ≡ pos 2)

@@ -96,3 +96,18 @@ has-high k w l h = has-above 32 k w l h
 
 pub set-ext : (v w : ℕ) → v < 2 ^ 32 → w < 2 ^ 32 → ((k : ℕ) → k < 32 → has k v ≡ has k w) → v ≡ w
 set-ext v w p q f = ext-below 32 v w p q f
+
+-- a set with all members of another, and not the same, has one more
+fresh-below : (n v w : ℕ) → v < 2 ^ n → w < 2 ^ n → ((k : ℕ) → has k v ≡ true → has k w ≡ true) → v ≢ w
+    → (k : ℕ) × (has k v ≡ false) × (has k w ≡ true)
+fresh-below zero v w p q sub d = absurd (d (omega arith))
+fresh-below (suc n) v w p q sub d =
+    let above : has 0 v ≡ has 0 w → (k : ℕ) × (has k v ≡ false) × (has k w ≡ true) = λ e.
+    let (k, a, b) = fresh-below n (v / 2) (w / 2) (half-below n v p) (half-below n w q)
+    (λ k m. sym (has-suc k w) ∙ sub (suc k) (has-suc k v ∙ m)) (λ g. d (omega (arith, low-eq v w e))) in
+    (suc k, has-suc k v ∙ a, has-suc k w ∙ b) in
+    by-test (has 0 v) (λ e. above (e ∙ sym (sub 0 e))) (λ e. by-test (has 0 w) (λ f. (0, e, f)) (λ f. above (e ∙ sym f)))
+
+pub fresh-member : (v w : ℕ) → v < 2 ^ 32 → w < 2 ^ 32 → ((k : ℕ) → has k v ≡ true → has k w ≡ true) → v ≢ w
+    → (k : ℕ) × (has k v ≡ false) × (has k w ≡ true)
+fresh-member v w p q sub d = fresh-below 32 v w p q sub d

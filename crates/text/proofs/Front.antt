@@ -81,34 +81,34 @@ module _ (s t : List ℕ) (long-s : bookFront ≤ length s) (long-t : bookFront 
       ∙ ap (λ (x : Step). decide (checks at g h c t) stop (λ _. x)) (carried-same at g h c))
 
   -- both runs are the same if enough commands are allowed in each
-  run-same : (d m n at : ℕ) (g : Grammar) → Near at g → farthest < at + m → farthest < at + n → run d s m at g ≡ run d t n at g
-  run-same d zero n at g N h k = absurd (omega (arith, near-bound at g N))
-  run-same d (suc m) zero at g N h k = absurd (omega (arith, near-bound at g N))
-  run-same d (suc m) (suc n) at g N h k =
-      go (step t at g) refl (λ at′ g′ l K. run-same d m n at′ g′ K (omega arith) (omega arith))
+  run-same : (m n at : ℕ) (g : Grammar) → Near at g → farthest < at + m → farthest < at + n → run s m at g ≡ run t n at g
+  run-same zero n at g N h k = absurd (omega (arith, near-bound at g N))
+  run-same (suc m) zero at g N h k = absurd (omega (arith, near-bound at g N))
+  run-same (suc m) (suc n) at g N h k =
+      go (step t at g) refl (λ at′ g′ l K. run-same m n at′ g′ K (omega arith) (omega arith))
     where
       e : step s at g ≡ step t at g
       e = step-same at g (near-bound at g N)
 
-      go : (r : Step) → step t at g ≡ r → ((at′ : ℕ) (g′ : Grammar) → at < at′ → Near at′ g′ → run d s m at′ g′ ≡ run d t n at′ g′)
-          → run d s (suc m) at g ≡ run d t (suc n) at g
-      go (stop f) p later = run-stop d m s at g f (e ∙ p) ∙ sym (run-stop d n t at g f p)
+      go : (r : Step) → step t at g ≡ r → ((at′ : ℕ) (g′ : Grammar) → at < at′ → Near at′ g′ → run s m at′ g′ ≡ run t n at′ g′)
+          → run s (suc m) at g ≡ run t (suc n) at g
+      go (stop f) p later = run-stop m s at g f (e ∙ p) ∙ sym (run-stop n t at g f p)
       go (next at′ g′) p later =
-          run-next d m s at g at′ g′ (e ∙ p) ∙ later at′ g′ (step-forward t at g at′ g′ p) (step-kept (near-invariant t) at g N at′ g′ p)
-          ∙ sym (run-next d n t at g at′ g′ p)
-      go (done g′) p later = run-done d m s at g g′ (e ∙ p) ∙ sym (run-done d n t at g g′ p)
+          run-next m s at g at′ g′ (e ∙ p) ∙ later at′ g′ (step-forward t at g at′ g′ p) (step-kept (near-invariant t) at g N at′ g′ p)
+          ∙ sym (run-next n t at g at′ g′ p)
+      go (done g′) p later = run-done m s at g g′ (e ∙ p) ∙ sym (run-done n t at g g′ p)
 
-  load-same : (d : ℕ) → loadOf s d ≡ loadOf t d
+  load-same : loadOf s ≡ loadOf t
   unfolding loadOf
-  load-same d = run-same d (length s) (length t) 0 zeroGrammar (near-invariant s .zero) (omega arith) (omega arith)
+  load-same = run-same (length s) (length t) 0 zeroGrammar (near-invariant s .zero) (omega arith) (omega arith)
 
 -- ---- the book
 
-load-front : (book : List ℕ) (d : ℕ) → loadOf (take bookFront book) d ≡ loadOf book d
-load-front book d = dite (decLt bookFront (length book))
+load-front : (book : List ℕ) → loadOf (take bookFront book) ≡ loadOf book
+load-front book = dite (decLt bookFront (length book))
     (λ h. let e = length-take-le bookFront book (omega arith) in
-    load-same (take bookFront book) book (omega arith) (omega arith) (λ i l. getD-take bookFront book i 0 l) d)
-    (λ h. ap (λ (b : List ℕ). loadOf b d) (take-all bookFront book (omega arith)))
+    load-same (take bookFront book) book (omega arith) (omega arith) (λ i l. getD-take bookFront book i 0 l))
+    (λ h. ap loadOf (take-all bookFront book (omega arith)))
 
 -- ---- the plate
 
@@ -136,4 +136,4 @@ loaded-front b w = go (b .answer)
 pub text-front : (book w : List ℕ) → textOf (take bookFront book) (take plateFront w) ≡ textOf book w
 unfolding textOf
 text-front book w =
-    ap (λ (b : Loading). loadedText b (take plateFront w)) (load-front book 0) ∙ loaded-front (loadOf book 0) w
+    ap (λ (b : Loading). loadedText b (take plateFront w)) (load-front book) ∙ loaded-front (loadOf book) w

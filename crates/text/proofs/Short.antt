@@ -53,11 +53,11 @@ input-lines g w =
 
 text-sized : (book w : List ℕ) → Lines (textOf book w)
 unfolding textOf loadedText
-text-sized book w = go (loadOf book 0 .answer)
+text-sized book w = go (loadOf book .answer)
   where
-    go : (a : LoadAnswer) → Lines (elim a [ refusedAt n at ↦ refusedLine n ∷ [] | loaded ↦ inputText (loadOf book 0 .grammar) w ])
+    go : (a : LoadAnswer) → Lines (elim a [ refusedAt n at ↦ refusedLine n ∷ [] | loaded ↦ inputText (loadOf book .grammar) w ])
     go (refusedAt n at) = one-line (refusedLine n)
-    go loaded = input-lines (loadOf book 0 .grammar) w
+    go loaded = input-lines (loadOf book .grammar) w
 
 pub text-lines : (book w : List ℕ) → length (textOf book w) ≤ suc most
 text-lines book w = text-sized book w .few

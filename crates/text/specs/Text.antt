@@ -44,6 +44,6 @@ inputText g w =
 unfoldable pub loadedText : Loading → List ℕ → List (List ℕ)
 loadedText b w = elim (b .answer) [ refusedAt n at ↦ refusedLine n ∷ [] | loaded ↦ inputText (b .grammar) w ]
 
--- the text: no nullable depth changes it (proofs/Depth.antt)
+-- the text
 unfoldable pub textOf : List ℕ → List ℕ → List (List ℕ)
-textOf book w = loadedText (loadOf book 0) w
+textOf book w = loadedText (loadOf book) w

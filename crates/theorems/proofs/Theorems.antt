@@ -9,6 +9,7 @@
 --   range-fits                        a byte fits a range exactly if it is from low to high            document 02, U1
 --   search-exact, search-few          the search finds exactly the blank kinds; how many passes        document 02, U3
 --   search-table                      books for the search, from book bytes to set and passes          document 02, U3
+--   depth-exact, depth-before         the depth is that of the highest of the lowest empty trees       document 02, U13
 --   list-exact, list-rising           L holds exactly the readings, each once, in rising order         Trees and readings; The walk
 --   load-demand, load-order           a book is loaded or refused at its first fault; what is left     demand 1; Refusals
 --   open-, take-, .., next-demand     what is written, the first refusal that applies, what it leaves  demand 1
@@ -21,7 +22,7 @@
 --   count-exact, count-more           N up to 4,096, "more" exactly above                              demand 3, third sentence
 --   no-derivation-exact, ..-larger    "no reading" exactly without a tree; 13 exactly with larger ones demand 3, last sentence
 --   listing-of-T                      the three lines of T with the plate `A`, byte for byte           Listing program
---   text-depth                        no nullable depth changes the text of the listing program        Listing program
+--   text-depth                        the nullable depth of a grammar does not change an input's text  Listing program
 --   text-front                        8,192 bytes of the book and 65 of the plate decide the text      Listing program
 --   pages-text, pages-few             the pages, from the first to the last, are the text; how many    Listing program
 --
@@ -58,8 +59,9 @@ use Rattle.cfg.specs.Grammar.{Cfg, range, fits}
 use Rattle.cfg.specs.Tree.{HasTree}
 use Rattle.cfg.specs.Derivation.{Derivation, Rising, limit}
 use Rattle.cfg.specs.Listing.{L}
-use Rattle.cfg.specs.Nullable.{Nullable}
+use Rattle.cfg.specs.Nullable.{Nullable, Depth, depthOf, ExactDepth}
 use Rattle.grammar.specs.declared.Grammar.{Grammar}
+use Rattle.grammar.specs.Setters.{setDepth}
 use Rattle.grammar.specs.Valid.{validGrammar}
 use Rattle.grammar.specs.View.{wholeOf, grammarOf}
 use Rattle.results.specs.Answer.{refused, answered, nothing, counted, more}
@@ -76,7 +78,7 @@ use Rattle.results.specs.Requests.{Requested}
 use Rattle.results.specs.Drawer.{T, As}
 use Rattle.load_nullable.specs.Nullable.{searchOf}
 use Rattle.load_nullable.specs.Table.{SearchTable}
-use Rattle.text.specs.Text.{loadedText, textOf}
+use Rattle.text.specs.Text.{inputText, textOf}
 use Rattle.text.specs.Sample.{listingOfT}
 use Rattle.text.specs.Front.{bookFront, plateFront}
 use Rattle.check_length.specs.Measure.{lengthsIn}
@@ -93,6 +95,8 @@ use Rattle.demands.specs.Taken.{Taken}
 use Rattle.demands.specs.Recognized.{Recognized}
 use Rattle.cfg.proofs.Fits as Fits
 use Rattle.theory_listing.proofs.Exact as Exact
+use Rattle.theory_shrinking.proofs.Depth as Depth
+use Rattle.grammar.proofs.Bounds.{valid-bounded}
 use Rattle.results.proofs.Starred as Starred
 use Rattle.results.proofs.Requests as Requests
 use Rattle.load_nullable.proofs.Exact as Search
@@ -101,7 +105,7 @@ use Rattle.results.proofs.Demand3.Walk as Walk
 use Rattle.results.proofs.Demand3.Handed as Handed
 use Rattle.results.proofs.Demand3.Consequences as Consequences
 use Rattle.text.proofs.Sample as Sample
-use Rattle.text.proofs.Depth as Depth
+use Rattle.text.proofs.Depth as TextDepth
 use Rattle.text.proofs.Front as Front
 use Rattle.print_page.proofs.Printed as Printed
 use Rattle.demands.proofs.Demand1 as Demand1
@@ -137,6 +141,15 @@ search-few g valid = Search.searched g valid .few
 pub search-table : SearchTable
 search-table = Searches.search-table
 
+-- THE REQUEST U13, for every grammar that check 8 lets through: the depth of the whole grammar is the greatest, over the nullable
+-- nonterminals (blank kinds), of the height of the lowest empty tree, and 0 if there is none
+pub depth-exact : (g : Grammar) → validGrammar g ≡ true → ExactDepth (wholeOf g) (depthOf (wholeOf g))
+depth-exact g valid = Depth.depth-exact (wholeOf g) (valid-bounded g valid)
+
+-- so what document 01 says of it holds
+pub depth-before : (g : Grammar) → validGrammar g ≡ true → Depth (wholeOf g) (depthOf (wholeOf g))
+depth-before g valid = Depth.depth-before (wholeOf g) (valid-bounded g valid)
+
 -- THE LIST L: a row is in it exactly if it is a derivation (reading) of the input, and it is strictly rising
 pub list-exact : (G : Cfg) (w e : List ℕ) → List·Memᴰ e (L G w) ↔ Derivation G limit w e
 list-exact G w e = (Exact.listed→derivation G limit w e, Exact.derivation→listed G limit w e)
@@ -144,10 +157,10 @@ list-exact G w e = (Exact.listed→derivation G limit w e, Exact.derivation→li
 pub list-rising : (G : Cfg) (w : List ℕ) → Rising (L G w)
 list-rising G w = Exact.derivations-rising G limit w
 
--- DEMAND 1 for loading, for every row of bytes and every nullable depth d: it is refused at the first fault from the left, with a number
--- from 1 to 7, its offset and the grammar of zeros; or it is read to its end. Then the grammar passes check 8, so that demands 2 and 3 are
--- about it, and what it does not use is zeros
-pub load-demand : (bytes : List ℕ) (d : ℕ) → LoadDemand bytes d (loadOf bytes d)
+-- DEMAND 1 for loading, for every row of bytes: it is refused at the first fault from the left, with a number from 1 to 7 or 16, its offset
+-- and the grammar of zeros; or it is read to its end. Then the grammar has its nullable depth and passes check 8, so that demands 2 and 3
+-- are about it, and what it does not use is zeros
+pub load-demand : (bytes : List ℕ) → LoadDemand bytes (loadOf bytes)
 load-demand = Load.load-demand
 
 -- at each command the first fault that applies decides
@@ -269,9 +282,9 @@ module _ (g : Grammar) (valid : validGrammar g ≡ true) (w : List ℕ) (high : 
 pub listing-of-T : textOf T (As 1) ≡ listingOfT
 listing-of-T = Sample.listing-of-T
 
--- the nullable depth, which the definitions leave open, does not change the text
-pub text-depth : (book w : List ℕ) (d : ℕ) → loadedText (loadOf book d) w ≡ textOf book w
-text-depth = Depth.text-depth
+-- the nullable depth that a grammar holds does not change the text of an input
+pub text-depth : (g : Grammar) (d : ℕ) (w : List ℕ) → inputText (setDepth g d) w ≡ inputText g w
+text-depth = TextDepth.text-depth
 
 -- a program that reads no more of book and plate than their fronts prints the same
 pub text-front : (book w : List ℕ) → textOf (take bookFront book) (take plateFront w) ≡ textOf book w

@@ -3,3 +3,5 @@ pub mod Decide
 pub mod Extract
 pub mod Shrink
 pub mod Nullable
+pub mod Levels
+pub mod Depth

@@ -3,8 +3,8 @@
 use super::lent::{offset, row, same, Lent};
 use super::Comparison;
 use crate::books::{damage, soup};
-use crate::lister::grammar::{self, Symbol};
-use crate::lister::Lister;
+use crate::lister::grammar::{self, Grammar, Symbol};
+use crate::lister::{depth, Lister};
 use crate::reader::{Answer, FlatGrammar, Reader, FLAT};
 
 impl Comparison<'_> {
@@ -25,8 +25,8 @@ impl Comparison<'_> {
         Ok(())
     }
 
-    /// Loads into a row and an offset of rubbish. The whole row must be written, the offset only with a refusal. The
-    /// depth is checked by its formula. Returns the grammar.
+    /// Loads into a row and an offset of rubbish. The whole row must be written, the offset only with a refusal. Returns
+    /// the grammar.
     pub fn load(&mut self, book: &[u8], name: &str) -> Result<Option<FlatGrammar>, String> {
         let lent = Lent::of(book, 0x10);
         let before = lent.clone();
@@ -37,27 +37,31 @@ impl Comparison<'_> {
         let due_answer = Lister.load(book, &mut due, &mut due_at);
         lent.against(&before, "load: the book's bytes")?;
         same("load: answer and offset", (answer, got_at), (due_answer, due_at))?;
-        for at in (0..FLAT).filter(|at| *at != 2) {
+        for at in 0..FLAT {
             same("load: the row, index and number", (at, got[at]), (at, due[at]))?;
         }
         if let Answer::Refused(number) = answer {
-            same("load refused: the depth", got[2], 0)?;
             same("the lister's row and offset, refused", due == [0; FLAT] && due_at <= book.len(), true)?;
             self.counts.add(&format!("{name}: refused {number}"));
             return Ok(None);
         }
         same("the lister's offset, loaded", due_at, found_at)?;
-        let (grammar, depth) = (grammar::from_flat(&due).expect("a loaded grammar passes check 8"), got[2]);
-        if !grammar::depth_is_legal(&grammar, depth) {
-            return Err(format!("load: depth {depth} against {:?}", grammar::empty_heights(&grammar)));
+        self.loaded(&grammar::from_flat(&due).expect("a loaded grammar passes check 8"), due[2], name);
+        Ok(Some(got))
+    }
+
+    /// Counts what comes up in a loaded grammar of this depth.
+    fn loaded(&mut self, grammar: &Grammar, depth: u16, name: &str) {
+        self.counts
+            .add(&format!("{name}: depth {}", if depth < 4 { depth.to_string() } else { "4 or more".to_string() }));
+        if usize::from(depth) < depth::empty_heights(grammar).iter().flatten().count() {
+            self.counts.add(&format!("{name}: depth below the number of nullable kinds"));
         }
-        self.counts.add(&format!("{name}: depth {}", if depth == 0 { "0" } else { "above 0" }));
         for place in grammar.rules.iter().flat_map(|rule| &rule.places) {
             if let Symbol::Range(low, high) = *place {
                 self.counts
                     .add(&format!("{name}: a place for {}", if low == high { "one byte" } else { "several bytes" }));
             }
         }
-        Ok(Some(got))
     }
 }

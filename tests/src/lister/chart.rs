@@ -1,7 +1,8 @@
 //! The chart (sheet) by its definition: opening, and a column as the least sets over the chart as found.
 //! Independently of that: which nonterminals derive which spans.
 
-use super::grammar::{empty_heights, heights_in, Grammar, Symbol};
+use super::depth::{empty_heights, heights_in};
+use super::grammar::{Grammar, Symbol};
 use crate::reader::CELLS;
 use crate::switches::{fault, Fault};
 

@@ -1,5 +1,4 @@
-//! Books and grammars: loading, check 8, and the empty trees of the nullable
-//! nonterminals (blank kinds).
+//! Books and grammars: loading, and check 8.
 
 use crate::reader::{record, FlatGrammar, FLAT, PLACES, RULES};
 use crate::switches::{fault, low_byte, Fault};
@@ -228,45 +227,4 @@ pub fn unused_reversed_range(flat: &FlatGrammar) -> bool {
         let used = if rule < usize::from(flat[1]) { usize::from(flat[at + 2]) } else { 0 };
         (used..PLACES).any(|p| flat[at + 3 + 2 * p] == 2 && reversed(flat[at + 4 + 2 * p]))
     })
-}
-
-/// For each nonterminal the height of its lowest empty tree; None if it is not nullable (blank). Round h finds the
-/// nonterminals with a rule in which every place is a nonterminal with an empty tree lower than h. A round that finds
-/// nothing is the last.
-pub fn empty_heights(grammar: &Grammar) -> [Option<u16>; 32] {
-    heights_in(grammar, if fault(Fault::OnePassNullable) { 1 } else { u16::MAX })
-}
-
-/// The same in at most this many rounds. In the last of them, what is found counts at once.
-pub fn heights_in(grammar: &Grammar, rounds: u16) -> [Option<u16>; 32] {
-    let mut heights = [None; 32];
-    for h in 1..=rounds {
-        let mut lower = heights;
-        for rule in &grammar.rules {
-            let empty = rule.places.iter().all(|place| match place {
-                Symbol::Nonterminal(k) => lower[usize::from(*k)].is_some(),
-                Symbol::Terminal(_) | Symbol::Range(..) => false,
-            });
-            let known = &mut heights[usize::from(rule.left)];
-            if empty && known.is_none() {
-                *known = Some(h);
-            }
-            if h == rounds {
-                lower = heights;
-            }
-        }
-        if heights == lower {
-            break;
-        }
-    }
-    heights
-}
-
-/// What holds for the nullable depth (blank depth), the one result left open: it is 0 to 32, and 0 if nothing is
-/// nullable. The lowest empty tree of each nullable nonterminal is at most that high.
-pub fn depth_is_legal(grammar: &Grammar, depth: u16) -> bool {
-    let heights = empty_heights(grammar);
-    depth <= 32
-        && heights.iter().flatten().all(|height| *height <= depth)
-        && (depth == 0 || heights.iter().any(Option::is_some))
 }

@@ -93,8 +93,10 @@ impl Reader for Faulty {
             return answer;
         }
         match () {
-            _ if fault(Fault::Depth32) || (fault(Fault::OtherLegalDepth) && flat[2] > 0) => flat[2] = 32,
+            _ if fault(Fault::Depth32) => flat[2] = 32,
+            _ if fault(Fault::DepthThatDocument01Allows) && flat[2] > 0 => flat[2] = 32,
             _ if fault(Fault::DepthOneTooLow) => flat[2] = flat[2].saturating_sub(1),
+            _ if fault(Fault::DepthCountsOneRoundMore) => flat[2] += 1,
             _ if fault(Fault::DepthUnwritten) => flat[2] = found[2],
             _ if fault(Fault::RowWrittenWithoutItsEnd) => flat[FLAT - 1] = found[FLAT - 1],
             _ if fault(Fault::OffsetZeroWhenLoaded) => *offset = 0,

@@ -10,7 +10,7 @@ returns c =
     let after-write = c .before .before in
     let after-load = after-write .before .before .before in
     loads-of _ (λ i. omega (arith, after-load .before .shared-slice-known .given i)) (after-load .load .result)
-    (after-load .load .ensures .0) (after-load .load .ensures .1) _ _ _ _ (after-write .write .ensures)
+    (after-load .load .ensures) _ _ _ _ (after-write .write .ensures)
     (c .of-loading .ensures .0) (c .of-loading .ensures .1)
 
 pub filbozseg-load-spec : {M : Type 1} → statement M

@@ -31,5 +31,5 @@ load-spec = tie.close (tie.spec
     (λ c. omega arith) (λ c κs. search place-few) (λ c. omega arith) (λ c. omega arith) (λ c. search (moved-fits, place-room))
     (λ c. search (moved-less, place-room, place-some)) (λ c. search progress-place)
     -- the end, and a fault
-    (λ c. omega arith) (λ c κs. search needs) (λ c. (search loads-end, c .accepted .ensures .depth))
-    (λ c. omega arith) (λ c κs. omega arith) (λ c. (search loads-fault, c .refused .ensures .depth)))
+    (λ c. omega arith) (λ c κs. search needs) (λ c. search loads-end)
+    (λ c. omega arith) (λ c κs. omega arith) (λ c. search loads-fault))

@@ -16,7 +16,7 @@ use Rattle.laws.proofs.Bools.{true-false, or-neither}
 use Rattle.grammar.specs.declared.Symbol.{Symbol}
 use Rattle.grammar.specs.declared.Symbol.the-variants.{Nonterminal, Terminal, Range}
 use Rattle.grammar.specs.declared.Grammar.{Grammar}
-use Rattle.grammar.specs.Setters.{openedRule, placedRule, setStart, setCount, setDepth, setRule}
+use Rattle.grammar.specs.Setters.{openedRule, placedRule, setStart, setCount, setRule}
 use Rattle.grammar.specs.Valid.{validSymbol}
 use Rattle.grammar.specs.Zero.{zeroGrammar}
 use Rattle.results.specs.Load.{operands, operand, signed, openRule, withStart, withRule, withPlace, after, unknown}
@@ -194,14 +194,14 @@ module _ {bytes : List ℕ} {P : ℕ → Grammar → Type 0} (I : Invariant byte
     step-kept at′ g′ e = subst Kept e step-holds
 
   -- Q holds of the grammar that a book gives, if it holds of the grammar of no rules and of each that P holds of
-  pub run-kept : (d : ℕ) (Q : Grammar → Type 0) → Q zeroGrammar → ((at : ℕ) (g : Grammar) → P at g → Q (setDepth g d))
-      → (n at : ℕ) (g : Grammar) → P at g → Q (run d bytes n at g .grammar)
+  pub run-kept : (Q : Grammar → Type 0) → Q zeroGrammar → ((at : ℕ) (g : Grammar) → P at g → Q (acceptedLoad g .grammar))
+      → (n at : ℕ) (g : Grammar) → P at g → Q (run bytes n at g .grammar)
   unfolding run refusedLoad acceptedLoad
-  run-kept d Q z f zero at g H = z
-  run-kept d Q z f (suc n) at g H = go (step bytes at g) refl (run-kept d Q z f n)
+  run-kept Q z f zero at g H = z
+  run-kept Q z f (suc n) at g H = go (step bytes at g) refl (run-kept Q z f n)
     where
-      go : (s : Step) → step bytes at g ≡ s → ((at′ : ℕ) (g′ : Grammar) → P at′ g′ → Q (run d bytes n at′ g′ .grammar))
-          → Q (run d bytes (suc n) at g .grammar)
-      go (stop e) p later = rw (run-stop d n bytes at g e p) z
-      go (next at′ g′) p later = rw (run-next d n bytes at g at′ g′ p) (later at′ g′ (step-kept at g H at′ g′ p))
-      go (done g′) p later = rw (run-done d n bytes at g g′ p, step-done bytes at g g′ p .same) (f at g H)
+      go : (s : Step) → step bytes at g ≡ s → ((at′ : ℕ) (g′ : Grammar) → P at′ g′ → Q (run bytes n at′ g′ .grammar))
+          → Q (run bytes (suc n) at g .grammar)
+      go (stop e) p later = rw (run-stop n bytes at g e p) z
+      go (next at′ g′) p later = rw (run-next n bytes at g at′ g′ p) (later at′ g′ (step-kept at g H at′ g′ p))
+      go (done g′) p later = rw (run-done n bytes at g g′ p, step-done bytes at g g′ p .same) (f at g H)

@@ -16,22 +16,21 @@ use Rattle.results.proofs.Decide.{decide-either}
 -- ---- one command
 
 -- how a run goes on after a step, if n more commands are allowed
-abbrev resume : (d n : ℕ) → List ℕ → Step → Loading
-resume d n bytes s =
-    elim s [ stop f ↦ refusedLoad f | next at′ g′ ↦ run d bytes n at′ g′ | done g′ ↦ acceptedLoad d g′ ]
+abbrev resume : ℕ → List ℕ → Step → Loading
+resume n bytes s = elim s [ stop f ↦ refusedLoad f | next at′ g′ ↦ run bytes n at′ g′ | done g′ ↦ acceptedLoad g′ ]
 
-module _ (d n : ℕ) (bytes : List ℕ) (at : ℕ) (g : Grammar) where
-  pub run-stop : (f : Fault) → step bytes at g ≡ stop f → run d bytes (suc n) at g ≡ refusedLoad f
+module _ (n : ℕ) (bytes : List ℕ) (at : ℕ) (g : Grammar) where
+  pub run-stop : (f : Fault) → step bytes at g ≡ stop f → run bytes (suc n) at g ≡ refusedLoad f
   unfolding run
-  run-stop f e = ap (resume d n bytes) e
+  run-stop f e = ap (resume n bytes) e
 
-  pub run-next : (at′ : ℕ) (g′ : Grammar) → step bytes at g ≡ next at′ g′ → run d bytes (suc n) at g ≡ run d bytes n at′ g′
+  pub run-next : (at′ : ℕ) (g′ : Grammar) → step bytes at g ≡ next at′ g′ → run bytes (suc n) at g ≡ run bytes n at′ g′
   unfolding run
-  run-next at′ g′ e = ap (resume d n bytes) e
+  run-next at′ g′ e = ap (resume n bytes) e
 
-  pub run-done : (g′ : Grammar) → step bytes at g ≡ done g′ → run d bytes (suc n) at g ≡ acceptedLoad d g′
+  pub run-done : (g′ : Grammar) → step bytes at g ≡ done g′ → run bytes (suc n) at g ≡ acceptedLoad g′
   unfolding run
-  run-done g′ e = ap (resume d n bytes) e
+  run-done g′ e = ap (resume n bytes) e
 
 -- ---- the number of commands allowed
 
@@ -51,17 +50,17 @@ step-forward bytes at g at′ g′ = decide-either stop _ (λ (s : Step). s ≡ 
     go true n h p = clash cc
     go false n h p = let q : at + 1 + n ≡ at′ = cc in omega arith
 
-pub run-fuel : (d : ℕ) (bytes : List ℕ) (m n at : ℕ) (g : Grammar) → length bytes - at ≤ m → length bytes - at ≤ n
-    → run d bytes m at g ≡ run d bytes n at g
+pub run-fuel : (bytes : List ℕ) (m n at : ℕ) (g : Grammar) → length bytes - at ≤ m → length bytes - at ≤ n
+    → run bytes m at g ≡ run bytes n at g
 unfolding run
-run-fuel d bytes zero zero at g h k = refl
-run-fuel d bytes zero (suc n) at g h k = sym (run-stop d n bytes at g _ (step-past bytes at g (omega arith)))
-run-fuel d bytes (suc m) zero at g h k = run-stop d m bytes at g _ (step-past bytes at g (omega arith))
-run-fuel d bytes (suc m) (suc n) at g h k = go (step bytes at g) refl (λ at′ g′ l. run-fuel d bytes m n at′ g′ (omega arith) (omega arith))
+run-fuel bytes zero zero at g h k = refl
+run-fuel bytes zero (suc n) at g h k = sym (run-stop n bytes at g _ (step-past bytes at g (omega arith)))
+run-fuel bytes (suc m) zero at g h k = run-stop m bytes at g _ (step-past bytes at g (omega arith))
+run-fuel bytes (suc m) (suc n) at g h k = go (step bytes at g) refl (λ at′ g′ l. run-fuel bytes m n at′ g′ (omega arith) (omega arith))
   where
-    go : (s : Step) → step bytes at g ≡ s → ((at′ : ℕ) (g′ : Grammar) → at < at′ → run d bytes m at′ g′ ≡ run d bytes n at′ g′)
-        → run d bytes (suc m) at g ≡ run d bytes (suc n) at g
-    go (stop f) e r = run-stop d m bytes at g f e ∙ sym (run-stop d n bytes at g f e)
+    go : (s : Step) → step bytes at g ≡ s → ((at′ : ℕ) (g′ : Grammar) → at < at′ → run bytes m at′ g′ ≡ run bytes n at′ g′)
+        → run bytes (suc m) at g ≡ run bytes (suc n) at g
+    go (stop f) e r = run-stop m bytes at g f e ∙ sym (run-stop n bytes at g f e)
     go (next at′ g′) e r =
-        run-next d m bytes at g at′ g′ e ∙ r at′ g′ (step-forward bytes at g at′ g′ e) ∙ sym (run-next d n bytes at g at′ g′ e)
-    go (done g′) e r = run-done d m bytes at g g′ e ∙ sym (run-done d n bytes at g g′ e)
+        run-next m bytes at g at′ g′ e ∙ r at′ g′ (step-forward bytes at g at′ g′ e) ∙ sym (run-next n bytes at g at′ g′ e)
+    go (done g′) e r = run-done m bytes at g g′ e ∙ sym (run-done n bytes at g g′ e)
