@@ -15,10 +15,11 @@ use Rattle.grammar.specs.declared.Grammar.{Grammar}
 use Rattle.grammar.specs.declared.Rule.{Rule}
 use Rattle.grammar.specs.View.{lengthsOf}
 use Rattle.grammar.specs.Zero.{noRule}
-use Rattle.results.specs.Measure.{sum}
+use Rattle.results.specs.Measure.{sum, rounded, tenthsOf}
 use Rattle.check_length.specs.Measure.{lengthOfRule, lengthsIn}
 use Rattle.check_walk.proofs.Nodes.{at-two}
-use Rattle.check_length.proofs.Signed.{sum-size, fits-32, through}
+use Rattle.numbers.proofs.Signs.{fits-32, through}
+use Rattle.check_length.proofs.Signed.{sum-size}
 
 -- ---- a length of 16 bits in 32
 
@@ -139,8 +140,12 @@ lengths-done l rules r n m h k e =
     sym (take-all r l (omega arith)) ∙ e ∙ take-all r (map lengthOfRule rules) (omega (arith, length-map rules lengthOfRule))
 
 -- the sum by the row is the sum by the grammar
-pub sum-row : (g : Grammar) (l : List ℤ) → l ≡ map lengthOfRule (g .rules) → (e : List ℕ) → sum (lengthsIn l) e ≡ sum (lengthsOf g) e
+sum-row : (g : Grammar) (l : List ℤ) → l ≡ map lengthOfRule (g .rules) → (e : List ℕ) → sum (lengthsIn l) e ≡ sum (lengthsOf g) e
 unfolding sum
 sum-row g l h [] = refl
 sum-row g l h (cover ∷ []) = refl
 sum-row g l h (cover ∷ r ∷ e) = ap₂ _+ℤ_ (ap (λ (x : List ℤ). lengthsIn x r) h ∙ mapped (g .rules) r) (sum-row g l h e)
+
+pub tenths-row : (g : Grammar) (l : List ℤ) → l ≡ map lengthOfRule (g .rules) → (e : List ℕ)
+    → tenthsOf (lengthsIn l) e ≡ tenthsOf (lengthsOf g) e
+tenths-row g l h e = ap rounded (sum-row g l h e)

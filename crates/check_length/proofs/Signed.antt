@@ -8,9 +8,9 @@ use lib.IntN.{ℤ, pos, negsuc, negℤ, subℕ, _+ℤ_, _-ℤ_}
 use lib.Signed.{mag, ltZ, quotZ}
 use borrow.Author.Tests.{ltb-true}
 use mir.Syntax.{w32}
-use mir.Val.{SFits, toZ, ofZ}
-use mir.Facts.{toZ-ofZ}
+use mir.Val.{SFits}
 use Rattle.laws.proofs.Signed.{neg-size}
+use Rattle.numbers.proofs.Signs.{kept, fits-32, through}
 use Rattle.results.specs.Measure.{rounded}
 
 -- ---- sizes
@@ -32,14 +32,6 @@ tenth-size : (a : ℤ) → mag (quotZ a (pos 10)) ≤ suc (mag a)
 tenth-size (pos a) = omega arith
 tenth-size (negsuc a) = omega (arith, neg-size (suc a / 10))
 
--- ---- through 32 bits
-
-pub fits-32 : (z : ℤ) → mag z < 2147483648 → SFits w32 z
-fits-32 z h = record { sfits = h }
-
-pub through : (z : ℤ) → mag z < 2147483648 → toZ w32 (ofZ w32 z) ≡ z
-through z h = toZ-ofZ (fits-32 z h)
-
 -- ---- rounding
 
 tenths-up : (z : ℤ) → ltZ z (pos 0) ≡ false → quotZ (z +ℤ pos 5) (pos 10) ≡ rounded z
@@ -55,31 +47,31 @@ tenths-down (negsuc n) h =
     ap (λ (m : ℕ). negℤ (pos (m / 10))) e
 
 module _ (z d : ℤ) (small : mag z ≤ 16777216) (few : mag d ≤ 5) where
-  same : toZ w32 (ofZ w32 z) ≡ z
+  same : kept w32 z ≡ z
   same = through z (omega arith)
 
-  pub shift-fits : SFits w32 (toZ w32 (ofZ w32 z) +ℤ d)
+  pub shift-fits : SFits w32 (kept w32 z +ℤ d)
   shift-fits = subst (λ (x : ℤ). SFits w32 (x +ℤ d)) (sym same) (fits-32 (z +ℤ d) (omega (arith, sum-size z d)))
 
-  shifted : toZ w32 (ofZ w32 (toZ w32 (ofZ w32 z) +ℤ d)) ≡ z +ℤ d
-  shifted = ap (λ (x : ℤ). toZ w32 (ofZ w32 (x +ℤ d))) same ∙ through (z +ℤ d) (omega (arith, sum-size z d))
+  shifted : kept w32 (kept w32 z +ℤ d) ≡ z +ℤ d
+  shifted = ap (λ (x : ℤ). kept w32 (x +ℤ d)) same ∙ through (z +ℤ d) (omega (arith, sum-size z d))
 
-  pub tenth-fits : SFits w32 (quotZ (toZ w32 (ofZ w32 (toZ w32 (ofZ w32 z) +ℤ d))) (pos 10))
+  pub tenth-fits : SFits w32 (quotZ (kept w32 (kept w32 z +ℤ d)) (pos 10))
   tenth-fits =
       subst (λ (x : ℤ). SFits w32 (quotZ x (pos 10))) (sym shifted)
       (fits-32 (quotZ (z +ℤ d) (pos 10)) (omega (arith, tenth-size (z +ℤ d), sum-size z d)))
 
-  tenth : toZ w32 (ofZ w32 (quotZ (toZ w32 (ofZ w32 (toZ w32 (ofZ w32 z) +ℤ d))) (pos 10))) ≡ quotZ (z +ℤ d) (pos 10)
+  tenth : kept w32 (quotZ (kept w32 (kept w32 z +ℤ d)) (pos 10)) ≡ quotZ (z +ℤ d) (pos 10)
   tenth =
-      ap (λ (x : ℤ). toZ w32 (ofZ w32 (quotZ x (pos 10)))) shifted
+      ap (λ (x : ℤ). kept w32 (quotZ x (pos 10))) shifted
       ∙ through (quotZ (z +ℤ d) (pos 10)) (omega (arith, tenth-size (z +ℤ d), sum-size z d))
 
-pub round-up : (z : ℤ) → mag z ≤ 16777216 → ltZ (toZ w32 (ofZ w32 z)) (pos 0) ≡ false
-    → toZ w32 (ofZ w32 (quotZ (toZ w32 (ofZ w32 (toZ w32 (ofZ w32 z) +ℤ pos 5))) (pos 10))) ≡ rounded z
+pub round-up : (z : ℤ) → mag z ≤ 16777216 → ltZ (kept w32 z) (pos 0) ≡ false
+    → kept w32 (quotZ (kept w32 (kept w32 z +ℤ pos 5)) (pos 10)) ≡ rounded z
 round-up z h l =
     tenth z (pos 5) h (omega arith) ∙ tenths-up z (subst (λ (x : ℤ). ltZ x (pos 0) ≡ false) (same z (pos 5) h (omega arith)) l)
 
-pub round-down : (z : ℤ) → mag z ≤ 16777216 → ltZ (toZ w32 (ofZ w32 z)) (pos 0) ≡ true
-    → toZ w32 (ofZ w32 (quotZ (toZ w32 (ofZ w32 (toZ w32 (ofZ w32 z) -ℤ pos 5))) (pos 10))) ≡ rounded z
+pub round-down : (z : ℤ) → mag z ≤ 16777216 → ltZ (kept w32 z) (pos 0) ≡ true
+    → kept w32 (quotZ (kept w32 (kept w32 z -ℤ pos 5)) (pos 10)) ≡ rounded z
 round-down z h l =
     tenth z (negsuc 4) h (omega arith) ∙ tenths-down z (subst (λ (x : ℤ). ltZ x (pos 0) ≡ true) (same z (negsuc 4) h (omega arith)) l)

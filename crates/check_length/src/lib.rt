@@ -8,7 +8,7 @@ ghost use Prim.Native.Nat.{_<_, _≤_};
 ghost use lib.ListN.{length};
 ghost use lib.Signed.{mag};
 ghost use Rattle.sizes.specs.Sizes.{maxRules, outputSize};
-ghost use Rattle.results.specs.Measure.{sum as sumOf, rounded as roundedOf};
+ghost use Rattle.results.specs.Measure.{sum as sumOf, rounded as roundedOf, tenthsOf};
 ghost use Rattle.check_length.specs.Measure.{lengthsIn, lengthOfRule};
 
 // The lengths of the rules, by their numbers.
@@ -76,7 +76,7 @@ pub fn total(l: &[i16], e: &[u16]) -> i32
 // The total length of a derivation, in tenths.
 pub fn tenths(l: &[i16], e: &[u16]) -> i32
     requires { ⌜ (length (now e) ≤ outputSize) × (length (now l) ≡ maxRules) ⌝ }
-    ensures { λ r. ⌜ r ≡ roundedOf (sumOf (lengthsIn (now (l .entry))) (now (e .entry))) ⌝ }
+    ensures { λ r. ⌜ r ≡ tenthsOf (lengthsIn (now (l .entry))) (now (e .entry)) ⌝ }
 {
     rounded(total(l, e))
 }

@@ -29,13 +29,13 @@ use Rattle.fill_input.proofs.Deciding.{call-refused, call-passed}
 use Rattle.fill_input.proofs.Packing.{list-packed}
 use Rattle.results.specs.Answer.{Answer, refused, answered, check, decide}
 use Rattle.results.specs.Check.{listed, checkIn, checkOf}
-use Rattle.results.specs.Measure.{sum, rounded, unlisted, lengthIn, lengthOf, rulesUsed, sameBag, sameBuildIn, sameBuildOf}
+use Rattle.results.specs.Measure.{tenthsOf, unlisted, lengthIn, lengthOf, rulesUsed, sameBag, sameBuildIn, sameBuildOf}
 use Rattle.checker.specs.Build.{Low}
 use Rattle.check_length.specs.Measure.{lengthOfRule, lengthsIn}
 use Rattle.checker.specs.Calls.{checkAnswer, lengthAnswer, buildAnswer}
 use Rattle.check_walk.proofs.Whole.{listed-derivation}
 use Rattle.checker.proofs.Bags.{derivation-low}
-use Rattle.check_length.proofs.Lengths.{sum-row}
+use Rattle.check_length.proofs.Lengths.{tenths-row}
 
 -- ---- a row of which `is_derivation` says that it is one
 
@@ -61,7 +61,7 @@ module _ (l : List (List ℕ)) (e : List ℕ) (b : Bool) (told : b ≡ listed e 
   pub check-says : {v : Bool} → b ≡ v → answered v ≡ checkAnswer l e
   check-says h = ap answered (sym h ∙ told)
 
-  pub length-yes : (lengths : ℕ → ℤ) (z : ℤ) → b ≡ true → SFits w32 z → z ≡ rounded (sum lengths e)
+  pub length-yes : (lengths : ℕ → ℤ) (z : ℤ) → b ≡ true → SFits w32 z → z ≡ tenthsOf lengths e
       → answered (toZ w32 (ofZ w32 z)) ≡ lengthAnswer lengths l e
   unfolding decide
   length-yes lengths z h f d = rw (← told, h) (ap answered (toZ-ofZ f ∙ d))
@@ -117,7 +117,7 @@ module _ (g : Grammar) (w chart : List ℕ) (j : Judged) (judging : Judging g (l
     length-answered l a e m d =
         call-passed g w chart _ j judging chart' a is (filling .0)
         (d ∙ ap (λ (x : List (List ℕ)). lengthAnswer (lengthsIn l) x e) same
-        ∙ ap (λ (z : ℤ). decide (check (not (listed e (L (grammarOf g) w))) 12 ∷ []) refused (λ _. answered (rounded z))) (sum-row g l m e))
+        ∙ ap (λ (z : ℤ). decide (check (not (listed e (L (grammarOf g) w))) 12 ∷ []) refused (λ _. answered z)) (tenths-row g l m e))
 
     pub build-answered : (a : Answer Bool) (b c : List ℕ) → a ≡ buildAnswer (L (cfgIn s p) w) b c
         → checkingOf a chart' ≡ sameBuildOf g w b c chart

@@ -7,12 +7,12 @@ use mathlib.Core.Path.{_≡_, refl, sym, ap, _∙_, subst}
 use lib.Dec.{T}
 use lib.IntN.{ℤ, pos, negsuc, natAbs, _-ℤ_}
 use lib.Signed.{ltZ, nonNeg, mag}
-use borrow.Author.Tests.{lt-ltb, le-ltb, ltb-true}
+use borrow.Author.Tests.{lt-ltb, le-ltb}
 use mir.Syntax.{w16}
 use mir.Val.{Fits, SFits, toZ, ofZ}
 use mir.Facts.{toZ-pos, toZ-ofZ}
-use Rattle.laws.proofs.Bools.{clash}
 use Rattle.numbers.specs.Numbers.{signedIn, unsignedOf}
+use Rattle.numbers.proofs.Signs.{kept, negative, natural}
 
 -- ---- reading
 
@@ -44,61 +44,44 @@ module _ (n : ℕ) where
 
 -- ---- writing
 
--- a signed number, as a local holds it
-abbrev held : ℤ → ℤ
-held z = toZ w16 (ofZ w16 z)
-
 -- minus one minus a signed number, as the machine computes it
 abbrev flip : ℤ → ℤ
-flip z = negsuc 0 -ℤ held z
+flip z = negsuc 0 -ℤ kept w16 z
 
 minus-below : (n : ℕ) → negsuc 0 -ℤ negsuc n ≡ pos n
 minus-below n =
     let e : suc n - 1 ≡ n = omega arith in
     rw (le-ltb (suc n) 1 (omega arith), e)
 
-flip-is : (n : ℕ) → n < 32768 → flip (negsuc n) ≡ pos n
-flip-is n h = ap (λ (z : ℤ). negsuc 0 -ℤ z) (toZ-ofZ {w = w16} {z = negsuc n} (record { sfits = h })) ∙ minus-below n
+flip-is : (n : ℕ) → SFits w16 (negsuc n) → flip (negsuc n) ≡ pos n
+flip-is n f = ap (λ (z : ℤ). negsuc 0 -ℤ z) (toZ-ofZ f) ∙ minus-below n
 
-kept-is : (n : ℕ) → n < 32768 → held (flip (negsuc n)) ≡ pos n
-kept-is n h = ap held (flip-is n h) ∙ toZ-pos w16 h
+kept-is : (n : ℕ) → SFits w16 (negsuc n) → kept w16 (flip (negsuc n)) ≡ pos n
+kept-is n f = ap (kept w16) (flip-is n f) ∙ toZ-pos w16 (f .sfits)
 
-module _ (P : ℤ → Type 0) where
-  -- P holds of a number that the test finds negative, if it holds of each negative number
-  negative : ((n : ℕ) → n < 32768 → P (negsuc n)) → (z : ℤ) → SFits w16 z → ltZ (held z) (pos 0) ≡ true → P z
-  negative step (negsuc n) f t = step n (f .sfits)
-  negative step (pos n) f t =
-      let b : n < 0 = ltb-true n 0 (ap (λ (y : ℤ). ltZ y (pos 0)) (sym (toZ-pos w16 (f .sfits))) ∙ t) in
-      absurd (omega arith)
+pub flip-fits : (z : ℤ) → SFits w16 z → ltZ (kept w16 z) (pos 0) ≡ true → SFits w16 (flip z)
+flip-fits = negative w16 (λ z. SFits w16 (flip z)) (λ n f. rw (flip-is n f) (record { sfits = f .sfits }))
 
-  natural : ((n : ℕ) → n < 32768 → P (pos n)) → (z : ℤ) → SFits w16 z → ltZ (held z) (pos 0) ≡ false → P z
-  natural step (pos n) f t = step n (f .sfits)
-  natural step (negsuc n) f t =
-      let e : ltZ (negsuc n) (pos 0) ≡ false = ap (λ (y : ℤ). ltZ y (pos 0)) (sym (toZ-ofZ {w = w16} {z = negsuc n} f)) ∙ t in
-      clash cc
+pub flip-casts : (z : ℤ) → SFits w16 z → ltZ (kept w16 z) (pos 0) ≡ true
+    → T (nonNeg (kept w16 (flip z))) × Fits w16 (natAbs (kept w16 (flip z)))
+flip-casts = negative w16 (λ z. T (nonNeg (kept w16 (flip z))) × Fits w16 (natAbs (kept w16 (flip z))))
+    (λ n f. rw (kept-is n f) (tt, record { fits = omega arith }))
 
-pub flip-fits : (z : ℤ) → SFits w16 z → ltZ (held z) (pos 0) ≡ true → SFits w16 (flip z)
-flip-fits = negative (λ z. SFits w16 (flip z)) (λ n h. rw (flip-is n h) (record { sfits = h }))
+pub flip-below : (z : ℤ) → SFits w16 z → ltZ (kept w16 z) (pos 0) ≡ true → natAbs (kept w16 (flip z)) < 32768
+flip-below = negative w16 (λ z. natAbs (kept w16 (flip z)) < 32768) (λ n f. rw (kept-is n f) (f .sfits))
 
-pub flip-casts : (z : ℤ) → SFits w16 z → ltZ (held z) (pos 0) ≡ true
-    → T (nonNeg (held (flip z))) × Fits w16 (natAbs (held (flip z)))
-flip-casts = negative (λ z. T (nonNeg (held (flip z))) × Fits w16 (natAbs (held (flip z))))
-    (λ n h. rw (kept-is n h) (tt, record { fits = omega arith }))
-
-pub flip-below : (z : ℤ) → SFits w16 z → ltZ (held z) (pos 0) ≡ true → natAbs (held (flip z)) < 32768
-flip-below = negative (λ z. natAbs (held (flip z)) < 32768) (λ n h. rw (kept-is n h) h)
-
-pub unsigned-negative : (z : ℤ) → SFits w16 z → ltZ (held z) (pos 0) ≡ true → 65535 - natAbs (held (flip z)) ≡ unsignedOf z
+pub unsigned-negative : (z : ℤ) → SFits w16 z → ltZ (kept w16 z) (pos 0) ≡ true → 65535 - natAbs (kept w16 (flip z)) ≡ unsignedOf z
 unfolding unsignedOf
-unsigned-negative = negative (λ z. 65535 - natAbs (held (flip z)) ≡ unsignedOf z) (λ n h. rw (kept-is n h) (omega arith))
+unsigned-negative = negative w16 (λ z. 65535 - natAbs (kept w16 (flip z)) ≡ unsignedOf z) (λ n f. rw (kept-is n f) (omega arith))
 
-pub natural-casts : (z : ℤ) → SFits w16 z → ltZ (held z) (pos 0) ≡ false → T (nonNeg (held z)) × Fits w16 (natAbs (held z))
+pub natural-casts : (z : ℤ) → SFits w16 z → ltZ (kept w16 z) (pos 0) ≡ false → T (nonNeg (kept w16 z)) × Fits w16 (natAbs (kept w16 z))
 natural-casts =
-    natural (λ z. T (nonNeg (held z)) × Fits w16 (natAbs (held z))) (λ n h. rw (toZ-pos w16 h) (tt, record { fits = omega arith }))
+    natural w16 (λ z. T (nonNeg (kept w16 z)) × Fits w16 (natAbs (kept w16 z)))
+    (λ n f. rw (toZ-pos w16 (f .sfits)) (tt, record { fits = omega arith }))
 
-pub unsigned-natural : (z : ℤ) → SFits w16 z → ltZ (held z) (pos 0) ≡ false → natAbs (held z) ≡ unsignedOf z
+pub unsigned-natural : (z : ℤ) → SFits w16 z → ltZ (kept w16 z) (pos 0) ≡ false → natAbs (kept w16 z) ≡ unsignedOf z
 unfolding unsignedOf
-unsigned-natural = natural (λ z. natAbs (held z) ≡ unsignedOf z) (λ n h. rw (toZ-pos w16 h) (omega arith))
+unsigned-natural = natural w16 (λ z. natAbs (kept w16 z) ≡ unsignedOf z) (λ n f. rw (toZ-pos w16 (f .sfits)) (omega arith))
 
 -- ---- written and read
 

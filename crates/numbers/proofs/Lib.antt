@@ -1,2 +1,3 @@
--- The laws of the signed numbers of 16 bits. What others cite: Complement.
+-- The laws of signed numbers. What others cite: Signs, Complement.
+pub mod Signs
 pub mod Complement

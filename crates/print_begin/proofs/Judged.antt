@@ -11,7 +11,7 @@ use Rattle.cfg.specs.Listing.{L}
 use Rattle.chart.specs.Column.{complete}
 use Rattle.chart.proofs.Truth.{filled-length}
 use Rattle.check_length.specs.Measure.{lengthsIn, lengthOfRule}
-use Rattle.check_length.proofs.Lengths.{sum-row}
+use Rattle.check_length.proofs.Lengths.{tenths-row}
 use Rattle.theory_costs.specs.Span.{bytesOf}
 use Rattle.first.proofs.Chart.{Filling, filled-chart}
 use Rattle.grammar.specs.declared.Grammar.{Grammar}
@@ -28,7 +28,7 @@ use Rattle.fill_input.proofs.Judging.{judged-ready}
 use Rattle.fill_input.proofs.Packing.{list-packed}
 use Rattle.results.specs.Check.{inputCheck}
 use Rattle.results.specs.Enumerate.{treeIn, figure}
-use Rattle.results.specs.Measure.{sum, rounded}
+use Rattle.results.specs.Measure.{tenthsOf}
 use Rattle.results.proofs.Decide.{decide-first, decide-passed}
 use Rattle.results.proofs.Demand3.Decided.{treeIn-choice, tree-decided}
 use Rattle.results.proofs.Passed.{input-fails, input-passes}
@@ -67,11 +67,11 @@ module _ (g : Grammar) (w chart : List ℕ) (valid : validGrammar g ≡ true) (r
 
 -- ---- the text by the lengths of the rules
 
-module _ (f h : ℕ → ℤ) (same : (e : List ℕ) → sum f e ≡ sum h e) where
+module _ (f h : ℕ → ℤ) (same : (e : List ℕ) → tenthsOf f e ≡ tenthsOf h e) where
   lines-same : (place : ℕ) (l : List (List ℕ)) → linesFrom f place l ≡ linesFrom h place l
   unfolding linesFrom
   lines-same place [] = refl
-  lines-same place (e ∷ l) = ap₂ _∷_ (ap (λ (z : ℤ). line place e (rounded z)) (same e)) (lines-same (suc place) l)
+  lines-same place (e ∷ l) = ap₂ _∷_ (ap (line place e) (same e)) (lines-same (suc place) l)
 
   text-same : (x l : List (List ℕ)) → textBy f x l ≡ textBy h x l
   unfolding textBy listText
@@ -110,7 +110,7 @@ module _ (g : Grammar) (w chart : List ℕ) (j : Judged) (judging : Judging g (l
     unfolding inputText
     text-over =
         let (v, a, b) = judged-ready g (length w) (length chart) j judging is in
-        text-same (lengthsIn l) (lengthsOf g) (sum-row g l lengths) _ _
+        text-same (lengthsIn l) (lengthsOf g) (tenths-row g l lengths) _ _
         ∙ ap₂ (textBy (lengthsOf g)) empty-same (list-packed g p w (filling .1) s start)
         ∙ sym (decide-passed _ _ (inputCheck w ∷ []) (input-passes w a, tt))
 

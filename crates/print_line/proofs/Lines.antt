@@ -12,9 +12,8 @@ use lib.Seq.{take-suc, length-take-le}
 use lib.Signed.{mag}
 use borrow.Author.Tests.{leb-true}
 use mir.Syntax.{w32}
-use mir.Val.{toZ, ofZ}
-use mir.Facts.{toZ-ofZ}
 use Rattle.sizes.specs.Sizes.{maxNodes, most}
+use Rattle.numbers.proofs.Signs.{kept, through}
 use Rattle.results.specs.Answer.{counted}
 use Rattle.text.specs.Number.{decimal, signedDecimal}
 use Rattle.text.specs.Line.{newline, space, point, colon, equals, parts, lengthEnd, line, readingsWord, refusedLine, readingsLine}
@@ -88,16 +87,13 @@ nodes-done e i m at end o₁ o₂ h k p =
 -- ---- the line of a derivation
 
 -- each call passes the length through 32 bits
-through : (z : ℤ) → mag z ≤ maxTenths → toZ w32 (ofZ w32 z) ≡ z
-through z h = toZ-ofZ (record { sfits = omega arith })
-
-pub through-size : (z : ℤ) → mag z ≤ maxTenths → mag (toZ w32 (ofZ w32 z)) ≤ maxTenths
-through-size z h = rw (through z h) h
+pub through-size : (z : ℤ) → mag z ≤ maxTenths → mag (kept w32 z) ≤ maxTenths
+through-size z h = rw (through z (omega arith)) h
 
 pub end-done : (z : ℤ) (at a b end : ℕ) (o₁ o₂ o₃ o₄ : List ℕ) → mag z ≤ maxTenths → Put (space ∷ equals ∷ space ∷ []) at a o₁ o₂
-    → Put (signedDecimal (toZ w32 (ofZ w32 z))) a b o₂ o₃ → Put (newline ∷ []) b end o₃ o₄ → Put (lengthEnd z) at end o₁ o₄
+    → Put (signedDecimal (kept w32 z)) a b o₂ o₃ → Put (newline ∷ []) b end o₃ o₄ → Put (lengthEnd z) at end o₁ o₄
 unfolding lengthEnd
-end-done z at a b end o₁ o₂ o₃ o₄ h p q r = put-append (put-append p (put-same (ap signedDecimal (through z h)) q)) r
+end-done z at a b end o₁ o₂ o₃ o₄ h p q r = put-append (put-append p (put-same (ap signedDecimal (through z (omega arith))) q)) r
 
 module _ (place : ℕ) (o₁ : List ℕ) (few : place ≤ most) (room : lineSize ≤ length o₁) where
   pub room-place : 0 + length (decimal place) ≤ length o₁
@@ -113,10 +109,10 @@ module _ (place : ℕ) (o₁ : List ℕ) (few : place ≤ most) (room : lineSize
 
 pub line-done : (place : ℕ) (e : List ℕ) (z : ℤ) (a b c end : ℕ) (o₁ o₂ o₃ o₄ o₅ : List ℕ) → mag z ≤ maxTenths
     → Put (decimal place) 0 a o₁ o₂ → Put (colon ∷ []) a b o₂ o₃ → Put (parts e) b c o₃ o₄
-    → Put (lengthEnd (toZ w32 (ofZ w32 z))) c end o₄ o₅ → Put (line place e z) 0 end o₁ o₅
+    → Put (lengthEnd (kept w32 z)) c end o₄ o₅ → Put (line place e z) 0 end o₁ o₅
 unfolding line
 line-done place e z a b c end o₁ o₂ o₃ o₄ o₅ h p q r s =
-    put-append (put-append p (put-append q r)) (put-same (ap lengthEnd (through z h)) s)
+    put-append (put-append p (put-append q r)) (put-same (ap lengthEnd (through z (omega arith))) s)
 
 -- ---- lines of a word, a number and a newline: room for number and newline, and the line written
 

@@ -17,7 +17,7 @@ use Rattle.tree_first.specs.Descend.{InputGiven}
 use Rattle.next_made.specs.Advanced.{Advanced, RootNext}
 use Rattle.packed.specs.Packed.{cfgIn}
 use Rattle.results.specs.Enumerate.{figure}
-use Rattle.results.specs.Measure.{sum, rounded}
+use Rattle.results.specs.Measure.{tenthsOf}
 use Rattle.results.proofs.Demand3.Figures.{figure-counted, figure-more}
 use Rattle.results.proofs.Demand3.Listed.{L-rising}
 use Rattle.results.proofs.Demand3.Rows.{at-member, after-next}
@@ -31,7 +31,7 @@ use Rattle.print_step.specs.Stepped.{Followed}
 
 module _ (lengths : ℕ → ℤ) (l : List (List ℕ)) (i : ℕ) where
   pub lines-next : i < length l → i < most
-      → linesAt lengths l i ≡ line (suc i) (getD l i []) (rounded (sum lengths (getD l i []))) ∷ linesAt lengths l (suc i)
+      → linesAt lengths l i ≡ line (suc i) (getD l i []) (tenthsOf lengths (getD l i [])) ∷ linesAt lengths l (suc i)
   unfolding linesFrom
   lines-next h k =
       let within : i < length (take most l) = omega (arith, length-take most l) in

@@ -13,7 +13,7 @@ use Rattle.print_number.specs.Put.{Put}
 use Rattle.next_made.specs.Advanced.{StartsWith}
 use Rattle.packed.specs.Packed.{cfgIn}
 use Rattle.results.specs.Answer.{counted, more}
-use Rattle.results.specs.Measure.{sum, rounded}
+use Rattle.results.specs.Measure.{tenthsOf}
 use Rattle.text.specs.Line.{line, refusedLine, noReadingLine, readingsLine}
 use Rattle.print_begin.specs.declared.Due.{Due}
 use Rattle.print_begin.specs.declared.Due.the-variants.{Refusal, NoReading, Reading, Total, More, Nothing}
@@ -124,7 +124,7 @@ module _ (lengths : ℕ → ℤ) (p fits chart tables : List ℕ) (d : Due) (s r
       let few = reading-few d sized s rules n i nodes is in
       let e : getD l i [] ≡ take (2 * nodes) buf₀ = sym (begins-front buf₀ (getD l i []) nodes (H .size) few room (H .stands .here)) in
       H .ahead ∙ lines-next lengths l i (H .stands .there) (H .early)
-      ∙ ap (λ (x : List ℕ). line (suc i) x (rounded (sum lengths x)) ∷ linesAt lengths l (suc i)) e
+      ∙ ap (λ (x : List ℕ). line (suc i) x (tenthsOf lengths x) ∷ linesAt lengths l (suc i)) e
       ∙ ap (λ (x : ℕ). lineIn lengths x nodes buf₀ ∷ linesAt lengths l x) (sym (add-one i))
 
   pub stepped-reading : (out₀ out : List ℕ) (r : ℕ) → Put (lineIn lengths (i + 1) nodes buf₀) 0 r out₀ out

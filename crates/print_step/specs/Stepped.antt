@@ -9,14 +9,14 @@ use Rattle.cfg.specs.Listing.{L}
 use Rattle.count_made.specs.Made.{Stands}
 use Rattle.tree_first.specs.Descend.{InputGiven}
 use Rattle.packed.specs.Packed.{cfgIn}
-use Rattle.results.specs.Measure.{sum, rounded}
+use Rattle.results.specs.Measure.{tenthsOf}
 use Rattle.text.specs.Line.{line}
 use Rattle.print_begin.specs.declared.Due.{Due}
 use Rattle.print_begin.specs.Due.{linesAt, Ahead, DueSized, stepsLeft}
 
 -- the line of the derivation at the front of the buffer, which has `nodes` nodes
 abbrev pub lineIn : (ℕ → ℤ) → ℕ → ℕ → List ℕ → List ℕ
-lineIn lengths place nodes buf = line place (take (2 * nodes) buf) (rounded (sum lengths (take (2 * nodes) buf)))
+lineIn lengths place nodes buf = line place (take (2 * nodes) buf) (tenthsOf lengths (take (2 * nodes) buf))
 
 -- the first of the lines, and the lines after it
 abbrev pub headLine : List (List ℕ) → List ℕ

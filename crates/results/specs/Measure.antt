@@ -24,14 +24,18 @@ unfoldable pub rounded : ℤ → ℤ
 rounded (pos n) = pos ((n + 5) / 10)
 rounded (negsuc n) = negℤ (pos ((suc n + 5) / 10))
 
+-- the length of a derivation in tenths of a millimetre, for the rule lengths by number
+abbrev pub tenthsOf : (ℕ → ℤ) → List ℕ → ℤ
+tenthsOf lengths e = rounded (sum lengths e)
+
 -- 12: what is offered is no derivation of the input
 unfoldable pub unlisted : Cfg → List ℕ → List ℕ → Bool
 unlisted G w e = not (listed e (L G w))
 
--- length, in tenths of a millimetre, for the grammar G and the rule lengths by number
+-- length, for the grammar G and the rule lengths by number
 unfoldable pub lengthIn : Cfg → (ℕ → ℤ) → List ℕ → List ℕ → List ℕ → Checking ℤ
 lengthIn G lengths w offered chart = record {
-  answer = decide (check (unlisted G w offered) 12 ∷ []) refused (λ _. answered (rounded (sum lengths offered)));
+  answer = decide (check (unlisted G w offered) 12 ∷ []) refused (λ _. answered (tenthsOf lengths offered));
   chart = filled G w chart;
 }
 

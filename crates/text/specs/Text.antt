@@ -12,14 +12,14 @@ use Rattle.grammar.specs.View.{grammarOf, lengthsOf}
 use Rattle.results.specs.Answer.{refusedAt, loaded, decide}
 use Rattle.results.specs.Load.{Loading, loadOf}
 use Rattle.results.specs.Check.{inputCheck}
-use Rattle.results.specs.Measure.{sum, rounded}
+use Rattle.results.specs.Measure.{tenthsOf}
 use Rattle.results.specs.Enumerate.{treeIn, figure}
 use Rattle.text.specs.Line.{line, refusedLine, noReadingLine, readingsLine}
 
 -- the lines of derivations (readings), where the first has this place in the list
 unfoldable pub linesFrom : (ℕ → ℤ) → ℕ → List (List ℕ) → List (List ℕ)
 linesFrom lengths place [] = []
-linesFrom lengths place (e ∷ l) = line place e (rounded (sum lengths e)) ∷ linesFrom lengths (suc place) l
+linesFrom lengths place (e ∷ l) = line place e (tenthsOf lengths e) ∷ linesFrom lengths (suc place) l
 
 -- the lines of a list of derivations: at most the first 4,096, then how many there are
 unfoldable pub listText : (ℕ → ℤ) → List (List ℕ) → List (List ℕ)

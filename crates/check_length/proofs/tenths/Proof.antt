@@ -3,7 +3,7 @@ use mathlib.Core.Path.{ap, _∙_}
 use native.Mathlib.Omega.{arith}
 use borrow.Author.Needs.{needs}
 use Rattle.results.specs.Measure.{rounded}
-use Rattle.check_length.proofs.Signed.{through}
+use Rattle.numbers.proofs.Signs.{through}
 use Rattle.check_length.proofs.tenths.Statement.{statement}
 use Rattle.check_length.proofs.tenths.Tie as tie
 
