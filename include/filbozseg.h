@@ -47,7 +47,7 @@ extern "C" {
 
 /* The version of this header and of the library that it describes. */
 #define FILBOZSEG_VERSION_MAJOR 0
-#define FILBOZSEG_VERSION_MINOR 5
+#define FILBOZSEG_VERSION_MINOR 6
 #define FILBOZSEG_VERSION_PATCH 0
 
 /* Sizes: the numbers in a grammar's row, the numbers in a hand's row, the used cells of a chart, the maximum number of bytes of an input,
@@ -160,7 +160,7 @@ uint32_t filbozseg_check(const uint16_t grammar[FILBOZSEG_ROW], const uint8_t *i
                          const uint16_t *offered, size_t offered_length, uint32_t *chart, size_t chart_length);
 
 /*
- * Returns 1 and writes the length of the offered derivation to tenths, in tenths of a millimetre; halves are rounded away from zero.
+ * Returns 1 and writes the length of the offered derivation to tenths, in tenths of a millimetre; an exact half goes to the even tenth.
  * Refusals, in this order: 8, 9, 10 as for filbozseg_check; 12 the offered row is no derivation of the input. If refused, it leaves the
  * tenths as found, and the chart as found (8, 9, 10) or filled for the input (12).
  * Stack: FILBOZSEG_LENGTH_STACK.

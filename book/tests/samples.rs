@@ -76,7 +76,7 @@ fn book_t_is_document_01s() {
     assert_eq!(to_bytes(&text("T")), Ok(T.to_vec()));
     assert_eq!(to_text(&T), Ok("start 0\n0 -> 1 1 : 46.00\n1 -> - : 0.00\n1 -> 'A' : 0.25\n".to_string()));
     assert_eq!(held("T", "plate"), b"A");
-    assert_eq!(held("T", "listing"), b"1: 1.0 0.1 1.2 = 463\n2: 1.0 1.2 0.1 = 463\nREADINGS 2\n");
+    assert_eq!(held("T", "listing"), b"1: 1.0 0.1 1.2 = 462\n2: 1.0 1.2 0.1 = 462\nREADINGS 2\n");
 }
 
 /// Rules and parts of the drawer's bush and of the pairs, from document 01.

@@ -63,13 +63,13 @@ pub fn check(grammar: &Grammar, input: &[u8], offered: &[u16], chart: &mut [u32]
     })
 }
 
-/// The length of an offered derivation in tenths of a millimetre; halves are rounded away from zero. The chart is filled for the input.
+/// The length of an offered derivation in tenths of a millimetre; an exact half goes to the even tenth. The chart is filled for the input.
 ///
 /// ```
 /// # fn main() -> Result<(), filbozseg::Error> {
 /// use filbozseg::{length, load, CELLS};
 /// let (grammar, mut chart) = (load(b"\x10\x00\x20\x00\x19\x00\x40A\x50")?, vec![0; CELLS]); // 0 -> A, 0.25 mm
-/// assert_eq!(length(&grammar, b"A", &[1, 0], &mut chart)?, 3);
+/// assert_eq!(length(&grammar, b"A", &[1, 0], &mut chart)?, 2);
 /// # Ok(())
 /// # }
 /// ```

@@ -15,7 +15,7 @@
 //!
 //! let mut chart = vec![0; CELLS];
 //! assert_eq!(count(&grammar, b"A", &mut chart)?, Count::Exactly(2));
-//! assert_eq!(length(&grammar, b"A", readings[0].numbers(), &mut chart)?, 463); // tenths of a millimetre
+//! assert_eq!(length(&grammar, b"A", readings[0].numbers(), &mut chart)?, 462); // tenths of a millimetre
 //! # Ok(())
 //! # }
 //! ```

@@ -1,5 +1,5 @@
-//! The simple reference, written from document 01 and requests U1 to U3 and U13 of document 02 alone: explicit trees, the
-//! definitions word by word, no cleverness.
+//! The simple reference, written from document 01 and requests U1 to U3, U5 and U13 of document 02 alone: explicit trees,
+//! the definitions word by word, no cleverness.
 //! As a `Reader` it can be the code under test. Read each `fault(..)` as "no": only tests/faults.rs compiles these
 //! files with faults that can be switched on.
 

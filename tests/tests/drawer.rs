@@ -5,7 +5,7 @@
 mod calls;
 mod plates;
 
-use calls::{book, check, complete, deepest, deepest_row, fault, length, loaded, row, same_build, T};
+use calls::{book, check, complete, deepest, deepest_row, fault, length, loaded, of_length, row, same_build, SUMS, T};
 use outside_tests::books::{Draft, Rng, Sym};
 use outside_tests::compare::{compare_searches, rubbish};
 use outside_tests::lister::{self, search::search, trees};
@@ -21,8 +21,8 @@ fn book_t() {
     plate(&T, "B", &[]);
     let flat = loaded(&T);
     let (one, other) = (row("1.0 0.1 1.2"), row("1.0 1.2 0.1"));
-    assert_eq!(length(&flat, b"A", &one), Ok(463));
-    assert_eq!(length(&flat, b"A", &other), Ok(463));
+    assert_eq!(length(&flat, b"A", &one), Ok(462));
+    assert_eq!(length(&flat, b"A", &other), Ok(462));
     assert_eq!(length(&flat, b"AA", &row("2.0 1.2 1.2")), Ok(465));
     assert_eq!(length(&flat, b"AA", &one), Err(12));
     assert_eq!(length(&flat, b"AAA", &row("3.0 1.2 2.0")), Err(12));
@@ -136,12 +136,8 @@ fn the_complete_unit_graph() {
 
 #[test]
 fn sums_are_rounded() {
-    for (sum, tenths) in
-        [(4625, 463), (-25, -3), (24, 2), (-4, 0), (-5, -1), (5, 1), (4, 0), (-32768, -3277), (32767, 3277)]
-    {
-        let mut draft = Draft::new(0);
-        draft.rules.push((0, sum, vec![Sym::T(b'A')]));
-        assert_eq!(length(&loaded(&draft.bytes()), b"A", &[1, 0]), Ok(tenths), "{sum}");
+    for (sum, tenths) in SUMS {
+        assert_eq!(length(&loaded(&of_length(sum)), b"A", &[1, 0]), Ok(tenths), "{sum}");
         assert_eq!(trees::round(i32::from(sum)), tenths);
     }
     // 512 parts at the extremes: 1 + 7 x (1 + 8 x 9) nodes.
@@ -273,7 +269,7 @@ fn a_range_fits_its_bytes_and_no_other() {
     bore.rules.push((0, 25, vec![Sym::T(b'V'), Sym::R(b'0', b'9'), Sym::R(b'0', b'9')]));
     for plate in ["V00", "V06", "V90", "V99"] {
         self::plate(&bore.bytes(), plate, &["3.0"]);
-        assert_eq!(length(&loaded(&bore.bytes()), plate.as_bytes(), &row("3.0")), Ok(3));
+        assert_eq!(length(&loaded(&bore.bytes()), plate.as_bytes(), &row("3.0")), Ok(2));
     }
     for other in ["V0/", "V:0", "V0", "V000", "W00", "VV0"] {
         plate(&bore.bytes(), other, &[]);

@@ -87,12 +87,27 @@ pub fn check(g: &Grammar, input: &[u8], offered: &[u16], chart: &mut [u32]) -> R
     Ok(is_derivation(&p, g.start as usize, input, offered))
 }
 
-/// In tenths; halves are rounded away from zero.
-pub fn rounded(sum: i32) -> i32 {
-    if sum < 0 {
-        (sum - 5) / 10
+/// The nearest tenth to n hundredths; where two are equally near, the even one.
+fn nearest(n: u32) -> u32 {
+    let (q, last) = (n / 10, n % 10);
+    if last < 5 {
+        q
+    } else if last > 5 {
+        q + 1
+    } else if q % 2 == 0 {
+        q
     } else {
-        (sum + 5) / 10
+        q + 1
+    }
+}
+
+/// In tenths; halves go to the even tenth.
+pub fn rounded(sum: i32) -> i32 {
+    let tenths = nearest(sum.unsigned_abs()) as i32;
+    if sum < 0 {
+        -tenths
+    } else {
+        tenths
     }
 }
 

@@ -298,8 +298,9 @@ fn the_limit_of_512_parts_decides_what_is_first() {
 }
 
 #[test]
-fn lengths_round_halves_away_from_zero() {
-    assert_eq!([4625, -25, 24, -4, 4620].map(checker::rounded), [463, -3, 2, 0, 462]);
+fn lengths_round_halves_to_the_even_tenth() {
+    let (sums, tenths) = ([4625, 4635, 5, -25, 24, -4, -35, 26, -26], [462, 464, 0, -2, 2, 0, -4, 3, -3]);
+    assert_eq!(sums.map(checker::rounded), tenths);
 }
 
 #[test]
@@ -367,13 +368,13 @@ fn text(book: &[u8], plate: &[u8]) -> String {
 #[test]
 fn the_listing_program_prints_the_lines_of_document_01() {
     let t = b"\x10\x00\x20\x00\xF8\x11\x30\x01\x30\x01\x20\x01\x00\x00\x20\x01\x19\x00\x40\x41\x50";
-    assert_eq!(text(t, b"A"), "1: 1.0 0.1 1.2 = 463\n2: 1.0 1.2 0.1 = 463\nREADINGS 2\n");
+    assert_eq!(text(t, b"A"), "1: 1.0 0.1 1.2 = 462\n2: 1.0 1.2 0.1 = 462\nREADINGS 2\n");
     assert_eq!(text(t, b"AAA"), "NO READING\n");
     assert_eq!(text(t, b""), "1: 0.0 0.1 0.1 = 460\nREADINGS 1\n");
     assert_eq!((text(t, &[b'A'; 64]), text(t, &[b'A'; 65])), ("NO READING\n".into(), "REFUSED 9\n".into()));
     assert_eq!(text(b"\x10\x00\x50", b""), "NO READING\n");
     assert_eq!(text(&t[..20], b""), "REFUSED 1\n");
-    assert_eq!(text(b"\x10\x00\x20\x00\xE7\xFF\x40\x41\x50", b"A"), "1: 1.0 = -3\nREADINGS 1\n");
+    assert_eq!(text(b"\x10\x00\x20\x00\xE7\xFF\x40\x41\x50", b"A"), "1: 1.0 = -2\nREADINGS 1\n");
     assert_eq!(text(b"\x10\x00\x20\x00\xFC\xFF\x40\x41\x50", b"A"), "1: 1.0 = 0\nREADINGS 1\n");
     assert_eq!(text(&books::deepest().0, &[b'A'; 17]), "REFUSED 13\n");
     let pairs = books::pairs();

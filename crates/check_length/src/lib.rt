@@ -8,21 +8,38 @@ ghost use Prim.Native.Nat.{_<_, _≤_};
 ghost use lib.ListN.{length};
 ghost use lib.Signed.{mag};
 ghost use Rattle.sizes.specs.Sizes.{maxRules, outputSize};
-ghost use Rattle.results.specs.Measure.{sum as sumOf, rounded as roundedOf, tenthsOf};
+ghost use Rattle.results.specs.Measure.{sum as sumOf, nearest as nearestOf, rounded as roundedOf, tenthsOf};
 ghost use Rattle.check_length.specs.Measure.{lengthsIn, lengthOfRule};
 
 // The lengths of the rules, by their numbers.
 pub type Lengths = [i16; sizes::MAX_RULES];
 
-// Hundredths of a millimetre rounded to tenths, halves away from zero.
+// The nearest tenth to n hundredths; where two are equally near, the even one.
+pub fn nearest(n: u32) -> u32
+    ensures { λ r. ⌜ (r ≡ nearestOf n) × (r ≤ n) ⌝ }
+{
+    let q = n / 10;
+    let last = n % 10;
+    if last < 5 {
+        q
+    } else if last > 5 {
+        q + 1
+    } else if q % 2 == 0 {
+        q
+    } else {
+        q + 1
+    }
+}
+
+// Hundredths of a millimetre rounded to tenths, below zero as above it.
 pub fn rounded(sum: i32) -> i32
     requires { ⌜ mag sum ≤ 16777216 ⌝ }
     ensures { λ r. ⌜ r ≡ roundedOf sum ⌝ }
 {
     if sum < 0 {
-        (sum - 5) / 10
+        0 - nearest((0 - sum) as u32) as i32
     } else {
-        (sum + 5) / 10
+        nearest(sum as u32) as i32
     }
 }
 

@@ -21,7 +21,8 @@ unfolding fits joined over when from among keep rulesFrom items upTo listing der
     Column.filled Column.complete all validRule validGrammar decide Load.operands Load.operand Load.signed Load.openRule Load.withStart
     Load.withRule Load.withPlace Load.after Load.unknown Load.outOfTurn Load.operandChecks Load.commandChecks Load.carriedOut Load.step
     Load.refusedLoad Load.acceptedLoad Load.run Load.loadOf Recognize.stateOf Recognize.openIn Recognize.openOf Recognize.takeIn
-    Recognize.takeOf same listed onInput checkIn checkOf Measure.sum Measure.rounded Measure.unlisted Measure.lengthIn Measure.lengthOf
+    Recognize.takeOf same listed onInput checkIn checkOf Measure.sum Measure.nearest Measure.rounded Measure.unlisted
+    Measure.lengthIn Measure.lengthOf
     Measure.rulesUsed Measure.occurrences Measure.sameBag Measure.sameBuildIn Measure.sameBuildOf Enumerate.treeIn Enumerate.handingOut
     Enumerate.headOf Enumerate.afterIn Enumerate.figure Enumerate.onOutput Enumerate.firstIn Enumerate.firstOf Enumerate.nextIn
     Enumerate.nextOf Enumerate.countIn Enumerate.countOf outcome

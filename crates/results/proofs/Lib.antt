@@ -6,6 +6,7 @@ pub mod Goes
 pub mod State
 pub mod Computing
 pub mod Table
+pub mod Rounding
 pub mod Faults
 pub mod NoTree
 pub mod Starred

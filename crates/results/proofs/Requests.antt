@@ -1,12 +1,12 @@
 -- The plates of the requests: every line of the table, computed, and the inputs without a tree. Assumes nothing.
 use mathlib.Core.Path.{refl}
 use Rattle.results.specs.Starred.{found, absent}
-use Rattle.results.specs.Requests.{requests, Requested}
+use Rattle.results.specs.Requests.{requests, sums, Requested}
 use Rattle.results.proofs.Computing.{computing}
 use Rattle.results.proofs.NoTree.{no-tree-onlyA-empty, no-tree-bare-empty}
 
 pub requested : Requested
-unfolding computing found absent requests
+unfolding computing found absent requests sums
 requested = record {
   lines = refl;
   no-tree-terminal = no-tree-onlyA-empty;
@@ -14,4 +14,5 @@ requested = record {
   depths-none = refl;
   depth-T = refl;
   depths = refl;
+  rounds = refl;
 }

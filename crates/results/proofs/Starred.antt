@@ -13,5 +13,5 @@ starred = record {
   no-tree-other = no-tree-T-B;
   no-tree-rules = no-tree-bare;
   no-bytes = refl;
-  sums = (refl, refl, refl);
+  sums = (refl, refl, refl, refl, refl);
 }

@@ -1,9 +1,10 @@
 -- The total length of a derivation (stack length of a reading), and whether two are the same build. Assumes nothing.
-use Prim.Native.Nat.{ℕ, suc, _+_, _/_}
+use Prim.Native.Nat.{ℕ, suc, _+_, _/_, _%_, _≤_}
 use mathlib.Core.Bool.{Bool, true, false, cond, not}
 use mathlib.Core.List.{List, [], _∷_, _++_}
-use lib.Dec.{eqb}
-use lib.IntN.{ℤ, pos, negsuc, negℤ, _+ℤ_}
+use mathlib.Core.Path.{_≡_}
+use lib.Dec.{eqb, ltb}
+use lib.IntN.{ℤ, pos, negsuc, negℤ, natAbs, _+ℤ_, _-ℤ_, _*ℤ_}
 use Rattle.cfg.specs.Grammar.{Cfg}
 use Rattle.cfg.specs.Listing.{L}
 use Rattle.chart.specs.Column.{filled}
@@ -19,14 +20,25 @@ sum lengths [] = pos 0
 sum lengths (cover ∷ []) = pos 0
 sum lengths (cover ∷ r ∷ e) = lengths r +ℤ sum lengths e
 
--- hundredths rounded to tenths, halves away from zero
+-- the nearest tenth to n hundredths; where two are equally near, the even one
+unfoldable pub nearest : ℕ → ℕ
+nearest n =
+    let q = n / 10 in
+    cond (ltb 5 (n % 10)) (q + 1) (cond (eqb (n % 10) 5) (q + q % 2) q)
+
+-- hundredths rounded to tenths, below zero as above it
 unfoldable pub rounded : ℤ → ℤ
-rounded (pos n) = pos ((n + 5) / 10)
-rounded (negsuc n) = negℤ (pos ((suc n + 5) / 10))
+rounded (pos n) = pos (nearest n)
+rounded (negsuc n) = negℤ (pos (nearest (suc n)))
 
 -- the length of a derivation in tenths of a millimetre, for the rule lengths by number
 abbrev pub tenthsOf : (ℕ → ℤ) → List ℕ → ℤ
 tenthsOf lengths e = rounded (sum lengths e)
+
+-- t tenths are the nearest to z hundredths: ten times t differs from z by at most 5, and t is even where it differs by 5
+pub record NearestTenth (z t : ℤ) : Type 0 where
+  pub near : natAbs (pos 10 *ℤ t -ℤ z) ≤ 5
+  pub even : natAbs (pos 10 *ℤ t -ℤ z) ≡ 5 → natAbs t % 2 ≡ 0
 
 -- 12: what is offered is no derivation of the input
 unfoldable pub unlisted : Cfg → List ℕ → List ℕ → Bool

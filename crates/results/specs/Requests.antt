@@ -3,9 +3,10 @@
 use Prim.Native.Nat.{ℕ, zero, suc}
 use mathlib.Core.List.{List, [], _∷_, map}
 use mathlib.Core.Path.{_≡_}
-use lib.IntN.{pos}
+use lib.IntN.{ℤ, pos, negℤ}
 use Rattle.cfg.specs.Tree.{HasTree}
 use Rattle.grammar.specs.View.{grammarOf}
+use Rattle.results.specs.Measure.{rounded}
 use Rattle.results.specs.Drawer.{start, newRule, nonterminalPlace, A, rangePlace, close, T, bare, As}
 use Rattle.results.specs.Starred.{outcome, grammarFrom, Line, found, absent, zeros}
 
@@ -104,6 +105,24 @@ requests =
     ∷ absent bare []
     ∷ []
 
+-- U5: sums in hundredths, each with its tenths
+unfoldable pub sums : List (ℤ × ℤ)
+sums =
+    (pos 4625, pos 462)
+    ∷ (pos 4635, pos 464)
+    ∷ (pos 5, pos 0)
+    ∷ (negℤ (pos 25), negℤ (pos 2))
+    ∷ (pos 24, pos 2)
+    ∷ (pos 15, pos 2)
+    ∷ (pos 25, pos 2)
+    ∷ (negℤ (pos 5), pos 0)
+    ∷ (negℤ (pos 15), negℤ (pos 2))
+    ∷ (negℤ (pos 35), negℤ (pos 4))
+    ∷ (negℤ (pos 4), pos 0)
+    ∷ (pos 26, pos 3)
+    ∷ (negℤ (pos 26), negℤ (pos 3))
+    ∷ []
+
 -- what is proved of these plates
 pub record Requested : Type 0 where
   -- every line comes out as the table says
@@ -116,3 +135,5 @@ pub record Requested : Type 0 where
   pub depth-T : depthFrom T ≡ 2
   -- U13: three nullable nonterminals of height 1; 32 of heights 1 to 32, in both orders of the rules; heights 1, 2 and 3; not reached
   pub depths : map depthFrom (threeEmpty ∷ chain ∷ reversedChain ∷ around ∷ unreached ∷ []) ≡ 1 ∷ 32 ∷ 32 ∷ 3 ∷ 2 ∷ []
+  -- U5: every sum comes out as its table says
+  pub rounds : map (λ (s : ℤ × ℤ). rounded (s .0)) sums ≡ map (λ (s : ℤ × ℤ). s .1) sums

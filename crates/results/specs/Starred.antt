@@ -1,6 +1,6 @@
 -- The starred plates of document 01 as one table: from the bytes of a book and an input to the answers of loading, first and count, the
--- list L and the lengths; the inputs without a tree of any size; the empty book; the sums. `Starred` is what is proved of it.
--- Assumes nothing.
+-- list L and the lengths; the inputs without a tree of any size; the empty book; the sums. Lengths are those of request U5 of document 02.
+-- `Starred` is what is proved of the table. Assumes nothing.
 use Prim.Native.Nat.{ℕ}
 use mathlib.Core.List.{List, [], _∷_, map}
 use mathlib.Core.Path.{_≡_}
@@ -78,7 +78,7 @@ zeros n = replicate n (pos 0)
 -- the table, in document 01's order
 unfoldable pub table : List Line
 table =
-    found T (As 1) 3 2 ((1 ∷ 0 ∷ 0 ∷ 1 ∷ 1 ∷ 2 ∷ []) ∷ (1 ∷ 0 ∷ 1 ∷ 2 ∷ 0 ∷ 1 ∷ []) ∷ []) (pos 463 ∷ pos 463 ∷ [])
+    found T (As 1) 3 2 ((1 ∷ 0 ∷ 0 ∷ 1 ∷ 1 ∷ 2 ∷ []) ∷ (1 ∷ 0 ∷ 1 ∷ 2 ∷ 0 ∷ 1 ∷ []) ∷ []) (pos 462 ∷ pos 462 ∷ [])
     ∷ found T (As 2) 3 1 ((2 ∷ 0 ∷ 1 ∷ 2 ∷ 1 ∷ 2 ∷ []) ∷ []) (pos 465 ∷ [])
     ∷ absent T (As 3)
     ∷ absent T (0x42 ∷ [])
@@ -89,7 +89,7 @@ table =
     ∷ found nullablePairs (As 1) 1 1 ((1 ∷ 1 ∷ []) ∷ []) (zeros 1)
     ∷ found emptyUnit (As 1) 2 1 ((1 ∷ 0 ∷ 0 ∷ 2 ∷ []) ∷ []) (zeros 1)
     ∷ absent bare (As 1)
-    ∷ found recess (As 1) 1 1 ((1 ∷ 0 ∷ []) ∷ []) (negℤ (pos 3) ∷ [])
+    ∷ found recess (As 1) 1 1 ((1 ∷ 0 ∷ []) ∷ []) (negℤ (pos 2) ∷ [])
     ∷ []
 
 -- what is proved of the starred plates
@@ -102,5 +102,6 @@ pub record Starred : Type 0 where
   pub no-tree-rules : HasTree (grammarOf (grammarFrom bare)) (As 1) → ⊥
   -- the empty book: 1 at offset 0
   pub no-bytes : loadOf [] ≡ record { answer = refusedAt 1 0; grammar = zeroGrammar }
-  -- the sums 4,625, -25 and 24 in tenths
-  pub sums : (rounded (pos 4625) ≡ pos 463) × (rounded (negℤ (pos 25)) ≡ negℤ (pos 3)) × (rounded (pos 24) ≡ pos 2)
+  -- the sums of document 02, and 24, in tenths
+  pub sums : (rounded (pos 4625) ≡ pos 462) × (rounded (pos 4635) ≡ pos 464) × (rounded (pos 5) ≡ pos 0)
+      × (rounded (negℤ (pos 25)) ≡ negℤ (pos 2)) × (rounded (pos 24) ≡ pos 2)

@@ -10,6 +10,7 @@
 --   search-exact, search-few          the search finds exactly the blank kinds; how many passes        document 02, U3
 --   search-table                      books for the search, from book bytes to set and passes          document 02, U3
 --   depth-exact, depth-before         the depth is that of the highest of the lowest empty trees       document 02, U13
+--   tenths-nearest                    a length is the nearest tenth to its sum, the even one at a half document 02, U5
 --   list-exact, list-rising           L holds exactly the readings, each once, in rising order         Trees and readings; The walk
 --   load-demand, load-order           a book is loaded or refused at its first fault; what is left     demand 1; Refusals
 --   open-, take-, .., next-demand     what is written, the first refusal that applies, what it leaves  demand 1
@@ -21,7 +22,7 @@
 --   first-then-next, ..-said          first, then next, hand out L and end with "none"                 demand 3, second sentence
 --   count-exact, count-more           N up to 4,096, "more" exactly above                              demand 3, third sentence
 --   no-derivation-exact, ..-larger    "no reading" exactly without a tree; 13 exactly with larger ones demand 3, last sentence
---   listing-of-T                      the three lines of T with the plate `A`, byte for byte           Listing program
+--   listing-of-T                      the three lines of T with the plate `A`, byte for byte           Listing program; document 02, U5
 --   text-depth                        the nullable depth of a grammar does not change an input's text  Listing program
 --   text-front                        8,192 bytes of the book and 65 of the plate decide the text      Listing program
 --   pages-text, pages-few             the pages, from the first to the last, are the text; how many    Listing program
@@ -68,7 +69,7 @@ use Rattle.results.specs.Answer.{refused, answered, nothing, counted, more}
 use Rattle.results.specs.Load.{step, loadOf}
 use Rattle.results.specs.Recognize.{State, openOf, takeOf, fed}
 use Rattle.results.specs.Check.{checkOf}
-use Rattle.results.specs.Measure.{lengthOf, sameBuildOf}
+use Rattle.results.specs.Measure.{sum, tenthsOf, NearestTenth, lengthOf, sameBuildOf}
 use Rattle.results.specs.Enumerate.{firstOf, nextOf, countOf}
 use Rattle.results.specs.Walk.{hands, noneLeft, handedOut}
 use Rattle.results.specs.History.{Made, first, AllAllowed, history}
@@ -99,6 +100,7 @@ use Rattle.theory_shrinking.proofs.Depth as Depth
 use Rattle.grammar.proofs.Bounds.{valid-bounded}
 use Rattle.results.proofs.Starred as Starred
 use Rattle.results.proofs.Requests as Requests
+use Rattle.results.proofs.Rounding as Rounding
 use Rattle.load_nullable.proofs.Exact as Search
 use Rattle.load_nullable.proofs.Table as Searches
 use Rattle.results.proofs.Demand3.Walk as Walk
@@ -149,6 +151,11 @@ depth-exact g valid = Depth.depth-exact (wholeOf g) (valid-bounded g valid)
 -- so what document 01 says of it holds
 pub depth-before : (g : Grammar) → validGrammar g ≡ true → Depth (wholeOf g) (depthOf (wholeOf g))
 depth-before g valid = Depth.depth-before (wholeOf g) (valid-bounded g valid)
+
+-- THE REQUEST U5: the length of a row is t tenths exactly if ten times t differs from the sum of its rule lengths by at most 5, and t is
+-- even where it differs by 5
+pub tenths-nearest : (lengths : ℕ → ℤ) (e : List ℕ) (t : ℤ) → (tenthsOf lengths e ≡ t) ↔ NearestTenth (sum lengths e) t
+tenths-nearest = Rounding.tenths-nearest
 
 -- THE LIST L: a row is in it exactly if it is a derivation (reading) of the input, and it is strictly rising
 pub list-exact : (G : Cfg) (w e : List ℕ) → List·Memᴰ e (L G w) ↔ Derivation G limit w e
@@ -278,7 +285,7 @@ module _ (g : Grammar) (valid : validGrammar g ≡ true) (w : List ℕ) (high : 
       pub first-larger : (firstOf g w chart out .answer ≡ refused 13) ↔ Larger g w
       first-larger = Consequences.larger-exact g valid w high chart room out space
 
--- THE LISTING PROGRAM: document 01's listing, byte for byte
+-- THE LISTING PROGRAM: the listing of T with the plate `A`, byte for byte
 pub listing-of-T : textOf T (As 1) ≡ listingOfT
 listing-of-T = Sample.listing-of-T
 

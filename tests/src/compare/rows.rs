@@ -80,6 +80,7 @@ impl Comparison<'_> {
             self.offered(flat, offer, "check", if yes { Answer::Yes } else { Answer::No }, None)?;
             if yes {
                 self.ranges_read(grammar, input, row);
+                self.halves(trees::hundredths(grammar, row));
                 self.offered(flat, offer, "length", Answer::Yes, Some(trees::tenths(grammar, row)))?;
             } else if self.rng.one_in(4) {
                 self.offered(flat, offer, "length", Answer::Refused(12), None)?;
@@ -180,6 +181,18 @@ impl Comparison<'_> {
         };
         self.add(offer.input, &what);
         Ok(())
+    }
+
+    /// Counts a sum that is an exact half, by its sign and by the tenth that it goes to.
+    fn halves(&mut self, sum: i32) {
+        if sum % 10 == 5 || sum % 10 == -5 {
+            let side = if sum > 0 { "above" } else { "below" };
+            let up = trees::round(sum) * 10 > sum;
+            self.counts.add(&format!("a half {side} zero, rounded {}", if up { "up" } else { "down" }));
+            if sum.abs() == 5 {
+                self.counts.add(&format!("a half of {sum}"));
+            }
+        }
     }
 
     /// Counts a derivation that reads marks through ranges, and where in a range they are.

@@ -170,14 +170,12 @@ fn written(tree: &Node, row: &[u16]) -> bool {
         || (fault(Fault::CoversNotCompared) && row.len() == 2 * tree.nodes)
 }
 
-/// The stack length in tenths: the sum of the rule lengths of all nodes of a row, including empty ones. Halves are
-/// rounded away from zero.
+/// The stack length in tenths.
 pub fn tenths(grammar: &Grammar, row: &[u16]) -> i32 {
     if fault(Fault::EmptyInputHasNoLength) && of_the_empty_input(row) {
         return 0;
     }
-    let measured = row.chunks(2).filter(|node| node[0] > 0 || !fault(Fault::EmptyLengthsLeftOut));
-    round(measured.map(|node| grammar.rules[usize::from(node[1])].length).sum())
+    round(hundredths(grammar, row))
 }
 
 /// Whether the root covers nothing. Only faults ask.
@@ -185,16 +183,35 @@ fn of_the_empty_input(row: &[u16]) -> bool {
     row.first() == Some(&0)
 }
 
-/// Hundredths rounded to tenths, with halves away from zero.
+/// The stack length before it is rounded: the sum of the rule lengths of all nodes of a row, including empty ones.
+pub fn hundredths(grammar: &Grammar, row: &[u16]) -> i32 {
+    let measured = row.chunks(2).filter(|node| node[0] > 0 || !fault(Fault::EmptyLengthsLeftOut));
+    measured.map(|node| grammar.rules[usize::from(node[1])].length).sum()
+}
+
+/// Hundredths rounded to tenths, by request U5 of document 02: an exact half goes to the even tenth, on both sides of
+/// zero.
 pub fn round(sum: i32) -> i32 {
-    if fault(Fault::HalfUpward) {
-        return (sum + 5).div_euclid(10);
+    let below = sum.div_euclid(10); // the tenth at or below the sum
+    match sum.rem_euclid(10) {
+        0..=4 => below,
+        5 => half(below),
+        _ => below + 1,
     }
-    let tenths = (sum.abs() + 5 - i32::from(fault(Fault::HalfTowardZero))) / 10;
-    if sum < 0 {
-        -tenths
-    } else {
-        tenths
+}
+
+/// The tenth for the half above this one.
+fn half(below: i32) -> i32 {
+    let above = below + 1;
+    let (even, odd) = if below % 2 == 0 { (below, above) } else { (above, below) };
+    let (toward_zero, away) = if below >= 0 { (below, above) } else { (above, below) };
+    match () {
+        _ if fault(Fault::HalfAwayFromZero) => away,
+        _ if fault(Fault::HalfTowardZero) => toward_zero,
+        _ if fault(Fault::HalfUpward) => above,
+        _ if fault(Fault::HalfToTheOddTenth) => odd,
+        _ if fault(Fault::EvenOnlyAboveZero) && below < 0 => away,
+        _ => even,
     }
 }
 

@@ -17,6 +17,33 @@ pub const T: [u8; 21] = [
     0x41, 0x50,
 ];
 
+/// Sums in hundredths with their tenths: those of request U5 (document 02), others at and beside a half, the extremes.
+pub const SUMS: [(i16, i32); 16] = [
+    (4625, 462),
+    (4635, 464),
+    (5, 0),
+    (-25, -2),
+    (24, 2),
+    (15, 2),
+    (25, 2),
+    (-5, 0),
+    (-15, -2),
+    (-35, -4),
+    (-4, 0),
+    (26, 3),
+    (-26, -3),
+    (4, 0),
+    (i16::MIN, -3277),
+    (i16::MAX, 3277),
+];
+
+/// The book of one rule, 0 -> A, of this length.
+pub fn of_length(length: i16) -> Vec<u8> {
+    let mut draft = Draft::new(0);
+    draft.rules.push((0, length, vec![Sym::T(b'A')]));
+    draft.bytes()
+}
+
 /// A book from rules like "0: 0 A": numbers are kinds, letters are marks, and no symbol means an empty rule.
 pub fn book(start: u8, rules: &[&str]) -> Vec<u8> {
     let mut draft = Draft::new(start);
