@@ -12,6 +12,7 @@ ghost use lib.ListN.{length};
 ghost use Rattle.sizes.specs.Sizes.{maxRules};
 ghost use Rattle.cfg.specs.Listing.{L};
 ghost use Rattle.packed.specs.Packed.{cfgIn};
+ghost use Rattle.grammar.specs.View.{dated};
 ghost use Rattle.fill_input.specs.Given.{checkingOf};
 ghost use Rattle.answers.specs.Answers.{verdictOf, measuredOf};
 ghost use Rattle.results.specs.Check.{checkOf};
@@ -68,7 +69,7 @@ fn compare_offered(p: &Packed, start: usize, input: &[u8], a: &[u16], b: &[u16])
 // Whether the offered row of numbers is a derivation of the input. Refusals 8, 9 and 10.
 pub fn check(g: Grammar, input: &[u8], offered: &[u16], chart: &mut [u32]) -> Verdict
     ensures { λ r. ⌜ checkingOf (verdictOf r) (now (chart .exit))
-        ≡ checkOf g (now (input .entry)) (now (offered .entry)) (now (chart .entry)) ⌝ }
+        ≡ checkOf (dated g) (now (input .entry)) (now (offered .entry)) (now (chart .entry)) ⌝ }
 {
     match fill_input::judge(g, input.len(), chart.len()) {
         Judged::Refused(r) => Verdict::Refused(r),
@@ -82,7 +83,7 @@ pub fn check(g: Grammar, input: &[u8], offered: &[u16], chart: &mut [u32]) -> Ve
 // The length of an offered derivation. Refusals 8, 9, 10 and 12.
 pub fn length(g: Grammar, input: &[u8], offered: &[u16], chart: &mut [u32]) -> Measured
     ensures { λ r. ⌜ checkingOf (measuredOf r) (now (chart .exit))
-        ≡ lengthOf g (now (input .entry)) (now (offered .entry)) (now (chart .entry)) ⌝ }
+        ≡ lengthOf (dated g) (now (input .entry)) (now (offered .entry)) (now (chart .entry)) ⌝ }
 {
     match fill_input::judge(g, input.len(), chart.len()) {
         Judged::Refused(r) => Measured::Refused(r),
@@ -97,7 +98,7 @@ pub fn length(g: Grammar, input: &[u8], offered: &[u16], chart: &mut [u32]) -> M
 // Whether two offered derivations are the same build. Refusals 8, 9, 10 and 12.
 pub fn same_build(g: Grammar, input: &[u8], a: &[u16], b: &[u16], chart: &mut [u32]) -> Verdict
     ensures { λ r. ⌜ checkingOf (verdictOf r) (now (chart .exit))
-        ≡ sameBuildOf g (now (input .entry)) (now (a .entry)) (now (b .entry)) (now (chart .entry)) ⌝ }
+        ≡ sameBuildOf (dated g) (now (input .entry)) (now (a .entry)) (now (b .entry)) (now (chart .entry)) ⌝ }
 {
     match fill_input::judge(g, input.len(), chart.len()) {
         Judged::Refused(r) => Verdict::Refused(r),

@@ -8,7 +8,7 @@ use Rattle.chart.specs.Column.{complete}
 use Rattle.theory_costs.specs.Span.{bytesOf}
 use Rattle.packed_fit.specs.Fit.{Told}
 use Rattle.grammar.specs.declared.Grammar.{Grammar}
-use Rattle.grammar.specs.View.{grammarOf}
+use Rattle.grammar.specs.View.{dated, grammarOf}
 use Rattle.answers.specs.declared.Refusal.{Refusal}
 use Rattle.answers.specs.Number.{numberOf}
 use Rattle.packed.specs.Packed.{cfgIn}
@@ -26,7 +26,7 @@ use Rattle.first.proofs.Chart.{Filling, filled-chart}
 use Rattle.count_made.specs.Answer.{countOr, countFilled}
 
 module _ (g : Grammar) (w chart : List ℕ) (j : Judged) (judging : Judging g (length w) (length chart) j) where
-  pub count-refused : (r : Refusal) → j ≡ Refused r → checkingOf (refused (numberOf r)) chart ≡ countOf g w chart
+  pub count-refused : (r : Refusal) → j ≡ Refused r → checkingOf (refused (numberOf r)) chart ≡ countOf (dated g) w chart
   unfolding countOf
   count-refused r h = call-refused g w chart _ j judging r h
 
@@ -40,10 +40,10 @@ module _ (g : Grammar) (w chart : List ℕ) (j : Judged) (judging : Judging g (l
 
     module _ (s : ℕ) (start : s ≡ g .start) where
       -- over the grammar that was packed
-      over-packed : countFilled (cfgIn s p) w chart' ≡ countIn (grammarOf g) w chart .answer
+      over-packed : countFilled (cfgIn s p) w chart' ≡ countIn (grammarOf (dated g)) w chart .answer
       unfolding countOr countIn treeIn complete cfgIn
       over-packed = ap₂ countOr (rw (filling .0, start)) (list-packed g p w (filling .1) s start)
 
-      pub count-answered : (a : Answer Figure) → a ≡ countFilled (cfgIn s p) w chart' → checkingOf a chart' ≡ countOf g w chart
+      pub count-answered : (a : Answer Figure) → a ≡ countFilled (cfgIn s p) w chart' → checkingOf a chart' ≡ countOf (dated g) w chart
       unfolding countOf countIn
       count-answered a d = call-passed g w chart _ j judging chart' a is (filling .0) (d ∙ over-packed)

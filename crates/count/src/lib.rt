@@ -20,6 +20,7 @@ ghost use Rattle.cfg.specs.Listing.{L};
 ghost use Rattle.theory_costs.specs.Span.{bytesOf};
 ghost use Rattle.packed_fit.specs.Fit.{Told};
 ghost use Rattle.packed.specs.Packed.{cfgIn};
+ghost use Rattle.grammar.specs.View.{dated};
 ghost use Rattle.fill_input.specs.Given.{checkingOf};
 ghost use Rattle.results.specs.Enumerate.{countOf};
 ghost use Rattle.sizes.specs.Sizes.{maxRules, maxInput, side, cells};
@@ -73,7 +74,7 @@ fn count_filled(p: &Packed, start: usize, input: &[u8], fits: &FitTable, chart: 
 
 // How many derivations the input has, up to 4,096. Refusals 8, 9, 10 and 13.
 pub fn count(g: Grammar, input: &[u8], chart: &mut [u32]) -> Counted
-    ensures { λ a. ⌜ checkingOf (countedOf a) (now (chart .exit)) ≡ countOf g (now (input .entry)) (now (chart .entry)) ⌝ }
+    ensures { λ a. ⌜ checkingOf (countedOf a) (now (chart .exit)) ≡ countOf (dated g) (now (input .entry)) (now (chart .entry)) ⌝ }
 {
     match fill_input::judge(g, input.len(), chart.len()) {
         Judged::Refused(r) => Counted::Refused(r),

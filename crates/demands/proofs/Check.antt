@@ -8,8 +8,7 @@ use mathlib.Core.Path.{_≡_, sym, ap, _∙_}
 use Rattle.laws.proofs.Bools.{true-false, bool-false}
 use Rattle.cfg.specs.Derivation.{Derivation, limit}
 use Rattle.cfg.specs.Listing.{L}
-use Rattle.grammar.specs.declared.Grammar.{Grammar}
-use Rattle.grammar.specs.View.{grammarOf}
+use Rattle.grammar.specs.View.{Dated, grammarOf}
 use Rattle.results.specs.Answer.{answered}
 use Rattle.results.specs.Check.{Checking, listed, checkIn, checkOf}
 use Rattle.results.specs.Ready.{Ready}
@@ -17,7 +16,7 @@ use Rattle.results.proofs.Answers.{answered-inj}
 use Rattle.results.proofs.Goes.{onInput-passed}
 use Rattle.demands.proofs.Listed.{listed-exact}
 
-module _ (g : Grammar) (w chart : List ℕ) (ready : Ready g w chart) (offered : List ℕ) where
+module _ (g : Dated) (w chart : List ℕ) (ready : Ready g w chart) (offered : List ℕ) where
   said : checkOf g w offered chart .answer ≡ answered (listed offered (L (grammarOf g) w))
   unfolding checkOf checkIn
   said = ap (λ (x : Checking Bool). x .answer) (onInput-passed g w chart _ ready)

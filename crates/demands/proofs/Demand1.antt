@@ -2,6 +2,7 @@
 use Prim.Native.Nat.{ℕ}
 use mathlib.Core.List.{List}
 use Rattle.grammar.specs.declared.Grammar.{Grammar}
+use Rattle.grammar.specs.View.{Dated}
 use Rattle.results.specs.Recognize.{State, openOf, takeOf}
 use Rattle.results.specs.Check.{checkOf}
 use Rattle.results.specs.Measure.{lengthOf, sameBuildOf}
@@ -12,7 +13,7 @@ use Rattle.demands.proofs.Order as Order
 use Rattle.demands.proofs.Untouched as Untouched
 use Rattle.demands.proofs.Filled as Filled
 
-pub open-demand : (g : Grammar) (chart : List ℕ) → OpenDemand g chart (openOf g chart)
+pub open-demand : (g : Dated) (chart : List ℕ) → OpenDemand g chart (openOf g chart)
 open-demand g chart = record {
   kept = Kept.open-kept g chart;
   order = Order.open-order g chart;
@@ -27,7 +28,7 @@ take-demand g h m chart = record {
   untouched = Untouched.take-untouched g h m chart;
 }
 
-pub check-demand : (g : Grammar) (w e chart : List ℕ) → InputDemand g w chart (checkOf g w e chart)
+pub check-demand : (g : Dated) (w e chart : List ℕ) → InputDemand g w chart (checkOf g w e chart)
 check-demand g w e chart = record {
   kept = Kept.check-kept g w chart e;
   order = Order.check-order g w chart e;
@@ -35,7 +36,7 @@ check-demand g w e chart = record {
   chart-filled = λ r. Filled.check-filled g w chart r e;
 }
 
-pub length-demand : (g : Grammar) (w e chart : List ℕ) → InputDemand g w chart (lengthOf g w e chart)
+pub length-demand : (g : Dated) (w e chart : List ℕ) → InputDemand g w chart (lengthOf g w e chart)
 length-demand g w e chart = record {
   kept = Kept.length-kept g w chart e;
   order = Order.length-order g w chart e;
@@ -43,7 +44,7 @@ length-demand g w e chart = record {
   chart-filled = λ r. Filled.length-filled g w chart r e;
 }
 
-pub same-build-demand : (g : Grammar) (w a b chart : List ℕ) → InputDemand g w chart (sameBuildOf g w a b chart)
+pub same-build-demand : (g : Dated) (w a b chart : List ℕ) → InputDemand g w chart (sameBuildOf g w a b chart)
 same-build-demand g w a b chart = record {
   kept = Kept.same-build-kept g w chart a b;
   order = Order.same-build-order g w chart a b;
@@ -51,7 +52,7 @@ same-build-demand g w a b chart = record {
   chart-filled = λ r. Filled.same-build-filled g w chart r a b;
 }
 
-pub count-demand : (g : Grammar) (w chart : List ℕ) → InputDemand g w chart (countOf g w chart)
+pub count-demand : (g : Dated) (w chart : List ℕ) → InputDemand g w chart (countOf g w chart)
 count-demand g w chart = record {
   kept = Kept.count-kept g w chart;
   order = Order.count-order g w chart;
@@ -59,7 +60,7 @@ count-demand g w chart = record {
   chart-filled = λ r. Filled.count-filled g w chart r;
 }
 
-pub first-demand : (g : Grammar) (w chart out : List ℕ) → OutputDemand g w chart out (firstOf g w chart out)
+pub first-demand : (g : Dated) (w chart out : List ℕ) → OutputDemand g w chart out (firstOf g w chart out)
 first-demand g w chart out = record {
   kept = Kept.first-kept g w chart out .0;
   output = Kept.first-kept g w chart out .1;
@@ -68,7 +69,7 @@ first-demand g w chart out = record {
   chart-filled = λ r. Filled.first-filled g w chart out r;
 }
 
-pub next-demand : (g : Grammar) (w e chart out : List ℕ) → OutputDemand g w chart out (nextOf g w e chart out)
+pub next-demand : (g : Dated) (w e chart out : List ℕ) → OutputDemand g w chart out (nextOf g w e chart out)
 next-demand g w e chart out = record {
   kept = Kept.next-kept g w chart out e .0;
   output = Kept.next-kept g w chart out e .1;

@@ -8,9 +8,8 @@ use lib.ListN.{length}
 use Rattle.sizes.specs.Sizes.{cells}
 use Rattle.cfg.specs.Grammar.{Cfg}
 use Rattle.chart.specs.Column.{extendedBy, filled}
-use Rattle.grammar.specs.declared.Grammar.{Grammar}
 use Rattle.grammar.specs.Valid.{validGrammar}
-use Rattle.grammar.specs.View.{grammarOf}
+use Rattle.grammar.specs.View.{Dated, grammarOf}
 use Rattle.results.specs.Recognize.{Recognition, openIn, openOf}
 use Rattle.results.specs.Check.{Checking, onInput, checkIn, checkOf}
 use Rattle.results.specs.Measure.{lengthIn, lengthOf, sameBuildIn, sameBuildOf}
@@ -21,12 +20,12 @@ use Rattle.demands.proofs.Kept.{handing-chart}
 use Rattle.results.proofs.Goes.{open-passed, onInput-passed, first-passed, next-passed}
 
 -- opening is filling with no bytes
-pub open-filled : (g : Grammar) (chart : List ℕ) → validGrammar g ≡ true → cells ≤ length chart
+pub open-filled : (g : Dated) (chart : List ℕ) → validGrammar (g .grammar) ≡ true → cells ≤ length chart
     → openOf g chart .chart ≡ filled (grammarOf g) [] chart
 unfolding openIn filled extendedBy
 open-filled g chart v r = ap (λ (x : Recognition). x .chart) (open-passed g chart v r)
 
-module _ (g : Grammar) (w chart : List ℕ) (ready : Ready g w chart) where
+module _ (g : Dated) (w chart : List ℕ) (ready : Ready g w chart) where
   onInput-filled : {A : Type 0} (go : Cfg → Checking A) → onInput g w chart go .chart ≡ go (grammarOf g) .chart
   onInput-filled {A} go = ap (λ (x : Checking A). x .chart) (onInput-passed g w chart go ready)
 
@@ -46,7 +45,7 @@ module _ (g : Grammar) (w chart : List ℕ) (ready : Ready g w chart) where
   unfolding countOf countIn
   count-filled = onInput-filled _
 
-module _ (g : Grammar) (w chart out : List ℕ) (ready : ReadyOut g w chart out) where
+module _ (g : Dated) (w chart out : List ℕ) (ready : ReadyOut g w chart out) where
   pub first-filled : firstOf g w chart out .chart ≡ filled (grammarOf g) w chart
   unfolding firstIn
   first-filled =

@@ -17,7 +17,7 @@ use Rattle.chart.proofs.Written.{written-behind}
 use Rattle.chart.proofs.Filled.{extended-length, opened-length, opened-behind}
 use Rattle.chart.proofs.Truth.{filled-length, filled-behind}
 use Rattle.grammar.specs.declared.Grammar.{Grammar}
-use Rattle.grammar.specs.View.{grammarOf}
+use Rattle.grammar.specs.View.{Dated, dated, grammarOf}
 use Rattle.results.specs.Answer.{Answer, refused, Handing}
 use Rattle.results.specs.Recognize.{State, Recognition, openIn, openOf, takeIn, takeOf}
 use Rattle.results.specs.Check.{Checking, onInput, checkIn, checkOf}
@@ -35,13 +35,13 @@ use Rattle.results.proofs.Demand3.Listed.{reading-even, reading-short}
 chart-same : (chart : List ℕ) → ChartKept chart chart
 chart-same chart = record { same-length = refl; behind = refl }
 
-filled-kept : (g : Grammar) (w chart : List ℕ) → Ready g w chart → ChartKept chart (filled (grammarOf g) w chart)
+filled-kept : (g : Dated) (w chart : List ℕ) → Ready g w chart → ChartKept chart (filled (grammarOf g) w chart)
 filled-kept g w chart r = record {
   same-length = filled-length (grammarOf g) w chart (r .room);
   behind = filled-behind (grammarOf g) w chart (r .short);
 }
 
-pub open-kept : (g : Grammar) (chart : List ℕ) → ChartKept chart (openOf g chart .chart)
+pub open-kept : (g : Dated) (chart : List ℕ) → ChartKept chart (openOf g chart .chart)
 unfolding openOf openIn
 open-kept g chart =
     decide-either _ _ (λ (r : Recognition). ChartKept chart (r .chart)) _ (λ n. chart-same chart) (λ p.
@@ -61,12 +61,12 @@ take-kept g h m chart =
     let d : ¬ (h .count ≡ maxInput) = eqb-false (h .count) maxInput free in
     let l : length w ≤ maxInput = omega (arith, length-append (take (h .count) (h .bytes)) (m ∷ []), length-take (h .count) (h .bytes)) in
     record {
-      same-length = extended-length (grammarOf g) w chart;
-      behind = written-behind (grammarOf g) (fitsAt w) (length w) chart l;
+      same-length = extended-length (grammarOf (dated g)) w chart;
+      behind = written-behind (grammarOf (dated g)) (fitsAt w) (length w) chart l;
     })
 
 -- the calls that write no output
-module _ (g : Grammar) (w chart : List ℕ) where
+module _ (g : Dated) (w chart : List ℕ) where
   onInput-kept : {A : Type 0} (go : Cfg → Checking A) → go (grammarOf g) .chart ≡ filled (grammarOf g) w chart
       → ChartKept chart (onInput g w chart go .chart)
   unfolding onInput
@@ -108,7 +108,7 @@ handing-chart none answer chart out = refl
 handing-chart (some e) answer chart out = refl
 
 -- a derivation that is handed out is in the list
-module _ (g : Grammar) (w chart out : List ℕ) (answer : Answer Handing) (space : outputSize ≤ length out) where
+module _ (g : Dated) (w chart out : List ℕ) (answer : Answer Handing) (space : outputSize ≤ length out) where
   handing-kept : (o : Option (List ℕ)) → ((e : List ℕ) → o ≡ some e → List·Memᴰ e (L (grammarOf g) w))
       → OutputKept (writes (handingOut o answer chart out .answer)) out (handingOut o answer chart out .output)
   unfolding handingOut
@@ -121,7 +121,7 @@ module _ (g : Grammar) (w chart out : List ℕ) (answer : Answer Handing) (space
 abbrev pub Both : (chart out : List ℕ) → Enumeration → Type 0
 Both chart out r = ChartKept chart (r .chart) × OutputKept (writes (r .answer)) out (r .output)
 
-module _ (g : Grammar) (w chart out : List ℕ) where
+module _ (g : Dated) (w chart out : List ℕ) where
   handing-both : ReadyOut g w chart out → (answer : Answer Handing) (o : Option (List ℕ))
       → ((e : List ℕ) → o ≡ some e → List·Memᴰ e (L (grammarOf g) w))
       → Both chart out (handingOut o answer (filled (grammarOf g) w chart) out)

@@ -11,15 +11,14 @@ use Rattle.cfg.specs.Grammar.{Cfg}
 use Rattle.cfg.specs.Derivation.{Derivation, limit}
 use Rattle.cfg.specs.Listing.{L}
 use Rattle.theory_listing.proofs.Exact.{listed→derivation, derivation→listed}
-use Rattle.grammar.specs.declared.Grammar.{Grammar}
-use Rattle.grammar.specs.View.{grammarOf}
+use Rattle.grammar.specs.View.{Dated, grammarOf}
 use Rattle.results.specs.Check.{listed}
 use Rattle.results.specs.Measure.{unlisted}
 use Rattle.results.proofs.Demand3.Rows.{listed-member, member-listed}
 
 -- ---- offered derivations
 
-module _ (g : Grammar) (w e : List ℕ) where
+module _ (g : Dated) (w e : List ℕ) where
   pub listed-exact : (listed e (L (grammarOf g) w) ≡ true) ↔ Derivation (grammarOf g) limit w e
   listed-exact = (
     λ p. listed→derivation (grammarOf g) limit w e (listed-member e (L (grammarOf g) w) p),

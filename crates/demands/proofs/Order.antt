@@ -11,7 +11,7 @@ use Rattle.sizes.specs.Sizes.{maxInput, cells, outputSize}
 use Rattle.cfg.specs.Grammar.{Cfg}
 use Rattle.grammar.specs.declared.Grammar.{Grammar}
 use Rattle.grammar.specs.Valid.{validGrammar}
-use Rattle.grammar.specs.View.{grammarOf}
+use Rattle.grammar.specs.View.{Dated, grammarOf}
 use Rattle.results.specs.Answer.{check}
 use Rattle.results.specs.Recognize.{State, Recognition, grammarCheck, openIn, openOf, takeIn, takeOf}
 use Rattle.results.specs.Check.{inputCheck, Checking, onInput, checkIn, checkOf}
@@ -39,10 +39,11 @@ tells9 w = less maxInput (length w) 9
 
 -- ---- opening and taking
 
-pub open-order : (g : Grammar) (chart : List ℕ) → OpenOrder g chart (openOf g chart .answer)
+pub open-order : (g : Dated) (chart : List ℕ) → OpenOrder g chart (openOf g chart .answer)
 unfolding openOf openIn
 open-order g chart =
-    decided _ _ (λ (x : Recognition). x .answer) NoRefusal (λ n e. answered-apart e) _ _ (tells8 g, (less (length chart) cells 10, tt))
+    decided _ _ (λ (x : Recognition). x .answer) NoRefusal (λ n e. answered-apart e) _ _
+    (tells8 (g .grammar), (less (length chart) cells 10, tt))
 
 pub take-order : (g : Grammar) (h : State) (m : ℕ) (chart : List ℕ) → TakeOrder g h chart (takeOf g h m chart .answer)
 unfolding takeOf takeIn
@@ -52,12 +53,12 @@ take-order g h m chart =
 
 -- ---- the calls that write no output
 
-module _ (g : Grammar) (w chart : List ℕ) where
+module _ (g : Dated) (w chart : List ℕ) where
   input-order : {A : Type 0} (go : Cfg → Checking A) → OnlyLater (go (grammarOf g) .answer)
       → InputOrder g w chart (onInput g w chart go .answer)
   unfolding onInput
   input-order {A} go later =
-      decided _ _ (λ (x : Checking A). x .answer) OnlyLater later _ _ (tells8 g, (tells9 w, (less (length chart) cells 10, tt)))
+      decided _ _ (λ (x : Checking A). x .answer) OnlyLater later _ _ (tells8 (g .grammar), (tells9 w, (less (length chart) cells 10, tt)))
 
   pub check-order : (offered : List ℕ) → InputOrder g w chart (checkOf g w offered chart .answer)
   unfolding checkOf checkIn
@@ -77,13 +78,13 @@ module _ (g : Grammar) (w chart : List ℕ) where
 
 -- ---- first and next
 
-module _ (g : Grammar) (w chart out : List ℕ) where
+module _ (g : Dated) (w chart out : List ℕ) where
   output-order : (go : Cfg → Enumeration) → OnlyLater (go (grammarOf g) .answer)
       → OutputOrder g w chart out (onOutput g w chart out go .answer)
   unfolding onOutput
   output-order go later =
       decided _ _ (λ (x : Enumeration). x .answer) OnlyLater later _ _
-      (tells8 g, (tells9 w, (less (length chart) cells 10, (less (length out) outputSize 11, tt))))
+      (tells8 (g .grammar), (tells9 w, (less (length chart) cells 10, (less (length out) outputSize 11, tt))))
 
   pub first-order : OutputOrder g w chart out (firstOf g w chart out .answer)
   unfolding firstOf

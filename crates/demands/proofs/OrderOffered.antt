@@ -6,8 +6,7 @@ use mathlib.Core.Logic.{_⊎_, inl, inr, ⊎-elim}
 use mathlib.Core.Path.{_≡_, refl, sym, ap, _∙_}
 use Rattle.cfg.specs.Grammar.{Cfg}
 use Rattle.cfg.specs.Derivation.{Derivation, limit}
-use Rattle.grammar.specs.declared.Grammar.{Grammar}
-use Rattle.grammar.specs.View.{grammarOf}
+use Rattle.grammar.specs.View.{Dated, grammarOf}
 use Rattle.laws.proofs.Bools.{true-false, by-test}
 use Rattle.results.specs.Answer.{Answer, refused, check}
 use Rattle.results.specs.Check.{Checking, onInput}
@@ -23,7 +22,7 @@ use Rattle.demands.proofs.Decided.{Tells, decided}
 use Rattle.demands.proofs.Later.{handing-refused}
 use Rattle.demands.proofs.Listed.{derivation→offered, offered→derivation}
 
-module _ (g : Grammar) (w : List ℕ) where
+module _ (g : Dated) (w : List ℕ) where
   -- the row is a derivation of the input
   abbrev pub Offered : List ℕ → Type 0
   Offered e = Derivation (grammarOf g) limit w e
@@ -58,7 +57,7 @@ module _ (g : Grammar) (w : List ℕ) where
   unfolding Decided
   after p D = record { twelve = λ r f. p r ∙ D .0 f; passed = λ r d n e. D .1 (λ f. f d) n (sym (p r) ∙ e) }
 
-module _ (g : Grammar) (w chart : List ℕ) where
+module _ (g : Dated) (w chart : List ℕ) where
   input-answer : {A : Type 0} (go : Cfg → Checking A) → Ready g w chart → onInput g w chart go .answer ≡ go (grammarOf g) .answer
   input-answer {A} go r = ap (λ (x : Checking A). x .answer) (onInput-passed g w chart go r)
 
@@ -77,7 +76,7 @@ module _ (g : Grammar) (w chart : List ℕ) where
       (both g w a b _
       (decided refused _ (λ x. x) NoRefusal (λ n e. answered-apart e) _ _ (tells12 g w a, (tells12 g w b, tt))))
 
-pub next-twelve : (g : Grammar) (w chart out offered : List ℕ)
+pub next-twelve : (g : Dated) (w chart out offered : List ℕ)
     → OfferedOrder (ReadyOut g w chart out) (Offered g w offered) (nextOf g w offered chart out .answer)
 unfolding nextIn
 next-twelve g w chart out offered =

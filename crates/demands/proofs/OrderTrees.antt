@@ -7,8 +7,7 @@ use native.Mathlib.Omega.{arith}
 use lib.ListN.{length}
 use Rattle.cfg.specs.Tree.{HasTree}
 use Rattle.cfg.specs.Derivation.{Derivation, limit}
-use Rattle.grammar.specs.declared.Grammar.{Grammar}
-use Rattle.grammar.specs.View.{grammarOf}
+use Rattle.grammar.specs.View.{Dated, grammarOf}
 use Rattle.results.specs.Answer.{refused}
 use Rattle.results.specs.Enumerate.{firstOf, countOf}
 use Rattle.results.specs.Ready.{Ready, ReadyOut}
@@ -19,7 +18,7 @@ use Rattle.results.proofs.Demand3.Consequences.{count-by, count-larger, first-b
 use Rattle.demands.specs.OrderAfter.{TreesOrder}
 use Rattle.demands.proofs.Listed.{none→empty}
 
-module _ (g : Grammar) (w : List ℕ) where
+module _ (g : Dated) (w : List ℕ) where
   -- without a derivation all trees are larger
   none→larger : HasTree (grammarOf g) w → ((e : List ℕ) → Derivation (grammarOf g) limit w e → ⊥) → Larger g w
   none→larger t f = (t, L-none (grammarOf g) w (ap length (none→empty (grammarOf g) w f)))
@@ -29,7 +28,7 @@ module _ (g : Grammar) (w : List ℕ) where
   not-larger (inl f) l = f (l .0)
   not-larger (inr (e, d)) l = omega (arith, l .1 (d .tree) (d .parse), d .small)
 
-pub first-thirteen : (g : Grammar) (w chart out : List ℕ)
+pub first-thirteen : (g : Dated) (w chart out : List ℕ)
     → TreesOrder (ReadyOut g w chart out) (grammarOf g) w (firstOf g w chart out .answer)
 first-thirteen g w chart out = record {
   thirteen = λ r t f. let i = r .input in
@@ -39,7 +38,7 @@ first-thirteen g w chart out = record {
       (λ k l e. answered-apart e) (λ l e. not-larger g w c l) (λ f e. answered-apart e);
 }
 
-pub count-thirteen : (g : Grammar) (w chart : List ℕ) → TreesOrder (Ready g w chart) (grammarOf g) w (countOf g w chart .answer)
+pub count-thirteen : (g : Dated) (w chart : List ℕ) → TreesOrder (Ready g w chart) (grammarOf g) w (countOf g w chart .answer)
 count-thirteen g w chart = record {
   thirteen = λ r t f. count-larger g (r .valid) w (r .short) chart (r .room) .1 (none→larger g w t f);
   passed = λ r c n. count-by g (r .valid) w (r .short) chart (r .room) (λ a. a ≡ refused n → ⊥)

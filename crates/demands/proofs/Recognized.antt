@@ -20,7 +20,7 @@ use Rattle.chart.proofs.Filled.{length-snoc, filled-snoc}
 use Rattle.chart.proofs.Truth.{filled-true, filled-zero, complete-tree, filled-length}
 use Rattle.grammar.specs.declared.Grammar.{Grammar}
 use Rattle.grammar.specs.Valid.{validGrammar}
-use Rattle.grammar.specs.View.{grammarOf}
+use Rattle.grammar.specs.View.{Dated, grammarOf}
 use Rattle.grammar.proofs.Bounds.{valid-bounded}
 use Rattle.results.specs.Answer.{refused, answered, check}
 use Rattle.results.specs.Recognize.{stateOf, Recognition, grammarCheck, stateCheck, chartCheck, openIn, openOf, takeIn, takeOf, fed}
@@ -37,10 +37,10 @@ fed-append g r [] v = refl
 fed-append g r (m ∷ u) v = fed-append g (takeOf g (r .state) m (r .chart)) u v
 
 -- the result after n bytes u have been taken, with this chart
-abbrev pub result : Grammar → List ℕ → ℕ → List ℕ → Recognition
+abbrev pub result : Dated → List ℕ → ℕ → List ℕ → Recognition
 result g u n c = record { answer = answered (complete (grammarOf g) n c); state = stateOf u; chart = c }
 
-module _ (g : Grammar) (found : List ℕ) where
+module _ (g : Dated) (found : List ℕ) where
   -- the result after the bytes u, of which there are at most 64
   abbrev pub after : List ℕ → Recognition
   after u = result g u (length u) (filled (grammarOf g) u found)
@@ -49,62 +49,64 @@ module _ (g : Grammar) (found : List ℕ) where
   abbrev pub beyond : List ℕ → Recognition
   beyond u = record { answer = refused 15; state = stateOf u; chart = filled (grammarOf g) u found }
 
-  module _ (valid : validGrammar g ≡ true) (room : cells ≤ length found) where
+  module _ (valid : validGrammar (g .grammar) ≡ true) (room : cells ≤ length found) where
     open-after : openOf g found ≡ after []
     unfolding openIn filled extendedBy
     open-after = open-passed g found valid room
 
     -- one more byte
-    take-after : (u : List ℕ) (m : ℕ) → length u < maxInput → takeOf g (stateOf u) m (filled (grammarOf g) u found) ≡ after (u ++ (m ∷ []))
+    take-after : (u : List ℕ) (m : ℕ) → length u < maxInput
+        → takeOf (g .grammar) (stateOf u) m (filled (grammarOf g) u found) ≡ after (u ++ (m ∷ []))
     unfolding takeIn stateOf
     take-after u m l =
         let c = filled (grammarOf g) u found in
         let v = u ++ (m ∷ []) in
         let n : length u + 1 ≡ length v = omega (arith, length-snoc u m) in
-        take-passed g (stateOf u) m c valid l (omega (arith, filled-length (grammarOf g) u found room))
+        take-passed (g .grammar) (stateOf u) m c valid l (omega (arith, filled-length (grammarOf g) u found room))
         ∙ ap (λ (x : List ℕ). result g (x ++ (m ∷ [])) (length u + 1) (extended (grammarOf g) (x ++ (m ∷ [])) c)) (state-taken u)
         ∙ ap (λ (i : ℕ). result g v i (extended (grammarOf g) v c)) n
         ∙ ap (result g v (length v)) (sym (filled-snoc (grammarOf g) u m found))
 
     -- a row of bytes, if there are at most 64 in all
-    fed-after : (u v : List ℕ) → length u + length v ≤ maxInput → fed g (after u) v ≡ after (u ++ v)
+    fed-after : (u v : List ℕ) → length u + length v ≤ maxInput → fed (g .grammar) (after u) v ≡ after (u ++ v)
     unfolding fed
     fed-after u [] l = ap after (sym (append-nil u))
     fed-after u (m ∷ v) l =
-        ap (λ (x : Recognition). fed g x v) (take-after u m (omega arith))
+        ap (λ (x : Recognition). fed (g .grammar) x v) (take-after u m (omega arith))
         ∙ fed-after (u ++ (m ∷ [])) v (omega (arith, length-snoc u m))
         ∙ ap after (append-snoc u m v)
 
     module _ (u : List ℕ) (l : length u ≡ maxInput) where
-      take-beyond : (m : ℕ) → takeOf g (stateOf u) m (filled (grammarOf g) u found) ≡ beyond u
+      take-beyond : (m : ℕ) → takeOf (g .grammar) (stateOf u) m (filled (grammarOf g) u found) ≡ beyond u
       unfolding takeOf stateOf
       take-beyond m =
           let c = filled (grammarOf g) u found in
           let r : cells ≤ length c = omega (arith, filled-length (grammarOf g) u found room) in
-          decide-first _ _ (grammarCheck g ∷ stateCheck (stateOf u) ∷ chartCheck c ∷ []) (check (eqb (stateOf u .count) maxInput) 15) []
+          decide-first _ _ (grammarCheck (g .grammar) ∷ stateCheck (stateOf u) ∷ chartCheck c ∷ [])
+          (check (eqb (stateOf u .count) maxInput) 15) []
           (ap not valid, (le-ltb maxInput (length u) (omega arith), (le-ltb (length c) cells r, tt))) (eq-eqb (length u) maxInput l)
 
-      fed-beyond : (v : List ℕ) → fed g (beyond u) v ≡ beyond u
+      fed-beyond : (v : List ℕ) → fed (g .grammar) (beyond u) v ≡ beyond u
       unfolding fed
       fed-beyond [] = refl
-      fed-beyond (m ∷ v) = ap (λ (x : Recognition). fed g x v) (take-beyond m) ∙ fed-beyond v
+      fed-beyond (m ∷ v) = ap (λ (x : Recognition). fed (g .grammar) x v) (take-beyond m) ∙ fed-beyond v
 
-      fed-after-beyond : (v : List ℕ) → 0 < length v → fed g (after u) v ≡ beyond u
+      fed-after-beyond : (v : List ℕ) → 0 < length v → fed (g .grammar) (after u) v ≡ beyond u
       unfolding fed
       fed-after-beyond [] h = absurd (omega arith)
-      fed-after-beyond (m ∷ v) h = ap (λ (x : Recognition). fed g x v) (take-beyond m) ∙ fed-beyond v
+      fed-after-beyond (m ∷ v) h = ap (λ (x : Recognition). fed (g .grammar) x v) (take-beyond m) ∙ fed-beyond v
 
     -- ---- from opening on
 
-    pub fed-short : (ms : List ℕ) → length ms ≤ maxInput → fed g (openOf g found) ms ≡ after ms
-    fed-short ms l = ap (λ (x : Recognition). fed g x ms) open-after ∙ fed-after [] ms (omega arith)
+    pub fed-short : (ms : List ℕ) → length ms ≤ maxInput → fed (g .grammar) (openOf g found) ms ≡ after ms
+    fed-short ms l = ap (λ (x : Recognition). fed (g .grammar) x ms) open-after ∙ fed-after [] ms (omega arith)
 
-    pub fed-long : (ms : List ℕ) → maxInput < length ms → fed g (openOf g found) ms ≡ beyond (take maxInput ms)
+    pub fed-long : (ms : List ℕ) → maxInput < length ms → fed (g .grammar) (openOf g found) ms ≡ beyond (take maxInput ms)
     fed-long ms l =
         let e : length (take maxInput ms) ≡ maxInput = length-take-le maxInput ms (omega arith) in
-        ap (fed g (openOf g found)) (sym (take-append-drop maxInput ms))
-        ∙ fed-append g (openOf g found) (take maxInput ms) (drop maxInput ms)
-        ∙ ap (λ (x : Recognition). fed g x (drop maxInput ms)) (fed-short (take maxInput ms) (omega arith))
+        ap (fed (g .grammar) (openOf g found)) (sym (take-append-drop maxInput ms))
+        ∙ fed-append (g .grammar) (openOf g found) (take maxInput ms) (drop maxInput ms)
+        ∙ ap (λ (x : Recognition). fed (g .grammar) x (drop maxInput ms)) (fed-short (take maxInput ms) (omega arith))
         ∙ fed-after-beyond (take maxInput ms) e (drop maxInput ms) (omega (arith, length-drop maxInput ms))
 
     -- ---- what is said of these results
@@ -130,7 +132,7 @@ module _ (g : Grammar) (found : List ℕ) where
 
     -- ---- the theorem
 
-    recognized-short : (ms : List ℕ) → length ms ≤ maxInput → (r : Recognition) → r ≡ after ms → Recognized (grammarOf g) found ms r
+    recognized-short : (ms : List ℕ) → length ms ≤ maxInput → (r : Recognition) → r ≡ after ms → Recognized g found ms r
     recognized-short ms l r e =
         let s : ms ≡ take maxInput ms = sym (take-all maxInput ms l) in
         let c : r .chart ≡ filled (grammarOf g) ms found = ap (λ (x : Recognition). x .chart) e in
@@ -147,7 +149,7 @@ module _ (g : Grammar) (found : List ℕ) where
         }
 
     recognized-long : (ms : List ℕ) → maxInput < length ms → (r : Recognition) → r ≡ beyond (take maxInput ms)
-        → Recognized (grammarOf g) found ms r
+        → Recognized g found ms r
     recognized-long ms l r e =
         let h : length (take maxInput ms) ≤ maxInput = omega (arith, length-take-le maxInput ms (omega arith)) in
         let c : r .chart ≡ filled (grammarOf g) (take maxInput ms) found = ap (λ (x : Recognition). x .chart) e in
@@ -161,7 +163,7 @@ module _ (g : Grammar) (found : List ℕ) where
           zeros = zero-of (take maxInput ms) h r c;
         }
 
-    pub recognized : (ms : List ℕ) → Recognized (grammarOf g) found ms (fed g (openOf g found) ms)
+    pub recognized : (ms : List ℕ) → Recognized g found ms (fed (g .grammar) (openOf g found) ms)
     recognized ms = dite (decLt maxInput (length ms))
-        (λ l. recognized-long ms l (fed g (openOf g found) ms) (fed-long ms l))
-        (λ l. let h : length ms ≤ maxInput = omega arith in recognized-short ms h (fed g (openOf g found) ms) (fed-short ms h))
+        (λ l. recognized-long ms l (fed (g .grammar) (openOf g found) ms) (fed-long ms l))
+        (λ l. let h : length ms ≤ maxInput = omega arith in recognized-short ms h (fed (g .grammar) (openOf g found) ms) (fed-short ms h))

@@ -6,7 +6,7 @@ use mathlib.Core.Path.{_≡_, refl}
 use native.Mathlib.Omega.{arith}
 use Rattle.cfg.specs.Grammar.{Cfg}
 use Rattle.grammar.specs.declared.Grammar.{Grammar}
-use Rattle.grammar.specs.View.{grammarOf}
+use Rattle.grammar.specs.View.{Dated, grammarOf}
 use Rattle.results.specs.Answer.{refused}
 use Rattle.results.specs.Recognize.{State, stateOf, Recognition, openIn, openOf, takeIn, takeOf}
 use Rattle.results.specs.Check.{Checking, onInput, checkIn, checkOf}
@@ -16,7 +16,7 @@ use Rattle.results.proofs.Answers.{answered-apart}
 use Rattle.results.proofs.Decide.{decide-either}
 use Rattle.demands.proofs.Later.{length-later, same-build-later, count-later, first-later, next-later}
 
-pub open-untouched : (g : Grammar) (chart : List ℕ) (n : ℕ) → openOf g chart .answer ≡ refused n
+pub open-untouched : (g : Dated) (chart : List ℕ) (n : ℕ) → openOf g chart .answer ≡ refused n
     → (openOf g chart .chart ≡ chart) × (openOf g chart .state ≡ stateOf [])
 unfolding openOf openIn
 open-untouched g chart n =
@@ -32,7 +32,7 @@ take-untouched g h m chart n =
 
 -- ---- the calls that write no output
 
-module _ (g : Grammar) (w chart : List ℕ) (n : ℕ) where
+module _ (g : Dated) (w chart : List ℕ) (n : ℕ) where
   input-untouched : {A : Type 0} (go : Cfg → Checking A) → (go (grammarOf g) .answer ≡ refused n → ⊥)
       → onInput g w chart go .answer ≡ refused n → onInput g w chart go .chart ≡ chart
   unfolding onInput
@@ -59,7 +59,7 @@ module _ (g : Grammar) (w chart : List ℕ) (n : ℕ) where
 
 -- ---- first and next
 
-module _ (g : Grammar) (w chart out : List ℕ) (n : ℕ) (low : n < 12) where
+module _ (g : Dated) (w chart out : List ℕ) (n : ℕ) (low : n < 12) where
   output-untouched : (go : Cfg → Enumeration) → (go (grammarOf g) .answer ≡ refused n → ⊥)
       → onOutput g w chart out go .answer ≡ refused n
       → (onOutput g w chart out go .chart ≡ chart) × (onOutput g w chart out go .output ≡ out)

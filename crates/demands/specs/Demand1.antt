@@ -8,7 +8,7 @@ use Rattle.sizes.specs.Sizes.{cells}
 use Rattle.chart.specs.Column.{filled}
 use Rattle.grammar.specs.declared.Grammar.{Grammar}
 use Rattle.grammar.specs.Valid.{validGrammar}
-use Rattle.grammar.specs.View.{grammarOf}
+use Rattle.grammar.specs.View.{Dated, grammarOf}
 use Rattle.results.specs.Answer.{refused}
 use Rattle.results.specs.Recognize.{State, stateOf, Recognition}
 use Rattle.results.specs.Check.{Checking}
@@ -18,13 +18,13 @@ use Rattle.results.specs.Ready.{Ready, ReadyOut}
 use Rattle.demands.specs.Order.{OpenOrder, TakeOrder, InputOrder, OutputOrder}
 
 -- opening
-pub record OpenDemand (g : Grammar) (chart : List ℕ) (r : Recognition) : Type 0 where
+pub record OpenDemand (g : Dated) (chart : List ℕ) (r : Recognition) : Type 0 where
   pub kept : ChartKept chart (r .chart)
   pub order : OpenOrder g chart (r .answer)
   -- if it is refused, it leaves the chart as found and gives a state of zeros
   pub untouched : (n : ℕ) → r .answer ≡ refused n → (r .chart ≡ chart) × (r .state ≡ stateOf [])
   -- else the chart is the one that is filled with no bytes
-  pub opened : validGrammar g ≡ true → cells ≤ length chart → r .chart ≡ filled (grammarOf g) [] chart
+  pub opened : validGrammar (g .grammar) ≡ true → cells ≤ length chart → r .chart ≡ filled (grammarOf g) [] chart
 
 -- taking
 pub record TakeDemand (g : Grammar) (h : State) (chart : List ℕ) (r : Recognition) : Type 0 where
@@ -34,7 +34,7 @@ pub record TakeDemand (g : Grammar) (h : State) (chart : List ℕ) (r : Recognit
   pub untouched : (n : ℕ) → r .answer ≡ refused n → (r .chart ≡ chart) × (r .state ≡ h)
 
 -- check, length, same build and count
-pub record InputDemand {A : Type 0} (g : Grammar) (w chart : List ℕ) (r : Checking A) : Type 0 where
+pub record InputDemand {A : Type 0} (g : Dated) (w chart : List ℕ) (r : Checking A) : Type 0 where
   pub kept : ChartKept chart (r .chart)
   pub order : InputOrder g w chart (r .answer)
   -- refusals 8 to 10 leave the chart as found
@@ -43,7 +43,7 @@ pub record InputDemand {A : Type 0} (g : Grammar) (w chart : List ℕ) (r : Chec
   pub chart-filled : Ready g w chart → r .chart ≡ filled (grammarOf g) w chart
 
 -- first and next
-pub record OutputDemand (g : Grammar) (w chart out : List ℕ) (r : Enumeration) : Type 0 where
+pub record OutputDemand (g : Dated) (w chart out : List ℕ) (r : Enumeration) : Type 0 where
   pub kept : ChartKept chart (r .chart)
   pub output : OutputKept (writes (r .answer)) out (r .output)
   pub order : OutputOrder g w chart out (r .answer)

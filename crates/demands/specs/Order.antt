@@ -8,6 +8,7 @@ use lib.ListN.{length}
 use Rattle.sizes.specs.Sizes.{cells, maxInput, outputSize}
 use Rattle.grammar.specs.declared.Grammar.{Grammar}
 use Rattle.grammar.specs.Valid.{validGrammar}
+use Rattle.grammar.specs.View.{Dated}
 use Rattle.results.specs.Answer.{Answer, refused, Handing}
 use Rattle.results.specs.Recognize.{State}
 use Rattle.demands.specs.Cause.{Cause, cause, Decided}
@@ -45,17 +46,17 @@ abbrev pub OnlyLater : {A : Type 0} → Answer A → Type 0
 OnlyLater answer = (n : ℕ) → answer ≡ refused n → 11 < n
 
 -- opening
-abbrev pub OpenOrder : Grammar → List ℕ → Answer Bool → Type 0
-OpenOrder g chart = Decided (cause8 g ∷ cause10 chart ∷ []) refused NoRefusal
+abbrev pub OpenOrder : Dated → List ℕ → Answer Bool → Type 0
+OpenOrder g chart = Decided (cause8 (g .grammar) ∷ cause10 chart ∷ []) refused NoRefusal
 
 -- taking
 abbrev pub TakeOrder : Grammar → State → List ℕ → Answer Bool → Type 0
 TakeOrder g h chart = Decided (cause8 g ∷ cause14 h ∷ cause10 chart ∷ cause15 h ∷ []) refused NoRefusal
 
 -- check, length, same build and count
-abbrev pub InputOrder : {A : Type 0} → Grammar → List ℕ → List ℕ → Answer A → Type 0
-InputOrder g w chart = Decided (cause8 g ∷ cause9 w ∷ cause10 chart ∷ []) refused OnlyLater
+abbrev pub InputOrder : {A : Type 0} → Dated → List ℕ → List ℕ → Answer A → Type 0
+InputOrder g w chart = Decided (cause8 (g .grammar) ∷ cause9 w ∷ cause10 chart ∷ []) refused OnlyLater
 
 -- first and next
-abbrev pub OutputOrder : Grammar → List ℕ → List ℕ → List ℕ → Answer Handing → Type 0
-OutputOrder g w chart out = Decided (cause8 g ∷ cause9 w ∷ cause10 chart ∷ cause11 out ∷ []) refused OnlyLater
+abbrev pub OutputOrder : Dated → List ℕ → List ℕ → List ℕ → Answer Handing → Type 0
+OutputOrder g w chart out = Decided (cause8 (g .grammar) ∷ cause9 w ∷ cause10 chart ∷ cause11 out ∷ []) refused OnlyLater

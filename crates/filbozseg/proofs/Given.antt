@@ -9,6 +9,7 @@ use Rattle.c_grammar.specs.Fits.{Fits16}
 use Rattle.c_grammar.specs.Flat.{grammarIn, flatOf}
 use Rattle.c_grammar.proofs.Round.{read-write}
 use Rattle.grammar.specs.declared.Grammar.{Grammar}
+use Rattle.grammar.specs.View.{dated}
 use Rattle.answers.specs.Answers.{outcomeOf}
 use Rattle.c_hand.specs.Hand.{rowOf, stateOfRow}
 use Rattle.load.specs.declared.Loaded.{Loaded}
@@ -59,8 +60,8 @@ enumerated a chart out = record { answer = a; chart = chart; output = out }
 
 module _ (f : List ℕ) (g : Grammar) (read : g ≡ grammarIn f) (chart₀ chart : List ℕ) (code : ℕ) where
   module _ (a : Answer Bool) (returned : code ≡ codeOf verdictCode a) where
-    pub opens-of : (s : State) (row : List ℕ) → recognized a s chart ≡ openOf g chart₀ → row ≡ rowOf s
-        → Opens (openOf (grammarIn f) chart₀) code row chart
+    pub opens-of : (s : State) (row : List ℕ) → recognized a s chart ≡ openOf (dated g) chart₀ → row ≡ rowOf s
+        → Opens (openOf (dated (grammarIn f)) chart₀) code row chart
     opens-of s row e w = rw (← read, ← e) (record { returned = returned; state = w; left = refl })
 
     -- taking reads a state too
@@ -69,27 +70,30 @@ module _ (f : List ℕ) (g : Grammar) (read : g ≡ grammarIn f) (chart₀ chart
         → Takes (takeOf (grammarIn f) (stateOfRow found) byte chart₀) found code row chart
     takes-of byte found h s row state e w = rw (← read, ← state, ← e) (record { returned = returned; state = w; left = refl })
 
-    pub checks-of : (w d : List ℕ) → checked a chart ≡ checkOf g w d chart₀ → Checks (checkOf (grammarIn f) w d chart₀) code chart
+    pub checks-of : (w d : List ℕ) → checked a chart ≡ checkOf (dated g) w d chart₀
+        → Checks (checkOf (dated (grammarIn f)) w d chart₀) code chart
     checks-of w d e = rw (← read, ← e) (record { returned = returned; left = refl })
 
-    pub checks-build-of : (w d d′ : List ℕ) → checked a chart ≡ sameBuildOf g w d d′ chart₀
-        → Checks (sameBuildOf (grammarIn f) w d d′ chart₀) code chart
+    pub checks-build-of : (w d d′ : List ℕ) → checked a chart ≡ sameBuildOf (dated g) w d d′ chart₀
+        → Checks (sameBuildOf (dated (grammarIn f)) w d d′ chart₀) code chart
     checks-build-of w d d′ e = rw (← read, ← e) (record { returned = returned; left = refl })
 
-  pub measures-of : (a : Answer ℤ) (w d : List ℕ) (found tenths : ℤ) → checked a chart ≡ lengthOf g w d chart₀ → code ≡ codeOf lengthCode a
-      → tenths ≡ leftOf tenthsLeft a found → Measures (lengthOf (grammarIn f) w d chart₀) found code chart tenths
+  pub measures-of : (a : Answer ℤ) (w d : List ℕ) (found tenths : ℤ) → checked a chart ≡ lengthOf (dated g) w d chart₀
+      → code ≡ codeOf lengthCode a
+      → tenths ≡ leftOf tenthsLeft a found → Measures (lengthOf (dated (grammarIn f)) w d chart₀) found code chart tenths
   measures-of a w d found tenths e c t = rw (← read, ← e) (record { returned = c; left = refl; measured = t })
 
-  pub counts-of : (a : Answer Figure) (w : List ℕ) (found figure : ℕ) → checked a chart ≡ countOf g w chart₀ → code ≡ codeOf figureCode a
-      → figure ≡ leftOf figureLeft a found → Counts (countOf (grammarIn f) w chart₀) found code chart figure
+  pub counts-of : (a : Answer Figure) (w : List ℕ) (found figure : ℕ) → checked a chart ≡ countOf (dated g) w chart₀
+      → code ≡ codeOf figureCode a
+      → figure ≡ leftOf figureLeft a found → Counts (countOf (dated (grammarIn f)) w chart₀) found code chart figure
   counts-of a w found figure e c t = rw (← read, ← e) (record { returned = c; left = refl; counted = t })
 
   module _ (a : Answer Handing) (returned : code ≡ codeOf handingCode a) (found nodes : ℕ) (counted : nodes ≡ leftOf nodesLeft a found)
       (w out₀ out : List ℕ) where
-    pub hands-first-of : enumerated a chart out ≡ firstOf g w chart₀ out₀
-        → Hands (firstOf (grammarIn f) w chart₀ out₀) found code chart out nodes
+    pub hands-first-of : enumerated a chart out ≡ firstOf (dated g) w chart₀ out₀
+        → Hands (firstOf (dated (grammarIn f)) w chart₀ out₀) found code chart out nodes
     hands-first-of e = rw (← read, ← e) (record { returned = returned; left = refl; written = refl; counted = counted })
 
-    pub hands-next-of : (d : List ℕ) → enumerated a chart out ≡ nextOf g w d chart₀ out₀
-        → Hands (nextOf (grammarIn f) w d chart₀ out₀) found code chart out nodes
+    pub hands-next-of : (d : List ℕ) → enumerated a chart out ≡ nextOf (dated g) w d chart₀ out₀
+        → Hands (nextOf (dated (grammarIn f)) w d chart₀ out₀) found code chart out nodes
     hands-next-of d e = rw (← read, ← e) (record { returned = returned; left = refl; written = refl; counted = counted })

@@ -1,6 +1,7 @@
 // The functions of first, next and count that C and Rust link.
 use c_grammar::Flat;
 ghost use Rattle.c_grammar.specs.Flat.{grammarIn};
+ghost use Rattle.grammar.specs.View.{dated};
 ghost use Rattle.results.specs.Enumerate.{firstOf, nextOf, countOf};
 ghost use Rattle.filbozseg.specs.Calls.{Hands, Counts};
 
@@ -15,7 +16,7 @@ pub extern "C" fn filbozseg_first(
     nodes: &mut usize,
 ) -> u32
     ensures { λ c. ⌜ Hands
-        (firstOf (grammarIn (now (grammar .entry))) (now (input .entry)) (now (chart .entry)) (now (output .entry)))
+        (firstOf (dated (grammarIn (now (grammar .entry)))) (now (input .entry)) (now (chart .entry)) (now (output .entry)))
         (now (nodes .entry)) c (now (chart .exit)) (now (output .exit)) (now (nodes .exit)) ⌝ }
 {
     let handed = first::first(c_grammar::read::read(grammar), input, chart, output);
@@ -34,7 +35,8 @@ pub extern "C" fn filbozseg_next(
     nodes: &mut usize,
 ) -> u32
     ensures { λ c. ⌜ Hands
-        (nextOf (grammarIn (now (grammar .entry))) (now (input .entry)) (now (offered .entry)) (now (chart .entry)) (now (output .entry)))
+        (nextOf (dated (grammarIn (now (grammar .entry)))) (now (input .entry)) (now (offered .entry))
+        (now (chart .entry)) (now (output .entry)))
         (now (nodes .entry)) c (now (chart .exit)) (now (output .exit)) (now (nodes .exit)) ⌝ }
 {
     let handed = next::next(
@@ -56,7 +58,7 @@ pub extern "C" fn filbozseg_count(
     figure: &mut usize,
 ) -> u32
     ensures { λ c. ⌜ Counts
-        (countOf (grammarIn (now (grammar .entry))) (now (input .entry)) (now (chart .entry)))
+        (countOf (dated (grammarIn (now (grammar .entry)))) (now (input .entry)) (now (chart .entry)))
         (now (figure .entry)) c (now (chart .exit)) (now (figure .exit)) ⌝ }
 {
     let counted = count::count(c_grammar::read::read(grammar), input, chart);

@@ -4,6 +4,7 @@ pub mod enumerate;
 
 use c_grammar::Flat;
 ghost use Rattle.c_grammar.specs.Flat.{grammarIn};
+ghost use Rattle.grammar.specs.View.{dated};
 ghost use Rattle.c_hand.specs.Hand.{stateOfRow};
 ghost use Rattle.results.specs.Check.{checkOf};
 ghost use Rattle.results.specs.Measure.{lengthOf, sameBuildOf};
@@ -30,7 +31,7 @@ pub extern "C" fn filbozseg_open(
     chart: &mut [u32],
 ) -> u32
     ensures { λ c. ⌜ Opens
-        (openOf (grammarIn (now (grammar .entry))) (now (chart .entry)))
+        (openOf (dated (grammarIn (now (grammar .entry)))) (now (chart .entry)))
         c (now (hand .exit)) (now (chart .exit)) ⌝ }
 {
     let a = recognizer::open(c_grammar::read::read(grammar), chart);
@@ -68,7 +69,7 @@ pub extern "C" fn filbozseg_check(
     chart: &mut [u32],
 ) -> u32
     ensures { λ c. ⌜ Checks
-        (checkOf (grammarIn (now (grammar .entry))) (now (input .entry)) (now (offered .entry)) (now (chart .entry)))
+        (checkOf (dated (grammarIn (now (grammar .entry)))) (now (input .entry)) (now (offered .entry)) (now (chart .entry)))
         c (now (chart .exit)) ⌝ }
 {
     c_answer::of_verdict(checker::check(c_grammar::read::read(grammar), input, offered, chart))
@@ -84,7 +85,7 @@ pub extern "C" fn filbozseg_length(
     tenths: &mut i32,
 ) -> u32
     ensures { λ c. ⌜ Measures
-        (lengthOf (grammarIn (now (grammar .entry))) (now (input .entry)) (now (offered .entry)) (now (chart .entry)))
+        (lengthOf (dated (grammarIn (now (grammar .entry)))) (now (input .entry)) (now (offered .entry)) (now (chart .entry)))
         (now (tenths .entry)) c (now (chart .exit)) (now (tenths .exit)) ⌝ }
 {
     let measured = checker::length(c_grammar::read::read(grammar), input, offered, chart);
@@ -101,7 +102,7 @@ pub extern "C" fn filbozseg_same_build(
     chart: &mut [u32],
 ) -> u32
     ensures { λ c. ⌜ Checks
-        (sameBuildOf (grammarIn (now (grammar .entry))) (now (input .entry)) (now (a .entry)) (now (b .entry)) (now (chart .entry)))
+        (sameBuildOf (dated (grammarIn (now (grammar .entry)))) (now (input .entry)) (now (a .entry)) (now (b .entry)) (now (chart .entry)))
         c (now (chart .exit)) ⌝ }
 {
     c_answer::of_verdict(checker::same_build(c_grammar::read::read(grammar), input, a, b, chart))

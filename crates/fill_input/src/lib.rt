@@ -9,7 +9,7 @@ ghost use lib.ListN.{length};
 ghost use Rattle.cfg.specs.Grammar.{rule as ruleOfNumber};
 ghost use Rattle.chart.specs.Column.{filled};
 ghost use Rattle.packed_fit.specs.Fit.{Told};
-ghost use Rattle.grammar.specs.View.{grammarOf};
+ghost use Rattle.grammar.specs.View.{dated, grammarOf};
 ghost use Rattle.packed.specs.Packed.{cfgIn};
 ghost use Rattle.fill_input.specs.Judging.{Judging, JudgingOutput, Fillable};
 
@@ -54,8 +54,8 @@ pub fn judge_output(g: Grammar, n: usize, m: usize, k: usize) -> Judged
 // The packed grammar. The chart is filled for the input, and the fit table is made, which the caller needs after this.
 pub fn fill_fits(g: Grammar, input: &[u8], fits: &mut FitTable, chart: &mut [u32]) -> Packed
     requires { ⌜ Fillable g (length (now input)) (length (now chart)) ⌝ }
-    ensures { λ p. ⌜ ((now (chart .exit) ≡ filled (grammarOf g) (now (input .entry)) (now (chart .entry)))
-        × ((r : ℕ) → ruleOfNumber (cfgIn (g .start) p) r ≡ ruleOfNumber (grammarOf g) r))
+    ensures { λ p. ⌜ ((now (chart .exit) ≡ filled (grammarOf (dated g)) (now (input .entry)) (now (chart .entry)))
+        × ((r : ℕ) → ruleOfNumber (cfgIn (g .start) p) r ≡ ruleOfNumber (grammarOf (dated g)) r))
         × Told p (now (input .entry)) (now (fits .exit)) ⌝ }
 {
     let p = packed_make::pack(g);
@@ -68,8 +68,8 @@ pub fn fill_fits(g: Grammar, input: &[u8], fits: &mut FitTable, chart: &mut [u32
 // checker's calls, and the fit table would take 8 KB of stack during the checker's recursion.
 pub fn fill(g: Grammar, input: &[u8], chart: &mut [u32]) -> Packed
     requires { ⌜ Fillable g (length (now input)) (length (now chart)) ⌝ }
-    ensures { λ p. ⌜ (now (chart .exit) ≡ filled (grammarOf g) (now (input .entry)) (now (chart .entry)))
-        × ((r : ℕ) → ruleOfNumber (cfgIn (g .start) p) r ≡ ruleOfNumber (grammarOf g) r) ⌝ }
+    ensures { λ p. ⌜ (now (chart .exit) ≡ filled (grammarOf (dated g)) (now (input .entry)) (now (chart .entry)))
+        × ((r : ℕ) → ruleOfNumber (cfgIn (g .start) p) r ≡ ruleOfNumber (grammarOf (dated g)) r) ⌝ }
 {
     let p = packed_make::pack(g);
     let fits = packed_fit::table(&p, input);

@@ -8,7 +8,7 @@ use Rattle.chart.specs.Column.{complete}
 use Rattle.theory_costs.specs.Span.{bytesOf}
 use Rattle.packed_fit.specs.Fit.{Told}
 use Rattle.grammar.specs.declared.Grammar.{Grammar}
-use Rattle.grammar.specs.View.{grammarOf}
+use Rattle.grammar.specs.View.{dated, grammarOf}
 use Rattle.answers.specs.declared.Refusal.{Refusal}
 use Rattle.answers.specs.Number.{numberOf}
 use Rattle.packed.specs.Packed.{cfgIn}
@@ -35,17 +35,17 @@ filled-ready g p w fits chart chart' k j judging is (filling, told) =
     (a, b, c, told, t)
 
 module _ (g : Grammar) (w chart out : List ℕ) (j : Judged) (judging : JudgingOutput g (length w) (length chart) (length out) j) where
-  pub first-refused : (r : Refusal) → j ≡ Refused r → enumerationOf (refused (numberOf r)) chart out ≡ firstOf g w chart out
+  pub first-refused : (r : Refusal) → j ≡ Refused r → enumerationOf (refused (numberOf r)) chart out ≡ firstOf (dated g) w chart out
   unfolding firstOf onOutput
   first-refused r h = sym (output-refused g w chart _ _ out j judging r h)
 
   module _ (is : j ≡ Passed) (p chart' : List ℕ) (filling : Filling g p w chart chart') (s : ℕ) (start : s ≡ g .start) where
     -- over the grammar that was packed
-    over-packed : firstFilled (cfgIn s p) w chart' out ≡ firstIn (grammarOf g) w chart out
+    over-packed : firstFilled (cfgIn s p) w chart' out ≡ firstIn (grammarOf (dated g)) w chart out
     unfolding firstIn treeIn complete cfgIn
     over-packed = rw (filling .0, list-packed g p w (filling .1) s start, start)
 
     pub first-answered : (a : Answer Handing) (out' : List ℕ) → enumerationOf a chart' out' ≡ firstFilled (cfgIn s p) w chart' out
-        → enumerationOf a chart' out' ≡ firstOf g w chart out
+        → enumerationOf a chart' out' ≡ firstOf (dated g) w chart out
     unfolding firstOf onOutput
     first-answered a out' d = d ∙ over-packed ∙ sym (output-passed g w chart _ _ out j judging is)

@@ -11,7 +11,7 @@ use Rattle.chart.proofs.Truth.{filled-true, filled-length}
 use Rattle.theory_costs.specs.Span.{bytesOf}
 use Rattle.theory_costs.proofs.Span.{tree-parse}
 use Rattle.grammar.specs.declared.Grammar.{Grammar}
-use Rattle.grammar.specs.View.{grammarOf}
+use Rattle.grammar.specs.View.{dated, grammarOf}
 use Rattle.packed.specs.Packed.{cfgIn}
 use Rattle.packed.proofs.Laws.{cfg-in-bounded}
 use Rattle.fill_input.specs.Judging.{Fillable}
@@ -28,14 +28,14 @@ chart-true p w chart h c i j a b k e t T =
 -- the chart was filled, and the packed bytes have the rules of the grammar
 abbrev pub Filling : Grammar → List ℕ → List ℕ → List ℕ → List ℕ → Type 0
 Filling g p w chart chart' =
-    (chart' ≡ filled (grammarOf g) w chart) × ((r : ℕ) → rule (cfgIn (g .start) p) r ≡ rule (grammarOf g) r)
+    (chart' ≡ filled (grammarOf (dated g)) w chart) × ((r : ℕ) → rule (cfgIn (g .start) p) r ≡ rule (grammarOf (dated g)) r)
 
 -- so the chart is long enough, and true for the packed grammar
 pub filled-chart : (g : Grammar) (p w chart chart' : List ℕ) → Fillable g (length w) (length chart) → Filling g p w chart chart'
     → (length w ≤ maxInput) × (cells ≤ length chart') × ChartTrue p (bytesOf w) chart' (length w)
 filled-chart g p w chart chart' (v, short, room) (e, same) = (
   short,
-  rw (e, filled-length (grammarOf g) w chart room) room,
+  rw (e, filled-length (grammarOf (dated g)) w chart room) room,
   subst (λ (x : List ℕ). ChartTrue p (bytesOf w) x (length w)) (filled-packed g p w same chart _ refl ∙ sym e)
       (chart-true p w chart short room),
 )

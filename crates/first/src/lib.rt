@@ -14,6 +14,7 @@ ghost use Rattle.sizes.specs.Sizes.{cells, outputSize, maxInput};
 ghost use Rattle.theory_costs.specs.Span.{bytesOf};
 ghost use Rattle.packed_fit.specs.Fit.{Told};
 ghost use Rattle.packed.specs.Packed.{cfgIn};
+ghost use Rattle.grammar.specs.View.{dated};
 ghost use Rattle.results.specs.Enumerate.{firstOf};
 ghost use Rattle.table_layout.specs.Exact.{ChartTrue};
 ghost use Rattle.first_made.specs.Written.{enumerationOf, firstTree};
@@ -68,7 +69,7 @@ fn first_filled(
 // The first derivation of the input, written to the front of the output. Refusals 8 to 11 and 13.
 pub fn first(g: Grammar, input: &[u8], chart: &mut [u32], out: &mut [u16]) -> Handed
     ensures { λ a. ⌜ enumerationOf (handingOf a) (now (chart .exit)) (now (out .exit))
-        ≡ firstOf g (now (input .entry)) (now (chart .entry)) (now (out .entry)) ⌝ }
+        ≡ firstOf (dated g) (now (input .entry)) (now (chart .entry)) (now (out .entry)) ⌝ }
 {
     match fill_input::judge_output(g, input.len(), chart.len(), out.len()) {
         Judged::Refused(r) => Handed::Refused(r),

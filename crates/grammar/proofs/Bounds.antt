@@ -5,7 +5,7 @@ use native.Mathlib.Omega.{arith}
 use mathlib.Core.Bool.{true}
 use mathlib.Core.List.{List, [], _∷_, map, List·Memᴰ, List·Memᴰ·not-nil, List·Memᴰ·cases-cons}
 use mathlib.Core.Logic.{⊎-elim}
-use mathlib.Core.Option.{some, Option·some-injective}
+use mathlib.Core.Option.{Option, some, Option·some-injective}
 use mathlib.Core.Path.{_≡_, sym, ap, subst, _∙_}
 use lib.Dec.{leb}
 use lib.ListN.{take, getD, getElem?}
@@ -20,7 +20,7 @@ use Rattle.grammar.specs.declared.Place.{Place}
 use Rattle.grammar.specs.declared.Rule.{Rule}
 use Rattle.grammar.specs.declared.Grammar.{Grammar}
 use Rattle.grammar.specs.Valid.{all, validSymbol, validPlace, validRule, validGrammar}
-use Rattle.grammar.specs.View.{symbolOf, placeOf, ruleOf, grammarOf}
+use Rattle.grammar.specs.View.{symbolOf, placeOf, ruleOf, viewedBy, wholeOf, Dated, grammarOf}
 use Rattle.grammar.specs.Zero.{noRule}
 use Rattle.grammar.proofs.All.{all-at}
 use Rattle.grammar.proofs.Laws.{noRule-valid}
@@ -62,11 +62,19 @@ meaning ρ = record { left = ρ .left; places = map placeOf (take (ρ .count) (�
 abbrev Meant : Abstract.Rule → Type 0
 Meant σ = (ρ : Rule) × (validRule ρ ≡ true) × (meaning ρ ≡ σ)
 
-meant : (l : List Rule) (r : ℕ) (σ : Abstract.Rule) → all validRule l ≡ true → joined (getElem? (map ruleOf l) r) ≡ some σ → Meant σ
-unfolding all joined
-meant [] r σ v e = clash cc
-meant (ρ ∷ l) zero σ v e = (ρ, and-parts (validRule ρ) (all validRule l) v .0, Option·some-injective (meaning ρ) σ e)
-meant (ρ ∷ l) (suc r) σ v e = meant l r σ (and-parts (validRule ρ) (all validRule l) v .1) e
+-- a rule that a view shows is the one that the record means
+abbrev Shows : (Rule → Option Abstract.Rule) → Type 0
+Shows view = (ρ : Rule) (σ : Abstract.Rule) → view ρ ≡ some σ → meaning ρ ≡ σ
+
+whole-shows : Shows ruleOf
+whole-shows ρ σ e = Option·some-injective (meaning ρ) σ e
+
+module _ (view : Rule → Option Abstract.Rule) (shows : Shows view) where
+  meant : (l : List Rule) (r : ℕ) (σ : Abstract.Rule) → all validRule l ≡ true → joined (getElem? (map view l) r) ≡ some σ → Meant σ
+  unfolding all joined
+  meant [] r σ v e = clash cc
+  meant (ρ ∷ l) zero σ v e = (ρ, and-parts (validRule ρ) (all validRule l) v .0, shows ρ σ e)
+  meant (ρ ∷ l) (suc r) σ v e = meant l r σ (and-parts (validRule ρ) (all validRule l) v .1) e
 
 symbol-bounded : (s : Symbol) (k : ℕ) → validSymbol s ≡ true → Abstract.nonterminal k ≡ symbolOf s → k < 32
 symbol-bounded (Nonterminal m) k v e = let q : k ≡ m = cc in omega (arith, leb-true m 31 v)
@@ -80,18 +88,30 @@ places-bounded (p ∷ l) k v m =
     let h = and-parts (validPlace p) (all validPlace l) v in
     ⊎-elim (λ e. symbol-bounded (p .symbol) k (h .0) e) (λ n. places-bounded l k (h .1) n) (List·Memᴰ·cases-cons m)
 
-module _ (g : Grammar) (valid : validGrammar g ≡ true) (r k : ℕ) (o : Of (grammarOf g) r k) where
+-- what holds of any view
+module _ (view : Rule → Option Abstract.Rule) (shows : Shows view) (g : Grammar) (valid : validGrammar g ≡ true) (r k : ℕ)
+    (o : Of (viewedBy view g) r k) where
   of-meant : Meant (o .the)
-  of-meant = meant (take (g .count) (g .rules)) r (o .the) (grammar-parts g valid .2) (o .here)
+  of-meant = meant view shows (take (g .count) (g .rules)) r (o .the) (grammar-parts g valid .2) (o .here)
 
-  -- the left side of a rule is below 32
-  pub valid-bounded : k < 32
-  valid-bounded =
+  view-bounded : k < 32
+  view-bounded =
       let h : of-meant .0 .left ≡ k = ap (λ (σ : Abstract.Rule). σ .left) (of-meant .2) ∙ o .left in
       omega (arith, rule-parts (of-meant .0) (of-meant .1) .0)
 
-  -- a nonterminal in the places of a rule is below 32
-  pub valid-symbols : (j : ℕ) → List·Memᴰ (Abstract.nonterminal j) (o .the .places) → j < 32
-  valid-symbols j m =
+  view-symbols : (j : ℕ) → List·Memᴰ (Abstract.nonterminal j) (o .the .places) → j < 32
+  view-symbols j m =
       places-bounded (take (of-meant .0 .count) (of-meant .0 .places)) j (rule-parts (of-meant .0) (of-meant .1) .2)
       (subst (λ (σ : Abstract.Rule). List·Memᴰ (Abstract.nonterminal j) (σ .places)) (sym (of-meant .2)) m)
+
+-- the left side of a rule is below 32: of the whole grammar, and of the one by which an input is read
+pub whole-bounded : (g : Grammar) → validGrammar g ≡ true → (r k : ℕ) → Of (wholeOf g) r k → k < 32
+whole-bounded = view-bounded ruleOf whole-shows
+
+module _ (g : Dated) (valid : validGrammar (g .grammar) ≡ true) (r k : ℕ) (o : Of (grammarOf g) r k) where
+  pub valid-bounded : k < 32
+  valid-bounded = view-bounded ruleOf whole-shows (g .grammar) valid r k o
+
+  -- a nonterminal in the places of a rule is below 32
+  pub valid-symbols : (j : ℕ) → List·Memᴰ (Abstract.nonterminal j) (o .the .places) → j < 32
+  valid-symbols = view-symbols ruleOf whole-shows (g .grammar) valid r k o

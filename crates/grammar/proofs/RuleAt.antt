@@ -1,18 +1,20 @@
--- The rules of the abstract grammar by their numbers: below the count the declared rule of that number, and from the count on none.
--- Assumes nothing.
+-- The rules of the abstract grammar by their numbers: below the count what the view shows of the record of that number, and from the count
+-- on none. Assumes nothing.
 use Prim.Native.Nat.{ℕ, zero, suc, _≤_, _<_}
 use native.Mathlib.Nat.{le-of-suc-le-suc, not-suc-le-zero}
 use native.Mathlib.Omega.{arith}
 use mathlib.Core.Bool.{true}
 use mathlib.Core.List.{List, [], _∷_, map}
-use mathlib.Core.Option.{none, some}
+use mathlib.Core.Option.{Option, none, some}
 use mathlib.Core.Path.{_≡_, refl, ap}
 use lib.ListN.{length, take, getD, getElem?}
 use Rattle.sizes.specs.Sizes.{maxRules}
+use Rattle.cfg.specs.Grammar as Abstract
 use Rattle.cfg.specs.Grammar.{joined, rule}
 use Rattle.grammar.specs.declared.Grammar.{Grammar}
+use Rattle.grammar.specs.declared.Rule.{Rule}
 use Rattle.grammar.specs.Valid.{validGrammar}
-use Rattle.grammar.specs.View.{ruleOf, grammarOf}
+use Rattle.grammar.specs.View.{viewedBy}
 use Rattle.grammar.specs.Zero.{noRule}
 use Rattle.grammar.proofs.Bounds.{valid-count}
 
@@ -29,13 +31,14 @@ module _ {A B : Type 0} (f : A → B) where
   getElem-map-past (a ∷ l) (suc n) zero h = absurd (not-suc-le-zero h)
   getElem-map-past (a ∷ l) (suc n) (suc r) h = getElem-map-past l n r (le-of-suc-le-suc h)
 
-pub rule-at : (g : Grammar) (r : ℕ) → length (g .rules) ≡ maxRules → validGrammar g ≡ true → r < g .count
-    → rule (grammarOf g) r ≡ ruleOf (getD (g .rules) r noRule)
-unfolding joined
-rule-at g r e v h =
-    let k : r < length (g .rules) = omega (arith, valid-count g v) in
-    ap joined (getElem-map-take ruleOf (g .rules) noRule (g .count) r h k)
+module _ (view : Rule → Option Abstract.Rule) (g : Grammar) (r : ℕ) where
+  pub rule-at : length (g .rules) ≡ maxRules → validGrammar g ≡ true → r < g .count
+      → rule (viewedBy view g) r ≡ view (getD (g .rules) r noRule)
+  unfolding joined
+  rule-at e v h =
+      let k : r < length (g .rules) = omega (arith, valid-count g v) in
+      ap joined (getElem-map-take view (g .rules) noRule (g .count) r h k)
 
-pub rule-past : (g : Grammar) (r : ℕ) → g .count ≤ r → rule (grammarOf g) r ≡ none
-unfolding joined
-rule-past g r h = ap joined (getElem-map-past ruleOf (g .rules) (g .count) r h)
+  pub rule-past : g .count ≤ r → rule (viewedBy view g) r ≡ none
+  unfolding joined
+  rule-past h = ap joined (getElem-map-past view (g .rules) (g .count) r h)

@@ -26,13 +26,24 @@ placeOf p = symbolOf (p .symbol)
 abbrev pub ruleOf : Rule → Option Abstract.Rule
 ruleOf r = some (record { left = r .left; places = map placeOf (take (r .count) (r .places)) })
 
--- the whole grammar (book): its used rule records count, each under its own number. Loading and the nullable depth are about it
+-- the grammar of the used rule records, each under its own number; `view` says which rule a record means, if any
+abbrev pub viewedBy : (Rule → Option Abstract.Rule) → Grammar → Abstract.Cfg
+viewedBy view g = record { start = g .start; rules = map view (take (g .count) (g .rules)) }
+
+-- the whole grammar (book). Loading and the nullable depth are about it
 abbrev pub wholeOf : Grammar → Abstract.Cfg
-wholeOf g = record { start = g .start; rules = map ruleOf (take (g .count) (g .rules)) }
+wholeOf g = viewedBy ruleOf g
+
+-- what decides the grammar by which an input is read: today a declared grammar alone
+pub record Dated : Type 0 where
+  pub grammar : Grammar
+
+abbrev pub dated : Grammar → Dated
+dated g = record { grammar = g }
 
 -- the grammar by which an input is read: today the whole one. All calls on an input or a recognizer are about it
-abbrev pub grammarOf : Grammar → Abstract.Cfg
-grammarOf g = wholeOf g
+abbrev pub grammarOf : Dated → Abstract.Cfg
+grammarOf g = viewedBy ruleOf (g .grammar)
 
 -- the length of the rule of a number, in hundredths of a millimetre
 abbrev pub lengthsOf : Grammar → ℕ → ℤ

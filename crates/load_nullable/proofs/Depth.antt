@@ -23,7 +23,7 @@ use Rattle.grammar.specs.declared.Grammar.{Grammar}
 use Rattle.grammar.specs.Valid.{validGrammar}
 use Rattle.grammar.specs.View.{ruleOf, wholeOf}
 use Rattle.grammar.specs.Zero.{noRule}
-use Rattle.grammar.proofs.Bounds.{valid-bounded}
+use Rattle.grammar.proofs.Bounds.{whole-bounded}
 use Rattle.load_nullable.specs.Nullable.{ruleKnown, addHead, ExactNullable}
 use Rattle.load_nullable.proofs.Pass.{rules-next}
 use Rattle.load_nullable.proofs.Empty.{places-known}
@@ -69,7 +69,7 @@ module _ (g : Grammar) (set : ℕ) where
   -- the nullable nonterminals are level 32
   exact-top : validGrammar g ≡ true → ExactNullable g set → set ≡ level (wholeOf g) 32
   exact-top valid E =
-      let low : (r j : ℕ) → Of (wholeOf g) r j → j < 32 = valid-bounded g valid in
+      let low : (r j : ℕ) → Of (wholeOf g) r j → j < 32 = whole-bounded g valid in
       set-ext set (level (wholeOf g) 32) (E .word) (level-word (wholeOf g) low 32) (λ k h. bool-ext _ _
       (λ e. level-all (wholeOf g) low k (E .sound k e))
       (λ e. let (t, p, l) = level-sound (wholeOf g) 32 k e in E .complete k (t, p)))

@@ -21,6 +21,7 @@ ghost use Rattle.packed_fit.specs.Fit.{Told};
 ghost use Rattle.first_made.specs.Written.{enumerationOf};
 ghost use Rattle.answers.specs.Answers.{handingOf};
 ghost use Rattle.packed.specs.Packed.{cfgIn};
+ghost use Rattle.grammar.specs.View.{dated};
 ghost use Rattle.results.specs.Check.{listed};
 ghost use Rattle.results.specs.Enumerate.{nextOf};
 ghost use Rattle.sizes.specs.Sizes.{maxInput, cells, outputSize};
@@ -85,7 +86,7 @@ fn next_filled(
 // The derivation after the offered one, written to the front of the output. Refusals 8 to 12.
 pub fn next(g: Grammar, input: &[u8], offered: &[u16], chart: &mut [u32], out: &mut [u16]) -> Handed
     ensures { λ a. ⌜ enumerationOf (handingOf a) (now (chart .exit)) (now (out .exit))
-        ≡ nextOf g (now (input .entry)) (now (offered .entry)) (now (chart .entry)) (now (out .entry)) ⌝ }
+        ≡ nextOf (dated g) (now (input .entry)) (now (offered .entry)) (now (chart .entry)) (now (out .entry)) ⌝ }
 {
     match fill_input::judge_output(g, input.len(), chart.len(), out.len()) {
         Judged::Refused(r) => Handed::Refused(r),

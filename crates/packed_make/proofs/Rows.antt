@@ -12,7 +12,7 @@ use Rattle.laws.proofs.Lists.{below-step}
 use Rattle.cfg.specs.Grammar.{rule}
 use Rattle.grammar.specs.declared.Grammar.{Grammar}
 use Rattle.grammar.specs.Valid.{validGrammar}
-use Rattle.grammar.specs.View.{ruleOf, grammarOf}
+use Rattle.grammar.specs.View.{ruleOf, dated, grammarOf}
 use Rattle.grammar.specs.Zero.{noRule}
 use Rattle.grammar.proofs.Bounds.{valid-count}
 use Rattle.grammar.proofs.RuleAt.{rule-at, rule-past}
@@ -53,11 +53,11 @@ module _ (g : Grammar) where
   }
 
   pub rows-done : (s r : ℕ) (p : List ℕ) → length (g .rules) ≡ maxRules → validGrammar g ≡ true → r ≤ g .count → g .count ≤ r → Rows g r p
-      → (k : ℕ) → rule (cfgIn s p) k ≡ rule (grammarOf g) k
+      → (k : ℕ) → rule (cfgIn s p) k ≡ rule (grammarOf (dated g)) k
   rows-done s r p full valid h l rows k = go (decLt k (g .count)) (decLt k maxRules)
     where
-      go : Dec (k < g .count) → Dec (k < maxRules) → rule (cfgIn s p) k ≡ rule (grammarOf g) k
+      go : Dec (k < g .count) → Dec (k < maxRules) → rule (cfgIn s p) k ≡ rule (grammarOf (dated g)) k
       go (yes a) b =
-          rule-in s p k (omega (arith, valid-count g valid)) ∙ rows .done k (omega arith) ∙ sym (rule-at g k full valid a)
-      go (no a) (yes b) = rule-in s p k b ∙ rows .unused k (omega arith) b ∙ sym (rule-past g k (omega arith))
-      go (no a) (no b) = rule-in-past s p k (omega arith) ∙ sym (rule-past g k (omega arith))
+          rule-in s p k (omega (arith, valid-count g valid)) ∙ rows .done k (omega arith) ∙ sym (rule-at ruleOf g k full valid a)
+      go (no a) (yes b) = rule-in s p k b ∙ rows .unused k (omega arith) b ∙ sym (rule-past ruleOf g k (omega arith))
+      go (no a) (no b) = rule-in-past s p k (omega arith) ∙ sym (rule-past ruleOf g k (omega arith))

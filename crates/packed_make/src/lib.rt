@@ -13,7 +13,7 @@ ghost use lib.ListN.{length};
 ghost use Rattle.sizes.specs.Sizes.{maxRules};
 ghost use Rattle.cfg.specs.Grammar.{rule as ruleOfNumber};
 ghost use Rattle.grammar.specs.Valid.{validRule, validGrammar};
-ghost use Rattle.grammar.specs.View.{grammarOf};
+ghost use Rattle.grammar.specs.View.{dated, grammarOf};
 ghost use Rattle.packed.specs.Packed.{cfgIn, packedSize};
 ghost use Rattle.packed_make.specs.Place.{RulePacked};
 
@@ -39,7 +39,7 @@ fn pack_rule(rule: Rule, r: usize, p: &mut Packed)
 // The packed grammar. Rules that are not used have the left side 255.
 pub fn pack(g: Grammar) -> Packed
     requires { ⌜ validGrammar g ≡ true ⌝ }
-    ensures { λ p. ⌜ ((r : ℕ) → ruleOfNumber (cfgIn (g .start) p) r ≡ ruleOfNumber (grammarOf g) r) ⌝ }
+    ensures { λ p. ⌜ ((r : ℕ) → ruleOfNumber (cfgIn (g .start) p) r ≡ ruleOfNumber (grammarOf (dated g)) r) ⌝ }
 {
     let mut p = [255u8; PACKED_SIZE];
     let n = g.count;

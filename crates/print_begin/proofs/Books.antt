@@ -12,6 +12,7 @@ use Rattle.check_length.specs.Measure.{lengthsIn}
 use Rattle.demands.specs.LoadDemand.{LoadDemand}
 use Rattle.demands.proofs.LoadDemand.{load-demand}
 use Rattle.grammar.specs.Valid.{validGrammar}
+use Rattle.grammar.specs.View.{dated}
 use Rattle.answers.specs.declared.Refusal.{Refusal}
 use Rattle.answers.specs.declared.Outcome.the-variants.{Accepted, Refused}
 use Rattle.answers.specs.Number.{numberOf}
@@ -60,7 +61,7 @@ module _ (book w : List ℕ) (b : Loaded) (load : loadingOf b ≡ loadOf book) w
         → BookBegun book w p lengths chart chart' fits tables buf₀ buf d
     unfolding loadedText
     book-begun p lengths chart chart' fits tables buf₀ buf d I =
-        let e : loadedText (loadingOf b) w ≡ inputText (b .grammar) w = rw is in
+        let e : loadedText (loadingOf b) w ≡ inputText (dated (b .grammar)) w = rw is in
         record {
           rows = I .rows;
           chart-long = I .chart-long;

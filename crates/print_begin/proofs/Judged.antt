@@ -16,7 +16,7 @@ use Rattle.theory_costs.specs.Span.{bytesOf}
 use Rattle.first.proofs.Chart.{Filling, filled-chart}
 use Rattle.grammar.specs.declared.Grammar.{Grammar}
 use Rattle.grammar.specs.Valid.{validGrammar}
-use Rattle.grammar.specs.View.{grammarOf, lengthsOf}
+use Rattle.grammar.specs.View.{dated, grammarOf, lengthsOf}
 use Rattle.grammar.proofs.Bounds.{valid-bounded}
 use Rattle.answers.specs.declared.Refusal.{Refusal}
 use Rattle.answers.specs.Number.{numberOf}
@@ -83,13 +83,13 @@ module _ (f h : ℕ → ℤ) (same : (e : List ℕ) → tenthsOf f e ≡ tenthsO
 
 -- without a derivation the line is the same over every chart that is long enough
 empty-any : (g : Grammar) → validGrammar g ≡ true → (w : List ℕ) → length w ≤ maxInput → (chart : List ℕ) → cells ≤ length chart
-    → cond (treeIn (grammarOf g) w chart) (refusedLine 13) noReadingLine ∷ [] ≡ emptyText (grammarOf g) w
+    → cond (treeIn (grammarOf (dated g)) w chart) (refusedLine 13) noReadingLine ∷ [] ≡ emptyText (grammarOf (dated g)) w
 unfolding emptyText
 empty-any g valid w short chart room =
-    let tree = tree-decided (grammarOf g) (valid-bounded g valid) w short in
+    let tree = tree-decided (grammarOf (dated g)) (valid-bounded (dated g) valid) w short in
     ap (λ (x : List ℕ). x ∷ [])
-    (treeIn-choice (grammarOf g) (valid-bounded g valid) w short chart room tree (refusedLine 13) noReadingLine
-    ∙ sym (treeIn-choice (grammarOf g) (valid-bounded g valid) w short (replicate cells 0)
+    (treeIn-choice (grammarOf (dated g)) (valid-bounded (dated g) valid) w short chart room tree (refusedLine 13) noReadingLine
+    ∙ sym (treeIn-choice (grammarOf (dated g)) (valid-bounded (dated g) valid) w short (replicate cells 0)
     (omega (arith, length-replicate {A = ℕ} cells 0)) tree (refusedLine 13) noReadingLine))
 
 module _ (g : Grammar) (w chart : List ℕ) (j : Judged) (judging : Judging g (length w) (length chart) j) (is : j ≡ Passed)
@@ -99,14 +99,14 @@ module _ (g : Grammar) (w chart : List ℕ) (j : Judged) (judging : Judging g (l
   judged-filled = filled-chart g p w chart chart' (judged-ready g (length w) (length chart) j judging is) filling
 
   module _ (s : ℕ) (start : s ≡ g .start) (l : List ℤ) (lengths : l ≡ map lengthOfRule (g .rules)) where
-    empty-same : cond (complete (cfgIn s p) (length w) chart') (refusedLine 13) noReadingLine ∷ [] ≡ emptyText (grammarOf g) w
+    empty-same : cond (complete (cfgIn s p) (length w) chart') (refusedLine 13) noReadingLine ∷ [] ≡ emptyText (grammarOf (dated g)) w
     unfolding treeIn complete cfgIn
     empty-same =
         let (v, a, b) = judged-ready g (length w) (length chart) j judging is in
         rw (filling .0, start) (empty-any g v w a chart b)
 
     text-over : textBy (lengthsIn l) (cond (complete (cfgIn s p) (length w) chart') (refusedLine 13) noReadingLine ∷ []) (L (cfgIn s p) w)
-        ≡ inputText g w
+        ≡ inputText (dated g) w
     unfolding inputText
     text-over =
         let (v, a, b) = judged-ready g (length w) (length chart) j judging is in
@@ -121,7 +121,7 @@ module _ (g : Grammar) (w chart : List ℕ) (j : Judged) (judging : Judging g (l
         let (v, a, b) = judged-ready g (length w) (length chart) j judging is in
         record {
           rows = ap length lengths ∙ length-map (g .rules) lengthOfRule ∙ full;
-          chart-long = ap length (filling .0) ∙ filled-length (grammarOf g) w chart b;
+          chart-long = ap length (filling .0) ∙ filled-length (grammarOf (dated g)) w chart b;
           long = F .long;
           sized = F .sized;
           ahead = subst (Ahead (lengthsIn l) p fits chart' tables buf d) text-over (F .ahead (lengthsIn l));

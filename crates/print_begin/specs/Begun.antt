@@ -10,6 +10,7 @@ use Rattle.cfg.specs.Listing.{L}
 use Rattle.chart.specs.Column.{complete}
 use Rattle.check_length.specs.Measure.{lengthsIn}
 use Rattle.grammar.specs.declared.Grammar.{Grammar}
+use Rattle.grammar.specs.View.{dated}
 use Rattle.packed.specs.Packed.{cfgIn}
 use Rattle.text.specs.Line.{refusedLine, noReadingLine}
 use Rattle.text.specs.Text.{textBy, inputText, textOf}
@@ -35,7 +36,7 @@ pub record InputBegun (g : Grammar) (w p : List ℕ) (lengths : List ℤ) (chart
   pub chart-long : length chart ≡ length chart₀
   pub long : length buf ≡ length buf₀
   pub sized : DueSized d
-  pub ahead : Ahead (lengthsIn lengths) p fits chart tables buf d (inputText g w)
+  pub ahead : Ahead (lengthsIn lengths) p fits chart tables buf d (inputText (dated g) w)
 
 -- for the bytes of a book
 pub record BookBegun (book w p : List ℕ) (lengths : List ℤ) (chart₀ chart fits tables buf₀ buf : List ℕ) (d : Due) : Type 0 where

@@ -15,7 +15,7 @@ use Rattle.chart.specs.Column.{opened, extended, complete}
 use Rattle.chart.proofs.SameRules.{SameRules, opened-same-rules, extended-same-rules}
 use Rattle.grammar.specs.declared.Grammar.{Grammar}
 use Rattle.grammar.specs.Valid.{validGrammar}
-use Rattle.grammar.specs.View.{grammarOf}
+use Rattle.grammar.specs.View.{dated, grammarOf}
 use Rattle.packed.specs.Packed.{cfgIn}
 use Rattle.packed.proofs.Laws.{cfg-in-bounded}
 use Rattle.results.specs.Answer.{Answer, refused, answered, decide}
@@ -39,7 +39,7 @@ module _ (k : State) (w : List ℕ) (next : k ≡ stateOf w) where
   count-part = sym (length-take-le (k .count) (k .bytes) count-fits)
 
 -- the packed grammar's rules are the grammar's, whatever its start symbol is
-same-rules : (g : Grammar) (s : ℕ) (p : List ℕ) → SameRules (cfgIn s p) (grammarOf g) → SameRules (cfgIn 0 p) (grammarOf g)
+same-rules : (g : Grammar) (s : ℕ) (p : List ℕ) → SameRules (cfgIn s p) (grammarOf (dated g)) → SameRules (cfgIn 0 p) (grammarOf (dated g))
 unfolding cfgIn
 same-rules g s p same r = same r
 
@@ -59,24 +59,25 @@ module _ (g : Grammar) (chart : List ℕ) where
   -- ---- opening
 
   module _ (a : Answer Bool) (h : State) (zeros : h ≡ stateOf []) where
-    pub open-invalid : validGrammar g ≡ false → a ≡ refused 8 → given a h chart ≡ openOf g chart
+    pub open-invalid : validGrammar g ≡ false → a ≡ refused 8 → given a h chart ≡ openOf (dated g) chart
     unfolding openOf decide
     open-invalid v e = rw v (given-same a (refused 8) h (stateOf []) chart chart e zeros refl)
 
-    pub open-short : validGrammar g ≡ true → length chart < cells → a ≡ refused 10 → given a h chart ≡ openOf g chart
+    pub open-short : validGrammar g ≡ true → length chart < cells → a ≡ refused 10 → given a h chart ≡ openOf (dated g) chart
     unfolding openOf decide
     open-short v l e =
         rw (v, lt-ltb (length chart) cells l) (given-same a (refused 10) h (stateOf []) chart chart e zeros refl)
 
     pub open-right : (p chart' : List ℕ) → validGrammar g ≡ true → cells ≤ length chart
-        → ((r : ℕ) → rule (cfgIn (g .start) p) r ≡ rule (grammarOf g) r)
-        → chart' ≡ opened (cfgIn 0 p) chart → a ≡ answered (has (g .start) (cell chart' 0 0)) → given a h chart' ≡ openOf g chart
+        → ((r : ℕ) → rule (cfgIn (g .start) p) r ≡ rule (grammarOf (dated g)) r)
+        → chart' ≡ opened (cfgIn 0 p) chart → a ≡ answered (has (g .start) (cell chart' 0 0)) → given a h chart' ≡ openOf (dated g) chart
     unfolding openOf openIn decide complete
     open-right p chart' v l same e f =
-        let c : chart' ≡ opened (grammarOf g) chart =
-        e ∙ opened-same-rules (cfgIn 0 p) (grammarOf g) (same-rules g (g .start) p same) (cfg-in-bounded 0 p) chart in
+        let G = grammarOf (dated g) in
+        let c : chart' ≡ opened G chart =
+        e ∙ opened-same-rules (cfgIn 0 p) G (same-rules g (g .start) p same) (cfg-in-bounded 0 p) chart in
         rw (v, le-ltb (length chart) cells l)
-        (given-same a (answered (complete (grammarOf g) 0 (opened (grammarOf g) chart))) h (stateOf []) chart' (opened (grammarOf g) chart)
+        (given-same a (answered (complete G 0 (opened G chart))) h (stateOf []) chart' (opened G chart)
         (f ∙ ap (λ (x : List ℕ). answered (has (g .start) (cell x 0 0))) c) zeros c)
 
   -- ---- taking
@@ -116,17 +117,18 @@ module _ (g : Grammar) (chart : List ℕ) where
       bytes = ap (λ (s : State). take (s .count) (s .bytes)) next ∙ state-taken input
 
       pub take-right : (p chart' : List ℕ) → validGrammar g ≡ true → h .count < maxInput → cells ≤ length chart
-          → ((r : ℕ) → rule (cfgIn (g .start) p) r ≡ rule (grammarOf g) r)
+          → ((r : ℕ) → rule (cfgIn (g .start) p) r ≡ rule (grammarOf (dated g)) r)
           → chart' ≡ columnOf p (take (k .count) (k .bytes)) (k .count) chart
           → a ≡ answered (has (g .start) (cell chart' 0 (k .count))) → given a k chart' ≡ takeOf g h m chart
       unfolding takeOf takeIn decide complete extended
       take-right p chart' v o l same e f =
-          let c : chart' ≡ extended (grammarOf g) input chart =
+          let G = grammarOf (dated g) in
+          let c : chart' ≡ extended G input chart =
           e ∙ ap (λ (x : List ℕ). columnOf p x (k .count) chart) bytes ∙ ap (λ (x : ℕ). columnOf p input x chart) (sym size)
-          ∙ extended-same-rules (cfgIn 0 p) (grammarOf g) (same-rules g (g .start) p same) (cfg-in-bounded 0 p) input chart in
+          ∙ extended-same-rules (cfgIn 0 p) G (same-rules g (g .start) p same) (cfg-in-bounded 0 p) input chart in
           let d : h .count ≤ maxInput = omega arith in
           rw (v, le-ltb maxInput (h .count) d, le-ltb (length chart) cells l, ne-eqb (h .count) maxInput (omega arith))
-          (given-same a (answered (complete (grammarOf g) (h .count + 1) (extended (grammarOf g) input chart))) k (stateOf input)
-          chart' (extended (grammarOf g) input chart)
+          (given-same a (answered (complete G (h .count + 1) (extended G input chart))) k (stateOf input)
+          chart' (extended G input chart)
           (f ∙ ap (λ (x : ℕ). answered (has (g .start) (cell chart' 0 x))) count
           ∙ ap (λ (x : List ℕ). answered (has (g .start) (cell x 0 (h .count + 1)))) c) next c)

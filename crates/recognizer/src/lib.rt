@@ -18,6 +18,7 @@ ghost use Rattle.sizes.specs.Sizes.{cells, maxInput};
 ghost use Rattle.sets.specs.Set.{has as inSet};
 ghost use Rattle.chart.specs.Cell.{cell};
 ghost use Rattle.grammar.specs.Valid.{validGrammar};
+ghost use Rattle.grammar.specs.View.{dated};
 ghost use Rattle.answers.specs.Number.{numberOf};
 ghost use Rattle.answers.specs.Answers.{verdictOf};
 ghost use Rattle.results.specs.Answer.{answered, refused as refusedWith};
@@ -60,7 +61,7 @@ fn refused(h: Recognizer, r: Refusal) -> Advanced
 // Opens, once the checks are passed.
 fn opening(g: Grammar, chart: &mut [u32]) -> Advanced
     requires { ⌜ (validGrammar g ≡ true) × (cells ≤ length (now chart)) ⌝ }
-    ensures { λ r. ⌜ recognitionOf r (now (chart .exit)) ≡ openOf g (now (chart .entry)) ⌝ }
+    ensures { λ r. ⌜ recognitionOf r (now (chart .exit)) ≡ openOf (dated g) (now (chart .entry)) ⌝ }
 {
     let p = packed_make::pack(g);
     open_chart(&p, chart);
@@ -73,7 +74,7 @@ fn opening(g: Grammar, chart: &mut [u32]) -> Advanced
 
 // Opens. Refusals 8 and 10.
 pub fn open(g: Grammar, chart: &mut [u32]) -> Advanced
-    ensures { λ r. ⌜ recognitionOf r (now (chart .exit)) ≡ openOf g (now (chart .entry)) ⌝ }
+    ensures { λ r. ⌜ recognitionOf r (now (chart .exit)) ≡ openOf (dated g) (now (chart .entry)) ⌝ }
 {
     if !grammar::valid(g) {
         return refused(blank(), Refusal::InvalidGrammar);

@@ -11,7 +11,7 @@ use Rattle.results.specs.Recognize.{openOf}
 use Rattle.results.specs.Enumerate.{nextOf}
 use Rattle.results.specs.Drawer.{T, branches, start, newRule, nonterminalPlace, close}
 use Rattle.results.specs.Requests.{emptyTwins, emptyTwinsList}
-use Rattle.results.specs.Starred.{grammarFrom, outcome}
+use Rattle.results.specs.Starred.{datedFrom, outcome}
 use Rattle.results.proofs.Computing.{computing}
 use Rattle.results.proofs.Extra.{build}
 
@@ -33,13 +33,13 @@ unfolding computing
 limit-passed = (refl, refl, refl)
 
 -- opening says complete all the same
-pub limit-complete : openOf (grammarFrom emptyLarger) (replicate cells 7) .answer ≡ answered true
+pub limit-complete : openOf (datedFrom emptyLarger) (replicate cells 7) .answer ≡ answered true
 unfolding computing
 limit-complete = refl
 
 -- what next answers for T, offered a row
 unfoldable pub nextOn : List ℕ → Answer Handing
-nextOn offered = nextOf (grammarFrom T) [] offered (replicate cells 7) (replicate outputSize 9) .answer
+nextOn offered = nextOf (datedFrom T) [] offered (replicate cells 7) (replicate outputSize 9) .answer
 
 -- after the only derivation comes none; the row of no numbers is no derivation, since each tree has a node
 pub next-holds : (nextOn (0 ∷ 0 ∷ 0 ∷ 1 ∷ 0 ∷ 1 ∷ []) ≡ answered nothing) × (nextOn [] ≡ refused 12)

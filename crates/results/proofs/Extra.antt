@@ -17,7 +17,7 @@ use Rattle.results.specs.Recognize.{State, stateWith, openOf, takeOf}
 use Rattle.results.specs.Measure.{sameBuildOf}
 use Rattle.results.specs.Check.{checkOf}
 use Rattle.results.specs.Drawer.{T, start, newRule, nonterminalPlace, A, close, As}
-use Rattle.results.specs.Starred.{grammarFrom, outcome}
+use Rattle.results.specs.Starred.{grammarFrom, datedFrom, outcome}
 use Rattle.results.proofs.Computing.{computing}
 
 -- 0 → 1 A (100), 1 → nothing (-30)
@@ -30,7 +30,7 @@ unfolding computing
 gap-length = refl
 
 unfoldable pub build : List ℕ → List ℕ → List ℕ → List ℕ → Answer Bool
-build bytes w a b = sameBuildOf (grammarFrom bytes) w a b (replicate cells 7) .answer
+build bytes w a b = sameBuildOf (datedFrom bytes) w a b (replicate cells 7) .answer
 
 -- T, `A`: both derivations are one build, whichever place is empty
 pub same-T : build T (As 1) (1 ∷ 0 ∷ 0 ∷ 1 ∷ 1 ∷ 2 ∷ []) (1 ∷ 0 ∷ 1 ∷ 2 ∷ 0 ∷ 1 ∷ []) ≡ answered true
@@ -86,14 +86,14 @@ refused-take-kept = refl
 
 -- a refused opening gives a state of zeros: here refusal 10
 unfoldable pub refusedOpening : State
-refusedOpening = openOf (grammarFrom T) (replicate (cells - 1) 0) .state
+refusedOpening = openOf (datedFrom T) (replicate (cells - 1) 0) .state
 
 pub refused-opening-zeros : refusedOpening ≡ stateWith (replicate 64 0) 0
 unfolding refusedOpening computing
 refused-opening-zeros = refl
 
 unfoldable pub checks : List ℕ → Answer Bool
-checks e = checkOf (grammarFrom T) (As 1) e (replicate cells 7) .answer
+checks e = checkOf (datedFrom T) (As 1) e (replicate cells 7) .answer
 
 pub check-yes : checks (1 ∷ 0 ∷ 1 ∷ 2 ∷ 0 ∷ 1 ∷ []) ≡ answered true
 unfolding checks computing

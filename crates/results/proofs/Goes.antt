@@ -11,7 +11,7 @@ use Rattle.sizes.specs.Sizes.{maxInput, cells}
 use Rattle.cfg.specs.Grammar.{Cfg}
 use Rattle.grammar.specs.declared.Grammar.{Grammar}
 use Rattle.grammar.specs.Valid.{validGrammar}
-use Rattle.grammar.specs.View.{grammarOf}
+use Rattle.grammar.specs.View.{Dated, dated, grammarOf}
 use Rattle.results.specs.Recognize.{State, openIn, openOf, takeIn, takeOf}
 use Rattle.results.specs.Check.{Checking, onInput}
 use Rattle.results.specs.Enumerate.{Enumeration, onOutput, firstIn, nextIn, countIn, firstOf, nextOf, countOf}
@@ -19,13 +19,13 @@ use Rattle.results.specs.Ready.{Ready, ReadyOut}
 use Rattle.results.proofs.Decide.{decide-passed}
 use Rattle.results.proofs.Passed.{ready→pass, readyOut→pass}
 
-pub open-passed : (g : Grammar) (chart : List ℕ) → validGrammar g ≡ true → cells ≤ length chart
+pub open-passed : (g : Dated) (chart : List ℕ) → validGrammar (g .grammar) ≡ true → cells ≤ length chart
     → openOf g chart ≡ openIn (grammarOf g) chart
 unfolding openOf
 open-passed g chart v r = decide-passed _ _ _ (ap not v, (le-ltb (length chart) cells r, tt))
 
 pub take-passed : (g : Grammar) (h : State) (m : ℕ) (chart : List ℕ) → validGrammar g ≡ true → h .count < maxInput → cells ≤ length chart
-    → takeOf g h m chart ≡ takeIn (grammarOf g) h m chart
+    → takeOf g h m chart ≡ takeIn (grammarOf (dated g)) h m chart
 unfolding takeOf
 take-passed g h m chart v l r =
     decide-passed _ _ _ (
@@ -33,21 +33,21 @@ take-passed g h m chart v l r =
       (le-ltb maxInput (h .count) (omega arith), (le-ltb (length chart) cells r, (ne-eqb (h .count) maxInput (λ e. omega arith), tt))),
     )
 
-pub onInput-passed : {A : Type 0} (g : Grammar) (w chart : List ℕ) (go : Cfg → Checking A) → Ready g w chart
+pub onInput-passed : {A : Type 0} (g : Dated) (w chart : List ℕ) (go : Cfg → Checking A) → Ready g w chart
     → onInput g w chart go ≡ go (grammarOf g)
 unfolding onInput
 onInput-passed g w chart go r = decide-passed _ _ _ (ready→pass g w chart r)
 
-pub onOutput-passed : (g : Grammar) (w chart out : List ℕ) (go : Cfg → Enumeration) → ReadyOut g w chart out
+pub onOutput-passed : (g : Dated) (w chart out : List ℕ) (go : Cfg → Enumeration) → ReadyOut g w chart out
     → onOutput g w chart out go ≡ go (grammarOf g)
 unfolding onOutput
 onOutput-passed g w chart out go r = decide-passed _ _ _ (readyOut→pass g w chart out r)
 
-pub count-passed : (g : Grammar) (w chart : List ℕ) → Ready g w chart → countOf g w chart ≡ countIn (grammarOf g) w chart
+pub count-passed : (g : Dated) (w chart : List ℕ) → Ready g w chart → countOf g w chart ≡ countIn (grammarOf g) w chart
 unfolding countOf
 count-passed g w chart r = onInput-passed g w chart _ r
 
-module _ (g : Grammar) (w chart out : List ℕ) (r : ReadyOut g w chart out) where
+module _ (g : Dated) (w chart out : List ℕ) (r : ReadyOut g w chart out) where
   pub first-passed : firstOf g w chart out ≡ firstIn (grammarOf g) w chart out
   unfolding firstOf
   first-passed = onOutput-passed g w chart out _ r

@@ -9,17 +9,16 @@ use Rattle.sizes.specs.Sizes.{cells, maxInput}
 use Rattle.cfg.specs.Tree.{HasTree}
 use Rattle.chart.specs.Column.{filled, complete}
 use Rattle.chart.proofs.Truth.{complete-tree}
-use Rattle.grammar.specs.declared.Grammar.{Grammar}
 use Rattle.grammar.specs.Valid.{validGrammar}
-use Rattle.grammar.specs.View.{grammarOf}
+use Rattle.grammar.specs.View.{Dated, grammarOf}
 use Rattle.grammar.proofs.Bounds.{valid-bounded}
 use Rattle.results.specs.Drawer.{T, bare, As}
-use Rattle.results.specs.Starred.{grammarFrom}
+use Rattle.results.specs.Starred.{datedFrom}
 use Rattle.results.specs.Requests.{onlyA}
 use Rattle.results.proofs.Computing.{computing}
 
 -- if the chart of an input is not complete, the input has no tree
-pub incomplete-no-tree : (g : Grammar) (w : List ℕ) → validGrammar g ≡ true → length w ≤ maxInput
+pub incomplete-no-tree : (g : Dated) (w : List ℕ) → validGrammar (g .grammar) ≡ true → length w ≤ maxInput
     → complete (grammarOf g) (length w) (filled (grammarOf g) w (replicate cells 0)) ≡ false → HasTree (grammarOf g) w → ⊥
 incomplete-no-tree g w valid small e tree =
     let room : cells ≤ length (replicate {A = ℕ} cells 0) = omega (arith, length-replicate {A = ℕ} cells 0) in
@@ -27,24 +26,24 @@ incomplete-no-tree g w valid small e tree =
     complete-tree (grammarOf g) (valid-bounded g valid) w (replicate cells 0) small room .1 tree in
     true≢false (sym said ∙ e)
 
-pub no-tree-T-AAA : HasTree (grammarOf (grammarFrom T)) (As 3) → ⊥
+pub no-tree-T-AAA : HasTree (grammarOf (datedFrom T)) (As 3) → ⊥
 unfolding computing
-no-tree-T-AAA = incomplete-no-tree (grammarFrom T) (As 3) refl (omega arith) refl
+no-tree-T-AAA = incomplete-no-tree (datedFrom T) (As 3) refl (omega arith) refl
 
-pub no-tree-T-B : HasTree (grammarOf (grammarFrom T)) (0x42 ∷ []) → ⊥
+pub no-tree-T-B : HasTree (grammarOf (datedFrom T)) (0x42 ∷ []) → ⊥
 unfolding computing
-no-tree-T-B = incomplete-no-tree (grammarFrom T) (0x42 ∷ []) refl (omega arith) refl
+no-tree-T-B = incomplete-no-tree (datedFrom T) (0x42 ∷ []) refl (omega arith) refl
 
-pub no-tree-bare : HasTree (grammarOf (grammarFrom bare)) (As 1) → ⊥
+pub no-tree-bare : HasTree (grammarOf (datedFrom bare)) (As 1) → ⊥
 unfolding computing
-no-tree-bare = incomplete-no-tree (grammarFrom bare) (As 1) refl (omega arith) refl
+no-tree-bare = incomplete-no-tree (datedFrom bare) (As 1) refl (omega arith) refl
 
 -- ---- the input of no bytes
 
-pub no-tree-onlyA-empty : HasTree (grammarOf (grammarFrom onlyA)) [] → ⊥
+pub no-tree-onlyA-empty : HasTree (grammarOf (datedFrom onlyA)) [] → ⊥
 unfolding computing
-no-tree-onlyA-empty = incomplete-no-tree (grammarFrom onlyA) [] refl (omega arith) refl
+no-tree-onlyA-empty = incomplete-no-tree (datedFrom onlyA) [] refl (omega arith) refl
 
-pub no-tree-bare-empty : HasTree (grammarOf (grammarFrom bare)) [] → ⊥
+pub no-tree-bare-empty : HasTree (grammarOf (datedFrom bare)) [] → ⊥
 unfolding computing
-no-tree-bare-empty = incomplete-no-tree (grammarFrom bare) [] refl (omega arith) refl
+no-tree-bare-empty = incomplete-no-tree (datedFrom bare) [] refl (omega arith) refl

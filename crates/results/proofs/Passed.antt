@@ -6,8 +6,8 @@ use mathlib.Core.Path.{_≡_, ap}
 use lib.ListN.{length}
 use borrow.Author.Tests.{ltb-false, not-false, lt-ltb, le-ltb}
 use Rattle.sizes.specs.Sizes.{cells, maxInput, outputSize}
-use Rattle.grammar.specs.declared.Grammar.{Grammar}
 use Rattle.grammar.specs.Valid.{validGrammar}
+use Rattle.grammar.specs.View.{Dated}
 use Rattle.results.specs.Check.{inputCheck, inputChecks}
 use Rattle.results.specs.Enumerate.{outputCheck}
 use Rattle.results.specs.Ready.{Ready, ReadyOut}
@@ -24,18 +24,18 @@ module _ (w : List ℕ) where
 
 -- ---- 8 to 10, and 8 to 11
 
-pub ready→pass : (g : Grammar) (w chart : List ℕ) → Ready g w chart → Pass (inputChecks g w chart)
+pub ready→pass : (g : Dated) (w chart : List ℕ) → Ready g w chart → Pass (inputChecks g w chart)
 ready→pass g w chart r =
     (ap not (r .valid), (input-passes w (r .short), (le-ltb (length chart) cells (r .room), tt)))
 
-pub pass→ready : (g : Grammar) (w chart : List ℕ) → Pass (inputChecks g w chart) → Ready g w chart
+pub pass→ready : (g : Dated) (w chart : List ℕ) → Pass (inputChecks g w chart) → Ready g w chart
 pass→ready g w chart (valid, (input, (room, u))) = record {
-  valid = not-false (validGrammar g) valid;
+  valid = not-false (validGrammar (g .grammar)) valid;
   short = ltb-false maxInput (length w) input;
   room = ltb-false (length chart) cells room;
 }
 
-module _ (g : Grammar) (w chart out : List ℕ) where
+module _ (g : Dated) (w chart out : List ℕ) where
   pub readyOut→pass : ReadyOut g w chart out → Pass (inputChecks g w chart ++ (outputCheck out ∷ []))
   readyOut→pass r =
       let (valid, (input, (room, u))) = ready→pass g w chart (r .input) in

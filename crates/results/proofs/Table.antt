@@ -10,13 +10,13 @@ use Rattle.results.specs.Answer.{Answer, refused, answered, Handing, han
 use Rattle.results.specs.Recognize.{openOf, takeOf}
 use Rattle.results.specs.Enumerate.{nextOf}
 use Rattle.results.specs.Drawer.{T, bush, newRule, nonterminalPlace, close, As}
-use Rattle.results.specs.Starred.{grammarFrom, outcome}
+use Rattle.results.specs.Starred.{datedFrom, outcome}
 use Rattle.results.proofs.Computing.{computing}
 
 -- what next answers for T and `A`, offered a row, with what it hands out
 unfoldable pub nextOn : List ℕ → Answer Handing × List ℕ
 nextOn offered =
-    let r = nextOf (grammarFrom T) (As 1) offered (replicate cells 7) (replicate outputSize 9) in
+    let r = nextOf (datedFrom T) (As 1) offered (replicate cells 7) (replicate outputSize 9) in
     (r .answer, take 7 (r .output))
 
 -- after the first comes the second, after that none; a row that is no derivation is refused
@@ -43,9 +43,9 @@ limit-passed = (refl, refl, refl)
 -- the answers of opening with a book and of taking one byte
 unfoldable pub recognized : List ℕ → ℕ → Answer Bool × Answer Bool
 recognized bytes m =
-    let g = grammarFrom bytes in
+    let g = datedFrom bytes in
     let o = openOf g (replicate cells 7) in
-    (o .answer, takeOf g (o .state) m (o .chart) .answer)
+    (o .answer, takeOf (g .grammar) (o .state) m (o .chart) .answer)
 
 -- the larger one is complete all the same
 pub limit-complete : recognized larger 0x41 ≡ (answered false, answered true)

@@ -8,8 +8,7 @@ use Rattle.sizes.specs.Sizes.{maxInput}
 use Rattle.cfg.specs.Grammar.{Cfg}
 use Rattle.cfg.specs.Listing.{L}
 use Rattle.chart.specs.Column.{filled}
-use Rattle.grammar.specs.declared.Grammar.{Grammar}
-use Rattle.grammar.specs.View.{grammarOf}
+use Rattle.grammar.specs.View.{Dated, grammarOf}
 use Rattle.results.specs.Answer.{Answer, refused, answered, Check, check, decide}
 use Rattle.results.specs.Recognize.{grammarCheck, chartCheck}
 
@@ -30,8 +29,8 @@ abbrev pub inputCheck : List ℕ → Check ℕ
 inputCheck w = check (ltb maxInput (length w)) 9
 
 -- 8, 9, 10: the checks of every call on an input
-abbrev pub inputChecks : Grammar → List ℕ → List ℕ → List (Check ℕ)
-inputChecks g w chart = grammarCheck g ∷ inputCheck w ∷ chartCheck chart ∷ []
+abbrev pub inputChecks : Dated → List ℕ → List ℕ → List (Check ℕ)
+inputChecks g w chart = grammarCheck (g .grammar) ∷ inputCheck w ∷ chartCheck chart ∷ []
 
 -- what a call without an output gives: the answer, and what the chart holds at the end
 pub record Checking (A : Type 0) : Type 0 where
@@ -39,7 +38,7 @@ pub record Checking (A : Type 0) : Type 0 where
   pub chart : List ℕ
 
 -- such a call: if it is refused, it leaves the chart as found; else it goes on with the grammar
-unfoldable pub onInput : {A : Type 0} → Grammar → List ℕ → List ℕ → (Cfg → Checking A) → Checking A
+unfoldable pub onInput : {A : Type 0} → Dated → List ℕ → List ℕ → (Cfg → Checking A) → Checking A
 onInput g w chart go =
     decide (inputChecks g w chart) (λ n. record { answer = refused n; chart = chart }) (λ _. go (grammarOf g))
 
@@ -48,5 +47,5 @@ unfoldable pub checkIn : Cfg → List ℕ → List ℕ → List ℕ → Checking
 checkIn G w offered chart = record { answer = answered (listed offered (L G w)); chart = filled G w chart }
 
 -- check
-unfoldable pub checkOf : Grammar → List ℕ → List ℕ → List ℕ → Checking Bool
+unfoldable pub checkOf : Dated → List ℕ → List ℕ → List ℕ → Checking Bool
 checkOf g w offered chart = onInput g w chart (λ G. checkIn G w offered chart)

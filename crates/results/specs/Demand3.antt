@@ -7,8 +7,7 @@ use lib.ListN.{length, take, drop}
 use Rattle.cfg.specs.Tree.{Forest, nodes, Parse, HasTree}
 use Rattle.cfg.specs.Derivation.{limit}
 use Rattle.cfg.specs.Listing.{L}
-use Rattle.grammar.specs.declared.Grammar.{Grammar}
-use Rattle.grammar.specs.View.{grammarOf}
+use Rattle.grammar.specs.View.{Dated, grammarOf}
 use Rattle.results.specs.Walk.{N, walked, placeAfter, handedOut, nexts, NoFirst}
 use Rattle.results.specs.History.{Made, first, nextCopy, which, history}
 
@@ -22,11 +21,11 @@ pub record LastFirst (calls : List Made) : Type 0 where
   pub none : NoFirst (map which after)
 
 -- the place p of the walk after a list of calls
-abbrev pub place : (g : Grammar) (w : List ℕ) → Dec (HasTree (grammarOf g) w) → List Made → ℕ
+abbrev pub place : (g : Dated) (w : List ℕ) → Dec (HasTree (grammarOf g) w) → List Made → ℕ
 place g w tree calls = placeAfter (grammarOf g) w tree (map which calls) 0
 
 -- the claim for a list of calls; `tree` decides whether the input has a tree
-pub record Demand3 (g : Grammar) (w : List ℕ) (tree : Dec (HasTree (grammarOf g) w)) (calls : List Made) : Type 0 where
+pub record Demand3 (g : Dated) (w : List ℕ) (tree : Dec (HasTree (grammarOf g) w)) (calls : List Made) : Type 0 where
   -- all answers and all derivations handed out are the walk's
   pub walks : history g w [] calls ≡ walked (grammarOf g) w tree (map which calls) 0
   -- the list has no first, or it splits at its last one
@@ -45,5 +44,5 @@ abbrev pub nextCalls : List (List ℕ × List ℕ) → List Made
 nextCalls lent = map (λ (l : List ℕ × List ℕ). nextCopy (l .0) (l .1)) lent
 
 -- the input has trees, all of more than 512 nodes
-abbrev pub Larger : Grammar → List ℕ → Type 0
+abbrev pub Larger : Dated → List ℕ → Type 0
 Larger g w = HasTree (grammarOf g) w × ((t : Forest) → Parse (grammarOf g) (grammarOf g .start) w t → limit < nodes t)

@@ -9,8 +9,7 @@ use Rattle.sizes.specs.Sizes.{outputSize, most}
 use Rattle.cfg.specs.Grammar.{Cfg}
 use Rattle.cfg.specs.Listing.{L}
 use Rattle.chart.specs.Column.{filled, complete}
-use Rattle.grammar.specs.declared.Grammar.{Grammar}
-use Rattle.grammar.specs.View.{grammarOf}
+use Rattle.grammar.specs.View.{Dated, grammarOf}
 use Rattle.results.specs.Answer.{Answer, refused, answered, Handing, handed, nothing, Figure, counted, more}
 use Rattle.results.specs.Answer.{Check, check, decide}
 use Rattle.results.specs.Check.{same, inputChecks, Checking, onInput}
@@ -47,7 +46,7 @@ afterIn e [] = none
 afterIn e (d ∷ l) = elim (same e d) [ true ↦ headOf l | false ↦ afterIn e l ]
 
 -- a call that writes an output: if it is refused, it leaves chart and output as found; else it goes on with the grammar
-unfoldable pub onOutput : Grammar → List ℕ → List ℕ → List ℕ → (Cfg → Enumeration) → Enumeration
+unfoldable pub onOutput : Dated → List ℕ → List ℕ → List ℕ → (Cfg → Enumeration) → Enumeration
 onOutput g w chart out go =
     decide (inputChecks g w chart ++ (outputCheck out ∷ []))
     (λ n. record { answer = refused n; chart = chart; output = out })
@@ -59,7 +58,7 @@ firstIn G w chart out =
     handingOut (headOf (L G w)) (cond (treeIn G w chart) (refused 13) (answered nothing)) (filled G w chart) out
 
 -- first
-unfoldable pub firstOf : Grammar → List ℕ → List ℕ → List ℕ → Enumeration
+unfoldable pub firstOf : Dated → List ℕ → List ℕ → List ℕ → Enumeration
 firstOf g w chart out = onOutput g w chart out (λ G. firstIn G w chart out)
 
 -- next, for the grammar G: the one after the offered derivation in L, or "none"; refusal 12 if what is offered is no derivation
@@ -70,7 +69,7 @@ nextIn G w offered chart out =
     (λ _. handingOut (afterIn offered (L G w)) (answered nothing) (filled G w chart) out)
 
 -- next
-unfoldable pub nextOf : Grammar → List ℕ → List ℕ → List ℕ → List ℕ → Enumeration
+unfoldable pub nextOf : Dated → List ℕ → List ℕ → List ℕ → List ℕ → Enumeration
 nextOf g w offered chart out = onOutput g w chart out (λ G. nextIn G w offered chart out)
 
 -- what count says of N: N up to 4,096, "more" above
@@ -85,5 +84,5 @@ countIn G w chart = let n = length (L G w) in record {
 }
 
 -- count
-unfoldable pub countOf : Grammar → List ℕ → List ℕ → Checking Figure
+unfoldable pub countOf : Dated → List ℕ → List ℕ → Checking Figure
 countOf g w chart = onInput g w chart (λ G. countIn G w chart)

@@ -6,9 +6,9 @@ use lib.ListN.{length, take}
 use Rattle.sizes.specs.Sizes.{cells, outputSize}
 use Rattle.cfg.specs.Grammar.{Cfg}
 use Rattle.cfg.specs.Derivation.{Derivation, limit}
+use Rattle.grammar.specs.View.{Dated}
 use Rattle.results.specs.Walk.{Call, Said, handsOut, noDerivation, noneLeft, refuses, counts}
 use Rattle.results.specs.Walk as Walk
-use Rattle.grammar.specs.declared.Grammar.{Grammar}
 use Rattle.results.specs.Answer.{Answer, refused, answered, Handing, handed, nothing, Figure, counted, more}
 use Rattle.results.specs.Enumerate.{firstIn, nextIn, countIn, firstOf, nextOf, countOf}
 
@@ -59,7 +59,7 @@ saysIn G w copy (nextOther e chart out) = let r = nextIn G w e chart out in said
 saysIn G w copy (count chart) = countSaid (countIn G w chart .answer)
 
 -- what one call says, its checks included
-unfoldable pub says : Grammar → List ℕ → List ℕ → Made → Said
+unfoldable pub says : Dated → List ℕ → List ℕ → Made → Said
 says g w copy (first chart out) = let r = firstOf g w chart out in saidOf noDerivation (r .answer) (r .output)
 says g w copy (nextCopy chart out) = let r = nextOf g w copy chart out in saidOf noneLeft (r .answer) (r .output)
 says g w copy (nextOther e chart out) = let r = nextOf g w e chart out in saidOf noneLeft (r .answer) (r .output)
@@ -80,6 +80,6 @@ historyIn G w copy [] = []
 historyIn G w copy (m ∷ calls) = saysIn G w copy m ∷ historyIn G w (copied (saysIn G w copy m) copy) calls
 
 -- what a list of calls says
-unfoldable pub history : Grammar → List ℕ → List ℕ → List Made → List Said
+unfoldable pub history : Dated → List ℕ → List ℕ → List Made → List Said
 history g w copy [] = []
 history g w copy (m ∷ calls) = says g w copy m ∷ history g w (copied (says g w copy m) copy) calls

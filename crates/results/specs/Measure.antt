@@ -8,9 +8,8 @@ use lib.IntN.{ℤ, pos, negsuc, negℤ, natAbs, _+ℤ_, _-ℤ_, _*ℤ_}
 use Rattle.cfg.specs.Grammar.{Cfg}
 use Rattle.cfg.specs.Listing.{L}
 use Rattle.chart.specs.Column.{filled}
-use Rattle.grammar.specs.declared.Grammar.{Grammar}
 use Rattle.grammar.specs.Valid.{all}
-use Rattle.grammar.specs.View.{lengthsOf}
+use Rattle.grammar.specs.View.{Dated, lengthsOf}
 use Rattle.results.specs.Answer.{refused, answered, check, decide}
 use Rattle.results.specs.Check.{listed, Checking, onInput}
 
@@ -52,8 +51,8 @@ lengthIn G lengths w offered chart = record {
 }
 
 -- length
-unfoldable pub lengthOf : Grammar → List ℕ → List ℕ → List ℕ → Checking ℤ
-lengthOf g w offered chart = onInput g w chart (λ G. lengthIn G (lengthsOf g) w offered chart)
+unfoldable pub lengthOf : Dated → List ℕ → List ℕ → List ℕ → Checking ℤ
+lengthOf g w offered chart = onInput g w chart (λ G. lengthIn G (lengthsOf (g .grammar)) w offered chart)
 
 -- the rules of the nodes that cover something, in preorder
 unfoldable pub rulesUsed : List ℕ → List ℕ
@@ -79,5 +78,5 @@ sameBuildIn G w a b chart = record {
 }
 
 -- same build
-unfoldable pub sameBuildOf : Grammar → List ℕ → List ℕ → List ℕ → List ℕ → Checking Bool
+unfoldable pub sameBuildOf : Dated → List ℕ → List ℕ → List ℕ → List ℕ → Checking Bool
 sameBuildOf g w a b chart = onInput g w chart (λ G. sameBuildIn G w a b chart)

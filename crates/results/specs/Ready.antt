@@ -5,20 +5,20 @@ use mathlib.Core.List.{List}
 use mathlib.Core.Path.{_≡_}
 use lib.ListN.{length}
 use Rattle.sizes.specs.Sizes.{cells, maxInput, outputSize}
-use Rattle.grammar.specs.declared.Grammar.{Grammar}
 use Rattle.grammar.specs.Valid.{validGrammar}
+use Rattle.grammar.specs.View.{Dated}
 
 -- checks 8, 9 and 10 are passed
-pub record Ready (g : Grammar) (w chart : List ℕ) : Type 0 where
+pub record Ready (g : Dated) (w chart : List ℕ) : Type 0 where
   -- 8
-  pub valid : validGrammar g ≡ true
+  pub valid : validGrammar (g .grammar) ≡ true
   -- 9
   pub short : length w ≤ maxInput
   -- 10
   pub room : cells ≤ length chart
 
 -- checks 8 to 11 are passed
-pub record ReadyOut (g : Grammar) (w chart out : List ℕ) : Type 0 where
+pub record ReadyOut (g : Dated) (w chart out : List ℕ) : Type 0 where
   -- 8, 9 and 10
   pub input : Ready g w chart
   -- 11

@@ -8,7 +8,7 @@ use lib.ListN.{length, take, replicate}
 use Rattle.cfg.specs.Grammar.{Cfg}
 use Rattle.grammar.specs.declared.Grammar.{Grammar}
 use Rattle.grammar.specs.Valid.{validGrammar}
-use Rattle.grammar.specs.View.{grammarOf}
+use Rattle.grammar.specs.View.{Dated, dated, grammarOf}
 use Rattle.sizes.specs.Sizes.{maxInput, cells}
 use Rattle.chart.specs.Column.{opened, extended, complete}
 use Rattle.results.specs.Answer.{Answer, refused, answered, Check, check, decide}
@@ -24,7 +24,7 @@ stateWith bytes n = record { bytes = bytes; count = n }
 
 -- the state with another count
 abbrev pub setTaken : State → ℕ → State
-setTaken h n = record { bytes = h .bytes; count = n }
+setTaken h n = stateWith (h .bytes) n
 
 -- the state that has taken w: its unused bytes are zero
 unfoldable pub stateOf : List ℕ → State
@@ -55,9 +55,9 @@ openIn G chart =
     record { answer = answered (complete G 0 left); state = stateOf []; chart = left }
 
 -- opening: if it is refused, it gives a state of zeros and leaves the chart as found
-unfoldable pub openOf : Grammar → List ℕ → Recognition
+unfoldable pub openOf : Dated → List ℕ → Recognition
 openOf g chart =
-    decide (grammarCheck g ∷ chartCheck chart ∷ [])
+    decide (grammarCheck (g .grammar) ∷ chartCheck chart ∷ [])
     (λ n. record { answer = refused n; state = stateOf []; chart = chart })
     (λ _. openIn (grammarOf g) chart)
 
@@ -73,7 +73,7 @@ unfoldable pub takeOf : Grammar → State → ℕ → List ℕ → Recognition
 takeOf g h m chart =
     decide (grammarCheck g ∷ stateCheck h ∷ chartCheck chart ∷ check (eqb (h .count) maxInput) 15 ∷ [])
     (λ n. record { answer = refused n; state = h; chart = chart })
-    (λ _. takeIn (grammarOf g) h m chart)
+    (λ _. takeIn (grammarOf (dated g)) h m chart)
 
 -- taking bytes one after the other, each with the state and the chart that the call before it left
 unfoldable pub fed : Grammar → Recognition → List ℕ → Recognition

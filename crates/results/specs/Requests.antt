@@ -8,7 +8,7 @@ use Rattle.cfg.specs.Tree.{HasTree}
 use Rattle.grammar.specs.View.{grammarOf}
 use Rattle.results.specs.Measure.{rounded}
 use Rattle.results.specs.Drawer.{start, newRule, nonterminalPlace, A, rangePlace, close, T, bare, As}
-use Rattle.results.specs.Starred.{outcome, grammarFrom, Line, found, absent, zeros}
+use Rattle.results.specs.Starred.{outcome, grammarFrom, datedFrom, Line, found, absent, zeros}
 
 -- U1: 0 → one digit
 abbrev pub oneDigit : List ℕ
@@ -128,8 +128,8 @@ pub record Requested : Type 0 where
   -- every line comes out as the table says
   pub lines : map (λ (l : Line). outcome (l .bytes) (l .input)) requests ≡ map (λ (l : Line). l .gives) requests
   -- U2: where the table says "no reading" of an input of no bytes, it has no tree of any size
-  pub no-tree-terminal : HasTree (grammarOf (grammarFrom onlyA)) [] → ⊥
-  pub no-tree-rules : HasTree (grammarOf (grammarFrom bare)) [] → ⊥
+  pub no-tree-terminal : HasTree (grammarOf (datedFrom onlyA)) [] → ⊥
+  pub no-tree-rules : HasTree (grammarOf (datedFrom bare)) [] → ⊥
   -- U13: the depths of the book of no rules, of 0 → A, of a refused book (that of no bytes), and of T
   pub depths-none : map depthFrom (bare ∷ onlyA ∷ [] ∷ []) ≡ 0 ∷ 0 ∷ 0 ∷ []
   pub depth-T : depthFrom T ≡ 2

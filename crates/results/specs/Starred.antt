@@ -10,7 +10,7 @@ use Rattle.sizes.specs.Sizes.{cells, outputSize}
 use Rattle.cfg.specs.Listing.{L}
 use Rattle.cfg.specs.Tree.{HasTree}
 use Rattle.grammar.specs.declared.Grammar.{Grammar}
-use Rattle.grammar.specs.View.{grammarOf}
+use Rattle.grammar.specs.View.{Dated, dated, grammarOf}
 use Rattle.grammar.specs.Zero.{zeroGrammar}
 use Rattle.results.specs.Answer.{Answer, answered, Handing, handed, nothing, Figure, counted, LoadAnswer, refusedAt, loaded}
 use Rattle.results.specs.Load.{loadOf}
@@ -30,10 +30,14 @@ pub record Outcome : Type 0 where
 abbrev pub grammarFrom : List ℕ → Grammar
 grammarFrom bytes = loadOf bytes .grammar
 
+-- the same, as the calls on an input take it
+abbrev pub datedFrom : List ℕ → Dated
+datedFrom bytes = dated (grammarFrom bytes)
+
 -- the outcome of a book and an input, over a chart and an output that hold other numbers
 unfoldable pub outcome : List ℕ → List ℕ → Outcome
 outcome bytes w =
-    let g = grammarFrom bytes in
+    let g = datedFrom bytes in
     let chart : List ℕ = replicate cells 7 in
     record {
       loads = loadOf bytes .answer;
@@ -97,9 +101,9 @@ pub record Starred : Type 0 where
   -- every line comes out as the table says
   pub lines : map (λ (l : Line). outcome (l .bytes) (l .input)) table ≡ map (λ (l : Line). l .gives) table
   -- where the table says "no reading", the input has no tree of any size
-  pub no-tree-three : HasTree (grammarOf (grammarFrom T)) (As 3) → ⊥
-  pub no-tree-other : HasTree (grammarOf (grammarFrom T)) (0x42 ∷ []) → ⊥
-  pub no-tree-rules : HasTree (grammarOf (grammarFrom bare)) (As 1) → ⊥
+  pub no-tree-three : HasTree (grammarOf (datedFrom T)) (As 3) → ⊥
+  pub no-tree-other : HasTree (grammarOf (datedFrom T)) (0x42 ∷ []) → ⊥
+  pub no-tree-rules : HasTree (grammarOf (datedFrom bare)) (As 1) → ⊥
   -- the empty book: 1 at offset 0
   pub no-bytes : loadOf [] ≡ record { answer = refusedAt 1 0; grammar = zeroGrammar }
   -- the sums of document 02, and 24, in tenths

@@ -4,8 +4,9 @@ use mathlib.Core.List.{List}
 use mathlib.Core.Path.{_≡_, refl}
 use Rattle.grammar.specs.declared.Grammar.{Grammar}
 use Rattle.grammar.specs.Setters.{setDepth}
+use Rattle.grammar.specs.View.{dated}
 use Rattle.text.specs.Text.{inputText}
 
-pub text-depth : (g : Grammar) (d : ℕ) (w : List ℕ) → inputText (setDepth g d) w ≡ inputText g w
+pub text-depth : (g : Grammar) (d : ℕ) (w : List ℕ) → inputText (dated (setDepth g d)) w ≡ inputText (dated g) w
 unfolding inputText
 text-depth g d w = refl

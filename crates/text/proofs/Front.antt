@@ -12,6 +12,7 @@ use lib.Seq.{take-all, getD-take, length-take-le}
 use borrow.Author.Tests.{lt-ltb, le-ltb}
 use Rattle.sizes.specs.Sizes.{maxInput}
 use Rattle.grammar.specs.declared.Grammar.{Grammar}
+use Rattle.grammar.specs.View.{Dated, dated}
 use Rattle.grammar.specs.Zero.{zeroGrammar}
 use Rattle.results.specs.Answer.{LoadAnswer, refusedAt, loaded, Check, decide}
 use Rattle.results.specs.Load.{operands, operand, Fault, fault, operandChecks, commandChecks}
@@ -113,11 +114,11 @@ load-front book = dite (decLt bookFront (length book))
 -- ---- the plate
 
 -- a plate of more than 64 bytes is refused
-input-long : (g : Grammar) (w : List ℕ) → plateFront ≤ length w → inputText g w ≡ refusedLine 9 ∷ []
+input-long : (g : Dated) (w : List ℕ) → plateFront ≤ length w → inputText g w ≡ refusedLine 9 ∷ []
 unfolding inputText decide
 input-long g w h = rw (lt-ltb maxInput (length w) (omega arith))
 
-input-front : (g : Grammar) (w : List ℕ) → inputText g (take plateFront w) ≡ inputText g w
+input-front : (g : Dated) (w : List ℕ) → inputText g (take plateFront w) ≡ inputText g w
 input-front g w = dite (decLt plateFront (length w))
     (λ h. let e = length-take-le plateFront w (omega arith) in
     input-long g (take plateFront w) (omega arith) ∙ sym (input-long g w (omega arith)))
@@ -130,7 +131,7 @@ loaded-front b w = go (b .answer)
     go : (a : LoadAnswer) → loadedText (record { answer = a; grammar = b .grammar }) (take plateFront w)
         ≡ loadedText (record { answer = a; grammar = b .grammar }) w
     go (refusedAt n at) = refl
-    go loaded = input-front (b .grammar) w
+    go loaded = input-front (dated (b .grammar)) w
 
 -- THE TEXT IS THAT OF THE FRONTS
 pub text-front : (book w : List ℕ) → textOf (take bookFront book) (take plateFront w) ≡ textOf book w

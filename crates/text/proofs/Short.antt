@@ -7,8 +7,7 @@ use lib.IntN.{ℤ}
 use lib.ListN.{length, take, length-append, length-take}
 use Rattle.sizes.specs.Sizes.{most}
 use Rattle.cfg.specs.Listing.{L}
-use Rattle.grammar.specs.declared.Grammar.{Grammar}
-use Rattle.grammar.specs.View.{grammarOf, lengthsOf}
+use Rattle.grammar.specs.View.{Dated, dated, grammarOf, lengthsOf}
 use Rattle.results.specs.Answer.{LoadAnswer, refusedAt, loaded}
 use Rattle.results.specs.Load.{loadOf}
 use Rattle.results.specs.Enumerate.{figure}
@@ -45,19 +44,19 @@ unfolding textBy
 by-lines lengths empty [] H = H
 by-lines lengths empty (e ∷ l) H = list-lines lengths (e ∷ l)
 
-input-lines : (g : Grammar) (w : List ℕ) → Lines (inputText g w)
+input-lines : (g : Dated) (w : List ℕ) → Lines (inputText g w)
 unfolding inputText emptyText
 input-lines g w =
     decide-either _ _ Lines _ (λ n. one-line (refusedLine n))
-    (λ p. by-lines (lengthsOf g) _ (L (grammarOf g) w) (one-line _))
+    (λ p. by-lines (lengthsOf (g .grammar)) _ (L (grammarOf g) w) (one-line _))
 
 text-sized : (book w : List ℕ) → Lines (textOf book w)
 unfolding textOf loadedText
 text-sized book w = go (loadOf book .answer)
   where
-    go : (a : LoadAnswer) → Lines (elim a [ refusedAt n at ↦ refusedLine n ∷ [] | loaded ↦ inputText (loadOf book .grammar) w ])
+    go : (a : LoadAnswer) → Lines (elim a [ refusedAt n at ↦ refusedLine n ∷ [] | loaded ↦ inputText (dated (loadOf book .grammar)) w ])
     go (refusedAt n at) = one-line (refusedLine n)
-    go loaded = input-lines (loadOf book .grammar) w
+    go loaded = input-lines (dated (loadOf book .grammar)) w
 
 pub text-lines : (book w : List ℕ) → length (textOf book w) ≤ suc most
 text-lines book w = text-sized book w .few

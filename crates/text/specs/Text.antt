@@ -7,8 +7,7 @@ use lib.ListN.{length, take, replicate}
 use Rattle.sizes.specs.Sizes.{cells, most}
 use Rattle.cfg.specs.Grammar.{Cfg}
 use Rattle.cfg.specs.Listing.{L}
-use Rattle.grammar.specs.declared.Grammar.{Grammar}
-use Rattle.grammar.specs.View.{grammarOf, lengthsOf}
+use Rattle.grammar.specs.View.{Dated, dated, grammarOf, lengthsOf}
 use Rattle.results.specs.Answer.{refusedAt, loaded, decide}
 use Rattle.results.specs.Load.{Loading, loadOf}
 use Rattle.results.specs.Check.{inputCheck}
@@ -35,14 +34,14 @@ textBy lengths empty [] = empty
 textBy lengths empty (e ∷ l) = listText lengths (e ∷ l)
 
 -- the lines of an input for a loaded grammar; refusal 9 is given here
-unfoldable pub inputText : Grammar → List ℕ → List (List ℕ)
+unfoldable pub inputText : Dated → List ℕ → List (List ℕ)
 inputText g w =
     decide (inputCheck w ∷ []) (λ n. refusedLine n ∷ [])
-    (λ _. textBy (lengthsOf g) (emptyText (grammarOf g) w) (L (grammarOf g) w))
+    (λ _. textBy (lengthsOf (g .grammar)) (emptyText (grammarOf g) w) (L (grammarOf g) w))
 
 -- the lines of an input for what loading gave: the book is judged first
 unfoldable pub loadedText : Loading → List ℕ → List (List ℕ)
-loadedText b w = elim (b .answer) [ refusedAt n at ↦ refusedLine n ∷ [] | loaded ↦ inputText (b .grammar) w ]
+loadedText b w = elim (b .answer) [ refusedAt n at ↦ refusedLine n ∷ [] | loaded ↦ inputText (dated (b .grammar)) w ]
 
 -- the text
 unfoldable pub textOf : List ℕ → List ℕ → List (List ℕ)

@@ -64,7 +64,7 @@ use Rattle.cfg.specs.Nullable.{Nullable, Depth, depthOf, ExactDepth}
 use Rattle.grammar.specs.declared.Grammar.{Grammar}
 use Rattle.grammar.specs.Setters.{setDepth}
 use Rattle.grammar.specs.Valid.{validGrammar}
-use Rattle.grammar.specs.View.{wholeOf, grammarOf}
+use Rattle.grammar.specs.View.{wholeOf, Dated, dated, grammarOf}
 use Rattle.results.specs.Answer.{refused, answered, nothing, counted, more}
 use Rattle.results.specs.Load.{step, loadOf}
 use Rattle.results.specs.Recognize.{State, openOf, takeOf, fed}
@@ -97,7 +97,7 @@ use Rattle.demands.specs.Recognized.{Recognized}
 use Rattle.cfg.proofs.Fits as Fits
 use Rattle.theory_listing.proofs.Exact as Exact
 use Rattle.theory_shrinking.proofs.Depth as Depth
-use Rattle.grammar.proofs.Bounds.{valid-bounded}
+use Rattle.grammar.proofs.Bounds.{whole-bounded}
 use Rattle.results.proofs.Starred as Starred
 use Rattle.results.proofs.Requests as Requests
 use Rattle.results.proofs.Rounding as Rounding
@@ -146,11 +146,11 @@ search-table = Searches.search-table
 -- THE REQUEST U13, for every grammar that check 8 lets through: the depth of the whole grammar is the greatest, over the nullable
 -- nonterminals (blank kinds), of the height of the lowest empty tree, and 0 if there is none
 pub depth-exact : (g : Grammar) → validGrammar g ≡ true → ExactDepth (wholeOf g) (depthOf (wholeOf g))
-depth-exact g valid = Depth.depth-exact (wholeOf g) (valid-bounded g valid)
+depth-exact g valid = Depth.depth-exact (wholeOf g) (whole-bounded g valid)
 
 -- so what document 01 says of it holds
 pub depth-before : (g : Grammar) → validGrammar g ≡ true → Depth (wholeOf g) (depthOf (wholeOf g))
-depth-before g valid = Depth.depth-before (wholeOf g) (valid-bounded g valid)
+depth-before g valid = Depth.depth-before (wholeOf g) (whole-bounded g valid)
 
 -- THE REQUEST U5: the length of a row is t tenths exactly if ten times t differs from the sum of its rule lengths by at most 5, and t is
 -- even where it differs by 5
@@ -176,75 +176,75 @@ load-order = LoadOrder.step-order
 
 -- DEMAND 1, for every input of every other call: of a chart only the first 4,225 cells change, and of an output only the front, where a
 -- derivation is written; the refusal given is the first that applies; and what each refusal leaves
-pub open-demand : (g : Grammar) (chart : List ℕ) → OpenDemand g chart (openOf g chart)
+pub open-demand : (g : Dated) (chart : List ℕ) → OpenDemand g chart (openOf g chart)
 open-demand = Demand1.open-demand
 
 pub take-demand : (g : Grammar) (h : State) (m : ℕ) (chart : List ℕ) → TakeDemand g h chart (takeOf g h m chart)
 take-demand = Demand1.take-demand
 
-pub check-demand : (g : Grammar) (w e chart : List ℕ) → InputDemand g w chart (checkOf g w e chart)
+pub check-demand : (g : Dated) (w e chart : List ℕ) → InputDemand g w chart (checkOf g w e chart)
 check-demand = Demand1.check-demand
 
-pub length-demand : (g : Grammar) (w e chart : List ℕ) → InputDemand g w chart (lengthOf g w e chart)
+pub length-demand : (g : Dated) (w e chart : List ℕ) → InputDemand g w chart (lengthOf g w e chart)
 length-demand = Demand1.length-demand
 
-pub same-build-demand : (g : Grammar) (w a b chart : List ℕ) → InputDemand g w chart (sameBuildOf g w a b chart)
+pub same-build-demand : (g : Dated) (w a b chart : List ℕ) → InputDemand g w chart (sameBuildOf g w a b chart)
 same-build-demand = Demand1.same-build-demand
 
-pub count-demand : (g : Grammar) (w chart : List ℕ) → InputDemand g w chart (countOf g w chart)
+pub count-demand : (g : Dated) (w chart : List ℕ) → InputDemand g w chart (countOf g w chart)
 count-demand = Demand1.count-demand
 
-pub first-demand : (g : Grammar) (w chart out : List ℕ) → OutputDemand g w chart out (firstOf g w chart out)
+pub first-demand : (g : Dated) (w chart out : List ℕ) → OutputDemand g w chart out (firstOf g w chart out)
 first-demand = Demand1.first-demand
 
-pub next-demand : (g : Grammar) (w e chart out : List ℕ) → OutputDemand g w chart out (nextOf g w e chart out)
+pub next-demand : (g : Dated) (w e chart out : List ℕ) → OutputDemand g w chart out (nextOf g w e chart out)
 next-demand = Demand1.next-demand
 
 -- refusal 12 is given exactly if what is offered is no derivation, 13 exactly if there are trees and no derivation
-pub length-twelve : (g : Grammar) (w chart e : List ℕ)
+pub length-twelve : (g : Dated) (w chart e : List ℕ)
     → OfferedOrder (Ready g w chart) (Derivation (grammarOf g) limit w e) (lengthOf g w e chart .answer)
 length-twelve = Offered.length-twelve
 
-pub same-build-twelve : (g : Grammar) (w chart a b : List ℕ)
+pub same-build-twelve : (g : Dated) (w chart a b : List ℕ)
     → OfferedOrder (Ready g w chart) (Derivation (grammarOf g) limit w a × Derivation (grammarOf g) limit w b)
     (sameBuildOf g w a b chart .answer)
 same-build-twelve = Offered.same-build-twelve
 
-pub next-twelve : (g : Grammar) (w chart out e : List ℕ)
+pub next-twelve : (g : Dated) (w chart out e : List ℕ)
     → OfferedOrder (ReadyOut g w chart out) (Derivation (grammarOf g) limit w e) (nextOf g w e chart out .answer)
 next-twelve = Offered.next-twelve
 
-pub first-thirteen : (g : Grammar) (w chart out : List ℕ)
+pub first-thirteen : (g : Dated) (w chart out : List ℕ)
     → TreesOrder (ReadyOut g w chart out) (grammarOf g) w (firstOf g w chart out .answer)
 first-thirteen = Trees.first-thirteen
 
-pub count-thirteen : (g : Grammar) (w chart : List ℕ) → TreesOrder (Ready g w chart) (grammarOf g) w (countOf g w chart .answer)
+pub count-thirteen : (g : Dated) (w chart : List ℕ) → TreesOrder (Ready g w chart) (grammarOf g) w (countOf g w chart .answer)
 count-thirteen = Trees.count-thirteen
 
 -- TAKING over any chart and any state of 64 bytes: the state after it; of the chart only column n is written, as the least one that is
 -- closed under the rules with earlier columns as found; "complete" is the start symbol's bit
 pub take-any : (g : Grammar) (h : State) (m : ℕ) (found : List ℕ) → validGrammar g ≡ true → length (h .bytes) ≡ maxInput
     → h .count < maxInput
-    → cells ≤ length found → Taken (grammarOf g) h m found (h .count + 1) (takeOf g h m found)
+    → cells ≤ length found → Taken (grammarOf (dated g)) h m found (h .count + 1) (takeOf g h m found)
 take-any = Take.take-any
 
 -- DEMAND 2: opened over any chart and fed any row of bytes, the recognizer says "complete" exactly if the bytes so far have a parse tree,
 -- and each cell holds exactly the nonterminals that derive its span
-pub demand-2 : (g : Grammar) (found : List ℕ) → validGrammar g ≡ true → cells ≤ length found → (ms : List ℕ)
-    → Recognized (grammarOf g) found ms (fed g (openOf g found) ms)
+pub demand-2 : (g : Dated) (found : List ℕ) → validGrammar (g .grammar) ≡ true → cells ≤ length found → (ms : List ℕ)
+    → Recognized g found ms (fed (g .grammar) (openOf g found) ms)
 demand-2 = Fed.recognized
 
 -- the check says yes exactly if the offered row is a derivation, whoever wrote it
-pub check-yes : (g : Grammar) (w chart : List ℕ) → Ready g w chart → (e : List ℕ)
+pub check-yes : (g : Dated) (w chart : List ℕ) → Ready g w chart → (e : List ℕ)
     → (checkOf g w e chart .answer ≡ answered true) ↔ Derivation (grammarOf g) limit w e
 check-yes = Check.check-yes
 
-pub check-no : (g : Grammar) (w chart : List ℕ) → Ready g w chart → (e : List ℕ)
+pub check-no : (g : Dated) (w chart : List ℕ) → Ready g w chart → (e : List ℕ)
     → (checkOf g w e chart .answer ≡ answered false) ↔ (Derivation (grammarOf g) limit w e → ⊥)
 check-no = Check.check-no
 
 -- DEMAND 3, for every grammar that check 8 lets through, every input that check 9 lets through and every list of allowed calls
-module _ (g : Grammar) (valid : validGrammar g ≡ true) (w : List ℕ) (high : length w ≤ maxInput) where
+module _ (g : Dated) (valid : validGrammar (g .grammar) ≡ true) (w : List ℕ) (high : length w ≤ maxInput) where
   pub demand-3 : (tree : Dec (HasTree (grammarOf g) w)) (calls : List Made) → AllAllowed (grammarOf g) w calls → Demand3 g w tree calls
   demand-3 = Handed.demand-3 g valid w high
 
@@ -290,7 +290,7 @@ pub listing-of-T : textOf T (As 1) ≡ listingOfT
 listing-of-T = Sample.listing-of-T
 
 -- the nullable depth that a grammar holds does not change the text of an input
-pub text-depth : (g : Grammar) (d : ℕ) (w : List ℕ) → inputText (setDepth g d) w ≡ inputText g w
+pub text-depth : (g : Grammar) (d : ℕ) (w : List ℕ) → inputText (dated (setDepth g d)) w ≡ inputText (dated g) w
 text-depth = TextDepth.text-depth
 
 -- a program that reads no more of book and plate than their fronts prints the same

@@ -13,9 +13,8 @@ use Rattle.sizes.specs.Sizes.{cells, outputSize, most, maxInput}
 use Rattle.cfg.specs.Tree.{HasTree}
 use Rattle.cfg.specs.Listing.{L}
 use Rattle.chart.proofs.Derived.{Bounded}
-use Rattle.grammar.specs.declared.Grammar.{Grammar}
 use Rattle.grammar.specs.Valid.{validGrammar}
-use Rattle.grammar.specs.View.{grammarOf}
+use Rattle.grammar.specs.View.{Dated, grammarOf}
 use Rattle.grammar.proofs.Bounds.{valid-bounded}
 use Rattle.results.specs.Answer.{Answer, refused, answered, Handing, handed, nothing, Figure, counted, more}
 use Rattle.results.specs.Check.{Checking}
@@ -50,12 +49,12 @@ abbrev last-of-first : (chart out : List ℕ) (lent : List (List ℕ × List ℕ
 last-of-first chart out lent =
     record { before = []; chart = chart; out = out; after = nextCalls lent; split = refl; none = nextCalls-no-first lent }
 
-larger-none : (g : Grammar) (w : List ℕ) → Larger g w → N (grammarOf g) w ≡ 0
+larger-none : (g : Dated) (w : List ℕ) → Larger g w → N (grammarOf g) w ≡ 0
 larger-none g w l = dite (decLt 0 (N (grammarOf g) w))
     (λ h. let s = L-some (grammarOf g) w h in let k = l .1 (s .0) (s .1) in absurd (omega arith))
     (λ h. omega arith)
 
-module _ (g : Grammar) (valid : validGrammar g ≡ true) (w : List ℕ) (high : length w ≤ maxInput) where
+module _ (g : Dated) (valid : validGrammar (g .grammar) ≡ true) (w : List ℕ) (high : length w ≤ maxInput) where
   -- ---- a first and n nexts that are offered the copy
 
   module _ (chart out : List ℕ) (lent : List (List ℕ × List ℕ)) (a : AllAllowed (grammarOf g) w (first chart out ∷ nextCalls lent)) where

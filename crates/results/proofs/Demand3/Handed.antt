@@ -9,9 +9,8 @@ use lib.ListN.{length, take, length-map}
 use Rattle.sizes.specs.Sizes.{maxInput}
 use Rattle.cfg.specs.Tree.{HasTree}
 use Rattle.cfg.specs.Listing.{L}
-use Rattle.grammar.specs.declared.Grammar.{Grammar}
 use Rattle.grammar.specs.Valid.{validGrammar}
-use Rattle.grammar.specs.View.{grammarOf}
+use Rattle.grammar.specs.View.{Dated, grammarOf}
 use Rattle.results.specs.Walk.{walked, handedOut, NoFirst}
 use Rattle.results.specs.Walk as Walk
 use Rattle.results.specs.History.{Made, first, nextCopy, nextOther, count, which, AllAllowed, history}
@@ -40,7 +39,7 @@ last-first (nextCopy chart out ∷ calls) = elim (last-first calls) [ inl n ↦ 
 last-first (nextOther e chart out ∷ calls) = elim (last-first calls) [ inl n ↦ inl n | inr r ↦ inr (later-first (nextOther e chart out) r) ]
 last-first (count chart ∷ calls) = elim (last-first calls) [ inl n ↦ inl n | inr r ↦ inr (later-first (count chart) r) ]
 
-module _ (g : Grammar) (valid : validGrammar g ≡ true) (w : List ℕ) (high : length w ≤ maxInput)
+module _ (g : Dated) (valid : validGrammar (g .grammar) ≡ true) (w : List ℕ) (high : length w ≤ maxInput)
     (tree : Dec (HasTree (grammarOf g) w)) where
   pub demand-3 : (calls : List Made) → AllAllowed (grammarOf g) w calls → Demand3 g w tree calls
   demand-3 calls a = record {

@@ -11,9 +11,8 @@ use Rattle.sizes.specs.Sizes.{maxInput, cells, outputSize}
 use Rattle.cfg.specs.Grammar.{Cfg}
 use Rattle.cfg.specs.Tree.{HasTree}
 use Rattle.chart.proofs.Derived.{Bounded}
-use Rattle.grammar.specs.declared.Grammar.{Grammar}
 use Rattle.grammar.specs.Valid.{validGrammar}
-use Rattle.grammar.specs.View.{grammarOf}
+use Rattle.grammar.specs.View.{Dated, grammarOf}
 use Rattle.grammar.proofs.Bounds.{valid-bounded}
 use Rattle.results.specs.Answer.{Figure}
 use Rattle.results.specs.Check.{Checking}
@@ -48,7 +47,7 @@ module _ (G : Cfg) (bounded : Bounded G) (w : List ℕ) (high : length w ≤ max
   pub walk-holds-in : (calls : List Made) → AllAllowed G w calls → historyIn G w [] calls ≡ walked G w tree (map which calls) 0
   walk-holds-in calls a = walk-from calls a 0 (omega arith) [] refl
 
-module _ (g : Grammar) (valid : validGrammar g ≡ true) (w : List ℕ) (high : length w ≤ maxInput) where
+module _ (g : Dated) (valid : validGrammar (g .grammar) ≡ true) (w : List ℕ) (high : length w ≤ maxInput) where
   pub ready : (chart : List ℕ) → cells ≤ length chart → Ready g w chart
   ready chart c = record { valid = valid; short = high; room = c }
 
