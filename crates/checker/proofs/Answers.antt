@@ -29,7 +29,7 @@ use Rattle.fill_input.proofs.Deciding.{call-refused, call-passed}
 use Rattle.fill_input.proofs.Packing.{list-packed}
 use Rattle.results.specs.Answer.{Answer, refused, answered, check, decide}
 use Rattle.results.specs.Check.{listed, checkIn, checkOf}
-use Rattle.results.specs.Measure.{tenthsOf, unlisted, lengthIn, lengthOf, rulesUsed, sameBag, sameBuildIn, sameBuildOf}
+use Rattle.results.specs.Measure.{tenthsOf, unlisted, lengthIn, lengthOf, sameBuilt, sameBuildIn, sameBuildOf}
 use Rattle.checker.specs.Build.{Low}
 use Rattle.check_length.specs.Measure.{lengthOfRule, lengthsIn}
 use Rattle.checker.specs.Calls.{checkAnswer, lengthAnswer, buildAnswer}
@@ -80,7 +80,7 @@ module _ (l : List (List ℕ)) (d e : List ℕ) (a : Bool) (first : a ≡ listed
     unfolding decide
     build-second k = rw (← first, ← second, not-false a h, not-true b k)
 
-    module _ (k : not b ≡ false) (c : Bool) (compared : c ≡ sameBag (rulesUsed d) (rulesUsed e)) where
+    module _ (k : not b ≡ false) (c : Bool) (compared : c ≡ sameBuilt d e) where
       pub build-says : {v : Bool} → c ≡ v → answered v ≡ buildAnswer l d e
       unfolding decide
       build-says m = rw (← first, ← second, ← compared, not-false a h, not-false b k, m)

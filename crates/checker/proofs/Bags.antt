@@ -17,7 +17,7 @@ use Rattle.cfg.specs.Derivation.{Derivation, limit}
 use Rattle.grammar.specs.Valid.{all}
 use Rattle.packed.specs.Packed.{cfgIn}
 use Rattle.packed.proofs.Laws.{of-in}
-use Rattle.results.specs.Measure.{rulesUsed, occurrences, sameBag}
+use Rattle.results.specs.Measure.{rulesUsed, occurrences, sameBag, sameBuilt}
 use Rattle.checker.specs.Build.{Tallied, Low}
 use Rattle.check_walk.proofs.Nodes.{code-first}
 
@@ -81,11 +81,11 @@ module _ (x y : List ℕ) where
 -- ---- two tallies
 
 module _ (a b s t : List ℕ) (one : Tallied a s) (two : Tallied b t) where
-  pub tallies-differ : (k : ℕ) → k < maxRules → (getD s k 0 ≡ getD t k 0 → ⊥) → false ≡ sameBag (rulesUsed a) (rulesUsed b)
+  pub tallies-differ : (k : ℕ) → k < maxRules → (getD s k 0 ≡ getD t k 0 → ⊥) → false ≡ sameBuilt a b
   tallies-differ k h d = bags-differ (rulesUsed a) (rulesUsed b) k (λ e. d (one k h ∙ e ∙ sym (two k h)))
 
   pub tallies-same : (r : ℕ) → maxRules ≤ r → ((k : ℕ) → k < r → getD s k 0 ≡ getD t k 0) → Low a → Low b
-      → true ≡ sameBag (rulesUsed a) (rulesUsed b)
+      → true ≡ sameBuilt a b
   tallies-same r h f la lb = bags-same (rulesUsed a) (rulesUsed b) (λ k. go k (decLt k maxRules))
     where
       go : (k : ℕ) → Dec (k < maxRules) → occurrences k (rulesUsed a) ≡ occurrences k (rulesUsed b)

@@ -5,7 +5,7 @@ ghost use mathlib.Core.Path.{_≡_};
 ghost use Prim.Native.Nat.{_*_, _+_, _<_, _≤_};
 ghost use lib.ListN.{length};
 ghost use Rattle.sizes.specs.Sizes.{maxRules, maxNodes, outputSize};
-ghost use Rattle.results.specs.Measure.{rulesUsed, sameBag};
+ghost use Rattle.results.specs.Measure.{sameBuilt};
 ghost use Rattle.checker.specs.Build.{usedAt, Tallied, Low};
 
 // The rule of node i, if the node covers something and its rule is below 128. Otherwise NO_RULE.
@@ -38,7 +38,7 @@ fn tally(e: &[u16]) -> [u16; 129]
 // Whether each rule below 128 is used as often in both.
 pub fn same_rules(a: &[u16], b: &[u16]) -> bool
     requires { ⌜ (length (now a) ≤ outputSize) × (length (now b) ≤ outputSize) × Low (now a) × Low (now b) ⌝ }
-    ensures { λ s. ⌜ s ≡ sameBag (rulesUsed (now (a .entry))) (rulesUsed (now (b .entry))) ⌝ }
+    ensures { λ s. ⌜ s ≡ sameBuilt (now (a .entry)) (now (b .entry)) ⌝ }
 {
     let x = tally(a);
     let y = tally(b);

@@ -69,11 +69,14 @@ occurrences r (s ∷ l) = cond (eqb r s) (suc (occurrences r l)) (occurrences r 
 unfoldable pub sameBag : List ℕ → List ℕ → Bool
 sameBag x y = all (λ r. eqb (occurrences r x) (occurrences r y)) (x ++ y)
 
+-- two derivations of one input are the same build: the rules of their nodes that cover something agree as bags
+abbrev pub sameBuilt : List ℕ → List ℕ → Bool
+sameBuilt a b = sameBag (rulesUsed a) (rulesUsed b)
+
 -- same build, for the grammar G
 unfoldable pub sameBuildIn : Cfg → List ℕ → List ℕ → List ℕ → List ℕ → Checking Bool
 sameBuildIn G w a b chart = record {
-  answer = decide (check (unlisted G w a) 12 ∷ check (unlisted G w b) 12 ∷ []) refused
-      (λ _. answered (sameBag (rulesUsed a) (rulesUsed b)));
+  answer = decide (check (unlisted G w a) 12 ∷ check (unlisted G w b) 12 ∷ []) refused (λ _. answered (sameBuilt a b));
   chart = filled G w chart;
 }
 
