@@ -47,7 +47,7 @@ extern "C" {
 
 /* The version of this header and of the library that it describes. */
 #define FILBOZSEG_VERSION_MAJOR 0
-#define FILBOZSEG_VERSION_MINOR 6
+#define FILBOZSEG_VERSION_MINOR 7
 #define FILBOZSEG_VERSION_PATCH 0
 
 /* Sizes: the numbers in a grammar's row, the numbers in a hand's row, the used cells of a chart, the maximum number of bytes of an input,
@@ -169,8 +169,8 @@ uint32_t filbozseg_length(const uint16_t grammar[FILBOZSEG_ROW], const uint8_t *
                           const uint16_t *offered, size_t offered_length, uint32_t *chart, size_t chart_length, int32_t *tenths);
 
 /*
- * Returns whether two offered derivations of the input are the same build: whether their nodes that cover something use the same rules,
- * each equally often. Refusals and chart as for filbozseg_length; 12 if either row is no derivation.
+ * Returns whether two offered derivations of the input are the same build: whether their nodes that cover something have the same rules
+ * in preorder. Refusals and chart as for filbozseg_length; 12 if either row is no derivation.
  * Stack: FILBOZSEG_SAME_BUILD_STACK.
  */
 uint32_t filbozseg_same_build(const uint16_t grammar[FILBOZSEG_ROW], const uint8_t *input, size_t input_length,

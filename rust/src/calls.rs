@@ -95,7 +95,7 @@ pub fn length(grammar: &Grammar, input: &[u8], offered: &[u16], chart: &mut [u32
     done(code).map(|()| tenths)
 }
 
-/// Whether two offered derivations are the same build: whether their nodes that cover something use the same rules, each equally often.
+/// Whether two offered derivations are the same build: whether their nodes that cover something have the same rules in preorder.
 /// The chart is filled for the input. The two rows may be the same slice.
 ///
 /// ```

@@ -43,11 +43,25 @@ fn small_plates() {
     plate(&book(0, &["0: 0 0", "0: A", "0:"]), "A", &["1.1"]);
     plate(&book(1, &["1: 0 A", "0: 0", "0:"]), "A", &["1.0 0.2"]);
     plate(&[0x10, 0x00, 0x50], "A", &[]);
-    // The pair of request U7 (document 02): the same bag of rules, in another order.
-    let pair = book(0, &["0: 1 1", "1: A", "1: 2", "2: A"]);
-    let (one, other) = (row("2.0 1.1 1.2 1.3"), row("2.0 1.2 1.3 1.1"));
-    assert_eq!(same_build(&loaded(&pair), b"AA", &one, &other), Answer::Yes);
-    assert_eq!(same_build(&loaded(&pair), b"AA", &one, &row("2.0 1.1 1.1")), Answer::No);
+}
+
+/// The table of request U7 (document 02).
+#[test]
+fn builds() {
+    let two_ways = book(0, &["0: 1 1", "1: A", "1: 2", "2: A"]);
+    let texts = ["2.0 1.1 1.1", "2.0 1.1 1.2 1.3", "2.0 1.2 1.3 1.1", "2.0 1.2 1.3 1.2 1.3"];
+    plate(&two_ways, "AA", &texts);
+    let readings = texts.map(row);
+    for (one, other) in readings.iter().flat_map(|one| readings.iter().map(move |other| (one, other))) {
+        let due = if one == other { Answer::Yes } else { Answer::No };
+        assert_eq!(same_build(&loaded(&two_ways), b"AA", one, other), due, "{one:?} and {other:?}");
+    }
+    // The same rules in the same order; the node of B is beside that of A, or inside it.
+    let moved = book(0, &["0: 1 2", "1: A 2", "2: B", "2:"]);
+    let texts = ["2.0 1.1 0.3 1.2", "2.0 2.1 1.2 0.3"];
+    plate(&moved, "AB", &texts);
+    let [beside, inside] = texts.map(row);
+    assert_eq!(same_build(&loaded(&moved), b"AB", &beside, &inside), Answer::Yes);
 }
 
 /// The Catalan numbers by their own recurrence: binary trees with n leaves, not listed.

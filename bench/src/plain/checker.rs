@@ -121,12 +121,9 @@ pub fn length(g: &Grammar, input: &[u8], offered: &[u16], chart: &mut [u32]) -> 
     Ok(rounded(sum))
 }
 
-fn tally(e: &[u16]) -> [u16; 128] {
-    let mut t = [0; 128];
-    for node in e.chunks_exact(2).filter(|node| node[0] > 0) {
-        t[node[1] as usize] += 1;
-    }
-    t
+/// The rules of the nodes that cover something, in preorder.
+fn rules_used(e: &[u16]) -> impl Iterator<Item = u16> + '_ {
+    e.chunks_exact(2).filter(|node| node[0] > 0).map(|node| node[1])
 }
 
 pub fn same_build(g: &Grammar, input: &[u8], a: &[u16], b: &[u16], chart: &mut [u32]) -> Result<bool, Refusal> {
@@ -136,5 +133,5 @@ pub fn same_build(g: &Grammar, input: &[u8], a: &[u16], b: &[u16], chart: &mut [
     if !is_derivation(&p, start, input, a) || !is_derivation(&p, start, input, b) {
         return Err(Refusal::NotADerivation);
     }
-    Ok(tally(a) == tally(b))
+    Ok(rules_used(a).eq(rules_used(b)))
 }

@@ -30,11 +30,9 @@ use Rattle.fill_input.proofs.Packing.{list-packed}
 use Rattle.results.specs.Answer.{Answer, refused, answered, check, decide}
 use Rattle.results.specs.Check.{listed, checkIn, checkOf}
 use Rattle.results.specs.Measure.{tenthsOf, unlisted, lengthIn, lengthOf, sameBuilt, sameBuildIn, sameBuildOf}
-use Rattle.checker.specs.Build.{Low}
 use Rattle.check_length.specs.Measure.{lengthOfRule, lengthsIn}
 use Rattle.checker.specs.Calls.{checkAnswer, lengthAnswer, buildAnswer}
 use Rattle.check_walk.proofs.Whole.{listed-derivation}
-use Rattle.checker.proofs.Bags.{derivation-low}
 use Rattle.check_length.proofs.Lengths.{tenths-row}
 
 -- ---- a row of which `is_derivation` says that it is one
@@ -42,18 +40,6 @@ use Rattle.check_length.proofs.Lengths.{tenths-row}
 module _ (p w e : List ℕ) (s : ℕ) (b : Bool) (told : b ≡ listed e (L (cfgIn s p) w)) where
   pub offered-short : b ≡ true → length e ≤ outputSize
   offered-short h = derivation-length (cfgIn s p) limit w e (listed-derivation (cfgIn s p) w e (sym told ∙ h))
-
-  offered-low : b ≡ true → Low e
-  offered-low h = derivation-low s p w e (listed-derivation (cfgIn s p) w e (sym told ∙ h))
-
-pub both-ready : (p w d e : List ℕ) (s : ℕ) (a b : Bool) → a ≡ listed d (L (cfgIn s p) w) → b ≡ listed e (L (cfgIn s p) w) → not a ≡ false
-    → not b ≡ false → (length d ≤ outputSize) × (length e ≤ outputSize) × Low d × Low e
-both-ready p w d e s a b first second h k = (
-  offered-short p w d s a first (not-false a h),
-  offered-short p w e s b second (not-false b k),
-  offered-low p w d s a first (not-false a h),
-  offered-low p w e s b second (not-false b k),
-)
 
 -- ---- the answers over a list of derivations
 

@@ -1,4 +1,3 @@
 -- The laws of the checker's calls.
-pub mod Bags
-pub mod Tally
+pub mod Used
 pub mod Answers

@@ -1,21 +1,17 @@
--- How often each rule is used by the nodes that cover something. Assumes nothing.
-use Prim.Native.Nat.{ℕ, _+_, _*_, _≤_, _<_, min}
-use mathlib.Core.Bool.{cond}
+-- The rules of the nodes that cover something, from a node on. Assumes nothing.
+use Prim.Native.Nat.{ℕ, _*_, _/_, _≤_, _<_}
 use mathlib.Core.List.{List}
+use mathlib.Core.Logic.{_≢_}
 use mathlib.Core.Path.{_≡_}
-use lib.Dec.{eqb}
-use lib.ListN.{getD}
-use Rattle.sizes.specs.Sizes.{maxRules}
-use Rattle.results.specs.Measure.{rulesUsed, occurrences}
+use lib.ListN.{length, getD, drop}
+use Rattle.results.specs.Measure.{rulesUsed}
 
--- the rule of node i, if the node covers something and the rule is below 128; else 128
-abbrev pub usedAt : List ℕ → ℕ → ℕ
-usedAt e i = cond (eqb (getD e (2 * i) 0) 0) maxRules (min (getD e (2 * i + 1) 0) maxRules)
+-- what is left of the rules used from node i on
+abbrev pub usedFrom : List ℕ → ℕ → List ℕ
+usedFrom e i = rulesUsed (drop (2 * i) e)
 
--- for each rule below 128, t has the number of nodes that have it and cover something
-abbrev pub Tallied : List ℕ → List ℕ → Type 0
-Tallied e t = (k : ℕ) → k < maxRules → getD t k 0 ≡ occurrences k (rulesUsed e)
-
--- no node that covers something has a rule of 128 or above
-abbrev pub Low : List ℕ → Type 0
-Low e = (k : ℕ) → maxRules ≤ k → occurrences k (rulesUsed e) ≡ 0
+-- r is the first node from i on that covers something, or past the last node if there is none
+pub record NextUsed (e : List ℕ) (i r : ℕ) : Type 0 where
+  pub onward : i ≤ r
+  pub covers : r < length e / 2 → getD e (2 * r) 0 ≢ 0
+  pub left : usedFrom e i ≡ usedFrom e r

@@ -1,3 +1,3 @@
--- The answers of the checker's calls, and how often a derivation uses each rule.
+-- The answers of the checker's calls, and the rules that a derivation uses from a node on.
 pub mod Build
 pub mod Calls

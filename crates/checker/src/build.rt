@@ -1,53 +1,40 @@
-// Whether two derivations are the same build: the rules of their nodes that cover something are the same bag.
-use check_walk::offered::number;
-use check_walk::offered::rule_number;
+// Whether two derivations are the same build: the rules of their nodes that cover something are the same, in preorder.
 ghost use mathlib.Core.Path.{_≡_};
-ghost use Prim.Native.Nat.{_*_, _+_, _<_, _≤_};
-ghost use lib.ListN.{length};
-ghost use Rattle.sizes.specs.Sizes.{maxRules, maxNodes, outputSize};
 ghost use Rattle.results.specs.Measure.{sameBuilt};
-ghost use Rattle.checker.specs.Build.{usedAt, Tallied, Low};
+ghost use Rattle.checker.specs.Build.{NextUsed};
 
-// The rule of node i, if the node covers something and its rule is below 128. Otherwise NO_RULE.
-fn used(e: &[u16], i: usize) -> usize
-    requires { ⌜ (2 * i + 1 < length (now e)) × (i < maxNodes) ⌝ }
-    ensures { λ r. ⌜ (r ≡ usedAt (now (e .entry)) i) × (r ≤ maxRules) ⌝ }
-{
-    if number(e, 2 * i) == 0 {
-        return sizes::NO_RULE;
-    }
-    rule_number(e, i)
-}
-
-// For each rule, the number of nodes that have it and cover something.
-fn tally(e: &[u16]) -> [u16; 129]
-    requires { ⌜ length (now e) ≤ outputSize ⌝ }
-    ensures { λ t. ⌜ Tallied (now (e .entry)) t ⌝ }
+// The first node from i on that covers something. If there is none, a number past the last node.
+fn next_used(e: &[u16], i: usize) -> usize
+    ensures { λ r. ⌜ NextUsed (now (e .entry)) i r ⌝ }
 {
     let n = e.len() / 2;
-    let mut t = [0u16; 129];
-    let mut i = 0;
-    while i < n {
-        let r = used(e, i);
-        t[r] = t[r] + 1;
-        i += 1;
-    }
-    t
-}
-
-// Whether each rule below 128 is used as often in both.
-pub fn same_rules(a: &[u16], b: &[u16]) -> bool
-    requires { ⌜ (length (now a) ≤ outputSize) × (length (now b) ≤ outputSize) × Low (now a) × Low (now b) ⌝ }
-    ensures { λ s. ⌜ s ≡ sameBuilt (now (a .entry)) (now (b .entry)) ⌝ }
-{
-    let x = tally(a);
-    let y = tally(b);
-    let mut r = 0;
-    while r < sizes::MAX_RULES {
-        if x[r] != y[r] {
-            return false;
+    let mut r = i;
+    while r < n {
+        if e[2 * r] != 0 {
+            return r;
         }
         r += 1;
     }
-    true
+    r
+}
+
+// Whether the nodes that cover something have the same rules, one by one.
+pub fn same_rules(a: &[u16], b: &[u16]) -> bool
+    ensures { λ s. ⌜ s ≡ sameBuilt (now (a .entry)) (now (b .entry)) ⌝ }
+{
+    let n = a.len() / 2;
+    let m = b.len() / 2;
+    let mut i = next_used(a, 0);
+    let mut j = next_used(b, 0);
+    while i < n {
+        if j >= m {
+            return false;
+        }
+        if a[2 * i + 1] != b[2 * j + 1] {
+            return false;
+        }
+        i = next_used(a, i + 1);
+        j = next_used(b, j + 1);
+    }
+    j >= m // the second list has ended, too
 }

@@ -11,6 +11,7 @@ use Rattle.results.specs.Load as Load
 use Rattle.results.specs.Recognize as Recognize
 use Rattle.results.specs.Check.{same, listed, onInput, checkIn, checkOf}
 use Rattle.results.specs.Measure as Measure
+use Rattle.results.specs.Before as Before
 use Rattle.results.specs.Enumerate as Enumerate
 use Rattle.results.specs.Starred.{outcome}
 
@@ -23,7 +24,8 @@ unfolding fits joined over when from among keep rulesFrom items upTo listing der
     Load.refusedLoad Load.acceptedLoad Load.run Load.loadOf Recognize.stateOf Recognize.openIn Recognize.openOf Recognize.takeIn
     Recognize.takeOf same listed onInput checkIn checkOf Measure.sum Measure.nearest Measure.rounded Measure.unlisted
     Measure.lengthIn Measure.lengthOf
-    Measure.rulesUsed Measure.occurrences Measure.sameBag Measure.sameBuildIn Measure.sameBuildOf Enumerate.treeIn Enumerate.handingOut
+    Measure.rulesUsed Measure.sameBuildIn Measure.sameBuildOf Before.occurrences Before.sameBag Before.sameBagBuildIn
+    Before.sameBagBuildOf Enumerate.treeIn Enumerate.handingOut
     Enumerate.headOf Enumerate.afterIn Enumerate.figure Enumerate.onOutput Enumerate.firstIn Enumerate.firstOf Enumerate.nextIn
     Enumerate.nextOf Enumerate.countIn Enumerate.countOf outcome
 computing = tt

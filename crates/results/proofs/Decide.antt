@@ -57,3 +57,12 @@ module _ {A B : Type 0} (refuse : A → B) (go : Unit {0} → B) where
     -- the same, if P holds of every refusal
     pub decide-either : (checks : List (Check A)) → ((a : A) → P (refuse a)) → (Pass checks → P (go tt)) → P (decide checks refuse go)
     decide-either checks r g = decide-cases checks (each (λ c e. r (c .refusal)) checks) g
+
+-- two calls with the same checks: what holds of both refusals of a check, and of what comes after the checks, holds of both results
+pub decide-both : {A B C : Type 0} (P : B → C → Type 0) (refuse : A → B) (refuse′ : A → C) (go : Unit {0} → B) (go′ : Unit {0} → C)
+    (checks : List (Check A)) → ((a : A) → P (refuse a) (refuse′ a)) → P (go tt) (go′ tt)
+    → P (decide checks refuse go) (decide checks refuse′ go′)
+unfolding decide
+decide-both P refuse refuse′ go go′ [] r g = g
+decide-both P refuse refuse′ go go′ (c ∷ checks) r g =
+    by-test (c .fails) (λ e. rw e (r (c .refusal))) (λ e. rw e (decide-both P refuse refuse′ go go′ checks r g))

@@ -13,5 +13,6 @@ pub mod Starred
 pub mod Requests
 pub mod Extra
 pub mod EmptyInput
+pub mod SameBuild
 pub mod Demand3
 pub mod Loading

@@ -4,6 +4,7 @@ pub mod Load
 pub mod Recognize
 pub mod Check
 pub mod Measure
+pub mod Before
 pub mod Enumerate
 pub mod Ready
 pub mod Walk
@@ -11,4 +12,5 @@ pub mod History
 pub mod Demand3
 pub mod Drawer
 pub mod Starred
+pub mod Builds
 pub mod Requests

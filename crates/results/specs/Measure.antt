@@ -1,17 +1,16 @@
 -- The total length of a derivation (stack length of a reading), and whether two are the same build. Assumes nothing.
 use Prim.Native.Nat.{ℕ, suc, _+_, _/_, _%_, _≤_}
 use mathlib.Core.Bool.{Bool, true, false, cond, not}
-use mathlib.Core.List.{List, [], _∷_, _++_}
+use mathlib.Core.List.{List, [], _∷_}
 use mathlib.Core.Path.{_≡_}
 use lib.Dec.{eqb, ltb}
 use lib.IntN.{ℤ, pos, negsuc, negℤ, natAbs, _+ℤ_, _-ℤ_, _*ℤ_}
 use Rattle.cfg.specs.Grammar.{Cfg}
 use Rattle.cfg.specs.Listing.{L}
 use Rattle.chart.specs.Column.{filled}
-use Rattle.grammar.specs.Valid.{all}
 use Rattle.grammar.specs.View.{Dated, lengthsOf}
 use Rattle.results.specs.Answer.{refused, answered, check, decide}
-use Rattle.results.specs.Check.{listed, Checking, onInput}
+use Rattle.results.specs.Check.{same, listed, Checking, onInput}
 
 -- the sum of the rule lengths of all nodes of a derivation, empty ones too, in hundredths of a millimetre
 unfoldable pub sum : (ℕ → ℤ) → List ℕ → ℤ
@@ -60,18 +59,9 @@ rulesUsed [] = []
 rulesUsed (cover ∷ []) = []
 rulesUsed (cover ∷ r ∷ e) = elim (eqb cover 0) [ true ↦ rulesUsed e | false ↦ r ∷ rulesUsed e ]
 
--- how often a number is in a list
-unfoldable pub occurrences : ℕ → List ℕ → ℕ
-occurrences r [] = 0
-occurrences r (s ∷ l) = cond (eqb r s) (suc (occurrences r l)) (occurrences r l)
-
--- two lists agree as bags: each number is in one as often as in the other
-unfoldable pub sameBag : List ℕ → List ℕ → Bool
-sameBag x y = all (λ r. eqb (occurrences r x) (occurrences r y)) (x ++ y)
-
--- two derivations of one input are the same build: the rules of their nodes that cover something agree as bags
+-- two derivations of one input are the same build: the rules of their nodes that cover something are the same, in preorder
 abbrev pub sameBuilt : List ℕ → List ℕ → Bool
-sameBuilt a b = sameBag (rulesUsed a) (rulesUsed b)
+sameBuilt a b = same (rulesUsed a) (rulesUsed b)
 
 -- same build, for the grammar G
 unfoldable pub sameBuildIn : Cfg → List ℕ → List ℕ → List ℕ → List ℕ → Checking Bool

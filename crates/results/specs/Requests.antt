@@ -8,6 +8,7 @@ use Rattle.cfg.specs.Tree.{HasTree}
 use Rattle.grammar.specs.View.{grammarOf}
 use Rattle.results.specs.Measure.{rounded}
 use Rattle.results.specs.Drawer.{start, newRule, nonterminalPlace, A, rangePlace, close, T, bare, As}
+use Rattle.results.specs.Builds.{twoWays, rules11, rules12, rules21, rules22, movedB, AB, beside, inside, compared, Pair, builds}
 use Rattle.results.specs.Starred.{outcome, grammarFrom, datedFrom, Line, found, absent, zeros}
 
 -- U1: 0 → one digit
@@ -103,6 +104,9 @@ requests =
     ∷ found emptyTwins [] 3 4 emptyTwinsList (zeros 4)
     ∷ absent onlyA []
     ∷ absent bare []
+    -- U7: the derivations that its table compares
+    ∷ found twoWays (As 2) 3 4 (rules11 ∷ rules12 ∷ rules21 ∷ rules22 ∷ []) (zeros 4)
+    ∷ found movedB AB 4 2 (beside ∷ inside ∷ []) (zeros 2)
     ∷ []
 
 -- U5: sums in hundredths, each with its tenths
@@ -137,3 +141,5 @@ pub record Requested : Type 0 where
   pub depths : map depthFrom (threeEmpty ∷ chain ∷ reversedChain ∷ around ∷ unreached ∷ []) ≡ 1 ∷ 32 ∷ 32 ∷ 3 ∷ 2 ∷ []
   -- U5: every sum comes out as its table says
   pub rounds : map (λ (s : ℤ × ℤ). rounded (s .0)) sums ≡ map (λ (s : ℤ × ℤ). s .1) sums
+  -- U7: every pair comes out as its table says
+  pub compares : map (λ (p : Pair). compared (p .bytes) (p .input) (p .one) (p .other)) builds ≡ map (λ (p : Pair). p .gives) builds

@@ -11,6 +11,7 @@
 --   search-table                      books for the search, from book bytes to set and passes          document 02, U3
 --   depth-exact, depth-before         the depth is that of the highest of the lowest empty trees       document 02, U13
 --   tenths-nearest                    a length is the nearest tenth to its sum, the even one at a half document 02, U5
+--   builds-before, built-before       same build says yes only where it did before                     document 02, U7
 --   list-exact, list-rising           L holds exactly the readings, each once, in rising order         Trees and readings; The walk
 --   load-demand, load-order           a book is loaded or refused at its first fault; what is left     demand 1; Refusals
 --   open-, take-, .., next-demand     what is written, the first refusal that applies, what it leaves  demand 1
@@ -69,7 +70,8 @@ use Rattle.results.specs.Answer.{refused, answered, nothing, counted, more}
 use Rattle.results.specs.Load.{step, loadOf}
 use Rattle.results.specs.Recognize.{State, openOf, takeOf, fed}
 use Rattle.results.specs.Check.{checkOf}
-use Rattle.results.specs.Measure.{sum, tenthsOf, NearestTenth, lengthOf, sameBuildOf}
+use Rattle.results.specs.Measure.{sum, tenthsOf, NearestTenth, lengthOf, sameBuilt, sameBuildOf}
+use Rattle.results.specs.Before.{sameBagBuilt, sameBagBuildOf}
 use Rattle.results.specs.Enumerate.{firstOf, nextOf, countOf}
 use Rattle.results.specs.Walk.{hands, noneLeft, handedOut}
 use Rattle.results.specs.History.{Made, first, AllAllowed, history}
@@ -101,6 +103,7 @@ use Rattle.grammar.proofs.Bounds.{whole-bounded}
 use Rattle.results.proofs.Starred as Starred
 use Rattle.results.proofs.Requests as Requests
 use Rattle.results.proofs.Rounding as Rounding
+use Rattle.results.proofs.SameBuild as SameBuild
 use Rattle.load_nullable.proofs.Exact as Search
 use Rattle.load_nullable.proofs.Table as Searches
 use Rattle.results.proofs.Demand3.Walk as Walk
@@ -156,6 +159,15 @@ depth-before g valid = Depth.depth-before (wholeOf g) (whole-bounded g valid)
 -- even where it differs by 5
 pub tenths-nearest : (lengths : ℕ → ℤ) (e : List ℕ) (t : ℤ) → (tenthsOf lengths e ≡ t) ↔ NearestTenth (sum lengths e) t
 tenths-nearest = Rounding.tenths-nearest
+
+-- THE REQUEST U7: where same build says yes, it also did before, since rules that are the same in preorder are the same bag
+pub builds-before : (g : Dated) (w a b chart : List ℕ) → sameBuildOf g w a b chart .answer ≡ answered true
+    → sameBagBuildOf g w a b chart .answer ≡ answered true
+builds-before = SameBuild.builds-before
+
+-- the same over any two rows of numbers
+pub built-before : (a b : List ℕ) → sameBuilt a b ≡ true → sameBagBuilt a b ≡ true
+built-before = SameBuild.built-before
 
 -- THE LIST L: a row is in it exactly if it is a derivation (reading) of the input, and it is strictly rising
 pub list-exact : (G : Cfg) (w e : List ℕ) → List·Memᴰ e (L G w) ↔ Derivation G limit w e

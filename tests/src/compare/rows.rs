@@ -26,6 +26,23 @@ struct Offer<'a> {
     other: &'a [u16],
 }
 
+/// What came up with two rows, by the answer that is due for them.
+fn compared(due: Answer, one: &[u16], other: &[u16]) -> &'static str {
+    let [mut a, mut b] = [one, other].map(trees::rules_used);
+    a.sort();
+    b.sort();
+    match due {
+        Answer::Yes if one == other => "a derivation and itself",
+        Answer::Yes if trees::covers_used(one) == trees::covers_used(other) => {
+            "two derivations, yes, other empty nodes"
+        }
+        Answer::Yes => "two derivations, yes, other covers",
+        Answer::No if a == b => "two derivations, no, the same bag",
+        Answer::No => "two derivations, no, another bag",
+        _ => "refused 12",
+    }
+}
+
 impl Comparison<'_> {
     /// Offers the derivations of an input, and rows that are none, to check, length and
     /// same build; then calls first, next and count.
@@ -97,13 +114,7 @@ impl Comparison<'_> {
                 true if trees::same_build(one, other) => Answer::Yes,
                 true => Answer::No,
             };
-            let what = match due {
-                Answer::Yes if one == other => "same build: a derivation and itself",
-                Answer::Yes => "same build: two derivations, yes",
-                Answer::No => "same build: two derivations, no",
-                _ => "same build: refused 12",
-            };
-            self.add(input, what);
+            self.add(input, &format!("same build: {}", compared(due, one, other)));
             self.offered(flat, Offer { input, filled, one, other }, "same build", due, None)?;
         }
         let known = First { list: list.as_deref(), front: front.as_deref(), tree, offered: &offered };

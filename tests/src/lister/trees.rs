@@ -215,20 +215,36 @@ fn half(below: i32) -> i32 {
     }
 }
 
-/// Same build: the rules of the non-empty nodes are the same, as bags.
+/// The rules of the non-empty nodes, in preorder.
+pub fn rules_used(row: &[u16]) -> Vec<u16> {
+    let all =
+        fault(Fault::EmptyNodesInTheBuild) || (fault(Fault::BuildsOfTheEmptyInputDiffer) && of_the_empty_input(row));
+    let counts = |node: &&[u16]| node[0] > 0 || all;
+    row.chunks_exact(2).filter(counts).map(|node| node[1]).collect()
+}
+
+/// Same build, by request U7 of document 02: the rules of the non-empty nodes agree in preorder.
 pub fn same_build(one: &[u16], other: &[u16]) -> bool {
-    let bag = |row: &[u16]| {
-        let all = fault(Fault::EmptyNodesInTheBuild)
-            || (fault(Fault::BuildsOfTheEmptyInputDiffer) && of_the_empty_input(row));
-        let counts = |node: &&[u16]| node[0] > 0 || all;
-        let mut rules: Vec<u16> = row.chunks_exact(2).filter(counts).map(|node| node[1]).collect();
-        if !fault(Fault::BuildInOrder) {
+    let [mut a, mut b] = [one, other].map(rules_used);
+    for rules in [&mut a, &mut b] {
+        if fault(Fault::BuildAsABag) || fault(Fault::BuildAsASet) {
             rules.sort();
         }
         if fault(Fault::BuildAsASet) {
             rules.dedup();
         }
-        rules
-    };
-    bag(one) == bag(other)
+        if fault(Fault::LastRuleNotCompared) {
+            rules.pop();
+        }
+    }
+    match () {
+        _ if fault(Fault::OnlyTheNumberOfRules) => a.len() == b.len(),
+        _ if fault(Fault::CoversInTheBuild) => a == b && covers_used(one) == covers_used(other),
+        _ => a == b,
+    }
+}
+
+/// The covers of the non-empty nodes, in preorder.
+pub fn covers_used(row: &[u16]) -> Vec<u16> {
+    row.chunks_exact(2).map(|node| node[0]).filter(|cover| *cover > 0).collect()
 }

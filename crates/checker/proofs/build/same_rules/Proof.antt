@@ -1,40 +1,29 @@
--- `checker::build::same_rules` meets its contract. The loop's invariant: the counts agree so far. The measure is the number of rules left.
--- Assumes nothing.
-use Prim.Native.Nat.{ℕ, _-_, _≤_, _<_}
-use mathlib.Core.Path.{_≡_}
+-- `checker::build::same_rules` meets its contract. The loop's invariant: what is left of the two lists is compared as the whole lists are.
+-- The measure is the number of nodes left in the first row. Assumes nothing.
+use Prim.Native.Nat.{_-_, _/_}
+use mathlib.Core.Path.{_≡_, refl}
 use native.Mathlib.Omega.{arith}
-use lib.ListN.{getD}
-use borrow.Author.Count.{below-more}
-use Rattle.sizes.specs.Sizes.{maxRules}
-use Rattle.checker.proofs.Bags.{tallies-differ, tallies-same}
+use lib.ListN.{length}
+use Rattle.checker.proofs.Used.{Comparing, comparing-start, second-ends, rules-differ, rules-agree, first-ends}
 use Rattle.checker.proofs.build.same_rules.Statement.{statement}
 use Rattle.checker.proofs.build.same_rules.Tie as tie
 
 abbrev Inv-loop : tie.InvT-loop
-Inv-loop a b x y r₀ r = (r ≤ maxRules) × ((k : ℕ) → k < r → getD x k 0 ≡ getD y k 0)
+Inv-loop a b n m i₀ j₀ i j = (n ≡ length a / 2) × (m ≡ length b / 2) × Comparing a b i j
 
 abbrev μ-loop : tie.MeasureT-loop
-μ-loop a b x y r₀ r = maxRules - r
-
-differ : tie.Need-returns Inv-loop μ-loop
-differ c =
-    let y = c .before .before .before in
-    let x = y .before in
-    tallies-differ _ _ (x .tally .result) (y .tally2 .result) (x .tally .ensures) (y .tally2 .ensures) (c .before .before .loop .r)
-    (c .before .loop-test .taken) (c .if1 .taken)
-
-same : tie.Need-returns-2 Inv-loop μ-loop
-same c =
-    let y = c .before .before in
-    let x = y .before in
-    let start = x .before .before .before in
-    tallies-same _ _ (x .tally .result) (y .tally2 .result) (x .tally .ensures) (y .tally2 .ensures) (c .before .loop .r)
-    (c .loop-test .left) (c .before .loop .inv .1) (start .pre .2) (start .pre .3)
+μ-loop a b n m i₀ j₀ i j = n - i
 
 pub same-rules-spec : {M : Type 1} → statement M
 same-rules-spec = tie.close (tie.spec
-    Inv-loop μ-loop (λ c κs. omega arith) (λ c κs. omega arith) (λ c. (omega arith, λ k h. absurd (omega arith)))
-    -- x[r] != y[r]
-    (λ c. omega arith) (λ c. omega arith) (λ c. omega arith) (λ c. omega arith) differ
-    -- a turn, and the end
-    (λ c. omega arith) (λ c. omega arith) (λ c. (omega arith, below-more _ _ (c .before .before .loop .inv .1) (c .if1 .left))) same)
+    Inv-loop μ-loop (λ c κs. omega arith) (λ c κs. omega arith) (λ c. (refl, refl, search comparing-start))
+    -- j >= m
+    (λ c. search second-ends)
+    -- a[2 * i + 1] != b[2 * j + 1]
+    (λ c. omega arith) (λ c. omega arith) (λ c. omega arith) (λ c. omega arith)
+    (λ c. omega arith) (λ c. omega arith) (λ c. omega arith) (λ c. omega arith) (λ c. search rules-differ)
+    -- the calls of `next_used`, a turn
+    (λ c. omega arith) (λ c κs. omega arith) (λ c. omega arith) (λ c κs. omega arith)
+    (λ c. omega (arith, c .before .next-used3 .ensures .onward)) (λ c. (refl, refl, search rules-agree))
+    -- the end
+    (λ c. search first-ends))
