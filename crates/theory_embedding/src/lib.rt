@@ -1,0 +1,1 @@
+// A grammar whose rules are rules of another one: theorems only, no code.
