@@ -12,4 +12,3 @@ pub mod Filled
 pub mod Exact
 pub mod Truth
 pub mod SameRules
-pub mod SameTrees

@@ -18,8 +18,8 @@ use Rattle.cfg.specs.Derivation.{Derivation, limit}
 use Rattle.cfg.specs.Listing.{L}
 use Rattle.theory_listing.proofs.Unique.{length-code}
 use Rattle.theory_listing.proofs.Exact.{listed→derivation, derivation→listed, derivation-length}
-use Rattle.chart.proofs.SameRules.{SameRules, same-sym}
-use Rattle.chart.proofs.SameTrees.{fits-same-rules, superfluous-same-rules}
+use Rattle.theory_embedding.specs.Embedding.{RulesIn}
+use Rattle.theory_embedding.proofs.Same.{fits-same, superfluous-same}
 use Rattle.packed.specs.Packed.{cfgIn}
 use Rattle.results.specs.Check.{listed}
 use Rattle.results.proofs.Demand3.Rows.{listed-member, member-listed}
@@ -58,9 +58,14 @@ module _ (p w e : List ℕ) (start : ℕ) where
   abbrev Top : ℕ → Type 0
   Top = Walked (cfgIn 0 p) w e (length e / 2) (length w) 0 (nonterminal start ∷ []) 0 0 (length w)
 
-  rules-same : SameRules (cfgIn 0 p) (cfgIn start p)
+  -- another start symbol changes no rule
+  rules-up : RulesIn (λ r. r) (cfgIn 0 p) (cfgIn start p)
   unfolding cfgIn
-  rules-same r = refl
+  rules-up r ρ here = here
+
+  rules-down : RulesIn (λ r. r) (cfgIn start p) (cfgIn 0 p)
+  unfolding cfgIn
+  rules-down r ρ here = here
 
   top→derivation : length e ≤ outputSize → length e ≡ 2 * (length e / 2) → Top (length e / 2) → Derivation (cfgIn start p) limit w e
   unfolding cfgIn
@@ -69,8 +74,8 @@ module _ (p w e : List ℕ) (start : ℕ) where
       let none : drop (2 * (length e / 2)) e ≡ [] = drop-of-length-le e {i = 2 * (length e / 2)} (omega arith) in
       record {
         tree = a .forest;
-        parse = (fits-same-rules (cfgIn 0 p) (cfgIn start p) rules-same (a .fit), a .covers ∙ take-length w);
-        plain = λ s. a .plain (superfluous-same-rules (cfgIn start p) (cfgIn 0 p) (same-sym (cfgIn 0 p) (cfgIn start p) rules-same) s);
+        parse = (fits-same (cfgIn 0 p) (cfgIn start p) rules-up (a .fit), a .covers ∙ take-length w);
+        plain = λ s. a .plain (superfluous-same (cfgIn 0 p) (cfgIn start p) rules-up (a .fit) s);
         small = omega arith;
         coded = sym (append-nil (code (a .forest))) ∙ ap (λ (l : List ℕ). code (a .forest) ++ l) (sym none) ∙ a .coded;
       }
@@ -78,13 +83,12 @@ module _ (p w e : List ℕ) (start : ℕ) where
   derivation→top : Derivation (cfgIn start p) limit w e → Top (length e / 2)
   unfolding cfgIn
   derivation→top d =
-      let back = same-sym (cfgIn 0 p) (cfgIn start p) rules-same in
       let h = derivation-length-nodes (cfgIn start p) w e d in
       let none : drop (2 * (length e / 2)) e ≡ [] = drop-of-length-le e {i = 2 * (length e / 2)} (omega arith) in
       record {
         forest = d .tree;
-        fit = fits-same-rules (cfgIn start p) (cfgIn 0 p) back (d .parse .0);
-        plain = λ s. d .plain (superfluous-same-rules (cfgIn 0 p) (cfgIn start p) rules-same s);
+        fit = fits-same (cfgIn start p) (cfgIn 0 p) rules-down (d .parse .0);
+        plain = λ s. d .plain (superfluous-same (cfgIn start p) (cfgIn 0 p) rules-down (d .parse .0) s);
         free = λ k m _. true≢false (sym m ∙ has-empty k);
         covers = d .parse .1 ∙ sym (take-length w);
         coded = ap (λ (l : List ℕ). code (d .tree) ++ l) none ∙ append-nil (code (d .tree)) ∙ d .coded;

@@ -16,7 +16,7 @@ use Rattle.packed.specs.Packed.{cfgIn}
 use Rattle.packed.proofs.Laws.{cfg-in-bounded}
 use Rattle.packed_fit.specs.Fit.{Told, FitTold}
 use Rattle.packed_fit.proofs.Reading.{fit-told}
-use Rattle.fill_input.proofs.SameRules.{derivations-same-rules}
+use Rattle.theory_embedding.proofs.Listed.{derivations-same-rules}
 
 module _ (g : Grammar) (p w : List ℕ) (same : (r : ℕ) → rule (cfgIn (g .start) p) r ≡ rule (grammarOf (dated g)) r) where
   same-zero : SameRules (cfgIn 0 p) (grammarOf (dated g))

@@ -12,7 +12,7 @@ use Rattle.cfg.specs.Tree.{Forest, nodes}
 use Rattle.cfg.specs.Derivation.{limit}
 use Rattle.cfg.specs.Listing.{L}
 use Rattle.chart.proofs.SameRules.{SameRules, same-sym}
-use Rattle.chart.proofs.SameTrees.{fits-same-rules, has-same-rules, superfluous-same-rules}
+use Rattle.theory_embedding.proofs.Same.{same-rules-in, fits-same, has-same, superfluous-same}
 use Rattle.theory_costs.specs.Span.{bytesOf, Least, TreeOver}
 use Rattle.theory_costs.proofs.Span.{least-below}
 use Rattle.theory_enumeration.specs.Rows.{Row, Tree, Root}
@@ -25,13 +25,15 @@ use Rattle.theory_choices.proofs.Ties.{row→plain}
 
 pub row-same : (G G' : Cfg) → SameRules G G' → {w : List ℕ} {cover mask : ℕ} {places : List Symbol} {a b budget : ℕ} {t : Forest}
     → Row G w cover mask places a b budget t → Row G' w cover mask places a b budget t
-row-same G G' same r = record {
-  fit = fits-same-rules G G' same (r .fit);
-  covers = r .covers;
-  plain = λ s. r .plain (superfluous-same-rules G' G (same-sym G G' same) s);
-  free = λ k h n. r .free k h (has-same-rules G' G (same-sym G G' same) n);
-  small = r .small;
-}
+row-same G G' same r =
+    let inside = same-rules-in G G' same in
+    record {
+      fit = fits-same G G' inside (r .fit);
+      covers = r .covers;
+      plain = λ s. r .plain (superfluous-same G G' inside (r .fit) s);
+      free = λ k h n. r .free k h (has-same G G' inside (r .fit) n);
+      small = r .small;
+    }
 
 -- ---- the list L
 

@@ -4,7 +4,7 @@ use Prim.Native.Nat.{ℕ}
 use mathlib.Core.Bool.{true}
 use mathlib.Core.List.{List, [], _∷_, List·Memᴰ}
 use mathlib.Core.Path.{_≡_, sym, ap, subst, _∙_}
-use Rattle.cfg.specs.Grammar.{Cfg, nonterminal}
+use Rattle.cfg.specs.Grammar.{Cfg, nonterminal, rule}
 use Rattle.cfg.specs.Tree.{Fits}
 use Rattle.cfg.specs.Derivation.{Derivation, Superfluous}
 use Rattle.cfg.specs.Listing.{derivations}
@@ -15,6 +15,7 @@ use Rattle.theory_listing.proofs.Exact.{listed→derivation, derivation→liste
 use Rattle.theory_embedding.specs.Embedding.{Embeds, usesOnly}
 use Rattle.theory_embedding.proofs.Renumber.{renumber-same}
 use Rattle.theory_embedding.proofs.Trees.{superfluous-into}
+use Rattle.theory_embedding.proofs.Same.{same-rules-in}
 use Rattle.theory_embedding.proofs.Derivations.{derivation-same}
 use Rattle.theory_embedding.proofs.Uses.{fits-uses, fits-own}
 
@@ -52,7 +53,7 @@ module _ (G G' : Cfg) (inside : Embeds (λ r. r) G G') where
           (derivation-uses G b w e d)
 
 -- each is inside the other
-pub derivations-same : (G G' : Cfg) → Embeds (λ r. r) G G' → Embeds (λ r. r) G' G → (b : ℕ) (w : List ℕ)
+derivations-same : (G G' : Cfg) → Embeds (λ r. r) G G' → Embeds (λ r. r) G' G → (b : ℕ) (w : List ℕ)
     → derivations G b w ≡ derivations G' b w
 derivations-same G G' inside back b w =
     rising-unique (derivations G b w) (derivations G' b w) (derivations-rising G b w) (derivations-rising G' b w)
@@ -60,3 +61,9 @@ derivations-same G G' inside back b w =
       λ i. derivation→listed G' b w e (derivation-same G G' inside b w e (listed→derivation G b w e i)),
       λ i. derivation→listed G b w e (derivation-same G' G back b w e (listed→derivation G' b w e i)),
     ))
+
+pub derivations-same-rules : (G G' : Cfg) → ((r : ℕ) → rule G r ≡ rule G' r) → G .start ≡ G' .start → (b : ℕ) (w : List ℕ)
+    → derivations G b w ≡ derivations G' b w
+derivations-same-rules G G' same start =
+    derivations-same G G' (record { start = start; rules = same-rules-in G G' same })
+    (record { start = sym start; rules = same-rules-in G' G (λ r. sym (same r)) })
