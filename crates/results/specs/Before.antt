@@ -1,5 +1,5 @@
--- Same build as document 01 says it: the rules agree as a bag, their order ignored. Request U7 of document 02 supersedes it, and only the
--- theorem that compares the two meanings cites this file. Assumes nothing.
+-- Same build as document 01 says it: the rules agree as a bag, their order ignored. Request U7 of document 02 supersedes it. The table and
+-- the theorem that compare the two meanings cite this file; no code does. Assumes nothing.
 use Prim.Native.Nat.{ℕ, suc}
 use mathlib.Core.Bool.{Bool, cond}
 use mathlib.Core.List.{List, [], _∷_, _++_}

@@ -65,24 +65,19 @@ pub record Pair : Type 0 where
   pub other : List ℕ
   pub gives : Compared
 
--- a line for `AA`, and one for `AB`, with both answers
-abbrev pub onAA : List ℕ → List ℕ → Bool → Bool → Pair
-onAA a b now before = record {
-  bytes = twoWays;
-  input = As 2;
+-- a line whose rows are derivations, with both answers
+abbrev pub pairOf : List ℕ → List ℕ → List ℕ → List ℕ → Bool → Bool → Pair
+pairOf bytes w a b now before = record {
+  bytes = bytes;
+  input = w;
   one = a;
   other = b;
   gives = record { ordered = answered now; asBags = answered before };
 }
 
-abbrev pub onAB : List ℕ → List ℕ → Bool → Bool → Pair
-onAB a b now before = record {
-  bytes = movedB;
-  input = AB;
-  one = a;
-  other = b;
-  gives = record { ordered = answered now; asBags = answered before };
-}
+-- a line for `AA`
+abbrev pub onAA : List ℕ → List ℕ → Bool → Bool → Pair
+onAA = pairOf twoWays (As 2)
 
 -- the table
 unfoldable pub builds : List Pair
@@ -100,5 +95,5 @@ builds =
     ∷ onAA rules11 rules21 false false
     ∷ onAA rules12 rules22 false false
     -- covers are not compared
-    ∷ onAB beside inside true true
+    ∷ pairOf movedB AB beside inside true true
     ∷ []
