@@ -13,8 +13,9 @@
 #include "filbozseg.h"
 
 enum { KIB = 1024, PAGE = 4096, LARGE = 4096 * KIB, KNOWN = 100 * KIB, PAINT = 0xA5 };
+enum { YEAR = 2008 }; /* any, since all rules of the books here are in force in it */
 
-static uint8_t book[3587], plate[FILBOZSEG_BYTES];
+static uint8_t book[4099], plate[FILBOZSEG_BYTES];
 static uint16_t full[FILBOZSEG_ROW], deep[FILBOZSEG_ROW], wide[FILBOZSEG_ROW], left[FILBOZSEG_ROW], hand[FILBOZSEG_HAND];
 static uint16_t nested[FILBOZSEG_OUTPUT], output[FILBOZSEG_OUTPUT];
 static uint16_t twin[FILBOZSEG_ROW];
@@ -32,26 +33,27 @@ static void known(void)
     code = room[0] + 1;
 }
 static void load(void) { code = filbozseg_load(book, size, left, &offset); }
-static void open_full(void) { code = filbozseg_open(full, hand, chart, FILBOZSEG_CELLS); }
+static void open_full(void) { code = filbozseg_open(full, YEAR, hand, chart, FILBOZSEG_CELLS); }
 static void take_full(void)
 {
     size_t at;
     for (at = 0; at < FILBOZSEG_BYTES; at++)
         hand[at] = 'A';
     hand[FILBOZSEG_BYTES] = FILBOZSEG_BYTES - 1;
+    hand[FILBOZSEG_BYTES + 1] = YEAR;
     code = filbozseg_take(full, hand, 'A', chart, FILBOZSEG_CELLS);
 }
-static void check_deep(void) { code = filbozseg_check(deep, plate, 64, nested, 1024, chart, FILBOZSEG_CELLS); }
-static void check_full(void) { code = filbozseg_check(full, plate, 64, nested, 1024, chart, FILBOZSEG_CELLS); }
-static void length_deep(void) { code = filbozseg_length(deep, plate, 64, nested, 1024, chart, FILBOZSEG_CELLS, &tenths); }
+static void check_deep(void) { code = filbozseg_check(deep, plate, 64, YEAR, nested, 1024, chart, FILBOZSEG_CELLS); }
+static void check_full(void) { code = filbozseg_check(full, plate, 64, YEAR, nested, 1024, chart, FILBOZSEG_CELLS); }
+static void length_deep(void) { code = filbozseg_length(deep, plate, 64, YEAR, nested, 1024, chart, FILBOZSEG_CELLS, &tenths); }
 static void build_deep(void)
 {
-    code = filbozseg_same_build(deep, plate, 64, nested, 1024, nested, 1024, chart, FILBOZSEG_CELLS);
+    code = filbozseg_same_build(deep, plate, 64, YEAR, nested, 1024, nested, 1024, chart, FILBOZSEG_CELLS);
 }
 static void first_in(const uint16_t *grammar)
 {
     nodes = 0;
-    code = filbozseg_first(grammar, plate, 64, chart, FILBOZSEG_CELLS, output, FILBOZSEG_OUTPUT, &nodes);
+    code = filbozseg_first(grammar, plate, 64, YEAR, chart, FILBOZSEG_CELLS, output, FILBOZSEG_OUTPUT, &nodes);
 }
 /* The derivation of `nested`: 512 nodes nested 512 deep. */
 static void first_deep(void)
@@ -64,7 +66,7 @@ static void first_wide(void) { first_in(wide); }
 /* The last derivation, 512 nodes nested 512 deep: the call looks for an alternative at each node. */
 static void next_deep(void)
 {
-    code = filbozseg_next(deep, plate, 64, nested, 1024, chart, FILBOZSEG_CELLS, output, FILBOZSEG_OUTPUT, &nodes);
+    code = filbozseg_next(deep, plate, 64, YEAR, nested, 1024, chart, FILBOZSEG_CELLS, output, FILBOZSEG_OUTPUT, &nodes);
 }
 /* With a twin of rule 0: after the last derivation with rule 0 at the root comes the first with its twin, again 512 deep. */
 static void next_turn(void)
@@ -75,7 +77,7 @@ static void next_turn(void)
     for (at = 32; at < 512; at += 32)
         turn[2 * at + 1] = 33;
     nodes = 0;
-    code = filbozseg_next(twin, plate, 64, turn, 1024, chart, FILBOZSEG_CELLS, output, FILBOZSEG_OUTPUT, &nodes);
+    code = filbozseg_next(twin, plate, 64, YEAR, turn, 1024, chart, FILBOZSEG_CELLS, output, FILBOZSEG_OUTPUT, &nodes);
     if (code == 1 && (nodes != 512 || output[1] != 33 || memcmp(output + 2, nested + 2, sizeof nested - 4) != 0))
         code = ~0u;
 }
@@ -85,16 +87,16 @@ static void next_wide(void)
     static uint16_t offered[FILBOZSEG_OUTPUT];
     first_in(wide);
     memcpy(offered, output, sizeof offered);
-    code = filbozseg_next(wide, plate, 64, offered, 2 * nodes, chart, FILBOZSEG_CELLS, output, FILBOZSEG_OUTPUT, &nodes);
+    code = filbozseg_next(wide, plate, 64, YEAR, offered, 2 * nodes, chart, FILBOZSEG_CELLS, output, FILBOZSEG_OUTPUT, &nodes);
 }
 static void count_deep(void)
 {
     nodes = 0;
-    code = filbozseg_count(deep, plate, 64, chart, FILBOZSEG_CELLS, &nodes);
+    code = filbozseg_count(deep, plate, 64, YEAR, chart, FILBOZSEG_CELLS, &nodes);
     if (code == 1 && nodes != 1)
         code = ~0u;
 }
-static void count_wide(void) { code = filbozseg_count(wide, plate, 64, chart, FILBOZSEG_CELLS, &nodes); }
+static void count_wide(void) { code = filbozseg_count(wide, plate, 64, YEAR, chart, FILBOZSEG_CELLS, &nodes); }
 
 /* The expected answers, and the bytes allowed. The first is no call of the library: it shows that the measurement works. */
 static const struct {
@@ -190,14 +192,14 @@ static int load_twin(void)
     return filbozseg_load(book, size, twin, &offset) == 1;
 }
 
-/* 128 rules of 8 places, with a range in every second one. */
+/* 128 rules of 8 places with their years, and a range in every second place. */
 static int load_full(void)
 {
     size_t k, q;
     size = 0;
     put((uint8_t[]){0x10, 0}, 2);
     for (k = 0; k < 128; k++) {
-        put((uint8_t[]){0x20, k % 32, 1, 0}, 4);
+        put((uint8_t[]){0x21, k % 32, 1, 0, k, 0, 0xFF, 0xFF}, 8);
         for (q = 0; q < 8; q++)
             put(q % 2 ? (uint8_t[]){0x41, 'A', 'B'} : (uint8_t[]){0x30, (k + q) % 32}, q % 2 ? 3 : 2);
     }
@@ -205,14 +207,15 @@ static int load_full(void)
     return filbozseg_load(book, size, full, &offset) == 1;
 }
 
-/* 128 rules of 8 places: in a quarter of them every place holds a range, in the others every second one. 64 bytes have derivations. */
+/* 128 rules of 8 places with their years: in a quarter of them every place holds a range, in the others every second one. 64 bytes have
+   derivations. */
 static int load_wide(void)
 {
     size_t k, q;
     size = 0;
     put((uint8_t[]){0x10, 0}, 2);
     for (k = 0; k < 128; k++) {
-        put((uint8_t[]){0x20, k % 32, 1, 0}, 4);
+        put((uint8_t[]){0x21, k % 32, 1, 0, k, 0, 0xFF, 0xFF}, 8);
         for (q = 0; q < 8; q++)
             put(q % 2 || k / 32 == 3 ? (uint8_t[]){0x41, 0, 255} : (uint8_t[]){0x30, (k + 5 * q) % 32}, q % 2 || k / 32 == 3 ? 3 : 2);
     }

@@ -11,8 +11,8 @@
  *     0          no; none
  *     1          yes; loaded; measured; handed out; counted
  *     2          more (only from filbozseg_count)
- *     256 + n    refusal n, 1 <= n <= 16: FILBOZSEG_REFUSED gives n, enum filbozseg_refusal has its name, and docs/REFERENCE.md says when
- *                a call is refused with it and what the call leaves
+ *     256 + n    refusal n, 1 <= n <= 16 or n = 21: FILBOZSEG_REFUSED gives n, enum filbozseg_refusal has its name, and docs/REFERENCE.md
+ *                says when a call is refused with it and what the call leaves
  * and no other code. No function allocates or keeps anything between calls. Of the C library they need only memcpy and memset. Several
  * threads may call them at once if what is lent for writing is lent to one call only.
  *
@@ -27,6 +27,10 @@
  * measured derivation, the nodes with a derivation handed out, the count with a counted input. With any other answer it is left as found.
  * Each call says below what it leaves in a row, a hand, a chart and an output. Cells from 4225 on are never touched. What a lent place
  * holds before a call has no effect, except for the hand and the chart of filbozseg_take.
+ *
+ * Years. Each rule has a first and a last year, and is in force from one to the other, both included. A call on an input goes by the year
+ * that it is given, and filbozseg_take by the year that the hand was opened with: only rules in force in that year build trees, empty ones
+ * included. Out of force, a rule keeps its number. Any year from 0 to 65535 may be given.
  *
  * Words: a grammar is a loaded book, an input a plate, a hand a plate in hand, a mark one of its bytes, a chart a sheet, a derivation a
  * reading, a node a part.
@@ -47,22 +51,22 @@ extern "C" {
 
 /* The version of this header and of the library that it describes. */
 #define FILBOZSEG_VERSION_MAJOR 0
-#define FILBOZSEG_VERSION_MINOR 7
+#define FILBOZSEG_VERSION_MINOR 8
 #define FILBOZSEG_VERSION_PATCH 0
 
 /* Sizes: the numbers in a grammar's row, the numbers in a hand's row, the used cells of a chart, the maximum number of bytes of an input,
    and the minimum length of an output, which has two numbers for each of at most 512 nodes of a derivation. */
-#define FILBOZSEG_ROW 2435
-#define FILBOZSEG_HAND 65
+#define FILBOZSEG_ROW 2691
+#define FILBOZSEG_HAND 66
 #define FILBOZSEG_CELLS 4225
 #define FILBOZSEG_BYTES 64
 #define FILBOZSEG_OUTPUT 1024
 
 /* How many bytes of stack a call needs, rounded up to pages of 4 KiB. A thread with 256 KiB is enough for all calls but the last three.
    These three have their tables on the stack: their macros are bounds, within the 2 MiB that a Rust thread has by default. */
-#define FILBOZSEG_LOAD_STACK (16 * 1024)
+#define FILBOZSEG_LOAD_STACK (20 * 1024)
 #define FILBOZSEG_OPEN_STACK (48 * 1024)
-#define FILBOZSEG_TAKE_STACK (48 * 1024)
+#define FILBOZSEG_TAKE_STACK (56 * 1024)
 #define FILBOZSEG_CHECK_STACK (148 * 1024)
 #define FILBOZSEG_LENGTH_STACK (148 * 1024)
 #define FILBOZSEG_SAME_BUILD_STACK (148 * 1024)
@@ -87,7 +91,8 @@ enum filbozseg_refusal {
     FILBOZSEG_REFUSAL_ONLY_LARGER_TREES = 13,     /* the input has trees, but none of at most 512 nodes */
     FILBOZSEG_REFUSAL_INVALID_RECOGNIZER = 14,    /* the hand's count is over 64, or a used mark over 255 */
     FILBOZSEG_REFUSAL_RECOGNIZER_FULL = 15,       /* the hand has 64 marks and takes no more */
-    FILBOZSEG_REFUSAL_RANGE_REVERSED = 16         /* a range of the book has its low end over its high end */
+    FILBOZSEG_REFUSAL_RANGE_REVERSED = 16,        /* a range of the book has its low end over its high end */
+    FILBOZSEG_REFUSAL_YEARS_REVERSED = 21         /* a rule of the book has its first year over its last */
 };
 
 /* The number of the refusal that a code stands for, or 0 if it is no refusal. The argument is evaluated once. */
@@ -98,65 +103,68 @@ static inline uint32_t filbozseg_refused(uint32_t code)
 }
 
 /*
- * The row of a grammar has numbers of 16 bits: the start symbol, the number of rules, the nullable depth, and then 19 numbers for each of
- * 128 rules. These are the left side, the length in hundredths of a millimetre (two's complement), the number of places, and for each of 8
- * places a tag and a value. Tag 0 is a nonterminal and 1 a terminal. Tag 2 is a range, whose value is low + 256 * high: any byte from low
- * to high fits such a place, both ends included, and no other.
+ * The row of a grammar has numbers of 16 bits: the start symbol, the number of rules, the nullable depth, and then 21 numbers for each of
+ * 128 rules. These are the left side, the length in hundredths of a millimetre (two's complement), the number of places, for each of 8
+ * places a tag and a value, the first year and the last year. Tag 0 is a nonterminal and 1 a terminal. Tag 2 is a range, whose value is
+ * low + 256 * high: any byte from low to high fits such a place, both ends included, and no other.
  *
  * The nullable depth of a loaded grammar is 0 to 32: the greatest, over all nonterminals that have an empty tree, of the height of the
- * lowest one, and 0 if none has any. A rule without places makes a tree of height 1.
+ * lowest one, and 0 if none has any. A rule without places makes a tree of height 1. All rules count, whatever their years.
  *
  * A row may hold anything, and all 16 bits of each number are checked. Refusal 8: a start over 31; more than 128 rules; in a used rule a
- * left side over 31, or more than 8 places; in a used place a tag over 2, a nonterminal over 31, a terminal over 255, or a range with low
- * over high. A rule is used if its number is below the number of rules. A place is used if its number is below its rule's number of
- * places. The depth, the lengths, and all numbers of unused rules and unused places may have any value.
+ * left side over 31, more than 8 places, or a first year over the last; in a used place a tag over 2, a nonterminal over 31, a terminal
+ * over 255, or a range with low over high. A rule is used if its number is below the number of rules. A place is used if its number is
+ * below its rule's number of places. The depth, the lengths, and all numbers of unused rules and unused places may have any value.
  *
- * The row of a hand has numbers of 16 bits: 64 marks, and then the count, hand[FILBOZSEG_BYTES]. It may hold anything too, and all 16 bits
- * of each number are checked. Refusal 14: a count over 64, or a used mark over 255. A mark is used if its number is below the count; other
- * marks may have any value.
+ * The row of a hand has numbers of 16 bits: 64 marks, then the count, hand[FILBOZSEG_BYTES], and then the year that it was opened with,
+ * hand[FILBOZSEG_BYTES + 1]. It may hold anything too, and all 16 bits of each number are checked. Refusal 14: a count over 64, or a used
+ * mark over 255. A mark is used if its number is below the count; other marks and the year may have any value.
  */
 
 /*
- * Loads a book of any length; one that loads has at most 3587 bytes. Returns 1, writes the row of its grammar, and leaves the offset as
- * found. Or returns 256 + n, n from 1 to 7 or 16, writes the row of the grammar without rules, which is all zeros, and writes to offset
- * where the fault is. Either way it writes all numbers of the row.
+ * Loads a book of any length; one that loads has at most 4099 bytes. Returns 1, writes the row of its grammar, and leaves the offset as
+ * found. Or returns 256 + n, n from 1 to 7 or 16 or 21, writes the row of the grammar without rules, which is all zeros, and writes to
+ * offset where the fault is. Either way it writes all numbers of the row.
  *
  * A book is a row of commands. Their first bytes, in hexadecimal, and their operands:
  *     10 start                 the start symbol; the first command, and only there
- *     20 left low high         opens a rule: its left side, and its length in 16 bits with the low byte first
+ *     20 left low high         opens a rule: its left side, and its length in 16 bits with the low byte first; its years are 0 to 65535
+ *     21 left low high f f l l opens a rule likewise, with its first and its last year, each in 16 bits with the low byte first
  *     30 nonterminal           adds a place to that rule
  *     40 byte                  adds a place that this byte fits
  *     41 low high              adds a place that any byte from low to high fits; 40 a and 41 a a are two symbols
  *     50                       the end; the last byte
- * At one command the order of the refusals is 2, 3, 1, then 4 or 16, then 5 or 6, then 7.
+ * At one command the order of the refusals is 2, 3, 1, then 4 or 16, then 21, then 5 or 6, then 7.
  * Stack: FILBOZSEG_LOAD_STACK.
  */
 uint32_t filbozseg_load(const uint8_t *book, size_t book_length, uint16_t grammar[FILBOZSEG_ROW], size_t *offset);
 
 /*
- * Opens the recognizer: writes the hand without marks, which is all zeros, clears the first 4225 cells of the chart and writes its first
- * column. Returns whether the empty input is complete. Refusals, in this order: 8 the grammar; 10 a chart of fewer than 4225 cells. If
- * refused, it still writes the hand without marks, and leaves the chart as found.
+ * Opens the recognizer in a year: writes the hand without marks, which is zeros and then the year, clears the first 4225 cells of the chart
+ * and writes its first column. Returns whether the empty input is complete. Refusals, in this order: 8 the grammar; 10 a chart of fewer
+ * than 4225 cells. If refused, it still writes a hand without marks, with year 0, and leaves the chart as found.
  * Stack: FILBOZSEG_OPEN_STACK.
  */
-uint32_t filbozseg_open(const uint16_t grammar[FILBOZSEG_ROW], uint16_t hand[FILBOZSEG_HAND], uint32_t *chart, size_t chart_length);
+uint32_t filbozseg_open(const uint16_t grammar[FILBOZSEG_ROW], uint16_t year, uint16_t hand[FILBOZSEG_HAND],
+                        uint32_t *chart, size_t chart_length);
 
 /*
- * Takes a byte into the hand: writes the new mark, zeros after it, and a count of one more, and writes the mark's column of the chart.
- * Returns whether the input so far is complete. Refusals, in this order: 8 the grammar; 14 the hand; 10 a chart of fewer than 4225 cells;
- * 15 a hand of 64 marks. If refused, it leaves the hand, whatever it holds, and the chart as found.
+ * Takes a byte into the hand: writes the new mark, zeros after it, and a count of one more, keeps the year, and writes the mark's column of
+ * the chart. Returns whether the input so far is complete in the hand's year. Refusals, in this order: 8 the grammar; 14 the hand; 10 a
+ * chart of fewer than 4225 cells; 15 a hand of 64 marks. If refused, it leaves the hand, whatever it holds, and the chart as found.
  * Stack: FILBOZSEG_TAKE_STACK.
  */
 uint32_t filbozseg_take(const uint16_t grammar[FILBOZSEG_ROW], uint16_t hand[FILBOZSEG_HAND], uint8_t byte,
                         uint32_t *chart, size_t chart_length);
 
 /*
- * Returns whether the offered row is a derivation of the input: for each node, in preorder, how many bytes it covers and the number of
- * its rule. An input of no bytes is read like any other. Refusals, in this order: 8 the grammar; 9 an input of more than 64 bytes; 10 a
- * chart of fewer than 4225 cells. If refused, it leaves the chart as found; otherwise the chart is filled for the input.
+ * Returns whether the offered row is a derivation of the input in the year: for each node, in preorder, how many bytes it covers and the
+ * number of its rule. An input of no bytes is read like any other. Refusals, in this order: 8 the grammar; 9 an input of more than 64
+ * bytes; 10 a chart of fewer than 4225 cells. If refused, it leaves the chart as found; otherwise the chart is filled for the input and
+ * the year.
  * Stack: FILBOZSEG_CHECK_STACK.
  */
-uint32_t filbozseg_check(const uint16_t grammar[FILBOZSEG_ROW], const uint8_t *input, size_t input_length,
+uint32_t filbozseg_check(const uint16_t grammar[FILBOZSEG_ROW], const uint8_t *input, size_t input_length, uint16_t year,
                          const uint16_t *offered, size_t offered_length, uint32_t *chart, size_t chart_length);
 
 /*
@@ -165,7 +173,7 @@ uint32_t filbozseg_check(const uint16_t grammar[FILBOZSEG_ROW], const uint8_t *i
  * tenths as found, and the chart as found (8, 9, 10) or filled for the input (12).
  * Stack: FILBOZSEG_LENGTH_STACK.
  */
-uint32_t filbozseg_length(const uint16_t grammar[FILBOZSEG_ROW], const uint8_t *input, size_t input_length,
+uint32_t filbozseg_length(const uint16_t grammar[FILBOZSEG_ROW], const uint8_t *input, size_t input_length, uint16_t year,
                           const uint16_t *offered, size_t offered_length, uint32_t *chart, size_t chart_length, int32_t *tenths);
 
 /*
@@ -173,50 +181,52 @@ uint32_t filbozseg_length(const uint16_t grammar[FILBOZSEG_ROW], const uint8_t *
  * in preorder. Refusals and chart as for filbozseg_length; 12 if either row is no derivation.
  * Stack: FILBOZSEG_SAME_BUILD_STACK.
  */
-uint32_t filbozseg_same_build(const uint16_t grammar[FILBOZSEG_ROW], const uint8_t *input, size_t input_length,
+uint32_t filbozseg_same_build(const uint16_t grammar[FILBOZSEG_ROW], const uint8_t *input, size_t input_length, uint16_t year,
                               const uint16_t *a, size_t a_length, const uint16_t *b, size_t b_length,
                               uint32_t *chart, size_t chart_length);
 
 /*
- * Hands out the first derivation of the input, as filbozseg_check takes it. Derivations are ordered by the first number in which they
- * differ. Returns 1, writes the derivation to the first 2 * nodes numbers of the output, leaves the others as found, and writes its number
- * of nodes, 1 to 512, to nodes. Or returns 0 if the input has no tree at all. Refusals, in this order: 8, 9, 10 as for filbozseg_check; 11
- * an output of fewer than 1024 numbers; 13 the input has trees, but none of at most 512 nodes. If it returns 0 or is refused, it leaves
- * output and nodes as found. If refused with 8 to 11, it leaves the chart as found too; otherwise the chart is filled for the input.
+ * Hands out the first derivation of the input in the year, as filbozseg_check takes it. Derivations are ordered by the first number in
+ * which they differ. Returns 1, writes the derivation to the first 2 * nodes numbers of the output, leaves the others as found, and writes
+ * its number of nodes, 1 to 512, to nodes. Or returns 0 if the input has no tree at all. Refusals, in this order: 8, 9, 10 as for
+ * filbozseg_check; 11 an output of fewer than 1024 numbers; 13 the input has trees, but none of at most 512 nodes. If it returns 0 or is
+ * refused, it leaves output and nodes as found. If refused with 8 to 11, it leaves the chart as found too; otherwise the chart is filled
+ * for the input.
  * Stack: FILBOZSEG_FIRST_STACK.
  */
-uint32_t filbozseg_first(const uint16_t grammar[FILBOZSEG_ROW], const uint8_t *input, size_t input_length,
+uint32_t filbozseg_first(const uint16_t grammar[FILBOZSEG_ROW], const uint8_t *input, size_t input_length, uint16_t year,
                          uint32_t *chart, size_t chart_length, uint16_t *output, size_t output_length, size_t *nodes);
 
 /*
- * Hands out the derivation of the input that follows the offered one in the order of filbozseg_first. Returns 1 and writes output and
- * nodes as filbozseg_first does; or returns 0 if the offered derivation is the last. Refusals, in this order: 8, 9, 10, 11 as for
- * filbozseg_first; 12 the offered row, which may have any length, is no derivation of the input. If it returns 0 or is refused, it leaves
- * output and nodes as found. If refused with 8 to 11, it leaves the chart as found too; otherwise the chart is filled for the input. The
- * offered row must not overlap the output, so a derivation must be copied before it is offered. This finds all derivations, in order:
+ * Hands out the derivation of the input in the year that follows the offered one in the order of filbozseg_first. Returns 1 and writes
+ * output and nodes as filbozseg_first does; or returns 0 if the offered derivation is the last. Refusals, in this order: 8, 9, 10, 11 as
+ * for filbozseg_first; 12 the offered row, which may have any length, is no derivation of the input. If it returns 0 or is refused, it
+ * leaves output and nodes as found. If refused with 8 to 11, it leaves the chart as found too; otherwise the chart is filled for the input.
+ * The offered row must not overlap the output, so a derivation must be copied before it is offered. This finds all derivations, in order:
  *
  *     uint16_t output[FILBOZSEG_OUTPUT], offered[FILBOZSEG_OUTPUT];
  *     size_t nodes = 0;
- *     uint32_t code = filbozseg_first(grammar, input, length, chart, FILBOZSEG_CELLS, output, FILBOZSEG_OUTPUT, &nodes);
+ *     uint32_t code = filbozseg_first(grammar, input, length, year, chart, FILBOZSEG_CELLS, output, FILBOZSEG_OUTPUT, &nodes);
  *     while (code == 1) {
  *         memcpy(offered, output, 2 * nodes * sizeof offered[0]);
- *         code = filbozseg_next(grammar, input, length, offered, 2 * nodes, chart, FILBOZSEG_CELLS, output, FILBOZSEG_OUTPUT, &nodes);
+ *         code = filbozseg_next(grammar, input, length, year, offered, 2 * nodes, chart, FILBOZSEG_CELLS,
+ *                               output, FILBOZSEG_OUTPUT, &nodes);
  *     }
  *
  * Stack: FILBOZSEG_NEXT_STACK.
  */
-uint32_t filbozseg_next(const uint16_t grammar[FILBOZSEG_ROW], const uint8_t *input, size_t input_length,
+uint32_t filbozseg_next(const uint16_t grammar[FILBOZSEG_ROW], const uint8_t *input, size_t input_length, uint16_t year,
                         const uint16_t *offered, size_t offered_length, uint32_t *chart, size_t chart_length,
                         uint16_t *output, size_t output_length, size_t *nodes);
 
 /*
- * Counts the derivations of the input. Returns 1 and writes their number, 0 to 4096, to count (0 if the input has no tree at all); or
- * returns 2 if there are more than 4096. Refusals, in this order: 8, 9, 10 as for filbozseg_check; 13 the input has trees, but none of at
- * most 512 nodes. If it returns 2 or is refused, it leaves the count as found. If refused with 8 to 10, it leaves the chart as found too;
- * otherwise the chart is filled for the input.
+ * Counts the derivations of the input in the year. Returns 1 and writes their number, 0 to 4096, to count (0 if the input has no tree at
+ * all); or returns 2 if there are more than 4096. Refusals, in this order: 8, 9, 10 as for filbozseg_check; 13 the input has trees, but
+ * none of at most 512 nodes. If it returns 2 or is refused, it leaves the count as found. If refused with 8 to 10, it leaves the chart as
+ * found too; otherwise the chart is filled for the input.
  * Stack: FILBOZSEG_COUNT_STACK.
  */
-uint32_t filbozseg_count(const uint16_t grammar[FILBOZSEG_ROW], const uint8_t *input, size_t input_length,
+uint32_t filbozseg_count(const uint16_t grammar[FILBOZSEG_ROW], const uint8_t *input, size_t input_length, uint16_t year,
                          uint32_t *chart, size_t chart_length, size_t *count);
 
 #ifdef __cplusplus

@@ -242,7 +242,7 @@ pub fn full() -> Vec<u8> {
     book.bytes()
 }
 
-/// The longest book that loads, 3,587 bytes: 128 rules of 8 ranges.
+/// The longest book without years that loads, 3,587 bytes: 128 rules of 8 ranges.
 pub fn full_of_ranges() -> Vec<u8> {
     let mut book = Book::new(0);
     for r in 0..128 {

@@ -11,6 +11,9 @@ use filbozseg::sys;
 
 pub type Flat = [u16; FLAT];
 
+/// The year of each call. The timed books hold in all years.
+pub const YEAR: u16 = 0;
+
 pub trait Reader {
     fn load(book: &[u8], flat: &mut Flat, offset: &mut usize) -> u32;
     fn open(flat: &Flat, hand: &mut Hand, chart: &mut [u32]) -> u32;
@@ -43,7 +46,7 @@ impl Reader for Proved {
     }
 
     fn open(flat: &Flat, hand: &mut Hand, chart: &mut [u32]) -> u32 {
-        unsafe { sys::filbozseg_open(flat, hand, chart.as_mut_ptr(), chart.len()) }
+        unsafe { sys::filbozseg_open(flat, YEAR, hand, chart.as_mut_ptr(), chart.len()) }
     }
 
     fn take(flat: &Flat, hand: &mut Hand, byte: u8, chart: &mut [u32]) -> u32 {
@@ -52,13 +55,13 @@ impl Reader for Proved {
 
     fn check(flat: &Flat, input: &[u8], offered: &[u16], chart: &mut [u32]) -> u32 {
         let (w, e) = (input.as_ptr(), offered.as_ptr());
-        unsafe { sys::filbozseg_check(flat, w, input.len(), e, offered.len(), chart.as_mut_ptr(), chart.len()) }
+        unsafe { sys::filbozseg_check(flat, w, input.len(), YEAR, e, offered.len(), chart.as_mut_ptr(), chart.len()) }
     }
 
     fn length(flat: &Flat, input: &[u8], offered: &[u16], chart: &mut [u32], tenths: &mut i32) -> u32 {
         let (w, e) = (input.as_ptr(), offered.as_ptr());
         unsafe {
-            sys::filbozseg_length(flat, w, input.len(), e, offered.len(), chart.as_mut_ptr(), chart.len(), tenths)
+            sys::filbozseg_length(flat, w, input.len(), YEAR, e, offered.len(), chart.as_mut_ptr(), chart.len(), tenths)
         }
     }
 
@@ -66,24 +69,24 @@ impl Reader for Proved {
         let (w, x, y) = (input.as_ptr(), a.as_ptr(), b.as_ptr());
         unsafe {
             let (g, sheet) = (flat, chart.as_mut_ptr());
-            sys::filbozseg_same_build(g, w, input.len(), x, a.len(), y, b.len(), sheet, chart.len())
+            sys::filbozseg_same_build(g, w, input.len(), YEAR, x, a.len(), y, b.len(), sheet, chart.len())
         }
     }
 
     fn first(flat: &Flat, input: &[u8], chart: &mut [u32], out: &mut [u16], nodes: &mut usize) -> u32 {
         let (w, sheet, e) = (input.as_ptr(), chart.as_mut_ptr(), out.as_mut_ptr());
-        unsafe { sys::filbozseg_first(flat, w, input.len(), sheet, chart.len(), e, out.len(), nodes) }
+        unsafe { sys::filbozseg_first(flat, w, input.len(), YEAR, sheet, chart.len(), e, out.len(), nodes) }
     }
 
     fn next(flat: &Flat, input: &[u8], offered: &[u16], chart: &mut [u32], out: &mut [u16], nodes: &mut usize) -> u32 {
         let (w, e) = (input.as_ptr(), offered.as_ptr());
         let ((x, cells), (o, numbers)) = ((chart.as_mut_ptr(), chart.len()), (out.as_mut_ptr(), out.len()));
-        unsafe { sys::filbozseg_next(flat, w, input.len(), e, offered.len(), x, cells, o, numbers, nodes) }
+        unsafe { sys::filbozseg_next(flat, w, input.len(), YEAR, e, offered.len(), x, cells, o, numbers, nodes) }
     }
 
     fn count(flat: &Flat, input: &[u8], chart: &mut [u32], count: &mut usize) -> u32 {
         let (w, x) = (input.as_ptr(), chart.as_mut_ptr());
-        unsafe { sys::filbozseg_count(flat, w, input.len(), x, chart.len(), count) }
+        unsafe { sys::filbozseg_count(flat, w, input.len(), YEAR, x, chart.len(), count) }
     }
 }
 
@@ -122,7 +125,7 @@ impl Reader for Plain {
 
     fn open(flat: &Flat, hand: &mut Hand, chart: &mut [u32]) -> u32 {
         *hand = [0; HAND];
-        code(recognizer::open(&flat::read(flat), chart))
+        code(recognizer::open(&flat::read(flat), YEAR, chart))
     }
 
     fn take(flat: &Flat, hand: &mut Hand, byte: u8, chart: &mut [u32]) -> u32 {
@@ -135,11 +138,11 @@ impl Reader for Plain {
     }
 
     fn check(flat: &Flat, input: &[u8], offered: &[u16], chart: &mut [u32]) -> u32 {
-        code(checker::check(&flat::read(flat), input, offered, chart))
+        code(checker::check(&flat::read(flat), input, YEAR, offered, chart))
     }
 
     fn length(flat: &Flat, input: &[u8], offered: &[u16], chart: &mut [u32], tenths: &mut i32) -> u32 {
-        match checker::length(&flat::read(flat), input, offered, chart) {
+        match checker::length(&flat::read(flat), input, YEAR, offered, chart) {
             Ok(measured) => {
                 *tenths = measured;
                 1
@@ -149,19 +152,19 @@ impl Reader for Plain {
     }
 
     fn same_build(flat: &Flat, input: &[u8], a: &[u16], b: &[u16], chart: &mut [u32]) -> u32 {
-        code(checker::same_build(&flat::read(flat), input, a, b, chart))
+        code(checker::same_build(&flat::read(flat), input, YEAR, a, b, chart))
     }
 
     fn first(flat: &Flat, input: &[u8], chart: &mut [u32], out: &mut [u16], nodes: &mut usize) -> u32 {
-        written(enumerator::first(&flat::read(flat), input, chart, out), 0, nodes)
+        written(enumerator::first(&flat::read(flat), input, YEAR, chart, out), 0, nodes)
     }
 
     fn next(flat: &Flat, input: &[u8], offered: &[u16], chart: &mut [u32], out: &mut [u16], nodes: &mut usize) -> u32 {
-        written(enumerator::next(&flat::read(flat), input, offered, chart, out), 0, nodes)
+        written(enumerator::next(&flat::read(flat), input, YEAR, offered, chart, out), 0, nodes)
     }
 
     fn count(flat: &Flat, input: &[u8], chart: &mut [u32], count: &mut usize) -> u32 {
-        written(enumerator::count(&flat::read(flat), input, chart), 2, count)
+        written(enumerator::count(&flat::read(flat), input, YEAR, chart), 2, count)
     }
 }
 

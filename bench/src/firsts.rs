@@ -1,7 +1,7 @@
 //! First: the time of the call minus that of its filling, on both sides.
 
 use crate::books;
-use crate::calls::{chart, Flat, Plain, Proved, Reader};
+use crate::calls::{chart, Flat, Plain, Proved, Reader, YEAR};
 use crate::plain::enumerator::OUTPUT;
 use crate::plain::packed::Packed;
 use crate::plain::tables::{fit_table, Given, Tables, NONE, SIDE, TABLES};
@@ -94,7 +94,7 @@ fn tables() {
 }
 
 fn time_tables(name: &str, book: &[u8], input: &[u8]) {
-    let p = Packed::new(&flat::read(&loaded(book)));
+    let p = Packed::new(&flat::read(&loaded(book)), YEAR);
     let (mut sheet, fit) = (chart(), fit_table(&p, input));
     recognizer::fill(&p, input, &mut sheet);
     let given = Given { rules: p.used(), fit: &fit, chart: &sheet };

@@ -229,7 +229,7 @@ fn overheads(list: &[Case]) {
     );
     let empty = Case { name: "10 00 50", flat: loaded(&[0x10, 0, 0x50]), input: vec![] };
     for c in [&empty, &list[0], &list[2]] {
-        let mut h: Hand = [65; 65];
+        let mut h: Hand = [65; 66];
         h[64] = 64;
         let mut k = h;
         let (mut x, mut y) = (chart(), chart());

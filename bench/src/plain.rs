@@ -43,6 +43,8 @@ pub struct Rule {
     pub length: i16,
     pub count: usize,
     pub places: [Symbol; PLACES],
+    pub first: u16,
+    pub last: u16,
 }
 
 #[derive(Clone, Debug, PartialEq)]
@@ -54,10 +56,19 @@ pub struct Grammar {
 }
 
 impl Rule {
-    pub const ZERO: Rule = Rule { left: 0, length: 0, count: 0, places: [Symbol::Nonterminal(0); PLACES] };
+    pub const ZERO: Rule =
+        Rule { left: 0, length: 0, count: 0, places: [Symbol::Nonterminal(0); PLACES], first: 0, last: 0 };
 
     fn valid(&self) -> bool {
-        self.left < 32 && self.count <= PLACES && self.places[..self.count].iter().all(Symbol::valid)
+        self.left < 32
+            && self.count <= PLACES
+            && self.places[..self.count].iter().all(Symbol::valid)
+            && self.first <= self.last
+    }
+
+    /// Whether the rule is in force in the year.
+    pub fn in_force(&self, year: u16) -> bool {
+        self.first <= year && year <= self.last
     }
 }
 

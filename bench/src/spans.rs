@@ -3,7 +3,7 @@
 //! time, in turn, the minimum over the rounds: that is the most reliable figure on a machine that does other work
 //! too.
 
-use crate::calls::{hand, Plain, Proved, Reader};
+use crate::calls::{hand, Plain, Proved, Reader, YEAR};
 use crate::plain::packed::Packed;
 use crate::plain::{flat, recognizer, spans};
 use crate::timing::{processor_time, shown};
@@ -14,7 +14,7 @@ pub fn spans(list: &[Case]) {
     println!("\nSPANS AS BITS: processor time, the least of the rounds; proved / plain, and how often it is in the fill before");
     heading("filling 64 marks");
     for c in list {
-        let p = Packed::new(&flat::read(&c.flat));
+        let p = Packed::new(&flat::read(&c.flat), YEAR);
         let (mut x, mut y, mut z) = (chart(), chart(), chart());
         let times = least([
             &mut || recognizer::fill(black_box(&p), &c.input, &mut x),
@@ -28,7 +28,7 @@ pub fn spans(list: &[Case]) {
     }
     heading("writing column 64");
     for c in list {
-        let p = Packed::new(&flat::read(&c.flat));
+        let p = Packed::new(&flat::read(&c.flat), YEAR);
         let (mut x, mut full) = (chart(), hand());
         Plain::feed(&c.flat, &c.input, &mut full, &mut x);
         let (mut y, mut z) = (x.clone(), x.clone());

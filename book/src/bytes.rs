@@ -1,17 +1,18 @@
-//! The bytes of a book: reading and writing the commands of document 01, and of request U1 of document 02.
+//! The bytes of a book: reading and writing the commands of document 01, and of requests U1 and U9 of document 02.
 
 use crate::fault::Refusal;
 use crate::grammar::{Grammar, Rule, Symbol, KINDS, PLACES, RULES};
 
 const START: u8 = 0x10;
 const RULE: u8 = 0x20;
+const DATED_RULE: u8 = 0x21;
 const KIND: u8 = 0x30;
 const MARK: u8 = 0x40;
 const RANGE: u8 = 0x41;
 const END: u8 = 0x50;
 
 /// Reads a book from the left. The first fault counts. At one command the faults are checked in the order 2, 3, 1,
-/// then 4 or 16, then 5 or 6.
+/// then 4 or 16, then 21, then 5 or 6.
 pub fn loaded(book: &[u8]) -> Result<Grammar, Refusal> {
     let mut grammar = Grammar { start: 0, rules: Vec::new() };
     let mut at = 0;
@@ -37,6 +38,7 @@ fn operands(book: &[u8], at: usize, rule_open: bool) -> Result<&[u8], Refusal> {
     let (count, in_turn) = match command {
         START => (1, at == 0),
         RULE => (3, at > 0),
+        DATED_RULE => (7, at > 0),
         KIND | MARK => (1, rule_open),
         RANGE => (2, rule_open),
         END => (0, at > 0),
@@ -49,20 +51,22 @@ fn operands(book: &[u8], at: usize, rule_open: bool) -> Result<&[u8], Refusal> {
 }
 
 /// Adds to the grammar what a command in turn with all its operands says. Or the fault that its kind is over 31 (4),
-/// that its range is reversed (16), that its rule is the 129th (5), or that its place is the rule's ninth (6).
+/// that its range is reversed (16) or its years are (21), that its rule is the 129th (5), or that its place is the
+/// rule's ninth (6).
 fn obey(grammar: &mut Grammar, command: u8, operands: &[u8]) -> Result<(), u8> {
     match (command, operands) {
-        (START | RULE | KIND, [kind, ..]) if *kind >= KINDS => return Err(4),
+        (START | RULE | DATED_RULE | KIND, [kind, ..]) if *kind >= KINDS => return Err(4),
         (RANGE, [low, high]) if low > high => return Err(16),
         _ => (),
     }
     match (command, operands) {
         (START, _) => grammar.start = operands[0],
-        (RULE, &[left, low, high]) => {
+        (RULE | DATED_RULE, &[left, low, high, ref years @ ..]) => {
+            let years = years_of(years)?;
             if grammar.rules.len() == RULES {
                 return Err(5);
             }
-            grammar.rules.push(Rule { left, length: i16::from_le_bytes([low, high]), places: Vec::new() });
+            grammar.rules.push(Rule { left, length: i16::from_le_bytes([low, high]), years, places: Vec::new() });
         }
         _ => {
             let places = &mut grammar.rules.last_mut().expect("a place comes in turn").places;
@@ -79,12 +83,25 @@ fn obey(grammar: &mut Grammar, command: u8, operands: &[u8]) -> Result<(), u8> {
     Ok(())
 }
 
+/// The years after the length of a rule, if there are any. Or the fault that they are reversed (21).
+fn years_of(operands: &[u8]) -> Result<Option<(u16, u16)>, u8> {
+    let &[first_low, first_high, last_low, last_high] = operands else { return Ok(None) };
+    let (first, last) = (u16::from_le_bytes([first_low, first_high]), u16::from_le_bytes([last_low, last_high]));
+    match first > last {
+        true => Err(21),
+        false => Ok(Some((first, last))),
+    }
+}
+
 /// The bytes of the book.
 pub fn written(grammar: &Grammar) -> Vec<u8> {
     let mut book = vec![START, grammar.start];
     for rule in &grammar.rules {
         let [low, high] = rule.length.to_le_bytes();
-        book.extend([RULE, rule.left, low, high]);
+        book.extend([if rule.years.is_some() { DATED_RULE } else { RULE }, rule.left, low, high]);
+        if let Some((first, last)) = rule.years {
+            book.extend([first.to_le_bytes(), last.to_le_bytes()].concat());
+        }
         for place in &rule.places {
             match *place {
                 Symbol::Nonterminal(kind) => book.extend([KIND, kind]),

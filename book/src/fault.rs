@@ -50,16 +50,24 @@ pub enum Reason {
     NotALength(String),
     /// A length is below -327.68 or above 327.67.
     LengthOver(String),
+    /// `years` is not followed by two words.
+    YearsDue,
+    /// A year is not a decimal number.
+    NotAYear(String),
+    /// A year is over 65,535.
+    YearOver(String),
+    /// The first year of a rule is over the last.
+    YearsReversed(String),
     /// A word follows the end of a statement.
     Further(String),
     /// There is a 129th rule.
     TooManyRules,
 }
 
-/// Why bytes are not a book: a refusal of document 01, or 16 of document 02.
+/// Why bytes are not a book: a refusal of document 01, or 16 or 21 of document 02.
 #[derive(Clone, Copy, Debug, PartialEq, Eq)]
 pub struct Refusal {
-    /// Its number: 1 to 7, or 16.
+    /// Its number: 1 to 7, 16 or 21.
     pub number: u8,
     /// Its offset: that of the command; for 1 the number of bytes; for 7 the byte after the end.
     pub offset: usize,
@@ -96,6 +104,10 @@ impl fmt::Display for Reason {
             LengthDue => "`:` and a length in millimetres are due after the places",
             NotALength(_) => "not a length: millimetres, with at most two decimals",
             LengthOver(_) => "a length out of range: -327.68 to 327.67",
+            YearsDue => "a first and a last year are due after `years`",
+            NotAYear(_) => "not a year: a decimal number from 0 to 65535",
+            YearOver(_) => "a year over 65535",
+            YearsReversed(_) => "reversed years: the first is over the last",
             Further(_) => "a word after the end of the statement",
             TooManyRules => "the 129th rule",
         })
@@ -110,6 +122,7 @@ impl Reason {
             StartDue(word) | NotAKind(word) | KindOver(word) | NotAPlace(word) | NotAMark(word) => Some(word),
             NotARange(word) | RangeReversed(word) | NotInQuotes(word) => Some(word),
             NotALength(word) | LengthOver(word) | Further(word) => Some(word),
+            NotAYear(word) | YearOver(word) | YearsReversed(word) => Some(word),
             _ => None,
         }
     }
@@ -134,6 +147,7 @@ impl fmt::Display for Refusal {
             5 => "the 129th rule",
             6 => "a ninth place",
             16 => "a reversed range",
+            21 => "reversed years",
             _ => "a byte after the end of the book",
         };
         write!(f, "refusal {} at offset {}: {what}", self.number, self.offset)

@@ -14,10 +14,12 @@ pub enum Symbol {
     Range(u8, u8),
 }
 
-/// A rule. Its length is in hundredths of a millimetre.
+/// A rule. Its length is in hundredths of a millimetre. Its first and its last year are none if it is opened by 20, so that it holds in all
+/// years.
 pub struct Rule {
     pub left: u8,
     pub length: i16,
+    pub years: Option<(u16, u16)>,
     pub places: Vec<Symbol>,
 }
 

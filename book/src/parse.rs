@@ -2,10 +2,12 @@
 
 use crate::fault::{Fault, Reason};
 use crate::grammar::{Grammar, Rule, Symbol, PLACES, RULES};
-use crate::words::{kind, length, place, words};
+use crate::words::{kind, length, place, words, year};
 
 /// The word that begins the first statement.
 const START: &str = "start";
+/// The word before the years of a rule.
+const YEARS: &str = "years";
 
 /// What the text says. If a text has no statement, its fault is in its last line.
 pub fn parsed(text: &str) -> Result<Grammar, Fault> {
@@ -48,8 +50,20 @@ fn rule(left: &str, words: &[&str]) -> Result<Rule, Reason> {
     let places = places(&rest[..colon])?;
     let [_, word, rest @ ..] = &rest[colon..] else { return Err(Reason::LengthDue) };
     let length = length(word)?;
-    nothing_more(rest)?;
-    Ok(Rule { left, length, places })
+    let years = years(rest)?;
+    Ok(Rule { left, length, years, places })
+}
+
+/// The years of a rule, from the words after its length. A rule without years has none.
+fn years(words: &[&str]) -> Result<Option<(u16, u16)>, Reason> {
+    let [YEARS, rest @ ..] = words else { return nothing_more(words).map(|()| None) };
+    let first = year(rest.first().ok_or(Reason::YearsDue)?)?;
+    let last = year(rest.get(1).ok_or(Reason::YearsDue)?)?;
+    if first > last {
+        return Err(Reason::YearsReversed(format!("{first} {last}")));
+    }
+    nothing_more(&rest[2..])?;
+    Ok(Some((first, last)))
 }
 
 /// The places between `->` and `:`.

@@ -94,6 +94,14 @@ pub fn length(word: &str) -> Result<i16, Reason> {
     i16::try_from(signed).map_err(|_| Reason::LengthOver(word.to_string()))
 }
 
+/// A year: a decimal number from 0 to 65,535.
+pub fn year(word: &str) -> Result<u16, Reason> {
+    if !is_digits(word) {
+        return Err(Reason::NotAYear(word.to_string()));
+    }
+    u16::try_from(number(word)).map_err(|_| Reason::YearOver(word.to_string()))
+}
+
 /// The number that the digits write. If there are too many digits, a number that is out of every range here.
 fn number(digits: &str) -> i64 {
     i64::from(digits.parse::<u32>().unwrap_or(u32::MAX))

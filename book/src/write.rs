@@ -14,7 +14,8 @@ fn line(rule: &Rule) -> String {
     if places.is_empty() {
         places.push("-".to_string());
     }
-    format!("{} -> {} : {}\n", rule.left, places.join(" "), millimetres(rule.length))
+    let years = rule.years.map_or(String::new(), |(first, last)| format!(" years {first} {last}"));
+    format!("{} -> {} : {}{years}\n", rule.left, places.join(" "), millimetres(rule.length))
 }
 
 /// A place: a kind in decimal, a mark, or a range as two marks.

@@ -41,6 +41,13 @@ fn each_refusal() {
         (with(&eight, &[0x41, 0x39, 0x30]), 16, 22),
         (with(&eight, &[0x41, 0x30, 0x39]), 6, 22),
         (with(&eight, &[0x41, 0x39]), 1, 24),
+        (vec![0x21, 0x00, 0, 0, 0, 0, 0, 0], 3, 0),
+        (vec![0x10, 0x00, 0x21, 0x20, 0, 0, 1, 0, 0], 1, 9),
+        (vec![0x10, 0x00, 0x21, 0x20, 0, 0, 1, 0, 0, 0], 4, 2),
+        (vec![0x10, 0x00, 0x21, 0x00, 0, 0, 1, 0, 0, 0], 21, 2),
+        (vec![0x10, 0x00, 0x21, 0x00, 0, 0, 0, 1, 255, 0], 21, 2),
+        (with(&full, &[0x21, 0x00, 0, 0, 1, 0, 0, 0]), 21, 514),
+        (with(&full, &[0x21, 0x00, 0, 0, 1, 0, 1, 0]), 5, 514),
         (vec![0x10, 0x00, 0x50, 0x00], 7, 3),
         (vec![0x10, 0x00, 0x50, 0x50, 0x50], 7, 3),
     ];
@@ -61,8 +68,9 @@ fn refusals_are_printed() {
         "refusal 6 at offset 9: a ninth place",
         "refusal 7 at offset 9: a byte after the end of the book",
         "refusal 16 at offset 9: a reversed range",
+        "refusal 21 at offset 9: reversed years",
     ];
-    let printed = (1..=7).chain([16]).map(|number| Refusal { number, offset: 9 }.to_string());
+    let printed = (1..=7).chain([16, 21]).map(|number| Refusal { number, offset: 9 }.to_string());
     assert_eq!(printed.collect::<Vec<_>>(), due);
 }
 
@@ -81,12 +89,17 @@ fn damaged_books_are_judged_as_the_lister_judges_them() {
             0 => damage(rng, &mut bytes),
             1 => {
                 bytes.truncate(rng.below(bytes.len() + 1));
-                let some = [0x10, 0x20, 0x30, 0x40, 0x41, 0x50, 0x1F, 0x20, 0xFF];
+                let some = [0x10, 0x20, 0x21, 0x30, 0x40, 0x41, 0x50, 0x1F, 0x20, 0xFF];
                 bytes.extend((0..rng.below(4)).map(|_| rng.pick(&some)));
             }
             _ => {
                 let places = [&[0x40, 0x41, 0x50][..], &[0x30, 0, 0x50], &[0x41, 0, 1, 0x50], &[0x41, 1, 0, 0x50]];
-                let more = if rng.one_in(3) { &[0x20, 0, 0, 0, 0x50] } else { rng.pick(&places) };
+                let rules = [
+                    &[0x20, 0, 0, 0, 0x50][..],
+                    &[0x21, 0, 0, 0, 1, 0, 0, 0, 0x50],
+                    &[0x21, 0, 0, 0, 1, 0, 1, 0, 0x50],
+                ];
+                let more = if rng.one_in(3) { rng.pick(&rules) } else { rng.pick(&places) };
                 bytes.truncate(bytes.len().saturating_sub(1)); // before its end
                 for _ in 0..rng.within(1, 9) {
                     bytes.extend(&more[..more.len() - 1]);
@@ -106,7 +119,7 @@ fn damaged_books_are_judged_as_the_lister_judges_them() {
             (got, due) => panic!("{bytes:02X?}: {got:?}, due {due:?}"),
         }
     }
-    let due = [0, 1, 2, 3, 4, 5, 6, 7, 16];
+    let due = [0, 1, 2, 3, 4, 5, 6, 7, 16, 21];
     assert!(
         came_up.keys().eq(&due) && came_up.values().all(|times| *times > 50),
         "loaded (0), or refused: {came_up:?}"

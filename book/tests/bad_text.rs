@@ -176,6 +176,36 @@ fn a_bad_length() {
 }
 
 #[test]
+fn bad_years() {
+    for words in ["years", "years 1998", "years # 1998 2007"] {
+        let printed = "a first and a last year are due after `years`";
+        refused(&rule(&format!("0 -> - : 1 {words}")), 2, Reason::YearsDue, printed);
+    }
+    for word in ["x", "-1", "+1", "1998.", "1998-2007", "0x7CE", "'1'", "years", "\u{664}"] {
+        let fault = Fault { line: 2, reason: with(Reason::NotAYear, word) };
+        assert_eq!(to_bytes(&rule(&format!("0 -> - : 1 years {word} 2007"))), Err(fault.clone()));
+        assert_eq!(to_bytes(&rule(&format!("0 -> - : 1 years 1998 {word}"))), Err(fault));
+    }
+    let printed = "`x`: not a year: a decimal number from 0 to 65535";
+    refused(&rule("0 -> - : 1 years x"), 2, with(Reason::NotAYear, "x"), printed);
+    for word in ["65536", "067534", "100000", "99999999999999999999999999"] {
+        let printed = format!("`{word}`: a year over 65535");
+        refused(&rule(&format!("0 -> - : 1 years 0 {word}")), 2, with(Reason::YearOver, word), &printed);
+    }
+    for (words, shown) in [("2008 2007", "2008 2007"), ("1 0", "1 0"), ("065535 00", "65535 0")] {
+        let printed = format!("`{shown}`: reversed years: the first is over the last");
+        refused(&rule(&format!("0 -> - : 1 years {words}")), 2, with(Reason::YearsReversed, shown), &printed);
+    }
+    for (words, word) in [("1 years 1998 2007 years", "years"), ("1 year 1998 2007", "year"), ("1 1998 2007", "1998")] {
+        let printed = format!("`{word}`: a word after the end of the statement");
+        refused(&rule(&format!("0 -> - : {words}")), 2, with(Reason::Further, word), &printed);
+    }
+    // a word is checked before it is found to be one too many
+    let printed = "`3 2`: reversed years: the first is over the last";
+    refused(&rule("0 -> - : 1 years 3 2 1"), 2, with(Reason::YearsReversed, "3 2"), printed);
+}
+
+#[test]
 fn the_129th_rule() {
     let full = format!("start 0\n#\n{}", "0 -> - : 0\n".repeat(128));
     assert_eq!(to_bytes(&full).map(|bytes| bytes.len()), Ok(2 + 4 * 128 + 1));

@@ -20,12 +20,14 @@ fn random_books_return() {
     let (mut lefts, mut kinds, mut marks, mut lows) =
         (BTreeSet::new(), BTreeSet::new(), BTreeSet::new(), BTreeSet::new());
     let (mut starts, mut places, mut rules, mut negative) = (BTreeSet::new(), BTreeSet::new(), BTreeSet::new(), 0);
+    let mut dated = 0;
     for seed in 0..2000 {
         let draft = draft(&mut Rng::new(seed));
         let text = returns(&draft.bytes());
         assert_eq!(text.lines().count(), 1 + draft.rules.len());
         starts.insert(draft.start);
         rules.insert(draft.rules.len());
+        dated += draft.years.len();
         for (left, length, row) in &draft.rules {
             lefts.insert(*left);
             places.insert(row.len());
@@ -43,7 +45,7 @@ fn random_books_return() {
     assert_eq!([starts.len(), lefts.len(), kinds.len(), marks.len(), lows.len()], [32, 32, 32, 256, 256]);
     assert!((0..=8).all(|count| places.contains(&count)));
     assert!([0, 1, 127, 128].iter().all(|count| rules.contains(count)) && rules.len() > 100);
-    assert!(negative > 10_000);
+    assert!(negative > 10_000 && dated > 10_000);
 }
 
 /// The books with which the lister and the proved library are compared, as far as they load.
@@ -122,6 +124,30 @@ fn random_spellings_are_read() {
     }
 }
 
+/// A rule that holds in all years is opened by 20 or by 21, and its text says which.
+#[test]
+fn years_return() {
+    let mut draft = Draft::new(0);
+    draft.rules = vec![(0, 100, vec![Sym::T(b'A')]); 4];
+    draft.years = [(0, (1998, 2007)), (1, (2008, 65_535)), (2, (0, 65_535))].into();
+    let due = "start 0\n0 -> 'A' : 1.00 years 1998 2007\n0 -> 'A' : 1.00 years 2008 65535\n\
+        0 -> 'A' : 1.00 years 0 65535\n0 -> 'A' : 1.00\n";
+    assert_eq!(returns(&draft.bytes()), due);
+    for spelt in ["1 years 1998 2007", "1.0\tyears  01998\t0002007 # years", "+1 years 1998 2007# 3"] {
+        let text = due.replacen("1.00 years 1998 2007", spelt, 1);
+        assert_eq!(to_bytes(&text), Ok(draft.bytes()), "{text}");
+    }
+    let one = |year: u16| {
+        let mut draft = Draft::new(31);
+        draft.rules.push((7, 0, vec![]));
+        draft.years.insert(0, (year, year));
+        returns(&draft.bytes())
+    };
+    assert!((0..=u16::MAX)
+        .step_by(13)
+        .all(|year| one(year) == format!("start 31\n7 -> - : 0.00 years {year} {year}\n")));
+}
+
 #[test]
 fn lengths_are_spelt_in_many_ways() {
     let cases = [
@@ -164,4 +190,8 @@ fn the_smallest_book_and_the_largest_return() {
     draft.rules = vec![(31, -32768, vec![Sym::N(31); 8]); 128];
     let line = "31 -> 31 31 31 31 31 31 31 31 : -327.68\n";
     assert_eq!(returns(&draft.bytes()), format!("start 31\n{}", line.repeat(128)));
+    draft.rules = vec![(31, -32768, vec![Sym::R(0, 255); 8]); 128];
+    draft.years = (0..128).map(|rule| (rule, (0, 65_535))).collect();
+    assert_eq!(draft.bytes().len(), 4099);
+    returns(&draft.bytes());
 }

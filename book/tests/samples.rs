@@ -4,15 +4,18 @@ use book::{to_bytes, to_text};
 use outside_tests::lister::{grammar, listed, trees};
 use std::path::PathBuf;
 
-/// Each sample, with the number of parts of its first reading and the number of its readings.
-const SAMPLES: &[(&str, usize, usize)] = &[
-    ("T", 3, 2),
-    ("pairs", 5, 2),
-    ("bush", 512, 1),
-    ("expressions", 19, 1),
-    ("ambiguous", 7, 5),
-    ("bores", 6, 2),
-    ("service", 3, 6),
+/// Each listing: its sample, its year if there is one in its name, the number of parts of the first reading, and the number
+/// of readings.
+const LISTINGS: &[(&str, Option<u16>, usize, usize)] = &[
+    ("T", None, 3, 2),
+    ("pairs", None, 5, 2),
+    ("bush", None, 512, 1),
+    ("expressions", None, 19, 1),
+    ("ambiguous", None, 7, 5),
+    ("bores", None, 6, 2),
+    ("service", None, 3, 6),
+    ("seal", Some(1998), 1, 1),
+    ("seal", Some(2008), 1, 1),
 ];
 
 /// Book T of document 01, in full.
@@ -35,9 +38,14 @@ fn text(name: &str) -> String {
     String::from_utf8(held(name, "txt")).expect("UTF-8")
 }
 
-/// The listing program's lines for a book and a plate with 1 to 4,096 readings, from the lister's list.
-fn listing(book: &[u8], plate: &[u8]) -> String {
-    let grammar = grammar::load(book).expect("the book loads");
+/// How the file of a listing ends.
+fn kind(year: Option<u16>) -> String {
+    year.map_or("listing".to_string(), |year| format!("{year}.listing"))
+}
+
+/// The listing program's lines for a book and a plate with 1 to 4,096 readings in a year, from the lister's list.
+fn listing(book: &[u8], plate: &[u8], year: u16) -> String {
+    let grammar = grammar::load(book).expect("the book loads").in_year(year);
     let (list, _) = listed(&grammar, plate);
     assert!((1..=4096).contains(&list.len()));
     let mut lines = String::new();
@@ -50,10 +58,10 @@ fn listing(book: &[u8], plate: &[u8]) -> String {
 
 #[test]
 fn each_listing_is_the_listers() {
-    for &(name, parts, readings) in SAMPLES {
-        let (book, plate, due) = (to_bytes(&text(name)).expect(name), held(name, "plate"), held(name, "listing"));
+    for &(name, year, parts, readings) in LISTINGS {
+        let (book, plate, due) = (to_bytes(&text(name)).expect(name), held(name, "plate"), held(name, &kind(year)));
         let due = String::from_utf8(due).expect("ASCII");
-        assert_eq!(listing(&book, &plate), due, "{name}");
+        assert_eq!(listing(&book, &plate, year.unwrap_or(0)), due, "{name}");
         let first = due.lines().next().expect("a line");
         assert_eq!(first.split(' ').count(), 1 + parts + 2, "{name}");
         assert!(due.ends_with(&format!("\nREADINGS {readings}\n")), "{name}");
@@ -63,7 +71,7 @@ fn each_listing_is_the_listers() {
 /// Without comments, empty lines and the blanks before a comment, a sample is what `to_text` writes.
 #[test]
 fn each_text_is_written_as_to_text_writes() {
-    for (name, ..) in SAMPLES {
+    for (name, ..) in LISTINGS {
         let bare = |line: &str| line.split('#').next().unwrap_or("").trim_end().to_string();
         let lines: Vec<String> = text(name).lines().map(bare).filter(|line| !line.is_empty()).collect();
         let written = to_text(&to_bytes(&text(name)).expect(name)).expect(name);
@@ -85,7 +93,7 @@ fn the_drawers_books_are_document_01s() {
     let places = |name: &str| -> Vec<(u8, Vec<grammar::Symbol>)> {
         let grammar = grammar::load(&to_bytes(&text(name)).expect(name)).expect(name);
         assert_eq!(grammar.start, 0);
-        grammar.rules.into_iter().map(|rule| (rule.left, rule.places)).collect()
+        grammar.numbered().map(|(_, rule)| (rule.left, rule.places.clone())).collect()
     };
     let (mark, kind) = (grammar::Symbol::Terminal(b'A'), grammar::Symbol::Nonterminal);
     assert_eq!(places("pairs"), [(0, vec![kind(0); 2]), (0, vec![mark])]);
@@ -97,7 +105,7 @@ fn the_drawers_books_are_document_01s() {
 #[test]
 fn bores_are_two_digits() {
     let grammar = grammar::load(&to_bytes(&text("bores")).expect("a text")).expect("a book");
-    let ranges = grammar.rules.iter().flat_map(|rule| &rule.places);
+    let ranges = grammar.numbered().flat_map(|(_, rule)| &rule.places);
     assert_eq!(ranges.filter(|place| **place == grammar::Symbol::Range(b'0', b'9')).count(), 2);
     let readings = |plate: &str| listed(&grammar, plate.as_bytes()).0.len();
     for figures in 0..100 {
@@ -117,6 +125,17 @@ fn the_service_block_has_no_marks() {
     assert_eq!(listed(&grammar, b"\n").0.len(), 0);
 }
 
+/// The seal code of request U9: no reading before 1998, then the one seal, then the other.
+#[test]
+fn the_seal_code_goes_by_the_year() {
+    let book = to_bytes(&text("seal")).expect("a text");
+    assert_eq!(book, b"\x10\x00\x21\x00\x64\x00\xCE\x07\xD7\x07\x40A\x21\x00\xC8\x00\xD8\x07\xFF\xFF\x40A\x50");
+    let read = |year: u16| listed(&grammar::load(&book).expect("a book").in_year(year), &held("seal", "plate")).0;
+    assert_eq!([0, 1997].map(read), [const { Vec::<Vec<u16>>::new() }; 2]);
+    assert_eq!([1998, 2007].map(read), [vec![vec![1, 0]], vec![vec![1, 0]]]);
+    assert_eq!([2008, 65_535].map(read), [vec![vec![1, 1]], vec![vec![1, 1]]]);
+}
+
 /// Every file of the folder belongs to a sample that is tested here.
 #[test]
 fn no_sample_is_left_out() {
@@ -124,9 +143,12 @@ fn no_sample_is_left_out() {
         .expect("the folder is there")
         .map(|entry| entry.expect("an entry").file_name().into_string().expect("UTF-8"))
         .collect();
-    let files = |(name, ..): &(&str, usize, usize)| ["txt", "plate", "listing"].map(|kind| format!("{name}.{kind}"));
-    let mut due: Vec<String> = SAMPLES.iter().flat_map(files).collect();
+    let files = |&(name, year, ..): &(&str, Option<u16>, usize, usize)| {
+        ["txt".to_string(), "plate".to_string(), kind(year)].map(|kind| format!("{name}.{kind}"))
+    };
+    let mut due: Vec<String> = LISTINGS.iter().flat_map(files).collect();
     found.sort();
     due.sort();
+    due.dedup();
     assert_eq!(found, due);
 }

@@ -6,6 +6,8 @@ use std::fmt::Write;
 const BOOK: &[u8] = b"\x10\x00\x20\x00\x0a\x00\x30\x01\x30\x00\x20\x00\x14\x00\x30\x01\
     \x20\x01\x1e\x00\x40A\x30\x02\x40B\x20\x02\xfb\xff\x20\x02\x19\x00\x40C\x50";
 const PLATE: &[u8] = b"ABACB";
+/// Its year: any, since the book holds in all years.
+const YEAR: u16 = 2008;
 
 /// Hundredths of a millimetre, as millimetres.
 fn millimetres(hundredths: i16) -> String {
@@ -27,7 +29,7 @@ fn line(grammar: &Grammar, plate: &[u8], node: Node<'_>) -> String {
 
 /// The picture of a reading: its line as document 01 prints it, then a line for each node.
 pub fn picture(grammar: &Grammar, plate: &[u8], reading: &Reading) -> Result<String, Error> {
-    let tenths = length(grammar, plate, reading.numbers(), &mut vec![0; CELLS])?;
+    let tenths = length(grammar, plate, YEAR, reading.numbers(), &mut vec![0; CELLS])?;
     let mut text = format!("{reading} = {tenths}\n");
     for node in reading.nodes() {
         writeln!(text, "{}", line(grammar, plate, node)).expect("a string takes all");
@@ -38,7 +40,7 @@ pub fn picture(grammar: &Grammar, plate: &[u8], reading: &Reading) -> Result<Str
 /// The pictures of all readings of the plate.
 pub fn pictures() -> Result<String, Error> {
     let grammar = load(BOOK)?;
-    grammar.readings(PLATE).map(|reading| picture(&grammar, PLATE, &reading?)).collect()
+    grammar.readings(PLATE, YEAR).map(|reading| picture(&grammar, PLATE, &reading?)).collect()
 }
 
 #[allow(dead_code)] // a test includes this file and does not call `main`

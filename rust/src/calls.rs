@@ -19,7 +19,7 @@ const NO_TENTHS: i32 = i32::MIN;
 ///
 /// # Errors
 ///
-/// The first fault of the book, read from the left: refusals 1 to 7, and 16.
+/// The first fault of the book, read from the left: refusals 1 to 7, 16 and 21.
 pub fn load(book: &[u8]) -> Result<Grammar, LoadError> {
     let mut grammar = Grammar { row: Box::new([NO_NUMBER; ROW]) };
     let mut offset = NO_OFFSET;
@@ -31,16 +31,16 @@ pub fn load(book: &[u8]) -> Result<Grammar, LoadError> {
     }
 }
 
-/// Whether the offered row is a derivation of the input: for each node, in preorder, how many bytes it covers and the number of its rule.
-/// The chart is filled for the input.
+/// Whether the offered row is a derivation of the input in a year: for each node, in preorder, how many bytes it covers and the number of
+/// its rule. Only rules in force in the year build trees. The chart is filled for the input and the year.
 ///
 /// ```
 /// # fn main() -> Result<(), filbozseg::Error> {
 /// use filbozseg::{check, load, CELLS};
 /// let (grammar, mut chart) = (load(b"\x10\x00\x20\x00\x19\x00\x40A\x50")?, vec![0; CELLS]); // 0 -> A
-/// assert!(check(&grammar, b"A", &[1, 0], &mut chart)?);
-/// assert!(!check(&grammar, b"A", &[], &mut chart)?);
-/// assert!(!check(&grammar, b"", &[], &mut chart)?); // each derivation has a node, also one of an input of no bytes
+/// assert!(check(&grammar, b"A", 2008, &[1, 0], &mut chart)?);
+/// assert!(!check(&grammar, b"A", 2008, &[], &mut chart)?);
+/// assert!(!check(&grammar, b"", 2008, &[], &mut chart)?); // each derivation has a node, also one of an input of no bytes
 /// # Ok(())
 /// # }
 /// ```
@@ -48,13 +48,14 @@ pub fn load(book: &[u8]) -> Result<Grammar, LoadError> {
 /// # Errors
 ///
 /// Refusals 8, 9 and 10, in this order. The chart is left as found.
-pub fn check(grammar: &Grammar, input: &[u8], offered: &[u16], chart: &mut [u32]) -> Result<bool, Refusal> {
+pub fn check(grammar: &Grammar, input: &[u8], year: u16, offered: &[u16], chart: &mut [u32]) -> Result<bool, Refusal> {
     // SAFETY: the pointers point to live values of these lengths. The chart is borrowed for writing, so it overlaps nothing else.
     answer(unsafe {
         sys::filbozseg_check(
             grammar.row(),
             input.as_ptr(),
             input.len(),
+            year,
             offered.as_ptr(),
             offered.len(),
             chart.as_mut_ptr(),
@@ -63,21 +64,23 @@ pub fn check(grammar: &Grammar, input: &[u8], offered: &[u16], chart: &mut [u32]
     })
 }
 
-/// The length of an offered derivation in tenths of a millimetre; an exact half goes to the even tenth. The chart is filled for the input.
+/// The length of an offered derivation in tenths of a millimetre; an exact half goes to the even tenth. The chart is filled for the input
+/// and the year.
 ///
 /// ```
 /// # fn main() -> Result<(), filbozseg::Error> {
 /// use filbozseg::{length, load, CELLS};
 /// let (grammar, mut chart) = (load(b"\x10\x00\x20\x00\x19\x00\x40A\x50")?, vec![0; CELLS]); // 0 -> A, 0.25 mm
-/// assert_eq!(length(&grammar, b"A", &[1, 0], &mut chart)?, 2);
+/// assert_eq!(length(&grammar, b"A", 2008, &[1, 0], &mut chart)?, 2);
 /// # Ok(())
 /// # }
 /// ```
 ///
 /// # Errors
 ///
-/// Refusals 8, 9 and 10, with the chart left as found; then 12 if the row is no derivation of the input, with the chart filled.
-pub fn length(grammar: &Grammar, input: &[u8], offered: &[u16], chart: &mut [u32]) -> Result<i32, Refusal> {
+/// Refusals 8, 9 and 10, with the chart left as found; then 12 if the row is no derivation of the input in the year, with the chart
+/// filled.
+pub fn length(grammar: &Grammar, input: &[u8], year: u16, offered: &[u16], chart: &mut [u32]) -> Result<i32, Refusal> {
     let mut tenths = NO_TENTHS;
     // SAFETY: as in `check`; only this call uses the tenths.
     let code = unsafe {
@@ -85,6 +88,7 @@ pub fn length(grammar: &Grammar, input: &[u8], offered: &[u16], chart: &mut [u32
             grammar.row(),
             input.as_ptr(),
             input.len(),
+            year,
             offered.as_ptr(),
             offered.len(),
             chart.as_mut_ptr(),
@@ -96,28 +100,36 @@ pub fn length(grammar: &Grammar, input: &[u8], offered: &[u16], chart: &mut [u32
 }
 
 /// Whether two offered derivations are the same build: whether their nodes that cover something have the same rules in preorder.
-/// The chart is filled for the input. The two rows may be the same slice.
+/// The chart is filled for the input and the year. The two rows may be the same slice.
 ///
 /// ```
 /// # fn main() -> Result<(), filbozseg::Error> {
 /// use filbozseg::{load, same_build, CELLS};
 /// // 0 -> 1 1, 1 -> nothing, 1 -> A
 /// let grammar = load(b"\x10\x00\x20\x00\x00\x00\x30\x01\x30\x01\x20\x01\x00\x00\x20\x01\x00\x00\x40A\x50")?;
-/// assert!(same_build(&grammar, b"A", &[1, 0, 0, 1, 1, 2], &[1, 0, 1, 2, 0, 1], &mut vec![0; CELLS])?);
+/// assert!(same_build(&grammar, b"A", 2008, &[1, 0, 0, 1, 1, 2], &[1, 0, 1, 2, 0, 1], &mut vec![0; CELLS])?);
 /// # Ok(())
 /// # }
 /// ```
 ///
 /// # Errors
 ///
-/// As for [`length`]; 12 if either row is no derivation of the input.
-pub fn same_build(grammar: &Grammar, input: &[u8], a: &[u16], b: &[u16], chart: &mut [u32]) -> Result<bool, Refusal> {
+/// As for [`length`]; 12 if either row is no derivation of the input in the year.
+pub fn same_build(
+    grammar: &Grammar,
+    input: &[u8],
+    year: u16,
+    a: &[u16],
+    b: &[u16],
+    chart: &mut [u32],
+) -> Result<bool, Refusal> {
     // SAFETY: as in `check`; what is only read may overlap.
     answer(unsafe {
         sys::filbozseg_same_build(
             grammar.row(),
             input.as_ptr(),
             input.len(),
+            year,
             a.as_ptr(),
             a.len(),
             b.as_ptr(),

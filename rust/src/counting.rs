@@ -26,7 +26,7 @@ impl fmt::Display for Count {
     }
 }
 
-/// How many derivations the input has. The chart is filled for the input.
+/// How many derivations the input has in a year. The chart is filled for the input and the year.
 ///
 /// ```
 /// # fn main() -> Result<(), filbozseg::Error> {
@@ -34,8 +34,8 @@ impl fmt::Display for Count {
 /// // 0 -> 0 0, 0 -> A
 /// let grammar = load(b"\x10\x00\x20\x00\x00\x00\x30\x00\x30\x00\x20\x00\x00\x00\x40A\x50")?;
 /// let mut chart = vec![0; CELLS];
-/// assert_eq!(count(&grammar, &[b'A'; 9], &mut chart)?, Count::Exactly(1430));
-/// assert_eq!(count(&grammar, &[b'A'; 10], &mut chart)?, Count::More);
+/// assert_eq!(count(&grammar, &[b'A'; 9], 2008, &mut chart)?, Count::Exactly(1430));
+/// assert_eq!(count(&grammar, &[b'A'; 10], 2008, &mut chart)?, Count::More);
 /// # Ok(())
 /// # }
 /// ```
@@ -46,11 +46,12 @@ impl fmt::Display for Count {
 ///
 /// Refusals 8, 9 and 10, in this order, with the chart left as found; then 13 if the input has trees, but none of at most 512 nodes, with
 /// the chart filled.
-pub fn count(grammar: &Grammar, input: &[u8], chart: &mut [u32]) -> Result<Count, Refusal> {
+pub fn count(grammar: &Grammar, input: &[u8], year: u16, chart: &mut [u32]) -> Result<Count, Refusal> {
     let mut count = NO_COUNT;
     // SAFETY: the pointers point to live values of these lengths, and only this call borrows those that are written.
     let code = unsafe {
-        sys::filbozseg_count(grammar.row(), input.as_ptr(), input.len(), chart.as_mut_ptr(), chart.len(), &mut count)
+        let (cells, size) = (chart.as_mut_ptr(), chart.len());
+        sys::filbozseg_count(grammar.row(), input.as_ptr(), input.len(), year, cells, size, &mut count)
     };
     match code {
         2 => Ok(Count::More),

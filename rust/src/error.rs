@@ -18,7 +18,7 @@ use std::fmt;
 #[derive(Clone, PartialEq, Eq, Hash)]
 #[non_exhaustive]
 pub struct LoadError {
-    /// Why the book is refused: refusals 1 to 7, and 16.
+    /// Why the book is refused: refusals 1 to 7, 16 and 21.
     pub refusal: Refusal,
     /// The offset of the faulty command. If the book ends too early, its length; if a byte follows its end, the offset of that byte.
     pub offset: usize,
@@ -51,12 +51,12 @@ impl error::Error for LoadError {
 /// source are those of the error inside.
 ///
 /// ```
-/// fn readings(book: &[u8], input: &[u8]) -> Result<Vec<String>, filbozseg::Error> {
-///     filbozseg::load(book)?.readings(input).map(|reading| Ok(reading?.to_string())).collect()
+/// fn readings(book: &[u8], input: &[u8], year: u16) -> Result<Vec<String>, filbozseg::Error> {
+///     filbozseg::load(book)?.readings(input, year).map(|reading| Ok(reading?.to_string())).collect()
 /// }
-/// assert_eq!(readings(b"\x10\x00\x20\x00\x00\x00\x40A\x50", b"A").unwrap(), ["1.0"]);
-/// assert_eq!(readings(b"", b"A").unwrap_err().refusal().number(), 1);
-/// assert_eq!(readings(b"\x10\x00\x50", &[b'A'; 65]).unwrap_err().refusal().number(), 9);
+/// assert_eq!(readings(b"\x10\x00\x20\x00\x00\x00\x40A\x50", b"A", 2008).unwrap(), ["1.0"]);
+/// assert_eq!(readings(b"", b"A", 2008).unwrap_err().refusal().number(), 1);
+/// assert_eq!(readings(b"\x10\x00\x50", &[b'A'; 65], 2008).unwrap_err().refusal().number(), 9);
 /// ```
 #[derive(Clone, Debug, PartialEq, Eq, Hash)]
 #[non_exhaustive]

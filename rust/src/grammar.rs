@@ -8,15 +8,15 @@ use std::fmt;
 const RULES: usize = 3;
 const MAX_RULES: usize = 128;
 
-/// A grammar, as the row of numbers that is passed to the library: start symbol, number of rules, nullable depth, and 19 numbers for each
-/// of 128 rules: left side, length in two's complement, number of places, and a tag and a value for each of 8 places. Tag 0 is a
-/// nonterminal and 1 a terminal. Tag 2 is a range, whose value is low + 256 × high.
+/// A grammar, as the row of numbers that is passed to the library: start symbol, number of rules, nullable depth, and 21 numbers for each
+/// of 128 rules: left side, length in two's complement, number of places, a tag and a value for each of 8 places, first year and last year.
+/// Tag 0 is a nonterminal and 1 a terminal. Tag 2 is a range, whose value is low + 256 × high.
 ///
 /// [`load`](crate::load) makes one from a book. The row of [`Grammar::from_row`] may hold anything: each call checks all 16 bits of each
-/// number. Refused with 8: a start over 31; more than 128 rules; in a used rule a left side over 31, or more than 8 places; in a used
-/// place a tag over 2, a nonterminal over 31, a terminal over 255, or a range whose low end is over its high end. The depth, the lengths,
-/// and all numbers of unused rules and unused places may have any value. The accessors read such a row as the library does: a number over
-/// 255 as 255, and a place that holds no symbol as the nonterminal 255.
+/// number. Refused with 8: a start over 31; more than 128 rules; in a used rule a left side over 31, more than 8 places, or a first year
+/// over the last; in a used place a tag over 2, a nonterminal over 31, a terminal over 255, or a range whose low end is over its high end.
+/// The depth, the lengths, and all numbers of unused rules and unused places may have any value. The accessors read such a row as the
+/// library does: a number over 255 as 255, and a place that holds no symbol as the nonterminal 255.
 ///
 /// ```
 /// # fn main() -> Result<(), filbozseg::LoadError> {
@@ -52,7 +52,8 @@ impl Grammar {
     }
 
     /// The nullable depth (blank depth). In a loaded grammar it is 0 to 32: the greatest, over all nonterminals that have an empty tree, of
-    /// the height of the lowest one, and 0 if none has any. A rule without places makes a tree of height 1.
+    /// the height of the lowest one, and 0 if none has any. A rule without places makes a tree of height 1. All rules count, whatever their
+    /// years.
     ///
     /// ```
     /// # fn main() -> Result<(), filbozseg::LoadError> {
@@ -76,18 +77,18 @@ impl Grammar {
         self.rules().nth(number)
     }
 
-    /// All readings of the input, in order.
-    pub fn readings<'a>(&'a self, input: &'a [u8]) -> Readings<'a> {
-        Readings::new(self, input)
+    /// All readings of the input in the year, in order.
+    pub fn readings<'a>(&'a self, input: &'a [u8], year: u16) -> Readings<'a> {
+        Readings::new(self, input, year)
     }
 
-    /// The reading of the input that a row of numbers describes.
+    /// The reading of the input in the year that a row of numbers describes.
     ///
     /// # Errors
     ///
-    /// Refusals 8 and 9 of [`check`]; 12 if the row is no reading of the input.
-    pub fn reading(&self, input: &[u8], numbers: &[u16]) -> Result<Reading, Refusal> {
-        if check(self, input, numbers, &mut vec![0; CELLS])? {
+    /// Refusals 8 and 9 of [`check`]; 12 if the row is no reading of the input in the year.
+    pub fn reading(&self, input: &[u8], year: u16, numbers: &[u16]) -> Result<Reading, Refusal> {
+        if check(self, input, year, numbers, &mut vec![0; CELLS])? {
             Ok(Reading::new(self, numbers))
         } else {
             Err(Refusal::NotADerivation)

@@ -1,7 +1,7 @@
 //! The proved plate reader for safe Rust.
 //!
-//! A book is loaded into a [`Grammar`]. With it, an input of 0 to 64 bytes has [readings](Grammar::readings), each a [`Reading`] with
-//! nodes:
+//! A book is loaded into a [`Grammar`]. With it, an input of 0 to 64 bytes has [readings](Grammar::readings) in a year, each a [`Reading`]
+//! with nodes:
 //!
 //! ```
 //! use filbozseg::{count, length, load, Count, CELLS};
@@ -9,13 +9,13 @@
 //! # fn main() -> Result<(), filbozseg::Error> {
 //! // Book T of document 01: 0 -> 1 1 (46 mm), 1 -> nothing (0 mm), 1 -> A (0.25 mm)
 //! let grammar = load(b"\x10\x00\x20\x00\xf8\x11\x30\x01\x30\x01\x20\x01\x00\x00\x20\x01\x19\x00\x40A\x50")?;
-//! let readings = grammar.readings(b"A").collect::<Result<Vec<_>, _>>()?;
+//! let readings = grammar.readings(b"A", 2008).collect::<Result<Vec<_>, _>>()?;
 //! assert_eq!(readings[0].to_string(), "1.0 0.1 1.2");
 //! assert_eq!(readings[1].to_string(), "1.0 1.2 0.1");
 //!
 //! let mut chart = vec![0; CELLS];
-//! assert_eq!(count(&grammar, b"A", &mut chart)?, Count::Exactly(2));
-//! assert_eq!(length(&grammar, b"A", readings[0].numbers(), &mut chart)?, 462); // tenths of a millimetre
+//! assert_eq!(count(&grammar, b"A", 2008, &mut chart)?, Count::Exactly(2));
+//! assert_eq!(length(&grammar, b"A", 2008, readings[0].numbers(), &mut chart)?, 462); // tenths of a millimetre
 //! # Ok(())
 //! # }
 //! ```
@@ -24,6 +24,12 @@
 //! [`count`] calls one function of the static library, which is proved to meet its contract, and turns its code into a result. They use
 //! the memory that the caller lends and allocate nothing; only `load` boxes the grammar. [`Grammar::readings`] and [`Grammar::reading`]
 //! are built on them and allocate what they need. [`sys`] has the functions of the static library themselves.
+//!
+//! # Years
+//!
+//! Each rule has a [first and a last year](Rule::years), and is in force from one to the other, both included. Every call on an input is
+//! given a year, and only the rules in force in it build trees. Rules keep their numbers. A recognizer keeps the year that it was opened
+//! with. A book without years holds in all of them.
 //!
 //! # Words
 //!
@@ -66,7 +72,7 @@ pub use refusal::Refusal;
 pub use rule::{Rule, Symbol};
 
 /// How many numbers the row of a grammar has.
-pub const ROW: usize = 2435;
+pub const ROW: usize = 2691;
 
 /// How many cells of a chart are used. A shorter chart is refused.
 pub const CELLS: usize = 4225;
@@ -77,8 +83,8 @@ pub const BYTES: usize = 64;
 /// The length of an output: two numbers for each of at most 512 nodes of a derivation. A shorter output is refused.
 pub const OUTPUT: usize = 1024;
 
-/// How many numbers the row of a recognizer has: its bytes, and then their count.
-pub const HAND: usize = BYTES + 1;
+/// How many numbers the row of a recognizer has: its bytes, then their count, and then its year.
+pub const HAND: usize = BYTES + 2;
 
 // What a row or a hand holds before the library writes it. A row or a hand of such numbers is refused (8, 14), so one that the library
 // fails to write is never mistaken for a result.

@@ -16,8 +16,8 @@ use std::hash::{Hash, Hasher};
 /// # fn main() -> Result<(), filbozseg::Error> {
 /// // 0 -> 0 0, 0 -> A
 /// let grammar = filbozseg::load(b"\x10\x00\x20\x00\x00\x00\x30\x00\x30\x00\x20\x00\x00\x00\x40A\x50")?;
-/// let one = grammar.reading(b"AAA", &[3, 0, 1, 1, 2, 0, 1, 1, 1, 1])?;
-/// let other = grammar.reading(b"AAA", &[3, 0, 2, 0, 1, 1, 1, 1, 1, 1])?;
+/// let one = grammar.reading(b"AAA", 2008, &[3, 0, 1, 1, 2, 0, 1, 1, 1, 1])?;
+/// let other = grammar.reading(b"AAA", 2008, &[3, 0, 2, 0, 1, 1, 1, 1, 1, 1])?;
 /// assert_eq!(one.to_string(), "3.0 1.1 2.0 1.1 1.1");
 /// assert!(one < other);
 /// assert_eq!(one.parts().next(), Some((3, 0)));

@@ -1,10 +1,10 @@
-//! The iterator over all readings of an input.
+//! The iterator over all readings of an input in a year.
 
 use crate::{first, next, Grammar, Reading, Refusal, CELLS, OUTPUT};
 use std::fmt;
 use std::iter::FusedIterator;
 
-/// All readings of an input, in the order of document 01: see [`Grammar::readings`].
+/// All readings of an input in a year, in the order of document 01: see [`Grammar::readings`].
 ///
 /// Each item is a `Result`, because the input is checked only when the first reading is asked for: `collect` into a `Result<Vec<_>, _>`,
 /// or use `?` on each item. A refusal (8, 9, 13) is the only item. After the last reading, and after a refusal, the iterator returns
@@ -16,15 +16,15 @@ use std::iter::FusedIterator;
 /// use filbozseg::{load, Reading, Refusal};
 /// // 0 -> 0 0, 0 -> A
 /// let grammar = load(b"\x10\x00\x20\x00\x00\x00\x30\x00\x30\x00\x20\x00\x00\x00\x40A\x50")?;
-/// for reading in grammar.readings(b"AAA") {
+/// for reading in grammar.readings(b"AAA", 2008) {
 ///     println!("{}", reading?); // 3.0 1.1 2.0 1.1 1.1, then 3.0 2.0 1.1 1.1 1.1
 /// }
-/// assert_eq!(grammar.readings(b"B").next(), None);
-/// assert_eq!(grammar.readings(b"").next(), None); // an input of no bytes is read like any other
-/// assert_eq!(grammar.readings(&[b'A'; 65]).collect::<Vec<_>>(), [Err(Refusal::InputLength)]);
+/// assert_eq!(grammar.readings(b"B", 2008).next(), None);
+/// assert_eq!(grammar.readings(b"", 2008).next(), None); // an input of no bytes is read like any other
+/// assert_eq!(grammar.readings(&[b'A'; 65], 2008).collect::<Vec<_>>(), [Err(Refusal::InputLength)]);
 ///
 /// let plate = [b'A'; 64]; // some 10^35 readings
-/// let three: Vec<Reading> = grammar.readings(&plate).take(3).collect::<Result<_, _>>()?;
+/// let three: Vec<Reading> = grammar.readings(&plate, 2008).take(3).collect::<Result<_, _>>()?;
 /// assert!(three[0] < three[1] && three[1] < three[2]);
 /// # Ok(())
 /// # }
@@ -36,6 +36,7 @@ use std::iter::FusedIterator;
 pub struct Readings<'a> {
     grammar: &'a Grammar,
     input: &'a [u8],
+    year: u16,
     chart: Vec<u32>,
     output: Vec<u16>,
     /// The last reading found, which is offered to find the next one; empty before the first.
@@ -44,15 +45,16 @@ pub struct Readings<'a> {
 }
 
 impl<'a> Readings<'a> {
-    pub(crate) fn new(grammar: &'a Grammar, input: &'a [u8]) -> Readings<'a> {
-        Readings { grammar, input, chart: vec![0; CELLS], output: vec![0; OUTPUT], last: Vec::new(), ended: false }
+    pub(crate) fn new(grammar: &'a Grammar, input: &'a [u8], year: u16) -> Readings<'a> {
+        let (chart, output) = (vec![0; CELLS], vec![0; OUTPUT]);
+        Readings { grammar, input, year, chart, output, last: Vec::new(), ended: false }
     }
 
     fn step(&mut self) -> Result<Option<Reading>, Refusal> {
         let handed = if self.last.is_empty() {
-            first(self.grammar, self.input, &mut self.chart, &mut self.output)?
+            first(self.grammar, self.input, self.year, &mut self.chart, &mut self.output)?
         } else {
-            next(self.grammar, self.input, &self.last, &mut self.chart, &mut self.output)?
+            next(self.grammar, self.input, self.year, &self.last, &mut self.chart, &mut self.output)?
         };
         let Some(numbers) = handed else { return Ok(None) };
         self.last.clear();
@@ -81,6 +83,7 @@ impl fmt::Debug for Readings<'_> {
         f.debug_struct("Readings")
             .field("grammar", self.grammar)
             .field("input", &self.input)
+            .field("year", &self.year)
             .field("last", &self.last)
             .field("ended", &self.ended)
             .finish_non_exhaustive()

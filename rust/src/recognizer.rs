@@ -3,18 +3,22 @@
 use crate::refusal::answer;
 use crate::{sys, Grammar, Refusal, BYTES, HAND, NO_NUMBER};
 
-/// A recognizer, as the row of numbers that is passed to the library: 64 bytes, each as a number, and then how many have been taken.
+/// Where the year is in a row.
+const YEAR: usize = BYTES + 1;
+
+/// A recognizer, as the row of numbers that is passed to the library: 64 bytes, each as a number, then how many have been taken, and then
+/// the year that it was opened with.
 ///
 /// [`open`] makes one. The row of [`Recognizer::from_row`] may hold anything: all 16 bits of each number are checked. Refused with 14: a
-/// count over 64, or a number over 255 among the first `count`. The numbers of bytes not taken may have any value.
+/// count over 64, or a number over 255 among the first `count`. The numbers of bytes not taken and the year may have any value.
 #[derive(Clone, Copy, Debug, PartialEq, Eq, Hash)]
 pub struct Recognizer {
     row: [u16; HAND],
 }
 
-/// Opens a recognizer on a chart. Returns the recognizer of no bytes, and whether the empty input is complete. It clears the first 4,225
-/// cells of the chart and writes the first column. If refused (8, 10, in this order), it also returns the recognizer of no bytes, and
-/// leaves the chart as found.
+/// Opens a recognizer on a chart in a year. Returns the recognizer of no bytes, which keeps the year, and whether the empty input is
+/// complete. It clears the first 4,225 cells of the chart and writes the first column. If refused (8, 10, in this order), it also returns a
+/// recognizer of no bytes, with year 0, and leaves the chart as found.
 ///
 /// ```
 /// # fn main() -> Result<(), filbozseg::Error> {
@@ -22,19 +26,19 @@ pub struct Recognizer {
 /// // 0 -> 0 A, 0 -> A
 /// let grammar = load(b"\x10\x00\x20\x00\x00\x00\x30\x00\x40A\x20\x00\x00\x00\x40A\x50")?;
 /// let mut chart = vec![0; CELLS];
-/// let (mut recognizer, complete) = open(&grammar, &mut chart);
+/// let (mut recognizer, complete) = open(&grammar, 2008, &mut chart);
 /// assert!(!complete?);
 /// assert!(recognizer.take(&grammar, b'A', &mut chart)?);
 /// assert!(recognizer.take(&grammar, b'A', &mut chart)?);
 /// assert!(!recognizer.take(&grammar, b'B', &mut chart)?);
-/// assert_eq!(recognizer.count(), 3);
+/// assert_eq!((recognizer.count(), recognizer.year()), (3, 2008));
 /// # Ok(())
 /// # }
 /// ```
-pub fn open(grammar: &Grammar, chart: &mut [u32]) -> (Recognizer, Result<bool, Refusal>) {
+pub fn open(grammar: &Grammar, year: u16, chart: &mut [u32]) -> (Recognizer, Result<bool, Refusal>) {
     let mut r = Recognizer { row: [NO_NUMBER; HAND] };
     // SAFETY: the pointers point to live values of these lengths, and only this call borrows those that are written.
-    let code = unsafe { sys::filbozseg_open(grammar.row(), &mut r.row, chart.as_mut_ptr(), chart.len()) };
+    let code = unsafe { sys::filbozseg_open(grammar.row(), year, &mut r.row, chart.as_mut_ptr(), chart.len()) };
     (r, answer(code))
 }
 
@@ -54,13 +58,18 @@ impl Recognizer {
         usize::from(self.row[BYTES])
     }
 
+    /// The year that the recognizer was opened with, according to the row. [`Recognizer::take`] goes by it.
+    pub fn year(&self) -> u16 {
+        self.row[YEAR]
+    }
+
     /// The bytes taken so far, as numbers. A number is over 255 only in a row that is refused.
     pub fn bytes(&self) -> &[u16] {
         &self.row[..self.count().min(BYTES)]
     }
 
-    /// Takes a byte, and returns whether the input so far is complete. The recognizer then has the byte, with zeros after it, and the
-    /// chart has its column.
+    /// Takes a byte, and returns whether the input so far is complete in the recognizer's year. The recognizer then has the byte, with
+    /// zeros after it, and keeps its year; the chart has its column.
     ///
     /// The answer is right for the input if the recognizer was opened with this grammar on this chart, and nothing else wrote to the
     /// chart.

@@ -7,7 +7,7 @@ use std::fmt;
 /// ```
 /// use filbozseg::{load, Refusal};
 /// let grammar = load(b"\x10\x00\x50").unwrap();
-/// let refusal = grammar.readings(&[b'A'; 65]).next().unwrap().unwrap_err();
+/// let refusal = grammar.readings(&[b'A'; 65], 2008).next().unwrap().unwrap_err();
 /// assert_eq!((refusal, refusal.number()), (Refusal::InputLength, 9));
 /// assert_eq!(refusal.to_string(), "the input has more than 64 bytes (refusal 9)");
 /// ```
@@ -47,6 +47,8 @@ pub enum Refusal {
     RecognizerFull = 15,
     /// A range of the book has its low end over its high end.
     RangeReversed = 16,
+    /// A rule of the book has its first year over its last.
+    YearsReversed = 21,
 }
 
 use Refusal::*;
@@ -55,7 +57,7 @@ use Refusal::*;
 const REFUSED: u32 = 256;
 
 impl Refusal {
-    /// All refusals, in the order of their numbers, which begin at 1.
+    /// All refusals, in the order of their numbers, which are 1 to 16, and 21.
     pub const ALL: &'static [Refusal] = &[
         UnexpectedEnd,
         UnknownCommand,
@@ -73,16 +75,17 @@ impl Refusal {
         InvalidRecognizer,
         RecognizerFull,
         RangeReversed,
+        YearsReversed,
     ];
 
-    /// The refusal's number in the customer's documents, from 1 on.
+    /// The refusal's number in the customer's documents.
     pub const fn number(self) -> u8 {
         self as u8
     }
 
     /// The refusal with this number.
     pub fn of_number(number: u8) -> Option<Refusal> {
-        Refusal::ALL.get(usize::from(number).checked_sub(1)?).copied()
+        Refusal::ALL.iter().copied().find(|refusal| refusal.number() == number)
     }
 
     /// The code that a function of [`sys`](crate::sys) returns for this refusal.
@@ -113,6 +116,7 @@ impl Refusal {
             InvalidRecognizer => "the recognizer's count is over 64, or a byte that it has taken is over 255",
             RecognizerFull => "the recognizer has taken 64 bytes and takes no more",
             RangeReversed => "a range of the book has its low end over its high end",
+            YearsReversed => "a rule of the book has its first year over its last",
         }
     }
 }

@@ -1,18 +1,24 @@
 //! A rule of a grammar, and what its places hold.
 
 use std::fmt;
+use std::ops::RangeInclusive;
 
 /// How many numbers a rule has in a row, where its places begin, and how many places it has at most.
-pub(crate) const RULE: usize = 19;
+pub(crate) const RULE: usize = 21;
 const PLACES: usize = 3;
 const MAX_PLACES: usize = 8;
+
+/// Where the first and the last year of a rule are.
+const FIRST: usize = PLACES + 2 * MAX_PLACES;
+const LAST: usize = FIRST + 1;
 
 /// A number of a row as a byte: a number over 255 is read as 255.
 pub(crate) fn byte(number: u16) -> u8 {
     number.min(255) as u8
 }
 
-/// A rule of a grammar. It is displayed as `0 -> 1 'A'`, with `-` for no places; `Debug` adds the length.
+/// A rule of a grammar. It is displayed as `0 -> 1 'A'`, with `-` for no places; `Debug` adds the length, and the
+/// years unless these are all.
 #[derive(Clone, Copy, PartialEq, Eq, Hash)]
 pub struct Rule<'a> {
     number: usize,
@@ -37,6 +43,23 @@ impl<'a> Rule<'a> {
     /// The length, in hundredths of a millimetre.
     pub fn length(self) -> i16 {
         self.row[1] as i16
+    }
+
+    /// The years in which the rule is in force, from the first to the last, both included. There are none only in a grammar that is
+    /// refused.
+    ///
+    /// ```
+    /// # fn main() -> Result<(), filbozseg::LoadError> {
+    /// // 0 -> A from 1998 to 2007 (100), and 0 -> A from 2008 on (200)
+    /// let grammar = filbozseg::load(b"\x10\x00\x21\x00\x64\x00\xce\x07\xd7\x07\x40A\x21\x00\xc8\x00\xd8\x07\xff\xff\x40A\x50")?;
+    /// assert_eq!((grammar.rule(0).unwrap().years(), grammar.rule(1).unwrap().years()), (1998..=2007, 2008..=65_535));
+    /// let read = |year: u16| grammar.readings(b"A", year).map(|reading| reading.unwrap().to_string()).collect::<Vec<_>>();
+    /// assert_eq!((read(1997).len(), read(2007), read(2008)), (0, vec!["1.0".to_string()], vec!["1.1".to_string()]));
+    /// # Ok(())
+    /// # }
+    /// ```
+    pub fn years(self) -> RangeInclusive<u16> {
+        self.row[FIRST]..=self.row[LAST]
     }
 
     /// The places, in order.
@@ -66,7 +89,11 @@ impl fmt::Display for Rule<'_> {
 
 impl fmt::Debug for Rule<'_> {
     fn fmt(&self, f: &mut fmt::Formatter<'_>) -> fmt::Result {
-        write!(f, "{self} ({})", self.length())
+        write!(f, "{self} ({}", self.length())?;
+        if self.years() != (0..=u16::MAX) {
+            write!(f, ", {} to {}", self.row[FIRST], self.row[LAST])?;
+        }
+        f.write_str(")")
     }
 }
 
@@ -80,7 +107,7 @@ impl fmt::Debug for Rule<'_> {
 /// let rule = grammar.rule(0).unwrap();
 /// assert_eq!(rule.to_string(), "0 -> 'V' '0'..'9'");
 /// assert_eq!(rule.places().next_back(), Some(Symbol::Range(b'0', b'9')));
-/// assert_eq!((grammar.readings(b"V6").count(), grammar.readings(b"VV").count()), (1, 0));
+/// assert_eq!((grammar.readings(b"V6", 2008).count(), grammar.readings(b"VV", 2008).count()), (1, 0));
 /// # Ok(())
 /// # }
 /// ```

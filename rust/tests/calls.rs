@@ -4,6 +4,9 @@ use filbozseg::*;
 /// Book T of document 01: 0 -> 1 1 (4,600), 1 -> nothing (0), 1 -> A (25).
 const T: &[u8] = b"\x10\x00\x20\x00\xf8\x11\x30\x01\x30\x01\x20\x01\x00\x00\x20\x01\x19\x00\x40A\x50";
 
+/// The year that inputs are read in: any, since the books here hold in all years.
+const YEAR: u16 = 2008;
+
 /// What the cells of a chart hold before a call, and how many unused cells follow the used ones.
 const FOUND: u32 = 7;
 const PAST: usize = 3;
@@ -14,7 +17,7 @@ fn chart() -> Vec<u32> {
 
 /// Where the first and the last rule of T begin in its row.
 const FIRST: usize = 3;
-const LAST: usize = 41;
+const LAST: usize = 45;
 
 /// T with one number of its row changed.
 fn changed(at: usize, number: u16) -> Grammar {
@@ -26,7 +29,7 @@ fn changed(at: usize, number: u16) -> Grammar {
 #[test]
 fn a_book_is_loaded_or_refused_at_its_offset() {
     assert_eq!(load(T).unwrap().row()[3..12], [0, 4600, 2, 0, 1, 0, 1, 0, 0]);
-    let faults: [(&[u8], u8, usize); 10] = [
+    let faults: [(&[u8], u8, usize); 13] = [
         (b"", 1, 0),
         (b"\x10", 1, 1),
         (b"\x99", 2, 0),
@@ -37,6 +40,9 @@ fn a_book_is_loaded_or_refused_at_its_offset() {
         (b"\x10\x00\x4109", 3, 2),
         (b"\x10\x00\x20\x00\xe7\xff\x419", 1, 8),
         (b"\x10\x00\x20\x00\xe7\xff\x4190", 16, 6),
+        (b"\x10\x00\x21\x00\xe7\xff\x01\x00\x00", 1, 9),
+        (b"\x10\x00\x21\x00\xe7\xff\x01\x00\x00\x00", 21, 2),
+        (b"\x10\x00\x21\x20\xe7\xff\x01\x00\x00\x00", 4, 2),
     ];
     for (book, number, offset) in faults {
         let fault = load(book).unwrap_err();
@@ -57,14 +63,14 @@ fn the_numbers_of_a_grammar_are_judged_whole() {
     bad.push((LAST + 3, 2)); // its value is 65, so the range is reversed
     bad.extend([256, 256 + 65, 0xFF00, u16::MAX].map(|terminal| (LAST + 4, terminal)));
     for (at, number) in bad {
-        assert_eq!(open(&changed(at, number), &mut chart).1, Err(Refusal::InvalidGrammar), "{number} at {at}");
+        assert_eq!(open(&changed(at, number), YEAR, &mut chart).1, Err(Refusal::InvalidGrammar), "{number} at {at}");
     }
     // what the wrapper lends for the library to write
-    assert_eq!(open(&Grammar::from_row(&[u16::MAX; ROW]), &mut chart).1, Err(Refusal::InvalidGrammar));
+    assert_eq!(open(&Grammar::from_row(&[u16::MAX; ROW]), YEAR, &mut chart).1, Err(Refusal::InvalidGrammar));
     assert_eq!(chart, self::chart());
     // the depth, a length, an unused place, an unused rule
-    for at in [2, FIRST + 1, FIRST + 7, FIRST + 8, LAST + 19, LAST + 21, LAST + 22] {
-        assert_eq!(open(&changed(at, u16::MAX), &mut chart).1, Ok(true), "{at}");
+    for at in [2, FIRST + 1, FIRST + 7, FIRST + 8, LAST + 21, LAST + 23, LAST + 24] {
+        assert_eq!(open(&changed(at, u16::MAX), YEAR, &mut chart).1, Ok(true), "{at}");
     }
 }
 
@@ -72,16 +78,17 @@ fn the_numbers_of_a_grammar_are_judged_whole() {
 fn an_opening_leaves_no_bytes_also_where_it_is_refused() {
     let (grammar, mut chart) = (load(T).unwrap(), chart());
     let refused = [
-        (open(&changed(0, 200), &mut chart), Refusal::InvalidGrammar),
-        (open(&changed(0, 200), &mut []), Refusal::InvalidGrammar),
-        (open(&grammar, &mut chart[..CELLS - 1]), Refusal::ChartTooShort),
-        (open(&grammar, &mut []), Refusal::ChartTooShort),
+        (open(&changed(0, 200), YEAR, &mut chart), Refusal::InvalidGrammar),
+        (open(&changed(0, 200), YEAR, &mut []), Refusal::InvalidGrammar),
+        (open(&grammar, YEAR, &mut chart[..CELLS - 1]), Refusal::ChartTooShort),
+        (open(&grammar, YEAR, &mut []), Refusal::ChartTooShort),
     ];
     assert_eq!(chart, self::chart());
-    let (opened, complete) = open(&grammar, &mut chart);
-    assert_eq!((complete, opened.row(), opened.count(), opened.bytes()), (Ok(true), &[0; HAND], 0, &[][..]));
+    let (opened, complete) = open(&grammar, YEAR, &mut chart);
+    assert_eq!((complete, opened.count(), opened.bytes(), opened.year()), (Ok(true), 0, &[][..], YEAR));
+    assert!(opened.row()[..HAND - 1].iter().all(|&number| number == 0));
     for ((r, answer), refusal) in refused {
-        assert_eq!((r, answer), (opened, Err(refusal)));
+        assert_eq!((r.row(), answer), (&[0; HAND], Err(refusal)));
     }
 }
 
@@ -121,9 +128,9 @@ fn a_taken_byte_is_left_in_the_recognizer() {
     row[2..BYTES].fill(u16::MAX); // bytes not taken
     let mut r = Recognizer::from_row(&row);
     r.take(&grammar, b'A', &mut chart).unwrap();
-    assert_eq!((r.count(), r.bytes()), (3, &[9, 9, 65][..]));
+    assert_eq!((r.count(), r.bytes(), r.year()), (3, &[9, 9, 65][..], 9));
     assert!(r.row()[3..BYTES].iter().all(|&b| b == 0));
-    let (mut r, answer) = open(&grammar, &mut chart);
+    let (mut r, answer) = open(&grammar, YEAR, &mut chart);
     let mut said = vec![answer.unwrap()];
     said.extend((0..64).map(|_| r.take(&grammar, b'A', &mut chart).unwrap()));
     assert!(said.iter().enumerate().all(|(n, &complete)| complete == (n <= 2)));
@@ -135,25 +142,25 @@ fn a_taken_byte_is_left_in_the_recognizer() {
 fn offered_rows_are_checked_measured_and_compared() {
     let (grammar, mut chart) = (load(T).unwrap(), chart());
     let (a, b, two) = ([1, 0, 0, 1, 1, 2], [1, 0, 1, 2, 0, 1], [2, 0, 1, 2, 1, 2]);
-    assert_eq!(check(&grammar, &[b'A'; 65], &a, &mut chart), Err(Refusal::InputLength));
-    assert_eq!(check(&grammar, &[b'A'; 65], &a, &mut []), Err(Refusal::InputLength));
-    assert_eq!(check(&grammar, b"A", &a, &mut []), Err(Refusal::ChartTooShort));
+    assert_eq!(check(&grammar, &[b'A'; 65], YEAR, &a, &mut chart), Err(Refusal::InputLength));
+    assert_eq!(check(&grammar, &[b'A'; 65], YEAR, &a, &mut []), Err(Refusal::InputLength));
+    assert_eq!(check(&grammar, b"A", YEAR, &a, &mut []), Err(Refusal::ChartTooShort));
     assert_eq!(chart, self::chart());
     for (input, row, yes) in
         [("A", &a[..], true), ("A", &b, true), ("A", &two, false), ("AA", &two, true), ("A", &[], false)]
     {
-        assert_eq!(check(&grammar, input.as_bytes(), row, &mut chart), Ok(yes));
+        assert_eq!(check(&grammar, input.as_bytes(), YEAR, row, &mut chart), Ok(yes));
     }
-    assert_eq!(length(&grammar, b"A", &a, &mut chart), Ok(462));
-    assert_eq!(length(&grammar, b"AA", &two, &mut chart), Ok(465));
-    assert_eq!(length(&grammar, b"A", &two, &mut chart), Err(Refusal::NotADerivation));
-    assert_eq!(same_build(&grammar, b"A", &a, &b, &mut chart), Ok(true));
-    assert_eq!(same_build(&grammar, b"A", &a, &two, &mut chart), Err(Refusal::NotADerivation));
-    assert_eq!(same_build(&grammar, b"A", &two, &a, &mut chart), Err(Refusal::NotADerivation));
+    assert_eq!(length(&grammar, b"A", YEAR, &a, &mut chart), Ok(462));
+    assert_eq!(length(&grammar, b"AA", YEAR, &two, &mut chart), Ok(465));
+    assert_eq!(length(&grammar, b"A", YEAR, &two, &mut chart), Err(Refusal::NotADerivation));
+    assert_eq!(same_build(&grammar, b"A", YEAR, &a, &b, &mut chart), Ok(true));
+    assert_eq!(same_build(&grammar, b"A", YEAR, &a, &two, &mut chart), Err(Refusal::NotADerivation));
+    assert_eq!(same_build(&grammar, b"A", YEAR, &two, &a, &mut chart), Err(Refusal::NotADerivation));
     assert_eq!(chart[CELLS..], [FOUND; PAST]);
     let recess = load(b"\x10\x00\x20\x00\xe7\xff\x40A\x20\x00\x01\x00\x40A\x50").unwrap();
-    assert_eq!(length(&recess, b"A", &[1, 0], &mut chart), Ok(-2));
-    assert_eq!(same_build(&recess, b"A", &[1, 0], &[1, 1], &mut chart), Ok(false));
+    assert_eq!(length(&recess, b"A", YEAR, &[1, 0], &mut chart), Ok(-2));
+    assert_eq!(same_build(&recess, b"A", YEAR, &[1, 0], &[1, 1], &mut chart), Ok(false));
 }
 
 /// How many numbers of an output follow the required ones, and what all numbers hold before a call.
@@ -163,18 +170,18 @@ const UNWRITTEN: [u16; OUTPUT + 2] = [9; OUTPUT + 2];
 fn the_first_derivation_is_handed_out_or_none() {
     let (grammar, mut chart, mut output) = (load(T).unwrap(), chart(), UNWRITTEN);
     for (input, due) in [("A", [1, 0, 0, 1, 1, 2]), ("AA", [2, 0, 1, 2, 1, 2])] {
-        let handed = first(&grammar, input.as_bytes(), &mut chart, &mut output).unwrap().unwrap();
+        let handed = first(&grammar, input.as_bytes(), YEAR, &mut chart, &mut output).unwrap().unwrap();
         assert_eq!(handed, due);
-        assert_eq!(check(&grammar, input.as_bytes(), &due, &mut chart), Ok(true));
+        assert_eq!(check(&grammar, input.as_bytes(), YEAR, &due, &mut chart), Ok(true));
         assert_eq!((&output[..6], &output[6..]), (&due[..], &UNWRITTEN[6..]));
     }
     output = UNWRITTEN;
     for input in ["AAA", "B"] {
-        assert_eq!(first(&grammar, input.as_bytes(), &mut chart, &mut output), Ok(None));
+        assert_eq!(first(&grammar, input.as_bytes(), YEAR, &mut chart, &mut output), Ok(None));
     }
     assert_eq!((output, &chart[CELLS..]), (UNWRITTEN, &[FOUND; PAST][..]));
     let mut filled = self::chart();
-    check(&grammar, b"B", &[], &mut filled).unwrap();
+    check(&grammar, b"B", YEAR, &[], &mut filled).unwrap();
     assert_eq!(chart, filled);
 }
 
@@ -182,21 +189,21 @@ fn the_first_derivation_is_handed_out_or_none() {
 fn a_refused_first_leaves_the_output() {
     let (grammar, mut chart, mut output) = (load(T).unwrap(), chart(), UNWRITTEN);
     let short = OUTPUT - 1;
-    assert_eq!(first(&changed(0, 32), &[b'A'; 65], &mut [], &mut []), Err(Refusal::InvalidGrammar));
-    assert_eq!(first(&grammar, &[b'A'; 65], &mut [], &mut []), Err(Refusal::InputLength));
-    assert_eq!(first(&grammar, &[b'A'; 65], &mut chart, &mut output), Err(Refusal::InputLength));
-    assert_eq!(first(&grammar, b"A", &mut chart[..CELLS - 1], &mut []), Err(Refusal::ChartTooShort));
-    assert_eq!(first(&grammar, b"A", &mut chart, &mut output[..short]), Err(Refusal::OutputTooShort));
+    assert_eq!(first(&changed(0, 32), &[b'A'; 65], YEAR, &mut [], &mut []), Err(Refusal::InvalidGrammar));
+    assert_eq!(first(&grammar, &[b'A'; 65], YEAR, &mut [], &mut []), Err(Refusal::InputLength));
+    assert_eq!(first(&grammar, &[b'A'; 65], YEAR, &mut chart, &mut output), Err(Refusal::InputLength));
+    assert_eq!(first(&grammar, b"A", YEAR, &mut chart[..CELLS - 1], &mut []), Err(Refusal::ChartTooShort));
+    assert_eq!(first(&grammar, b"A", YEAR, &mut chart, &mut output[..short]), Err(Refusal::OutputTooShort));
     assert_eq!(chart, self::chart());
     // 0 -> A and seven of 1, 1 -> eight of 2, 2 -> eight of 3, 3 -> nothing: 512 nodes, and 513 below 4 -> 0
     let mut book = b"\x10\x00\x20\x00\x00\x00\x40A".to_vec();
     book.extend([0x30, 1].repeat(7));
     book.extend([&[0x20, 1, 0, 0][..], &[0x30, 2].repeat(8), &[0x20, 2, 0, 0], &[0x30, 3].repeat(8)].concat());
     book.extend(b"\x20\x03\x00\x00\x20\x04\x00\x00\x30\x00\x50");
-    assert_eq!(first(&load(&book).unwrap(), b"A", &mut chart, &mut output).unwrap().unwrap().len(), OUTPUT);
+    assert_eq!(first(&load(&book).unwrap(), b"A", YEAR, &mut chart, &mut output).unwrap().unwrap().len(), OUTPUT);
     assert_eq!(output[OUTPUT..], [9; 2]);
     (book[1], output) = (4, UNWRITTEN);
-    assert_eq!(first(&load(&book).unwrap(), b"A", &mut chart, &mut output), Err(Refusal::OnlyLargerTrees));
+    assert_eq!(first(&load(&book).unwrap(), b"A", YEAR, &mut chart, &mut output), Err(Refusal::OnlyLargerTrees));
     assert_eq!((output, chart[1] >> 4 & 1), (UNWRITTEN, 1));
 }
 
@@ -207,22 +214,22 @@ const PAIRS: &[u8] = b"\x10\x00\x20\x00\x00\x00\x30\x00\x30\x00\x20\x00\x00\x00\
 fn the_next_derivation_is_handed_out_or_none() {
     let (grammar, mut chart, mut output) = (load(T).unwrap(), chart(), UNWRITTEN);
     let (one, other) = ([1, 0, 0, 1, 1, 2], [1, 0, 1, 2, 0, 1]);
-    assert_eq!(next(&grammar, b"A", &one, &mut chart, &mut output), Ok(Some(&other[..])));
+    assert_eq!(next(&grammar, b"A", YEAR, &one, &mut chart, &mut output), Ok(Some(&other[..])));
     assert_eq!((&output[..6], &output[6..]), (&other[..], &UNWRITTEN[6..]));
     output = UNWRITTEN;
-    assert_eq!(next(&grammar, b"A", &other, &mut chart, &mut output), Ok(None));
-    assert_eq!(next(&grammar, b"AA", &[2, 0, 1, 2, 1, 2], &mut chart, &mut output), Ok(None));
+    assert_eq!(next(&grammar, b"A", YEAR, &other, &mut chart, &mut output), Ok(None));
+    assert_eq!(next(&grammar, b"AA", YEAR, &[2, 0, 1, 2, 1, 2], &mut chart, &mut output), Ok(None));
     assert_eq!((output, &chart[CELLS..]), (UNWRITTEN, &[FOUND; PAST][..]));
     let mut filled = self::chart();
-    check(&grammar, b"AA", &[], &mut filled).unwrap();
+    check(&grammar, b"AA", YEAR, &[], &mut filled).unwrap();
     assert_eq!(chart, filled);
     // a walk, each reading copied before it is offered
     let grammar = load(PAIRS).unwrap();
-    let mut handed = first(&grammar, b"AAAAA", &mut chart, &mut output).unwrap().map(<[u16]>::to_vec);
+    let mut handed = first(&grammar, b"AAAAA", YEAR, &mut chart, &mut output).unwrap().map(<[u16]>::to_vec);
     let mut all = Vec::new();
     while let Some(reading) = handed {
-        assert_eq!(check(&grammar, b"AAAAA", &reading, &mut chart), Ok(true));
-        handed = next(&grammar, b"AAAAA", &reading, &mut chart, &mut output).unwrap().map(<[u16]>::to_vec);
+        assert_eq!(check(&grammar, b"AAAAA", YEAR, &reading, &mut chart), Ok(true));
+        handed = next(&grammar, b"AAAAA", YEAR, &reading, &mut chart, &mut output).unwrap().map(<[u16]>::to_vec);
         all.push(reading);
     }
     assert!(all.len() == 14 && all.windows(2).all(|two| two[0] < two[1]));
@@ -232,56 +239,56 @@ fn the_next_derivation_is_handed_out_or_none() {
 fn a_refused_next_leaves_the_output() {
     let (grammar, mut chart, mut output) = (load(T).unwrap(), chart(), UNWRITTEN);
     let (good, short) = ([1, 0, 0, 1, 1, 2], OUTPUT - 1);
-    assert_eq!(next(&changed(0, 32), &[b'A'; 65], &[], &mut [], &mut []), Err(Refusal::InvalidGrammar));
-    assert_eq!(next(&grammar, &[b'A'; 65], &[], &mut [], &mut []), Err(Refusal::InputLength));
-    assert_eq!(next(&grammar, &[b'A'; 65], &good, &mut chart, &mut output), Err(Refusal::InputLength));
-    assert_eq!(next(&grammar, b"A", &[], &mut chart[..CELLS - 1], &mut []), Err(Refusal::ChartTooShort));
-    assert_eq!(next(&grammar, b"A", &[], &mut chart, &mut output[..short]), Err(Refusal::OutputTooShort));
-    assert_eq!(next(&grammar, b"A", &good, &mut chart, &mut output[..short]), Err(Refusal::OutputTooShort));
+    assert_eq!(next(&changed(0, 32), &[b'A'; 65], YEAR, &[], &mut [], &mut []), Err(Refusal::InvalidGrammar));
+    assert_eq!(next(&grammar, &[b'A'; 65], YEAR, &[], &mut [], &mut []), Err(Refusal::InputLength));
+    assert_eq!(next(&grammar, &[b'A'; 65], YEAR, &good, &mut chart, &mut output), Err(Refusal::InputLength));
+    assert_eq!(next(&grammar, b"A", YEAR, &[], &mut chart[..CELLS - 1], &mut []), Err(Refusal::ChartTooShort));
+    assert_eq!(next(&grammar, b"A", YEAR, &[], &mut chart, &mut output[..short]), Err(Refusal::OutputTooShort));
+    assert_eq!(next(&grammar, b"A", YEAR, &good, &mut chart, &mut output[..short]), Err(Refusal::OutputTooShort));
     assert_eq!(chart, self::chart());
     let strangers = [&[][..], &good[..5], &[1, 0, 0, 1, 1, 3], &[1, 0, 0, 1, 1, 2, 0], &[9; OUTPUT], &[1, 0, 0, 1]];
     for (input, row) in strangers.map(|row| ("A", row)).into_iter().chain([("AA", &good[..]), ("B", &good)]) {
-        assert_eq!(next(&grammar, input.as_bytes(), row, &mut chart, &mut output), Err(Refusal::NotADerivation));
+        assert_eq!(next(&grammar, input.as_bytes(), YEAR, row, &mut chart, &mut output), Err(Refusal::NotADerivation));
     }
     assert_eq!((output, &chart[CELLS..]), (UNWRITTEN, &[FOUND; PAST][..]));
     let mut filled = self::chart();
-    check(&grammar, b"B", &[], &mut filled).unwrap();
+    check(&grammar, b"B", YEAR, &[], &mut filled).unwrap();
     assert_eq!(chart, filled);
 }
 
 #[test]
 fn derivations_are_counted_up_to_4096() {
     let (grammar, pairs, mut chart) = (load(T).unwrap(), load(PAIRS).unwrap(), chart());
-    assert_eq!(count(&changed(0, 32), &[b'A'; 65], &mut []), Err(Refusal::InvalidGrammar));
-    assert_eq!(count(&grammar, &[b'A'; 65], &mut []), Err(Refusal::InputLength));
-    assert_eq!(count(&grammar, &[b'A'; 65], &mut chart), Err(Refusal::InputLength));
-    assert_eq!(count(&grammar, b"A", &mut chart[..CELLS - 1]), Err(Refusal::ChartTooShort));
+    assert_eq!(count(&changed(0, 32), &[b'A'; 65], YEAR, &mut []), Err(Refusal::InvalidGrammar));
+    assert_eq!(count(&grammar, &[b'A'; 65], YEAR, &mut []), Err(Refusal::InputLength));
+    assert_eq!(count(&grammar, &[b'A'; 65], YEAR, &mut chart), Err(Refusal::InputLength));
+    assert_eq!(count(&grammar, b"A", YEAR, &mut chart[..CELLS - 1]), Err(Refusal::ChartTooShort));
     assert_eq!(chart, self::chart());
     for (input, due) in [("A", 2), ("AA", 1), ("AAA", 0), ("B", 0)] {
-        assert_eq!(count(&grammar, input.as_bytes(), &mut chart), Ok(Count::Exactly(due)), "{input}");
+        assert_eq!(count(&grammar, input.as_bytes(), YEAR, &mut chart), Ok(Count::Exactly(due)), "{input}");
     }
     let mut filled = self::chart();
-    check(&grammar, b"B", &[], &mut filled).unwrap();
+    check(&grammar, b"B", YEAR, &[], &mut filled).unwrap();
     assert_eq!(chart, filled);
-    assert_eq!(count(&pairs, &[b'A'; 9], &mut chart), Ok(Count::Exactly(1430)));
-    assert_eq!(count(&pairs, &[b'A'; 10], &mut chart), Ok(Count::More));
+    assert_eq!(count(&pairs, &[b'A'; 9], YEAR, &mut chart), Ok(Count::Exactly(1430)));
+    assert_eq!(count(&pairs, &[b'A'; 10], YEAR, &mut chart), Ok(Count::More));
     // 0 -> A 1 1, 1 -> eight of 2, 2 -> eight of 3, 3 -> eight of 4, 4 -> nothing
     let mut book = b"\x10\x00\x20\x00\x00\x00\x40A\x30\x01\x30\x01".to_vec();
     (1..4).for_each(|k| book.extend([&[0x20, k, 0, 0][..], &[0x30, k + 1].repeat(8)].concat()));
     book.extend(b"\x20\x04\x00\x00\x50");
-    assert_eq!(count(&load(&book).unwrap(), b"A", &mut chart), Err(Refusal::OnlyLargerTrees));
+    assert_eq!(count(&load(&book).unwrap(), b"A", YEAR, &mut chart), Err(Refusal::OnlyLargerTrees));
     assert_eq!(chart[1] & 1, 1);
 }
 
 #[test]
 fn refusals_numbers_and_codes_agree() {
-    for (number, &refusal) in (1..).zip(Refusal::ALL) {
+    for (number, &refusal) in (1..=16).chain([21]).zip(Refusal::ALL) {
         assert_eq!((refusal.number(), Refusal::of_number(number)), (number, Some(refusal)));
         let code = 256 + u32::from(number);
         assert_eq!((refusal.code(), Refusal::of_code(code)), (code, Some(refusal)));
     }
-    let past = Refusal::ALL.len() as u8 + 1;
-    assert!([0, past, 255].iter().all(|&number| Refusal::of_number(number).is_none()));
-    let codes = [0, 1, 2, 255, 256, 256 + u32::from(past), 512, 513, u32::MAX];
+    assert_eq!(Refusal::ALL.len(), 17);
+    assert!([0, 17, 20, 22, 255].iter().all(|&number| Refusal::of_number(number).is_none()));
+    let codes = [0, 1, 2, 255, 256, 256 + 17, 256 + 20, 256 + 22, 512, 513, u32::MAX];
     assert!(codes.iter().all(|&code| Refusal::of_code(code).is_none()));
 }

@@ -1,7 +1,7 @@
 //! The errors say in words what is wrong and where.
 mod books;
 
-use books::{PAIRS, T};
+use books::{PAIRS, T, YEAR};
 use filbozseg::*;
 use std::error::Error as _;
 
@@ -31,7 +31,7 @@ fn each_refusal_has_a_sentence_of_its_own() {
 #[test]
 fn one_error_holds_both() {
     fn listed(book: &[u8], input: &[u8]) -> Result<usize, Error> {
-        load(book)?.readings(input).map(|reading| Ok(reading.map(|_| 1)?)).sum()
+        load(book)?.readings(input, YEAR).map(|reading| Ok(reading.map(|_| 1)?)).sum()
     }
     fn boxed(book: &[u8]) -> Result<Grammar, Box<dyn std::error::Error + Send + Sync>> {
         Ok(load(book)?)

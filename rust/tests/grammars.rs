@@ -1,7 +1,7 @@
 //! The accessors of a grammar agree with its row, whatever the row holds.
 mod books;
 
-use books::{deep, MIXED, RANGES, T};
+use books::{deep, MIXED, RANGES, T, YEAR};
 use filbozseg::*;
 
 #[test]
@@ -32,7 +32,7 @@ fn a_range_says_its_two_ends() {
     assert_eq!(bore.places().collect::<Vec<_>>(), [Symbol::Terminal(b'V'), digit, digit]);
     assert_eq!(bore.to_string(), "1 -> 'V' '0'..'9' '0'..'9'");
     assert_eq!(grammar.rule(4).unwrap().to_string(), r"2 -> '\x00'..'\xff'");
-    assert_eq!(grammar.row()[43..50], [3, 1, 0x56, 2, 0x3930, 2, 0x3930]);
+    assert_eq!(grammar.row()[47..54], [3, 1, 0x56, 2, 0x3930, 2, 0x3930]);
     // a range of one byte is no terminal
     assert_ne!(Symbol::Range(65, 65), Symbol::Terminal(65));
     assert_eq!(
@@ -46,7 +46,7 @@ fn any_row_is_read_as_the_library_reads_it() {
     let rubbish = Grammar::from_row(&[u16::MAX; ROW]);
     assert_eq!((rubbish.start(), rubbish.nullable_depth(), rubbish.rules().len()), (255, 255, 128));
     for rule in rubbish.rules() {
-        assert_eq!((rule.left(), rule.length()), (255, -1));
+        assert_eq!((rule.left(), rule.length(), rule.years()), (255, -1, 65_535..=65_535));
         assert_eq!(rule.places().collect::<Vec<_>>(), [Symbol::Nonterminal(255); 8]);
     }
     let mut row = [0; ROW];
@@ -57,5 +57,5 @@ fn any_row_is_read_as_the_library_reads_it() {
     let none = Symbol::Nonterminal(255);
     assert_eq!(places, [Symbol::Terminal(255), none, none, Symbol::Range(0x39, 0x30)]);
     let empty = Grammar::from_row(&[0; ROW]);
-    assert_eq!((empty.rules().len(), empty.rule(0), empty.readings(b"A").next()), (0, None, None));
+    assert_eq!((empty.rules().len(), empty.rule(0), empty.readings(b"A", YEAR).next()), (0, None, None));
 }

@@ -36,8 +36,8 @@ fn the_refusals_are_those_of_the_crate() {
         let (value, _) = rest.split_once(|c: char| !c.is_ascii_digit()).unwrap();
         assert_eq!((name.to_string(), value), (in_c(&format!("{refusal:?}")), refusal.number().to_string().as_str()));
     }
-    let (last, base) = (Refusal::ALL.len(), Refusal::ALL[0].code() - 1);
-    assert!(HEADER.contains(&format!("{base} + n    refusal n, 1 <= n <= {last}: ")));
+    let (last, base) = (Refusal::ALL.len() - 1, Refusal::ALL[0].code() - 1); // the last but one, before a gap
+    assert!(HEADER.contains(&format!("{base} + n    refusal n, 1 <= n <= {last} or n = 21: ")));
     assert!(HEADER.contains(&format!("return code > {base} ? code - {base} : 0;")));
 }
 

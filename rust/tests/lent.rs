@@ -1,7 +1,7 @@
 //! What is lent to the calls: empty slices, the same row twice, and the stacks of several threads.
 mod books;
 
-use books::{deep, wide, MIXED, PAIRS, T};
+use books::{deep, wide, MIXED, PAIRS, T, YEAR};
 use filbozseg::*;
 
 #[test]
@@ -9,29 +9,29 @@ fn slices_of_no_length_are_judged_as_any() {
     let (t, mut chart, mut output) = (load(T).unwrap(), vec![7; CELLS], vec![9; OUTPUT]);
     let (none, good) = (&[][..], &[1, 0, 0, 1, 1, 2][..]);
     assert_eq!(load(b"").map_err(|fault| (fault.refusal.number(), fault.offset)), Err((1, 0)));
-    assert_eq!(open(&t, &mut []).1, Err(Refusal::ChartTooShort));
-    assert_eq!(open(&t, &mut chart).0.take(&t, b'A', &mut []), Err(Refusal::ChartTooShort));
+    assert_eq!(open(&t, YEAR, &mut []).1, Err(Refusal::ChartTooShort));
+    assert_eq!(open(&t, YEAR, &mut chart).0.take(&t, b'A', &mut []), Err(Refusal::ChartTooShort));
     chart.fill(7);
     for input in [&b""[..], b"A"] {
         let refusal = Refusal::ChartTooShort;
         for offered in [none, good] {
-            assert_eq!(check(&t, input, offered, &mut []), Err(refusal));
-            assert_eq!(length(&t, input, offered, &mut []), Err(refusal));
-            assert_eq!(same_build(&t, input, offered, none, &mut []), Err(refusal));
-            assert_eq!(next(&t, input, offered, &mut [], &mut []), Err(refusal));
+            assert_eq!(check(&t, input, YEAR, offered, &mut []), Err(refusal));
+            assert_eq!(length(&t, input, YEAR, offered, &mut []), Err(refusal));
+            assert_eq!(same_build(&t, input, YEAR, offered, none, &mut []), Err(refusal));
+            assert_eq!(next(&t, input, YEAR, offered, &mut [], &mut []), Err(refusal));
         }
-        assert_eq!(first(&t, input, &mut [], &mut []), Err(refusal));
-        assert_eq!(count(&t, input, &mut []), Err(refusal));
-        assert_eq!(first(&t, input, &mut chart, &mut []), Err(Refusal::OutputTooShort));
-        assert_eq!(next(&t, input, none, &mut chart, &mut []), Err(Refusal::OutputTooShort));
+        assert_eq!(first(&t, input, YEAR, &mut [], &mut []), Err(refusal));
+        assert_eq!(count(&t, input, YEAR, &mut []), Err(refusal));
+        assert_eq!(first(&t, input, YEAR, &mut chart, &mut []), Err(Refusal::OutputTooShort));
+        assert_eq!(next(&t, input, YEAR, none, &mut chart, &mut []), Err(Refusal::OutputTooShort));
     }
     assert!(chart.iter().all(|&cell| cell == 7));
     for input in [&b""[..], b"A"] {
-        assert_eq!(check(&t, input, none, &mut chart), Ok(false));
-        assert_eq!(length(&t, input, none, &mut chart), Err(Refusal::NotADerivation));
-        assert_eq!(same_build(&t, input, none, none, &mut chart), Err(Refusal::NotADerivation));
-        assert_eq!(same_build(&t, input, good, none, &mut chart), Err(Refusal::NotADerivation));
-        assert_eq!(next(&t, input, none, &mut chart, &mut output), Err(Refusal::NotADerivation));
+        assert_eq!(check(&t, input, YEAR, none, &mut chart), Ok(false));
+        assert_eq!(length(&t, input, YEAR, none, &mut chart), Err(Refusal::NotADerivation));
+        assert_eq!(same_build(&t, input, YEAR, none, none, &mut chart), Err(Refusal::NotADerivation));
+        assert_eq!(same_build(&t, input, YEAR, good, none, &mut chart), Err(Refusal::NotADerivation));
+        assert_eq!(next(&t, input, YEAR, none, &mut chart, &mut output), Err(Refusal::NotADerivation));
     }
     assert!(output.iter().all(|&number| number == 9));
 }
@@ -39,36 +39,39 @@ fn slices_of_no_length_are_judged_as_any() {
 #[test]
 fn one_row_may_be_both_readings_of_same_build() {
     let (mixed, mut chart) = (load(MIXED).unwrap(), vec![0; CELLS]);
-    for reading in mixed.readings(b"ACB").map(Result::unwrap) {
+    for reading in mixed.readings(b"ACB", YEAR).map(Result::unwrap) {
         let row = reading.numbers();
-        assert_eq!(same_build(&mixed, b"ACB", row, row, &mut chart), Ok(true));
-        assert_eq!(same_build(&mixed, b"ACB", row, &row[..row.len() - 2], &mut chart), Err(Refusal::NotADerivation));
-        assert_eq!(same_build(&mixed, b"ACB", &row[1..], row, &mut chart), Err(Refusal::NotADerivation));
+        assert_eq!(same_build(&mixed, b"ACB", YEAR, row, row, &mut chart), Ok(true));
+        assert_eq!(
+            same_build(&mixed, b"ACB", YEAR, row, &row[..row.len() - 2], &mut chart),
+            Err(Refusal::NotADerivation)
+        );
+        assert_eq!(same_build(&mixed, b"ACB", YEAR, &row[1..], row, &mut chart), Err(Refusal::NotADerivation));
     }
     let mut row = vec![64, 0];
-    assert_eq!(same_build(&mixed, b"ACB", &row, &row, &mut chart), Err(Refusal::NotADerivation));
+    assert_eq!(same_build(&mixed, b"ACB", YEAR, &row, &row, &mut chart), Err(Refusal::NotADerivation));
     row.clear();
-    assert_eq!(same_build(&mixed, b"ACB", &row, &row, &mut chart), Err(Refusal::NotADerivation));
+    assert_eq!(same_build(&mixed, b"ACB", YEAR, &row, &row, &mut chart), Err(Refusal::NotADerivation));
 }
 
 /// Everything that the library answers for an input, with at most 200 readings.
 fn said(grammar: &Grammar, input: &[u8]) -> String {
     let (mut chart, mut text) = (vec![0; CELLS], String::new());
-    let (mut recognizer, complete) = open(grammar, &mut chart);
+    let (mut recognizer, complete) = open(grammar, YEAR, &mut chart);
     text += &format!("{complete:?}");
     for &byte in input {
         text += &format!(" {:?}", recognizer.take(grammar, byte, &mut chart));
     }
     let mut last = Vec::new();
-    for item in grammar.readings(input).take(200) {
+    for item in grammar.readings(input, YEAR).take(200) {
         let row = item.as_ref().map_or(vec![], |reading| reading.numbers().to_vec());
-        let checked = check(grammar, input, &row, &mut chart);
-        let tenths = length(grammar, input, &row, &mut chart);
-        let same = same_build(grammar, input, &row, &last, &mut chart);
+        let checked = check(grammar, input, YEAR, &row, &mut chart);
+        let tenths = length(grammar, input, YEAR, &row, &mut chart);
+        let same = same_build(grammar, input, YEAR, &row, &last, &mut chart);
         text += &format!("\n{item:?} {checked:?} {tenths:?} {same:?}");
         last = row;
     }
-    text += &format!("\n{:?}", count(grammar, input, &mut chart));
+    text += &format!("\n{:?}", count(grammar, input, YEAR, &mut chart));
     text + &format!(" {chart:?}")
 }
 
@@ -112,7 +115,7 @@ const OVERFLOW: &str = "FILBOZSEG_TEST_OVERFLOW";
 #[test]
 fn too_small_a_stack_ends_the_process() {
     if std::env::var_os(OVERFLOW).is_some() {
-        let look = || deep().readings(&[b'A'; 64]).next().unwrap().unwrap();
+        let look = || deep().readings(&[b'A'; 64], YEAR).next().unwrap().unwrap();
         std::thread::Builder::new().stack_size(256 * 1024).spawn(look).unwrap().join().unwrap();
         return;
     }

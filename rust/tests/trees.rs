@@ -3,7 +3,7 @@ mod books;
 #[path = "../examples/tree.rs"]
 mod tree;
 
-use books::{deep, wide, MIXED, PAIRS, RANGES, T};
+use books::{deep, wide, MIXED, PAIRS, RANGES, T, YEAR};
 use filbozseg::*;
 
 /// The rule and the marks of a node.
@@ -14,12 +14,13 @@ fn rule_and_marks(node: Node<'_>) -> (usize, std::ops::Range<usize>) {
 #[test]
 fn a_node_has_its_rule_its_marks_and_its_children() {
     let t = load(T).unwrap();
-    let [one, other] = <[Reading; 2]>::try_from(t.readings(b"A").map(Result::unwrap).collect::<Vec<_>>()).unwrap();
+    let [one, other] =
+        <[Reading; 2]>::try_from(t.readings(b"A", YEAR).map(Result::unwrap).collect::<Vec<_>>()).unwrap();
     assert_eq!(one.root().children().map(rule_and_marks).collect::<Vec<_>>(), [(1, 0..0), (2, 0..1)]);
     assert_eq!(other.root().children().map(rule_and_marks).collect::<Vec<_>>(), [(2, 0..1), (1, 1..1)]);
     assert_eq!(one.parts().collect::<Vec<_>>(), [(1, 0), (0, 1), (1, 2)]);
     let pairs = load(PAIRS).unwrap();
-    let reading = pairs.reading(b"AAAA", &[4, 0, 2, 0, 1, 1, 1, 1, 2, 0, 1, 1, 1, 1]).unwrap();
+    let reading = pairs.reading(b"AAAA", YEAR, &[4, 0, 2, 0, 1, 1, 1, 1, 2, 0, 1, 1, 1, 1]).unwrap();
     let children: Vec<_> = reading.root().children().collect();
     assert_eq!(children.iter().map(|child| child.number()).collect::<Vec<_>>(), [1, 4]);
     assert_eq!(children[0].nodes().map(Node::number).collect::<Vec<_>>(), [1, 2, 3]);
@@ -70,7 +71,7 @@ fn the_children_and_bytes_of_a_node_are_the_places_of_its_rule() {
         (deep(), &[b'A'; 64], 1),
     ];
     for (grammar, input, at_most) in cases {
-        let readings: Vec<_> = grammar.readings(input).take(at_most).map(Result::unwrap).collect();
+        let readings: Vec<_> = grammar.readings(input, YEAR).take(at_most).map(Result::unwrap).collect();
         assert!(!readings.is_empty());
         readings.iter().for_each(|reading| read_through(&grammar, input, reading));
     }
@@ -82,7 +83,7 @@ const SMALL: usize = 64 * 1024;
 #[test]
 fn the_deepest_reading_needs_no_deep_stack() {
     let grammar = deep();
-    let reading = grammar.readings(&[b'A'; 64]).next().unwrap().unwrap();
+    let reading = grammar.readings(&[b'A'; 64], YEAR).next().unwrap().unwrap();
     let look = move || {
         assert_eq!(reading.nodes().map(Node::depth).max(), Some(511));
         let (mut node, mut steps) = (reading.root(), 0);

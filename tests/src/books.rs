@@ -1,6 +1,12 @@
 //! Random books (grammars as bytes) with inputs (plates), each made from a fixed seed, in styles that wrong programs
 //! fail on.
 
+mod dated;
+
+use crate::reader::RULES;
+use dated::{date, dated_rule, exchange_years, ALL_YEARS};
+use std::collections::BTreeMap;
+
 /// A plain xorshift generator; the seed is mixed first.
 pub struct Rng(u64);
 
@@ -55,16 +61,18 @@ pub enum Sym {
 }
 use Sym::{N, R, T};
 
-/// A grammar being drafted: its start, and rules with left side, length and places.
+/// A grammar being drafted: its start, and rules with left side, length and places. A rule whose number has a first and a
+/// last year is opened by 21, any other by 20.
 #[derive(Clone, Default)]
 pub struct Draft {
     pub start: u8,
     pub rules: Vec<(u8, i16, Vec<Sym>)>,
+    pub years: BTreeMap<usize, (u16, u16)>,
 }
 
 impl Draft {
     pub fn new(start: u8) -> Draft {
-        Draft { start, rules: Vec::new() }
+        Draft { start, ..Draft::default() }
     }
 
     /// Adds a rule of length 0.
@@ -72,12 +80,16 @@ impl Draft {
         self.rules.push((left, 0, places.to_vec()));
     }
 
-    /// The book, in the commands of document 01.
+    /// The book, in the commands of documents 01 and 02.
     pub fn bytes(&self) -> Vec<u8> {
         let mut book = vec![0x10, self.start];
-        for (left, length, places) in &self.rules {
-            book.extend([0x20, *left]);
+        for (number, (left, length, places)) in self.rules.iter().enumerate() {
+            let years = self.years.get(&number);
+            book.extend([if years.is_some() { 0x21 } else { 0x20 }, *left]);
             book.extend(length.to_le_bytes());
+            if let Some((first, last)) = years {
+                book.extend([first.to_le_bytes(), last.to_le_bytes()].concat());
+            }
             for place in places {
                 match *place {
                     N(k) => book.extend([0x30, k]),
@@ -152,11 +164,12 @@ impl Draft {
     }
 }
 
-/// A random book with inputs to try it on.
+/// A random book with inputs to try it on, and years to read them in.
 pub struct Book {
     pub style: &'static str,
     pub bytes: Vec<u8>,
     pub inputs: Vec<Vec<u8>>,
+    pub years: Vec<u16>,
 }
 
 const A: u8 = b'A';
@@ -479,18 +492,20 @@ fn dress(rng: &mut Rng, draft: &mut Draft) -> [u8; 2] {
 pub fn damage(rng: &mut Rng, book: &mut Vec<u8>) {
     for _ in 0..rng.within(1, 2) {
         let byte = match rng.below(3) {
-            0 => rng.pick(&[0x10, 0x20, 0x30, 0x40, 0x41, 0x50]),
+            0 => rng.pick(&[0x10, 0x20, 0x21, 0x30, 0x40, 0x41, 0x50]),
             1 => rng.pick(&[0, 31, 32, 33, 255]),
             _ => rng.draw() as u8,
         };
         let at = rng.below(book.len() + 1);
-        match rng.below(9) {
+        match rng.below(11) {
             0 => book.truncate(at),
             1 | 2 if at < book.len() => book[at] = byte,
             3 => book.insert(at, byte),
             4 if at < book.len() => drop(book.remove(at)),
             5 => drop(book.splice(at..at, range(rng))),
             6 => exchange(rng, book),
+            7 => drop(book.splice(at..at, dated_rule(rng))),
+            8 => exchange_years(rng, book),
             _ => book.push(byte),
         }
     }
@@ -520,7 +535,7 @@ fn range(rng: &mut Rng) -> [u8; 3] {
 pub fn soup(rng: &mut Rng) -> Vec<u8> {
     let mut book = if rng.one_in(6) { Vec::new() } else { vec![0x10, rng.below(33) as u8] };
     for _ in 0..rng.below(9) {
-        match rng.below(16) {
+        match rng.below(18) {
             0 => book.push(rng.draw() as u8),
             1 => book.extend([0x10, 0]),
             2..=4 => book.extend([0x20, rng.below(33) as u8, 0, 0xFF]),
@@ -528,6 +543,7 @@ pub fn soup(rng: &mut Rng) -> Vec<u8> {
             7 | 8 => book.extend([0x40, A]),
             9 => book.push(0x50),
             10..=12 => book.extend(range(rng)),
+            14 | 15 => book.extend(dated_rule(rng)),
             13 => book.extend([&[0x20, 0, 1, 0][..], &[0x40, A].repeat(8)].concat()),
             _ => book.extend([0x20, 0, 1, 0, 0x40, A]),
         }
@@ -535,6 +551,18 @@ pub fn soup(rng: &mut Rng) -> Vec<u8> {
     if !rng.one_in(3) {
         book.push(0x50);
     }
+    book
+}
+
+/// A book of as many rules as there may be; three in four have one more, opened by 20 or by 21.
+pub fn full_and_more(rng: &mut Rng) -> Vec<u8> {
+    let mut book = [&[0x10, 0][..], &[0x20, 0, 1, 0].repeat(RULES)].concat();
+    match rng.below(4) {
+        0 => (),
+        1 => book.extend([0x20, 0, 1, 0]),
+        _ => book.extend(dated_rule(rng)),
+    }
+    book.push(0x50);
     book
 }
 
@@ -577,18 +605,20 @@ fn inputs(rng: &mut Rng, draft: &Draft, style: &str, [a, b]: [u8; 2]) -> Vec<Vec
 pub fn book(seed: u64) -> Book {
     let rng = &mut Rng::new(seed);
     if seed % 28 == 5 {
-        return Book { style: "soup", bytes: soup(rng), inputs: vec![vec![A], vec![A, A], vec![]] };
+        let inputs = vec![vec![A], vec![A, A], vec![]];
+        return Book { style: "soup", bytes: soup(rng), inputs, years: ALL_YEARS.to_vec() };
     }
     let (mut style, mut rules) = draft(rng, if seed % 14 == 12 { 13 } else { seed as usize % 13 });
     rules.ranges(rng);
     let marks = dress(rng, &mut rules);
     let inputs = inputs(rng, &rules, style, marks);
+    let years = date(&mut Rng::new(seed ^ 0x21), &mut rules);
     let mut bytes = rules.bytes();
     if rng.one_in(7) {
         damage(rng, &mut bytes);
         style = "damaged";
     }
-    Book { style, bytes, inputs }
+    Book { style, bytes, inputs, years }
 }
 
 /// The rules of a seed with small ranges, and inputs. Half of the terminals are ranges of one to four bytes.
@@ -618,7 +648,7 @@ pub fn boundary(more: bool) -> Book {
         draft.rule(0, &[N(3), N(3)]);
         draft.rule(3, &[T(A); 6]);
     }
-    Book { style: "boundary", bytes: draft.bytes(), inputs: vec![vec![A; 12]] }
+    Book { style: "boundary", bytes: draft.bytes(), inputs: vec![vec![A; 12]], years: ALL_YEARS.to_vec() }
 }
 
 /// A full book of a seed, with an input of 64 marks: 32 kinds, each with a rule, and 128 rules of 8 places, except
@@ -651,5 +681,5 @@ pub fn full_book(seed: u64) -> Book {
         draft.rules.swap(i, rng.below(i + 1));
     }
     let input = (0..64).map(|_| rng.pick(marks)).collect();
-    Book { style: "full", bytes: draft.bytes(), inputs: vec![input] }
+    Book { style: "full", bytes: draft.bytes(), inputs: vec![input], years: ALL_YEARS.to_vec() }
 }

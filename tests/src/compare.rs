@@ -14,15 +14,18 @@ mod searches;
 mod strangers;
 mod takes;
 mod walks;
+mod years;
 
 pub use copies::compare_copies;
 pub use lent::{rubbish, Counts, Lent};
 pub use nexts::compare_boundary;
 pub use searches::compare_searches;
 pub use walks::play_book;
+pub use years::{compare_year_files, YEAR_FILES};
 
 use crate::books::{Book, Rng};
-use crate::lister::{grammar, Lister};
+use crate::lister::grammar::{self, Grammar};
+use crate::lister::Lister;
 use crate::reader::{FlatGrammar, Reader, CELLS};
 use lent::same;
 use std::fmt::Debug;
@@ -35,6 +38,19 @@ pub fn compare_book(reader: &dyn Reader, book: &Book, seed: u64, counts: &mut Co
     let rng = Rng::new(seed ^ 0xC0FFEE);
     let mut comparison = Comparison { reader, rng, counts };
     comparison.book(book).map_err(|what| format!("seed {seed} ({}), book {:02X?}: {what}", book.style, book.bytes))
+}
+
+/// An input with its year, and the chart that is filled for both.
+#[derive(Clone, Copy)]
+pub struct Plate<'a> {
+    pub input: &'a [u8],
+    pub year: u16,
+    pub filled: &'a [u32],
+}
+
+/// The grammar of a row in a year.
+fn in_year(flat: &FlatGrammar, year: u16) -> Grammar {
+    grammar::from_flat(flat).expect("a loaded grammar passes check 8").in_year(year)
 }
 
 /// A comparison in progress.
@@ -50,9 +66,12 @@ impl Comparison<'_> {
         self.counts.add(&format!("style: {}", book.style));
         self.other_loads(&book.bytes)?;
         let Some(flat) = self.load(&book.bytes, "load")? else { return Ok(()) };
-        self.refusals(&flat, &book.inputs)?;
-        for input in &book.inputs {
-            self.input(&flat, input).map_err(|what| format!("input {input:?}: {what}"))?;
+        self.refusals(&flat, &book.inputs, &book.years)?;
+        for (number, input) in book.inputs.iter().enumerate() {
+            let year = self.year_of(&flat, &book.years, number);
+            let said = |what: String| format!("input {input:?}, year {year}: {what}");
+            self.input(&flat, input, year).map_err(said)?;
+            self.other_years(&flat, input, year, &book.years)?;
         }
         self.searches(&flat)
     }
@@ -94,17 +113,17 @@ impl Comparison<'_> {
         Ok((due_answer, due))
     }
 
-    /// Compares everything about one input.
-    pub fn input(&mut self, flat: &FlatGrammar, input: &[u8]) -> Result<(), String> {
-        let grammar = grammar::from_flat(flat).expect("a loaded grammar passes check 8");
+    /// Compares everything about one input in a year.
+    pub fn input(&mut self, flat: &FlatGrammar, input: &[u8], year: u16) -> Result<(), String> {
+        let grammar = in_year(flat, year);
         self.counts.add(match input.len() {
             0 => "input: empty",
             1..=8 => "input: 1 to 8 terminals",
             9..=63 => "input: 9 to 63 terminals",
             _ => "input: 64 terminals",
         });
-        let filled = self.takes(flat, &grammar, input)?;
-        self.spoilt_takes(flat, &grammar, input)?;
-        self.rows(flat, &grammar, input, &filled.part()[..CELLS])
+        let filled = self.takes(flat, &grammar, input, year)?;
+        self.spoilt_takes(flat, &grammar, input, year)?;
+        self.rows(flat, &grammar, Plate { input, year, filled: &filled.part()[..CELLS] })
     }
 }

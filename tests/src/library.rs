@@ -113,8 +113,8 @@ impl Reader for Library {
         }))
     }
 
-    fn open(&self, grammar: &FlatGrammar, hand: &mut Hand, chart: &mut [u32]) -> Answer {
-        said(lend(hand, |hand| unsafe { sys::filbozseg_open(grammar, hand, chart.as_mut_ptr(), chart.len()) }))
+    fn open(&self, grammar: &FlatGrammar, year: u16, hand: &mut Hand, chart: &mut [u32]) -> Answer {
+        said(lend(hand, |hand| unsafe { sys::filbozseg_open(grammar, year, hand, chart.as_mut_ptr(), chart.len()) }))
     }
 
     fn take(&self, grammar: &FlatGrammar, hand: &mut Hand, terminal: u8, chart: &mut [u32]) -> Answer {
@@ -123,39 +123,49 @@ impl Reader for Library {
         }))
     }
 
-    fn check(&self, grammar: &FlatGrammar, input: &[u8], offered: &[u16], chart: &mut [u32]) -> Answer {
-        wrapped(filbozseg::check(&Grammar::from_row(grammar), input, offered, chart))
+    fn check(&self, grammar: &FlatGrammar, input: &[u8], year: u16, offered: &[u16], chart: &mut [u32]) -> Answer {
+        wrapped(filbozseg::check(&Grammar::from_row(grammar), input, year, offered, chart))
     }
 
     fn length(
         &self,
         grammar: &FlatGrammar,
         input: &[u8],
+        year: u16,
         offered: &[u16],
         chart: &mut [u32],
         tenths: &mut i32,
     ) -> Answer {
         let ((w, n), (e, m)) = ((input.as_ptr(), input.len()), (offered.as_ptr(), offered.len()));
         said(lend(tenths, |tenths| unsafe {
-            sys::filbozseg_length(grammar, w, n, e, m, chart.as_mut_ptr(), chart.len(), tenths)
+            sys::filbozseg_length(grammar, w, n, year, e, m, chart.as_mut_ptr(), chart.len(), tenths)
         }))
     }
 
-    fn same_build(&self, grammar: &FlatGrammar, input: &[u8], one: &[u16], other: &[u16], chart: &mut [u32]) -> Answer {
-        wrapped(filbozseg::same_build(&Grammar::from_row(grammar), input, one, other, chart))
+    fn same_build(
+        &self,
+        grammar: &FlatGrammar,
+        input: &[u8],
+        year: u16,
+        one: &[u16],
+        other: &[u16],
+        chart: &mut [u32],
+    ) -> Answer {
+        wrapped(filbozseg::same_build(&Grammar::from_row(grammar), input, year, one, other, chart))
     }
 
     fn first(
         &self,
         grammar: &FlatGrammar,
         input: &[u8],
+        year: u16,
         chart: &mut [u32],
         out: &mut [u16],
         nodes: &mut usize,
     ) -> Answer {
         let ((w, n), (c, m), (o, l)) =
             ((input.as_ptr(), input.len()), (chart.as_mut_ptr(), chart.len()), (out.as_mut_ptr(), out.len()));
-        let call = |nodes| unsafe { sys::filbozseg_first(grammar, w, n, c, m, o, l, nodes) };
+        let call = |nodes| unsafe { sys::filbozseg_first(grammar, w, n, year, c, m, o, l, nodes) };
         match said(capped(|| lend(nodes, call))) {
             Answer::Yes => Answer::Nodes(*nodes),
             Answer::No => Answer::NoDerivation,
@@ -167,6 +177,7 @@ impl Reader for Library {
         &self,
         grammar: &FlatGrammar,
         input: &[u8],
+        year: u16,
         offered: &[u16],
         chart: &mut [u32],
         out: &mut [u16],
@@ -174,7 +185,7 @@ impl Reader for Library {
     ) -> Answer {
         let ((w, n), (e, k)) = ((input.as_ptr(), input.len()), (offered.as_ptr(), offered.len()));
         let ((c, m), (o, l)) = ((chart.as_mut_ptr(), chart.len()), (out.as_mut_ptr(), out.len()));
-        let call = |nodes| unsafe { sys::filbozseg_next(grammar, w, n, e, k, c, m, o, l, nodes) };
+        let call = |nodes| unsafe { sys::filbozseg_next(grammar, w, n, year, e, k, c, m, o, l, nodes) };
         match said(capped(|| lend(nodes, call))) {
             Answer::Yes => Answer::Nodes(*nodes),
             Answer::No => Answer::NoneLeft,
@@ -182,9 +193,9 @@ impl Reader for Library {
         }
     }
 
-    fn count(&self, grammar: &FlatGrammar, input: &[u8], chart: &mut [u32], count: &mut usize) -> Answer {
+    fn count(&self, grammar: &FlatGrammar, input: &[u8], year: u16, chart: &mut [u32], count: &mut usize) -> Answer {
         let ((w, n), (c, m)) = ((input.as_ptr(), input.len()), (chart.as_mut_ptr(), chart.len()));
-        let call = |count| unsafe { sys::filbozseg_count(grammar, w, n, c, m, count) };
+        let call = |count| unsafe { sys::filbozseg_count(grammar, w, n, year, c, m, count) };
         match capped(|| lend(count, call)) {
             1 => Answer::Count(*count),
             2 => Answer::More,

@@ -1,5 +1,5 @@
-//! The simple reference, written from document 01 and requests U1 to U3, U5 and U13 of document 02 alone: explicit trees,
-//! the definitions word by word, no cleverness.
+//! The simple reference, written from document 01 and requests U1 to U3, U5, U9 and U13 of document 02 alone: explicit
+//! trees, the definitions word by word, no cleverness.
 //! As a `Reader` it can be the code under test. Read each `fault(..)` as "no": only tests/faults.rs compiles these
 //! files with faults that can be switched on.
 
@@ -11,8 +11,9 @@ pub mod listing;
 pub mod search;
 pub mod trees;
 pub mod walk;
+pub mod year;
 
-use crate::reader::{Answer, FlatGrammar, Hand, Reader, CELLS, FLAT, INPUT, OUTPUT};
+use crate::reader::{Answer, FlatGrammar, Hand, Reader, CELLS, FLAT, INPUT, OUTPUT, YEAR};
 use crate::switches::{fault, Fault};
 use grammar::Grammar;
 use walk::Given;
@@ -38,9 +39,11 @@ fn complete(grammar: &Grammar, chart: &[u32], n: usize) -> Answer {
     yes_or_no(chart[chart::cell(from, n)] >> grammar.start & 1 == 1)
 }
 
-/// Checks 8, 9 and 10 of a call on an input; then the chart is filled.
-fn filled(flat: &FlatGrammar, input: &[u8], chart: &mut [u32]) -> Result<Grammar, Answer> {
-    judged(flat, input, chart.len(), OUTPUT).inspect(|grammar| chart::fill(grammar, input, chart))
+/// Checks 8, 9 and 10 of a call on an input; then the chart is filled in the year. Returns the grammar of the year.
+fn filled(flat: &FlatGrammar, input: &[u8], year: u16, chart: &mut [u32]) -> Result<Grammar, Answer> {
+    let grammar = judged(flat, input, chart.len(), OUTPUT)?.in_year(year);
+    chart::fill(&grammar, input, chart);
+    Ok(grammar)
 }
 
 /// Checks 8 to 11, in order.
@@ -134,12 +137,14 @@ impl Reader for Lister {
         }
     }
 
-    fn open(&self, flat: &FlatGrammar, hand: &mut Hand, chart: &mut [u32]) -> Answer {
-        *hand = hand::of(&[]);
+    fn open(&self, flat: &FlatGrammar, year: u16, hand: &mut Hand, chart: &mut [u32]) -> Answer {
+        *hand = hand::of(&[], 0);
         let Some(grammar) = grammar::from_flat(flat) else { return Answer::Refused(8) };
         if chart.len() < CELLS {
             return Answer::Refused(10);
         }
+        *hand = hand::of(&[], year);
+        let grammar = grammar.in_year(year);
         chart::open(&grammar, chart);
         complete(&grammar, chart, 0)
     }
@@ -157,20 +162,29 @@ impl Reader for Lister {
             return Answer::Refused(15);
         }
         marks.push(terminal);
-        *hand = hand::of(&marks);
+        let grammar = grammar.in_year(if fault(Fault::TakeByYear0) { 0 } else { hand[YEAR] });
+        *hand = hand::of(&marks, hand[YEAR]);
         chart::fill_column(&grammar, &marks, chart);
         complete(&grammar, chart, marks.len())
     }
 
-    fn check(&self, flat: &FlatGrammar, input: &[u8], offered: &[u16], chart: &mut [u32]) -> Answer {
-        match filled(flat, input, chart) {
+    fn check(&self, flat: &FlatGrammar, input: &[u8], year: u16, offered: &[u16], chart: &mut [u32]) -> Answer {
+        match filled(flat, input, year, chart) {
             Err(refused) => refused,
             Ok(grammar) => yes_or_no(trees::is_derivation(&grammar, input, offered)),
         }
     }
 
-    fn length(&self, flat: &FlatGrammar, input: &[u8], offered: &[u16], chart: &mut [u32], tenths: &mut i32) -> Answer {
-        match filled(flat, input, chart) {
+    fn length(
+        &self,
+        flat: &FlatGrammar,
+        input: &[u8],
+        year: u16,
+        offered: &[u16],
+        chart: &mut [u32],
+        tenths: &mut i32,
+    ) -> Answer {
+        match filled(flat, input, year, chart) {
             Err(refused) => refused,
             Ok(grammar) if !trees::is_derivation(&grammar, input, offered) => Answer::Refused(12),
             Ok(grammar) => {
@@ -180,8 +194,16 @@ impl Reader for Lister {
         }
     }
 
-    fn same_build(&self, flat: &FlatGrammar, input: &[u8], one: &[u16], other: &[u16], chart: &mut [u32]) -> Answer {
-        match filled(flat, input, chart) {
+    fn same_build(
+        &self,
+        flat: &FlatGrammar,
+        input: &[u8],
+        year: u16,
+        one: &[u16],
+        other: &[u16],
+        chart: &mut [u32],
+    ) -> Answer {
+        match filled(flat, input, year, chart) {
             Err(refused) => refused,
             Ok(grammar) => {
                 let judged = if fault(Fault::BuildChecksOneRow) { [one, one] } else { [one, other] };
@@ -194,10 +216,19 @@ impl Reader for Lister {
         }
     }
 
-    fn first(&self, flat: &FlatGrammar, input: &[u8], chart: &mut [u32], out: &mut [u16], nodes: &mut usize) -> Answer {
+    fn first(
+        &self,
+        flat: &FlatGrammar,
+        input: &[u8],
+        year: u16,
+        chart: &mut [u32],
+        out: &mut [u16],
+        nodes: &mut usize,
+    ) -> Answer {
         match judged(flat, input, chart.len(), out.len()) {
             Err(refused) => refused,
             Ok(grammar) => {
+                let grammar = grammar.in_year(year);
                 chart::fill(&grammar, input, chart);
                 let (list, tree) = listed(&grammar, input);
                 answered(walk::first(&list, tree), out, nodes)
@@ -209,6 +240,7 @@ impl Reader for Lister {
         &self,
         flat: &FlatGrammar,
         input: &[u8],
+        year: u16,
         offered: &[u16],
         chart: &mut [u32],
         out: &mut [u16],
@@ -218,6 +250,7 @@ impl Reader for Lister {
         match judged(flat, input, chart.len(), length) {
             Err(refused) => refused,
             Ok(grammar) => {
+                let grammar = grammar.in_year(year);
                 chart::fill(&grammar, input, chart);
                 let (list, tree) = listed(&grammar, input);
                 if fault(Fault::ThirteenFromNext) && tree && list.is_empty() {
@@ -228,8 +261,8 @@ impl Reader for Lister {
         }
     }
 
-    fn count(&self, flat: &FlatGrammar, input: &[u8], chart: &mut [u32], count: &mut usize) -> Answer {
-        match filled(flat, input, chart) {
+    fn count(&self, flat: &FlatGrammar, input: &[u8], year: u16, chart: &mut [u32], count: &mut usize) -> Answer {
+        match filled(flat, input, year, chart) {
             Err(refused) => refused,
             Ok(grammar) => {
                 let (list, tree) = listed(&grammar, input);

@@ -6,22 +6,25 @@ pub const FLAT: usize = 3 + RULES * RULE_WIDTH;
 pub const RULES: usize = 128;
 /// Places of a rule record.
 pub const PLACES: usize = 8;
-/// Numbers of one rule record: left side, length, places used, 8 x (tag, value).
-pub const RULE_WIDTH: usize = 3 + 2 * PLACES;
+/// Numbers of one rule record: left side, length, places used, 8 x (tag, value), first year, last year.
+pub const RULE_WIDTH: usize = 3 + 2 * PLACES + 2;
+/// Where the first year is in a rule record; the last year follows it.
+pub const YEARS: usize = 3 + 2 * PLACES;
 /// Cells of a chart (document 01: words of a sheet).
 pub const CELLS: usize = 65 * 65;
 /// Numbers of an output that is long enough.
 pub const OUTPUT: usize = 1024;
 /// The most terminals an input may have (document 01: marks of a plate).
 pub const INPUT: usize = 64;
-/// Numbers of a hand's row.
-pub const HAND: usize = INPUT + 1;
+/// Numbers of a hand's row, and where the year is in it.
+pub const HAND: usize = INPUT + 2;
+pub const YEAR: usize = INPUT + 1;
 
 /// A grammar (loaded book) as a flat row that can hold every value: start, rules
 /// used, nullable depth (blank depth), then for each of 128 rule records: left
 /// side, length (two's complement), places used, then 8 times tag (0 nonterminal,
-/// 1 terminal, 2 range) and value (of a range low + 256 * high). All 16 bits of each
-/// number are checked.
+/// 1 terminal, 2 range) and value (of a range low + 256 * high), then first year and
+/// last year. All 16 bits of each number are checked.
 pub type FlatGrammar = [u16; FLAT];
 
 /// Where the record of a rule begins in a flat grammar.
@@ -30,7 +33,7 @@ pub fn record(rule: usize) -> usize {
 }
 
 /// A recognizer's state (document 01: plate in hand) as a row that can hold
-/// every value: 64 marks, then how many of them are used.
+/// every value: 64 marks, then how many of them are used, then the year.
 pub type Hand = [u16; HAND];
 
 /// What a call answers.
@@ -53,8 +56,8 @@ pub enum Answer {
     More,
 }
 
-/// The code under test. What is lent for writing may hold anything before a call. What it holds afterwards is a result
-/// too, like the answer.
+/// The code under test. Each call on an input is given the year in which it is read; take goes by the year of the hand.
+/// What is lent for writing may hold anything before a call. What it holds afterwards is a result too, like the answer.
 ///
 /// A reader over another one, its `inner`, has only the calls in which the two differ. All other calls go to the inner
 /// reader.
@@ -74,9 +77,9 @@ pub trait Reader {
         self.inner().load(book, grammar, offset)
     }
 
-    /// Always writes the hand.
-    fn open(&self, grammar: &FlatGrammar, hand: &mut Hand, chart: &mut [u32]) -> Answer {
-        self.inner().open(grammar, hand, chart)
+    /// Always writes the hand, which keeps the year.
+    fn open(&self, grammar: &FlatGrammar, year: u16, hand: &mut Hand, chart: &mut [u32]) -> Answer {
+        self.inner().open(grammar, year, hand, chart)
     }
 
     /// Leaves the hand as found with a refusal.
@@ -84,8 +87,8 @@ pub trait Reader {
         self.inner().take(grammar, hand, terminal, chart)
     }
 
-    fn check(&self, grammar: &FlatGrammar, input: &[u8], offered: &[u16], chart: &mut [u32]) -> Answer {
-        self.inner().check(grammar, input, offered, chart)
+    fn check(&self, grammar: &FlatGrammar, input: &[u8], year: u16, offered: &[u16], chart: &mut [u32]) -> Answer {
+        self.inner().check(grammar, input, year, offered, chart)
     }
 
     /// Writes the stack length, in tenths of a millimetre, with `Yes` only.
@@ -93,15 +96,24 @@ pub trait Reader {
         &self,
         grammar: &FlatGrammar,
         input: &[u8],
+        year: u16,
         offered: &[u16],
         chart: &mut [u32],
         tenths: &mut i32,
     ) -> Answer {
-        self.inner().length(grammar, input, offered, chart, tenths)
+        self.inner().length(grammar, input, year, offered, chart, tenths)
     }
 
-    fn same_build(&self, grammar: &FlatGrammar, input: &[u8], one: &[u16], other: &[u16], chart: &mut [u32]) -> Answer {
-        self.inner().same_build(grammar, input, one, other, chart)
+    fn same_build(
+        &self,
+        grammar: &FlatGrammar,
+        input: &[u8],
+        year: u16,
+        one: &[u16],
+        other: &[u16],
+        chart: &mut [u32],
+    ) -> Answer {
+        self.inner().same_build(grammar, input, year, one, other, chart)
     }
 
     /// Writes the front of the output and the number of nodes, with `Nodes` only.
@@ -109,28 +121,31 @@ pub trait Reader {
         &self,
         grammar: &FlatGrammar,
         input: &[u8],
+        year: u16,
         chart: &mut [u32],
         out: &mut [u16],
         nodes: &mut usize,
     ) -> Answer {
-        self.inner().first(grammar, input, chart, out, nodes)
+        self.inner().first(grammar, input, year, chart, out, nodes)
     }
 
     /// Writes as `first` does. The offered row does not overlap the output.
+    #[allow(clippy::too_many_arguments)] // as many as the call has
     fn next(
         &self,
         grammar: &FlatGrammar,
         input: &[u8],
+        year: u16,
         offered: &[u16],
         chart: &mut [u32],
         out: &mut [u16],
         nodes: &mut usize,
     ) -> Answer {
-        self.inner().next(grammar, input, offered, chart, out, nodes)
+        self.inner().next(grammar, input, year, offered, chart, out, nodes)
     }
 
     /// Writes the count with `Count` only.
-    fn count(&self, grammar: &FlatGrammar, input: &[u8], chart: &mut [u32], count: &mut usize) -> Answer {
-        self.inner().count(grammar, input, chart, count)
+    fn count(&self, grammar: &FlatGrammar, input: &[u8], year: u16, chart: &mut [u32], count: &mut usize) -> Answer {
+        self.inner().count(grammar, input, year, chart, count)
     }
 }

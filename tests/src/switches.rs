@@ -24,6 +24,13 @@ macro_rules! faults {
             FindsCountInTheNextPass,
             LastPassUncounted,
             SearchEndsWithAllFound,
+            SearchByTheYear,
+            // of the program's file for the year
+            YearFileHighByteFirst,
+            YearFileOfOneByteRead,
+            YearFileOfThreeBytesRead,
+            LongYearFileRead,
+            MissingYearFileIsTheLastYear,
         }
 
         impl Fault {
@@ -38,6 +45,16 @@ macro_rules! faults {
                 Fault::FindsCountInTheNextPass,
                 Fault::LastPassUncounted,
                 Fault::SearchEndsWithAllFound,
+                Fault::SearchByTheYear,
+            ];
+
+            /// The faults of the program's file for the year, which its table must catch.
+            pub const OF_THE_YEAR_FILE: &'static [Fault] = &[
+                Fault::YearFileHighByteFirst,
+                Fault::YearFileOfOneByteRead,
+                Fault::YearFileOfThreeBytesRead,
+                Fault::LongYearFileRead,
+                Fault::MissingYearFileIsTheLastYear,
             ];
         }
     };
@@ -235,4 +252,35 @@ faults! {
     DepthCountsOneRoundMore,
     DepthInPlace,
     DepthOfWhatTheStartReaches,
+    // years
+    FirstYearExcluded,
+    LastYearExcluded,
+    NumbersShift,
+    DepthByTheYear,
+    YearsAcceptedFirst,
+    OnlyTwentyOpensARule,
+    TwentyOneBeforeFour,
+    FiveBeforeTwentyOne,
+    ReversedYearsLoaded,
+    EqualYearsRefused,
+    LoadedYearsByTheirLowByte,
+    YearsSwapped,
+    RuleOf20EndsAt65534,
+    UnusedRulesHoldInAllYears,
+    ReversedYearsPassCheck8,
+    EqualYearsFailCheck8,
+    UnusedYearsJudged,
+    YearOfAHandJudged,
+    OpenByYear0,
+    OpenKeepsYear0,
+    RefusedOpeningKeepsTheYear,
+    TakeByYear0,
+    TakenHandForgetsItsYear,
+    CheckByYear0,
+    LengthByYear0,
+    BuildByYear0,
+    FirstByYear0,
+    NextByYear0,
+    CountByYear0,
+    YearOfACallByItsLowByte,
 }

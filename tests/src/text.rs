@@ -1,4 +1,4 @@
-//! What the listing program must print for the bytes of a book and of a plate, from documents 01 and 02 alone.
+//! What the listing program must print for the bytes of a book and of a plate, in a year, from documents 01 and 02 alone.
 
 mod in_order;
 
@@ -15,10 +15,10 @@ pub const MOST: usize = 4096;
 /// Steps of the search in order, after which a list is called too large.
 const SEARCH_STEPS: u64 = 1_000_000;
 
-/// What is printed: "the book is judged first", then the plate (check 9), then its trees. If the list is too large,
-/// only the part that is printed is searched for.
-pub fn text(book: &[u8], plate: &[u8]) -> Result<Vec<u8>, TooLarge> {
-    let grammar = match judged(book, plate) {
+/// What is printed: "the book is judged first", then the plate (check 9), then its trees in its year. If the list is too
+/// large, only the part that is printed is searched for.
+pub fn text(book: &[u8], plate: &[u8], year: u16) -> Result<Vec<u8>, TooLarge> {
+    let grammar = match judged(book, plate, year) {
         Ok(grammar) => grammar,
         Err(number) => return Ok(refused(number)),
     };
@@ -27,11 +27,11 @@ pub fn text(book: &[u8], plate: &[u8]) -> Result<Vec<u8>, TooLarge> {
     Ok(list_text(&grammar, &list, has_tree(&grammar, plate)))
 }
 
-/// The grammar, if the book loads and check 9 accepts the plate; or the refusal's number.
-pub fn judged(book: &[u8], plate: &[u8]) -> Result<Grammar, u8> {
+/// The grammar of the year, if the book loads and check 9 accepts the plate; or the refusal's number.
+pub fn judged(book: &[u8], plate: &[u8], year: u16) -> Result<Grammar, u8> {
     let grammar = grammar::load(book).map_err(|(number, _)| number)?;
     match plate.len() {
-        0..=INPUT => Ok(grammar),
+        0..=INPUT => Ok(grammar.in_year(year)),
         _ => Err(9),
     }
 }

@@ -229,7 +229,7 @@ fn faulty_books() {
 fn the_books_of_the_search() {
     let searched = |book: &[u8]| {
         let (flat, mut chart) = (loaded(book), rubbish(&mut Rng::new(3), CELLS));
-        reader_under_test().open(&flat, &mut [0; HAND], chart.part_mut());
+        reader_under_test().open(&flat, 2000, &mut [0; HAND], chart.part_mut()); // all rules are in force
         let sought = search(&lister::grammar::from_flat(&flat).expect("loaded"));
         assert_eq!(chart.part()[0], sought.set);
         (sought.set, sought.passes)

@@ -7,7 +7,7 @@ mod calls;
 mod plates;
 
 use calls::{
-    blank_bush, blank_bush_row, book, check, complete, count, first, length, loaded, next, row, same_build, T,
+    blank_bush, blank_bush_row, book, check, complete, count, first, length, loaded, next, row, same_build, T, YEAR,
 };
 use outside_tests::books::Rng;
 use outside_tests::compare::{rubbish, Lent};
@@ -116,12 +116,12 @@ type Call<'a> = (&'a str, &'a FlatGrammar, &'a [u8], &'a [u16]);
 fn made((name, flat, input, offered): Call<'_>, chart: &mut [u32], out: &mut [u16]) -> Answer {
     let reader = reader_under_test();
     match name {
-        "check" => reader.check(flat, input, offered, chart),
-        "length" => reader.length(flat, input, offered, chart, &mut 0),
-        "same build" => reader.same_build(flat, input, offered, offered, chart),
-        "first" => reader.first(flat, input, chart, out, &mut 0),
-        "next" => reader.next(flat, input, offered, chart, out, &mut 0),
-        _ => reader.count(flat, input, chart, &mut 0),
+        "check" => reader.check(flat, input, YEAR, offered, chart),
+        "length" => reader.length(flat, input, YEAR, offered, chart, &mut 0),
+        "same build" => reader.same_build(flat, input, YEAR, offered, offered, chart),
+        "first" => reader.first(flat, input, YEAR, chart, out, &mut 0),
+        "next" => reader.next(flat, input, YEAR, offered, chart, out, &mut 0),
+        _ => reader.count(flat, input, YEAR, chart, &mut 0),
     }
 }
 
@@ -173,7 +173,7 @@ fn the_chart_is_that_of_opening() {
         let flat = loaded(book);
         let found = rubbish(&mut Rng::new(9), CELLS + 3);
         let mut opened = found.clone();
-        reader_under_test().open(&flat, &mut [9; HAND], opened.part_mut());
+        reader_under_test().open(&flat, YEAR, &mut [9; HAND], opened.part_mut());
         for call in CALLS.iter().flat_map(|name| [&[][..], &reading].map(|offered| (*name, &flat, &b""[..], offered))) {
             let mut chart = found.clone();
             made(call, chart.part_mut(), &mut vec![7; OUTPUT]);

@@ -14,7 +14,9 @@ use faulty::forgetful::Forgets;
 use faulty::switches::{self, switch_on, Fault};
 use faulty::Faulty;
 use outside_tests::books::book;
-use outside_tests::compare::{compare_book, compare_boundary, compare_copies, compare_searches, play_book, Counts};
+use outside_tests::compare::{
+    compare_book, compare_boundary, compare_copies, compare_searches, compare_year_files, play_book, Counts,
+};
 use outside_tests::reader::{self, Reader};
 use std::sync::atomic::{AtomicUsize, Ordering};
 
@@ -65,7 +67,7 @@ fn all_caught<T: Sync>(cases: &[(String, T)], try_one: impl Fn(&T) -> Option<(u6
 #[test]
 fn every_fault_is_caught() {
     let faults: Vec<(String, Fault)> = Fault::ALL.iter().map(|fault| (format!("{fault:?}"), *fault)).collect();
-    assert!(faults.len() >= 180);
+    assert!(faults.len() >= 210);
     all_caught(&faults, |fault| {
         switch_on(Some(*fault));
         caught(&Faulty::default())
@@ -171,6 +173,18 @@ fn every_fault_of_the_search_is_caught() {
     });
     switch_on(None);
     compare_searches(searched).expect("no difference");
+}
+
+/// The faults of the program's file for the year. No call shows it, so only its table can catch them.
+#[test]
+fn every_fault_of_the_year_file_is_caught() {
+    let faults: Vec<(String, Fault)> = Fault::OF_THE_YEAR_FILE.iter().map(|of| (format!("{of:?}"), *of)).collect();
+    all_caught(&faults, |fault| {
+        switch_on(Some(*fault));
+        compare_year_files(lister::year::of_file).err().map(|text| (0, text))
+    });
+    switch_on(None);
+    compare_year_files(lister::year::of_file).expect("no difference");
 }
 
 /// There is no difference over this many books.

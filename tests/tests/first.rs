@@ -5,7 +5,7 @@
 #[allow(dead_code)] // not all of it is called from here
 mod calls;
 
-use calls::{book, check, complete, deepest, deepest_row, first, loaded, row};
+use calls::{book, check, complete, deepest, deepest_row, first, loaded, row, YEAR};
 use outside_tests::books::{full_book, Rng};
 use outside_tests::compare::{rubbish, Lent};
 use outside_tests::lister::walk::Given;
@@ -184,7 +184,7 @@ fn refusals_in_their_order() {
         let mut rng = Rng::new(8);
         let (mut chart, mut out) = (rubbish(&mut rng, cells), Lent::filled(numbers, || rng.draw() as u16));
         let (found, found_out, mut nodes) = (chart.clone(), out.clone(), 77);
-        let answer = reader_under_test().first(flat, input, chart.part_mut(), out.part_mut(), &mut nodes);
+        let answer = reader_under_test().first(flat, input, YEAR, chart.part_mut(), out.part_mut(), &mut nodes);
         assert_eq!(answer, due);
         assert!(due == Answer::Nodes(1) || (chart == found && out == found_out && nodes == 77), "{due:?}");
     }

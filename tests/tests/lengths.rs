@@ -3,7 +3,7 @@
 #[allow(dead_code)] // not all of it is called from here
 mod calls;
 
-use calls::loaded;
+use calls::{loaded, YEAR};
 use outside_tests::books::{Draft, Sym};
 use outside_tests::lister::trees::round;
 use outside_tests::reader::{Answer, Reader, CELLS};
@@ -47,7 +47,7 @@ fn every_sum_goes_to_the_nearest_tenth_and_halves_to_the_even_one() {
     for sum in -MOST..=MOST {
         let (row, mut tenths) = (reading(sum), i32::MIN);
         assert_eq!(row.chunks(2).map(|node| i32::from(draft.rules[usize::from(node[1])].1)).sum::<i32>(), sum);
-        assert_eq!(reader.length(&flat, b"A", &row, &mut chart, &mut tenths), Answer::Yes, "{sum}");
+        assert_eq!(reader.length(&flat, b"A", YEAR, &row, &mut chart, &mut tenths), Answer::Yes, "{sum}");
         let difference = (10 * tenths - sum).abs();
         assert!(difference < 5 || (difference == 5 && tenths % 2 == 0), "{sum} gave {tenths}");
         assert_eq!(tenths, round(sum), "the lister's tenths of {sum}");

@@ -5,7 +5,7 @@
 #[allow(dead_code)] // not all of it is called from here
 mod calls;
 
-use calls::{blank_boundary, book, check, count, deepest, deepest_row, first, loaded, next, row};
+use calls::{blank_boundary, book, check, count, deepest, deepest_row, first, loaded, next, row, YEAR};
 use outside_tests::books::{boundary, full_book, Rng};
 use outside_tests::compare::{rubbish, Lent};
 use outside_tests::lister::walk::{self, Given};
@@ -259,14 +259,14 @@ fn refusals_in_their_order() {
         let mut rng = Rng::new(8);
         let (mut chart, mut out) = (rubbish(&mut rng, cells), Lent::filled(numbers, || rng.draw() as u16));
         let (found, found_out, mut nodes) = (chart.clone(), out.clone(), 77);
-        let answer = reader_under_test().next(flat, input, offered, chart.part_mut(), out.part_mut(), &mut nodes);
+        let answer = reader_under_test().next(flat, input, YEAR, offered, chart.part_mut(), out.part_mut(), &mut nodes);
         assert_eq!(answer, due);
         let refused = matches!(due, Answer::Refused(_));
         assert!(!refused || (out == found_out && nodes == 77), "{due:?}");
         assert_eq!(chart == found, refused && due != Answer::Refused(12), "{due:?}");
         if numbers == OUTPUT {
             let (mut chart, mut number) = (found.clone(), 77);
-            let answer = reader_under_test().count(flat, input, chart.part_mut(), &mut number);
+            let answer = reader_under_test().count(flat, input, YEAR, chart.part_mut(), &mut number);
             let due = if due == Answer::Refused(12) || !refused { Answer::Count(2) } else { due };
             assert_eq!((answer, number), (due, if due == Answer::Count(2) { 2 } else { 77 }));
             assert_eq!(chart == found, due != Answer::Count(2), "{due:?}");

@@ -25,7 +25,7 @@ const PLATES: usize = 3;
 /// How often each outcome must come up at least.
 const DUE: &[(&str, u64)] = &[
     ("book", 1000),
-    ("REFUSED 1", 20),
+    ("REFUSED 1", 15),
     ("REFUSED 2", 30),
     ("REFUSED 3", 20),
     ("REFUSED 4", 20),
@@ -35,11 +35,14 @@ const DUE: &[(&str, u64)] = &[
     ("REFUSED 9", 80),
     ("REFUSED 13", 30),
     ("REFUSED 16", 3),
+    ("REFUSED 21", 3),
     ("NO READING", 500),
     ("one reading", 500),
     ("two or more", 500),
     ("more than 4,096", 30),
     ("a negative length", 500),
+    ("a file for the year", 3000),
+    ("no file for the year", 300),
     ("no marks: NO READING", 400),
     ("no marks: REFUSED 13", 12),
     ("no marks: one reading", 120),
@@ -115,13 +118,24 @@ fn plates(book: &Book, seed: u64) -> Vec<Vec<u8>> {
     plates
 }
 
+/// Writes one of the book's years to its file; one year 0 in two is told by no file. Returns the year.
+fn year(folder: &Folder, book: &Book, number: usize, counts: &mut Counts) -> u16 {
+    let year = book.years[number % book.years.len()];
+    let file = (year > 0 || number % 2 == 0).then_some(year.to_le_bytes());
+    folder.put_year(file.as_ref().map(|bytes| &bytes[..]));
+    counts.add(if file.is_some() { "a file for the year" } else { "no file for the year" });
+    year
+}
+
 /// Compares the program with the lister on a book and its plates; a refused book gets one plate.
 fn compare(folder: &Folder, book: &Book, seed: u64, counts: &mut Counts) -> Result<(), String> {
     folder.put(&book.bytes);
     counts.add("book");
-    for plate in &plates(book, seed) {
-        let said = |what: String| format!("({}), book {:02X?}, plate {plate:?}: {what}", book.style, book.bytes);
-        match text(&book.bytes, plate) {
+    for (number, plate) in plates(book, seed).iter().enumerate() {
+        let year = year(folder, book, seed as usize + number, counts);
+        let said =
+            |what: String| format!("({}), book {:02X?}, plate {plate:?}, year {year}: {what}", book.style, book.bytes);
+        match text(&book.bytes, plate, year) {
             Ok(due) => {
                 folder.prints(plate, &due).map_err(said)?;
                 counts.add(&outcome(&due));
@@ -133,14 +147,14 @@ fn compare(folder: &Folder, book: &Book, seed: u64, counts: &mut Counts) -> Resu
                 }
             }
             Err(TooLarge) => {
-                let grammar = judged(&book.bytes, plate).expect("it is not refused");
+                let grammar = judged(&book.bytes, plate, year).expect("it is not refused");
                 let (printed, ..) = folder.ran(plate);
                 judge(&grammar, plate, &printed).map_err(said)?;
                 folder.prints(plate, &printed).map_err(said)?; // the same again, and no error
                 counts.add("too large, judged");
             }
         }
-        if judged(&book.bytes, b"A").is_err() {
+        if judged(&book.bytes, b"A", year).is_err() {
             break;
         }
     }
@@ -176,7 +190,7 @@ fn random_books() {
 
 /// The program prints what the lister does: this many readings, and this last line.
 fn prints_so_many(book: &[u8], plate: &[u8], readings: usize, last: &str) {
-    let due = text(book, plate).expect("small enough");
+    let due = text(book, plate, 0).expect("small enough");
     let lines: Vec<&str> = std::str::from_utf8(&due).expect("ASCII").lines().collect();
     assert_eq!((lines.len() - 1, lines[readings]), (readings, last));
     Folder::with(book).prints(plate, &due).expect("no difference");
@@ -214,7 +228,7 @@ fn exactly_4096_and_one_more() {
     prints_so_many(&boundary(false).bytes, &[b'A'; 12], 4096, "READINGS 4096");
     prints_so_many(&boundary(true).bytes, &[b'A'; 12], 4096, "READINGS more");
     let first = "1: 12.0 6.1 1.2 1.2 1.2 1.2 1.2 1.2 6.1 1.2 1.2 1.2 1.2 1.2 1.2 = 0\n";
-    assert!(text(&boundary(true).bytes, &[b'A'; 12]).expect("small enough").starts_with(first.as_bytes()));
+    assert!(text(&boundary(true).bytes, &[b'A'; 12], 0).expect("small enough").starts_with(first.as_bytes()));
 }
 
 /// Texts from less than a page (64 KiB, of which the last 8 KiB may stay free) to two pages: with t twin rules for
@@ -228,7 +242,7 @@ fn texts_of_about_one_page() {
         for _ in 0..twins {
             draft.rule(1, &[Sym::T(b'A')]);
         }
-        let size = text(&draft.bytes(), b"AA").expect("small enough").len();
+        let size = text(&draft.bytes(), b"AA", 0).expect("small enough").len();
         (shortest, longest) = (shortest.min(size), longest.max(size));
         prints_so_many(&draft.bytes(), b"AA", twins * twins, &format!("READINGS {}", twins * twins));
     }

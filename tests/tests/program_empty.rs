@@ -35,7 +35,7 @@ fn the_limit_of_512() {
 fn exactly_4096_and_one_more() {
     for (more, last) in [(false, "READINGS 4096"), (true, "READINGS more")] {
         let book = blank_boundary(more);
-        let due = text(&book, b"").expect("small enough");
+        let due = text(&book, b"", 0).expect("small enough");
         let lines: Vec<&str> = std::str::from_utf8(&due).expect("ASCII").lines().collect();
         assert_eq!((lines.len(), lines[4096]), (4097, last));
         Folder::with(&book).prints(b"", &due).expect("no difference");

@@ -4,6 +4,7 @@
 
 #[allow(dead_code)] // not all of it is called from here
 mod calls;
+#[allow(dead_code)] // not all of it is called from here
 mod process;
 
 use calls::{book, T};
@@ -38,28 +39,32 @@ fn a_book_that_is_not_there_is_empty() {
     }
 }
 
-/// A book with as many bytes as the longest that loads, 3,587: 128 rules of 8 ranges.
+/// A book with as many bytes as the longest that loads, 4,099: 128 rules with their years, of 8 ranges.
 fn longest() -> Vec<u8> {
     let mut draft = Draft::new(0);
     draft.rules.push((0, -15, vec![Sym::R(b'A', b'C'); 8]));
     (1..128).for_each(|rule| draft.rules.push((rule % 32, 7, vec![Sym::R(rule, rule); 8])));
+    draft.years = (0..128).map(|rule| (rule, (0, 500 + rule as u16))).collect();
     draft.bytes()
 }
 
 #[test]
 fn books_of_every_length() {
     let longest = longest();
-    assert_eq!(longest.len(), 3587);
+    assert_eq!(longest.len(), 4099);
     prints(&longest, b"ABCABCAC", "1: 8.0 = -2\nREADINGS 1\n");
     prints(&longest, &[64; 8], "1: 8.64 = 1\nREADINGS 1\n");
-    prints(&longest[..3586], b"A", "REFUSED 1\n");
-    let with = |more: &[u8]| [&longest[..3586], more, &[0x50]].concat();
+    prints(&longest[..4098], b"A", "REFUSED 1\n");
+    let with = |more: &[u8]| [&longest[..4098], more, &[0x50]].concat();
     prints(&with(&[0x20, 0, 0, 0]), b"A", "REFUSED 5\n");
+    prints(&with(&[0x21, 0, 0, 0, 0, 0, 0, 0]), b"A", "REFUSED 5\n");
+    prints(&with(&[0x21, 0, 0, 0, 1, 0, 0, 0]), b"A", "REFUSED 21\n");
+    prints(&with(&[0x21, 32, 0, 0, 1, 0, 0, 0]), b"A", "REFUSED 4\n");
     prints(&with(&[0x40, 0]), b"A", "REFUSED 6\n");
     prints(&with(&[0x41, 0, 1]), b"A", "REFUSED 6\n");
     prints(&with(&[0x41, 1, 0]), b"A", "REFUSED 16\n");
     // Followed by junk: up to the sizes of buffers, one byte less and one more, and much longer.
-    for length in [3588, 4095, 4096, 4097, 8191, 8192, 8193, 65_536, MANY] {
+    for length in [4100, 4351, 4352, 4353, 8191, 8192, 8193, 65_536, MANY] {
         for (junk, filler) in [(0x50, 0x30), (0x00, 0xFF), (0x20, 0x00)] {
             for book in [&pairs(), &longest] {
                 let mut long = [&book[..], &[junk]].concat();
@@ -98,7 +103,7 @@ fn plates_of_every_length() {
         let folder = Folder::with(&line);
         for length in 0..=70 {
             let plate = vec![b'A'; length];
-            let due = text(&line, &plate).expect("small enough");
+            let due = text(&line, &plate, 0).expect("small enough");
             assert_eq!(due == b"NO READING\n", length < least);
             assert_eq!(due.ends_with(end.as_bytes()), (least..=64).contains(&length));
             assert_eq!(due == b"REFUSED 9\n", length > 64);
@@ -121,7 +126,11 @@ fn plates_from_everywhere() {
         let mut command = folder.command(&program());
         command.stdin(File::open(&path).expect("a plate"));
         assert_eq!(ended(&mut command.spawn().expect("the program starts")).code(), Some(0));
-        assert_eq!(folder.written("stdout"), text(&line, &plate).expect("small enough"), "{length} marks from a file");
+        assert_eq!(
+            folder.written("stdout"),
+            text(&line, &plate, 0).expect("small enough"),
+            "{length} marks from a file"
+        );
         assert_eq!(folder.written("stderr"), b"");
         fs::remove_file(&path).expect("a plate");
     }
@@ -134,7 +143,7 @@ fn plates_from_everywhere() {
         }
         drop(pipe);
         assert_eq!(ended(&mut child).code(), Some(0));
-        let due = text(&line, &vec![b'A'; pieces.iter().sum()]).expect("small enough");
+        let due = text(&line, &vec![b'A'; pieces.iter().sum()], 0).expect("small enough");
         assert_eq!(folder.written("stdout"), due, "marks in pieces of {pieces:?}");
     }
     for none in ["</dev/null", "<&-"] {
@@ -203,7 +212,7 @@ fn a_closed_output_is_named() {
 /// A text through a pipe that is read slowly: it is longer than a pipe holds.
 #[test]
 fn a_slow_reader_gets_all() {
-    let due = text(&pairs(), &[b'A'; 10]).expect("small enough");
+    let due = text(&pairs(), &[b'A'; 10], 0).expect("small enough");
     assert!(due.len() > 3 * 65_536);
     let folder = Folder::with(&pairs());
     let mut child = folder.command(&program()).stdout(Stdio::piped()).spawn().expect("the program starts");

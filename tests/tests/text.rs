@@ -4,7 +4,7 @@
 #[allow(dead_code)] // not all of it is called from here
 mod calls;
 
-use calls::{blank_bush, book, deepest, deepest_row, of_length, SUMS, T};
+use calls::{blank_bush, book, deepest, deepest_row, of_length, SEAL, SUMS, T};
 use outside_tests::books::{self, boundary};
 use outside_tests::lister::listing::{derivations, TooLarge};
 use outside_tests::lister::trees::LIMIT;
@@ -12,7 +12,12 @@ use outside_tests::lister::STEPS;
 use outside_tests::text::{in_order, judged, text, MOST};
 
 fn printed(book: &[u8], plate: &[u8]) -> String {
-    String::from_utf8(text(book, plate).expect("small enough")).expect("ASCII")
+    printed_in(book, plate, 0)
+}
+
+/// The same in a year.
+fn printed_in(book: &[u8], plate: &[u8], year: u16) -> String {
+    String::from_utf8(text(book, plate, year).expect("small enough")).expect("ASCII")
 }
 
 #[test]
@@ -65,6 +70,21 @@ fn the_lines_of_an_empty_plate() {
     assert_eq!(printed(&blank_bush(4), b""), "REFUSED 13\n");
 }
 
+/// The readings of a plate are those of its year: request U9 of document 02.
+#[test]
+fn the_lines_of_a_year() {
+    for (year, due) in [(0, None), (1997, None), (1998, Some("1.0 = 10")), (2007, Some("1.0 = 10"))] {
+        let text = due.map_or("NO READING\n".to_string(), |line| format!("1: {line}\nREADINGS 1\n"));
+        assert_eq!(printed_in(&SEAL, b"A", year), text, "{year}");
+    }
+    for year in [2008, 65_535] {
+        assert_eq!(printed_in(&SEAL, b"A", year), "1: 1.1 = 20\nREADINGS 1\n");
+        assert_eq!(printed_in(&[&SEAL[..], &[0]].concat(), b"A", year), "REFUSED 7\n");
+        // the book is judged first
+    }
+    assert_eq!(printed_in(&T, b"A", 0), printed_in(&T, b"A", 65_535));
+}
+
 /// The lines of a text, with the last one separate.
 fn lines(text: &str) -> (Vec<&str>, &str) {
     let mut lines: Vec<&str> = text.strip_suffix('\n').expect("a newline ends each line").split('\n').collect();
@@ -95,8 +115,9 @@ fn the_search_in_order_finds_the_front_of_the_list() {
     let (mut compared, mut front, mut given_up) = (0, 0, 0);
     for seed in 0..400 {
         let book = books::book(seed);
-        for plate in &book.inputs {
-            let Ok(grammar) = judged(&book.bytes, plate) else { continue };
+        for (number, plate) in book.inputs.iter().enumerate() {
+            let year = book.years[number % book.years.len()];
+            let Ok(grammar) = judged(&book.bytes, plate, year) else { continue };
             let Ok(list) = derivations(&grammar, plate, LIMIT, STEPS / 4) else { continue };
             for most in [MOST + 1, 3] {
                 match in_order(&grammar, plate, LIMIT, most, STEPS) {

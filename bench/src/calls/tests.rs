@@ -11,7 +11,7 @@ fn opened(row: &[u16; FLAT], at: usize, number: u16) -> u32 {
     let (mut h, mut k, mut x, mut y) = (hand(), hand(), chart(), chart());
     let code = Proved::open(&row, &mut h, &mut x);
     assert_eq!(code, Plain::open(&row, &mut k, &mut y), "{number} at {at}");
-    assert!(h == k && h == [0; 65] && x == y, "{number} at {at}");
+    assert!(h == k && h == [0; 66] && x == y, "{number} at {at}");
     code
 }
 
@@ -21,22 +21,27 @@ fn both_sides_judge_the_numbers_of_a_row_whole() {
     let book = b"\x10\x00\x20\x00\xf8\x11\x30\x01\x30\x01\x20\x01\x00\x00\x20\x01\x19\x00\x40A\x50";
     let (mut row, mut offset) = ([9; FLAT], 9);
     assert_eq!((Proved::load(book, &mut row, &mut offset), offset), (1, 9));
-    for at in [0, 1, 3, 5, 7, 41, 44] {
+    for at in [0, 1, 3, 5, 7, 45, 48] {
         for number in [256, 257, 256 + 31, 0xff00, u16::MAX] {
             assert_eq!(opened(&row, at, number), Refusal::InvalidGrammar.code(), "{number} at {at}");
         }
     }
     // with tag 2 the value 65 is a reversed range
     let more =
-        [(0, 32), (1, 129), (3, 32), (5, 9), (7, 32), (44, 2), (44, 3), (44, 255), (45, 256 + 65), (45, u16::MAX)];
+        [(0, 32), (1, 129), (3, 32), (5, 9), (7, 32), (48, 2), (48, 3), (48, 255), (49, 256 + 65), (49, u16::MAX)];
     assert!(more.iter().all(|&(at, number)| opened(&row, at, number) == Refusal::InvalidGrammar.code()));
-    row[44] = 2;
+    row[48] = 2;
     for (value, code) in [(0x4141, 1), (0xff00, 1), (0xffff, 1), (0, 1), (0x4041, 264), (1, 264), (0xfeff, 264)] {
-        assert_eq!(opened(&row, 45, value), code, "{value:04x}");
+        assert_eq!(opened(&row, 49, value), code, "{value:04x}");
     }
-    row[44] = 1;
+    row[48] = 1;
+    // the years of the first rule: the last is 65,535
+    assert!([0, 1, u16::MAX].iter().all(|&first| opened(&row, 22, first) == if first == 0 { 1 } else { 0 }));
+    row[22] = 1;
+    assert_eq!((opened(&row, 23, 0), opened(&row, 23, 1)), (Refusal::InvalidGrammar.code(), 0));
+    row[22] = 0;
     // the depth, a length, the numbers of an unused place and of an unused rule
-    assert!([2, 4, 10, 11, 60, 61, 62, 63, 64].iter().all(|&at| opened(&row, at, u16::MAX) == 1));
+    assert!([2, 4, 10, 11, 66, 67, 68, 69, 70].iter().all(|&at| opened(&row, at, u16::MAX) == 1));
 }
 
 #[test]
@@ -44,7 +49,7 @@ fn both_sides_judge_a_hand_whole_and_leave_a_refused_one() {
     let (mut row, mut offset) = ([9; FLAT], 9);
     assert_eq!(Proved::load(b"\x10\x00\x50", &mut row, &mut offset), 1);
     let of = |count: u16, at: usize, mark: u16| {
-        let mut hand = [7; 65];
+        let mut hand = [7; 66];
         (hand[at], hand[64]) = (mark, count);
         hand
     };
@@ -94,6 +99,15 @@ fn both_sides_load_the_same_row() {
         compared(&book[..random.below(book.len())]);
     }
     compared(&chain(&[&[]]));
+    // rules with their years: cut at each byte, reversed, and as the 129th
+    let seal = b"\x10\x00\x21\x00\x64\x00\xce\x07\xd7\x07\x40A\x21\x00\xc8\x00\xd8\x07\xff\xff\x40A\x50";
+    (0..=seal.len()).for_each(|cut| compared(&seal[..cut]));
+    let full = [&[0x10, 0][..], &[0x20, 0, 1, 0].repeat(128)].concat();
+    for front in [&seal[..2], &full] {
+        for rule in [[0x21, 0, 1, 0, 7, 0, 7, 0], [0x21, 0, 1, 0, 0, 1, 255, 0], [0x21, 32, 1, 0, 1, 0, 0, 0]] {
+            compared(&[front, &rule, &[0x50]].concat());
+        }
+    }
     assert!(depths[0] > 10 && depths[1] > 40 && depths[2] > 40 && depths[3] > 10 && depths[32] == 1, "{depths:?}");
 }
 

@@ -75,15 +75,15 @@ pub fn judge(g: &Grammar, input: &[u8], chart: &[u32]) -> Result<(), Refusal> {
     Ok(())
 }
 
-pub fn filled(g: &Grammar, input: &[u8], chart: &mut [u32]) -> Packed {
-    let p = Packed::new(g);
+pub fn filled(g: &Grammar, input: &[u8], year: u16, chart: &mut [u32]) -> Packed {
+    let p = Packed::new(g, year);
     fill(&p, input, chart);
     p
 }
 
-pub fn check(g: &Grammar, input: &[u8], offered: &[u16], chart: &mut [u32]) -> Result<bool, Refusal> {
+pub fn check(g: &Grammar, input: &[u8], year: u16, offered: &[u16], chart: &mut [u32]) -> Result<bool, Refusal> {
     judge(g, input, chart)?;
-    let p = filled(g, input, chart);
+    let p = filled(g, input, year, chart);
     Ok(is_derivation(&p, g.start as usize, input, offered))
 }
 
@@ -111,9 +111,9 @@ pub fn rounded(sum: i32) -> i32 {
     }
 }
 
-pub fn length(g: &Grammar, input: &[u8], offered: &[u16], chart: &mut [u32]) -> Result<i32, Refusal> {
+pub fn length(g: &Grammar, input: &[u8], year: u16, offered: &[u16], chart: &mut [u32]) -> Result<i32, Refusal> {
     judge(g, input, chart)?;
-    let p = filled(g, input, chart);
+    let p = filled(g, input, year, chart);
     if !is_derivation(&p, g.start as usize, input, offered) {
         return Err(Refusal::NotADerivation);
     }
@@ -126,9 +126,16 @@ fn rules_used(e: &[u16]) -> impl Iterator<Item = u16> + '_ {
     e.chunks_exact(2).filter(|node| node[0] > 0).map(|node| node[1])
 }
 
-pub fn same_build(g: &Grammar, input: &[u8], a: &[u16], b: &[u16], chart: &mut [u32]) -> Result<bool, Refusal> {
+pub fn same_build(
+    g: &Grammar,
+    input: &[u8],
+    year: u16,
+    a: &[u16],
+    b: &[u16],
+    chart: &mut [u32],
+) -> Result<bool, Refusal> {
     judge(g, input, chart)?;
-    let p = filled(g, input, chart);
+    let p = filled(g, input, year, chart);
     let start = g.start as usize;
     if !is_derivation(&p, start, input, a) || !is_derivation(&p, start, input, b) {
         return Err(Refusal::NotADerivation);

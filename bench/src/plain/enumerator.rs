@@ -252,18 +252,25 @@ pub fn list_filled(
     Ok(count.unwrap_or(Some(0)))
 }
 
-pub fn first(g: &Grammar, input: &[u8], chart: &mut [u32], out: &mut [u16]) -> Result<Option<usize>, Refusal> {
+pub fn first(
+    g: &Grammar,
+    input: &[u8],
+    year: u16,
+    chart: &mut [u32],
+    out: &mut [u16],
+) -> Result<Option<usize>, Refusal> {
     judge(g, input, chart)?;
     if out.len() < OUTPUT {
         return Err(Refusal::OutputTooShort);
     }
-    let p = filled(g, input, chart);
+    let p = filled(g, input, year, chart);
     first_filled(&p, g.start as usize, input, chart, out)
 }
 
 pub fn next(
     g: &Grammar,
     input: &[u8],
+    year: u16,
     offered: &[u16],
     chart: &mut [u32],
     out: &mut [u16],
@@ -272,12 +279,12 @@ pub fn next(
     if out.len() < OUTPUT {
         return Err(Refusal::OutputTooShort);
     }
-    let p = filled(g, input, chart);
+    let p = filled(g, input, year, chart);
     next_filled(&p, g.start as usize, input, offered, chart, out)
 }
 
-pub fn count(g: &Grammar, input: &[u8], chart: &mut [u32]) -> Result<Option<usize>, Refusal> {
+pub fn count(g: &Grammar, input: &[u8], year: u16, chart: &mut [u32]) -> Result<Option<usize>, Refusal> {
     judge(g, input, chart)?;
-    let p = filled(g, input, chart);
+    let p = filled(g, input, year, chart);
     count_filled(&p, g.start as usize, input, chart)
 }

@@ -1,8 +1,12 @@
-//! A grammar as the row of 2,435 numbers that C passes: start, count, depth, then 19 numbers for each rule.
+//! A grammar as the row of 2,691 numbers that C passes: start, count, depth, then 21 numbers for each rule.
 
 use super::{Grammar, Rule, Symbol};
 
-pub const FLAT: usize = 2435;
+pub const FLAT: usize = 2691;
+
+/// How many numbers a rule has, and where its first year is.
+const RULE: usize = 21;
+const FIRST: usize = 19;
 
 /// A number as a byte: a number over 255 becomes 255, which check 8 refuses.
 fn byte(number: u16) -> u8 {
@@ -29,13 +33,14 @@ pub fn read(flat: &[u16; FLAT]) -> Grammar {
     g.start = byte(flat[0]);
     g.count = flat[1] as usize;
     g.depth = byte(flat[2]);
-    for (rule, f) in g.rules.iter_mut().zip(flat[3..].chunks_exact(19)) {
+    for (rule, f) in g.rules.iter_mut().zip(flat[3..].chunks_exact(RULE)) {
         rule.left = byte(f[0]);
         rule.length = f[1] as i16;
         rule.count = f[2] as usize;
-        for (place, f) in rule.places.iter_mut().zip(f[3..].chunks_exact(2)) {
+        for (place, f) in rule.places.iter_mut().zip(f[3..FIRST].chunks_exact(2)) {
             *place = symbol(f[0], f[1]);
         }
+        (rule.first, rule.last) = (f[FIRST], f[FIRST + 1]);
     }
     g
 }
@@ -44,7 +49,8 @@ fn write_rule(rule: &Rule, f: &mut [u16]) {
     f[0] = rule.left as u16;
     f[1] = rule.length as u16;
     f[2] = rule.count as u16;
-    for (place, f) in rule.places.iter().zip(f[3..].chunks_exact_mut(2)) {
+    (f[FIRST], f[FIRST + 1]) = (rule.first, rule.last);
+    for (place, f) in rule.places.iter().zip(f[3..FIRST].chunks_exact_mut(2)) {
         (f[0], f[1]) = match *place {
             Symbol::Nonterminal(k) => (0, k as u16),
             Symbol::Terminal(m) => (1, m as u16),
@@ -57,7 +63,7 @@ pub fn write(g: &Grammar, flat: &mut [u16; FLAT]) {
     flat[0] = g.start as u16;
     flat[1] = g.count as u16;
     flat[2] = g.depth as u16;
-    for (rule, f) in g.rules.iter().zip(flat[3..].chunks_exact_mut(19)) {
+    for (rule, f) in g.rules.iter().zip(flat[3..].chunks_exact_mut(RULE)) {
         write_rule(rule, f);
     }
 }

@@ -1,9 +1,9 @@
-//! The plate in hand as the row of 65 numbers that C passes: 64 marks, and then their count.
+//! The plate in hand as the row of 66 numbers that C passes: 64 marks, then their count, and then the year.
 
 use super::recognizer::Recognizer;
 use super::INPUT;
 
-pub const HAND: usize = INPUT + 1;
+pub const HAND: usize = INPUT + 2;
 
 pub type Hand = [u16; HAND];
 
@@ -15,7 +15,7 @@ pub fn read(hand: &Hand) -> Recognizer {
     for (byte, &mark) in bytes.iter_mut().zip(hand) {
         *byte = mark.min(255) as u8;
     }
-    Recognizer { bytes, count: if large { HAND } else { count } }
+    Recognizer { bytes, count: if large { INPUT + 1 } else { count }, year: hand[INPUT + 1] }
 }
 
 pub fn write(state: &Recognizer, hand: &mut Hand) {
@@ -23,4 +23,5 @@ pub fn write(state: &Recognizer, hand: &mut Hand) {
         *mark = byte.into();
     }
     hand[INPUT] = state.count as u16;
+    hand[INPUT + 1] = state.year;
 }

@@ -81,13 +81,13 @@ impl<W: Write> Text<W> {
     }
 }
 
-/// Writes what the program prints for the bytes of a book and of a plate.
-pub fn list(book: &[u8], plate: &[u8], out: impl Write) -> Result<()> {
+/// Writes what the program prints for the bytes of a book and of a plate in a year.
+pub fn list(book: &[u8], plate: &[u8], year: u16, out: impl Write) -> Result<()> {
     let mut text = Text { buffer: Vec::with_capacity(BUFFER), out, written: Ok(()) };
     let count = loader::load(book).map_err(|(refusal, _)| refusal).and_then(|g| {
         let mut chart = [0; CHART];
         judge(&g, plate, &chart)?;
-        let p = filled(&g, plate, &mut chart);
+        let p = filled(&g, plate, year, &mut chart);
         list_filled(&p, g.start as usize, plate, &chart, |place, row| text.line(&g, place, row))
     });
     text.ended(count);

@@ -3,10 +3,10 @@
 
 use super::{Grammar, Refusal, Rule, Symbol, PLACES, RULES};
 
-/// A place has as many operands as it says.
+/// A rule and a place have as many operands as they say.
 enum Command {
     Start(u8),
-    Rule(u8, i16),
+    Rule(Rule, usize),
     Place(Symbol, usize),
     End,
 }
@@ -38,7 +38,31 @@ fn command(bytes: &[u8], at: usize, rules: usize, places: usize) -> Result<Comma
                     if rules >= RULES {
                         return Err((Refusal::TooManyRules, at));
                     }
-                    Ok(Command::Rule(k, i16::from_le_bytes([low, high])))
+                    let length = i16::from_le_bytes([low, high]);
+                    Ok(Command::Rule(Rule { left: k, length, last: u16::MAX, ..Rule::ZERO }, 3))
+                }
+                _ => Err((Refusal::UnexpectedEnd, bytes.len())),
+            }
+        }
+        0x21 => {
+            if at == 0 {
+                return Err((Refusal::OutOfTurn, at));
+            }
+            match bytes[at + 1..] {
+                [k, low, high, first_low, first_high, last_low, last_high, ..] => {
+                    if k > 31 {
+                        return Err((Refusal::NonterminalTooLarge, at));
+                    }
+                    let length = i16::from_le_bytes([low, high]);
+                    let first = u16::from_le_bytes([first_low, first_high]);
+                    let last = u16::from_le_bytes([last_low, last_high]);
+                    if first > last {
+                        return Err((Refusal::YearsReversed, at));
+                    }
+                    if rules >= RULES {
+                        return Err((Refusal::TooManyRules, at));
+                    }
+                    Ok(Command::Rule(Rule { left: k, length, first, last, ..Rule::ZERO }, 7))
                 }
                 _ => Err((Refusal::UnexpectedEnd, bytes.len())),
             }
@@ -120,10 +144,10 @@ pub fn load(bytes: &[u8]) -> Result<Grammar, (Refusal, usize)> {
                 g.start = k;
                 at += 2;
             }
-            Command::Rule(left, length) => {
-                g.rules[n] = Rule { left, length, ..Rule::ZERO };
+            Command::Rule(rule, operands) => {
+                g.rules[n] = rule;
                 g.count += 1;
-                at += 4;
+                at += 1 + operands;
             }
             Command::Place(symbol, operands) => {
                 let rule = &mut g.rules[n - 1];

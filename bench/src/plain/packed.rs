@@ -48,10 +48,11 @@ impl Rule {
 }
 
 impl Packed {
-    pub fn new(g: &Grammar) -> Packed {
+    /// The copy for a year. The row of a rule out of force is that of an unused one.
+    pub fn new(g: &Grammar, year: u16) -> Packed {
         let none = Rule { left: 255, count: 255, places: [Place { tag: 255, value: 255, high: 255 }; PLACES] };
         let mut p = Packed { rules: [none; RULES] };
-        for (row, rule) in p.rules.iter_mut().zip(&g.rules[..g.count]) {
+        for (row, rule) in p.rules.iter_mut().zip(&g.rules[..g.count]).filter(|(_, rule)| rule.in_force(year)) {
             row.left = rule.left;
             row.count = rule.count as u8;
             for (place, symbol) in row.places.iter_mut().zip(&rule.places[..rule.count]) {

@@ -131,6 +131,7 @@ pub fn fill(p: &Packed, w: &[u8], chart: &mut [u32]) {
 pub struct Recognizer {
     pub bytes: [u8; INPUT],
     pub count: usize,
+    pub year: u16,
 }
 
 impl Recognizer {
@@ -148,7 +149,7 @@ impl Recognizer {
         if self.count == INPUT {
             return Err(Refusal::RecognizerFull);
         }
-        let p = Packed::new(g);
+        let p = Packed::new(g, self.year);
         self.bytes[self.count..].fill(0);
         self.bytes[self.count] = byte;
         self.count += 1;
@@ -157,14 +158,14 @@ impl Recognizer {
     }
 }
 
-pub fn open(g: &Grammar, chart: &mut [u32]) -> Result<bool, Refusal> {
+pub fn open(g: &Grammar, year: u16, chart: &mut [u32]) -> Result<bool, Refusal> {
     if !g.valid() {
         return Err(Refusal::InvalidGrammar);
     }
     if chart.len() < CHART {
         return Err(Refusal::ChartTooShort);
     }
-    let p = Packed::new(g);
+    let p = Packed::new(g, year);
     open_chart(&p, chart);
     Ok(contains(chart[0], g.start as usize))
 }

@@ -85,7 +85,7 @@ fn fill_is_the_naive_fixpoint() {
         let w: Vec<u8> = (0..random.below(8)).map(|_| b'A' + random.below(2) as u8).collect();
         let mut naive = [0u32; CHART];
         (0..=w.len()).for_each(|n| naive_column(&g, &w[..n], n, &mut naive));
-        let p = Packed::new(&g);
+        let p = Packed::new(&g, 0);
         let mut chart = [7u32; CHART + 3];
         fill(&p, &w, &mut chart);
         assert!(chart[..CHART] == naive && chart[CHART..] == [7; 3], "{g:?} {w:?}");
@@ -104,7 +104,7 @@ fn a_column_over_a_spoilt_chart_is_the_naive_one() {
         let mut chart: Vec<u32> = (0..CHART).map(|_| (random.draw() & random.draw() & 31) as u32).collect();
         let mut naive = chart.clone();
         naive_column(&g, &w, n, &mut naive);
-        write_column(&Packed::new(&g), &w, n, &mut chart);
+        write_column(&Packed::new(&g, 0), &w, n, &mut chart);
         assert!(chart == naive, "{g:?} {w:?}");
     }
 }
@@ -174,14 +174,14 @@ fn readings_are_checked_yes_and_damaged_rows_as_trees_say() {
         }
         let mut chart = [0u32; CHART];
         for e in list.iter().filter(|e| e.len() <= 1024).take(20) {
-            assert_eq!(checker::check(&g, &w, e, &mut chart), Ok(true), "{g:?} {w:?} {e:?}");
+            assert_eq!(checker::check(&g, &w, 0, e, &mut chart), Ok(true), "{g:?} {w:?} {e:?}");
             yes += 1;
             empty += w.is_empty() as u32;
             let mut f = e.clone();
             let at = random.below(f.len());
             f[at] = random.below(6) as u16;
             let listed = list.contains(&f);
-            assert_eq!(checker::check(&g, &w, &f, &mut chart), Ok(listed), "{g:?} {w:?} {f:?}");
+            assert_eq!(checker::check(&g, &w, 0, &f, &mut chart), Ok(listed), "{g:?} {w:?} {f:?}");
             no += !listed as u32;
         }
     }
@@ -205,7 +205,7 @@ fn the_first_reading_is_the_smallest_of_the_list() {
             continue;
         }
         let due = list.iter().filter(|e| e.len() <= 1024).min();
-        let (p, mut chart, mut out) = (Packed::new(&g), [0u32; CHART], [7u16; 1026]);
+        let (p, mut chart, mut out) = (Packed::new(&g, 0), [0u32; CHART], [7u16; 1026]);
         fill(&p, &w, &mut chart);
         let got = enumerator::first_filled(&p, 0, &w, &chart, &mut out);
         match due {
@@ -240,7 +240,7 @@ fn each_reading_follows_the_one_before_it_in_the_list() {
         let tree = !list.is_empty();
         list.retain(|e| e.len() <= 1024);
         list.sort();
-        let (p, mut chart) = (Packed::new(&g), [0u32; CHART]);
+        let (p, mut chart) = (Packed::new(&g, 0), [0u32; CHART]);
         fill(&p, &w, &mut chart);
         let due = if tree && list.is_empty() { Err(Refusal::OnlyLargerTrees) } else { Ok(Some(list.len())) };
         assert_eq!(enumerator::count_filled(&p, 0, &w, &chart), due, "{g:?} {w:?}");
@@ -266,7 +266,7 @@ fn each_reading_follows_the_one_before_it_in_the_list() {
 #[test]
 fn readings_are_counted_up_to_4096() {
     let count =
-        |book: &[u8], n: usize| enumerator::count(&loader::load(book).unwrap(), &vec![b'A'; n], &mut [0; CHART]);
+        |book: &[u8], n: usize| enumerator::count(&loader::load(book).unwrap(), &vec![b'A'; n], 0, &mut [0; CHART]);
     assert_eq!(
         [1, 2, 3, 9, 10, 64].map(|n| count(&books::pairs(), n).unwrap()),
         [1, 1, 2, 1430, 4862, 0].map(|n| (1..=4096).contains(&n).then_some(n))
@@ -278,14 +278,14 @@ fn readings_are_counted_up_to_4096() {
     assert_eq!(count(&books::deepest().0, 17), Err(Refusal::OnlyLargerTrees));
     let (book, reading) = books::last_of_many();
     let g = loader::load(&book).unwrap();
-    assert_eq!(enumerator::next(&g, &[b'A'; 64], &reading, &mut [0; CHART], &mut [7; 1024]), Ok(None));
+    assert_eq!(enumerator::next(&g, &[b'A'; 64], 0, &reading, &mut [0; CHART], &mut [7; 1024]), Ok(None));
 }
 
 #[test]
 fn the_limit_of_512_parts_decides_what_is_first() {
     let first = |book: &[u8], n: usize| {
         let (g, mut chart, mut out) = (loader::load(book).unwrap(), [0; CHART], [7; 1024]);
-        enumerator::first(&g, &vec![b'A'; n], &mut chart, &mut out).map(|n| n.map(|n| out[..2 * n].to_vec()))
+        enumerator::first(&g, &vec![b'A'; n], 0, &mut chart, &mut out).map(|n| n.map(|n| out[..2 * n].to_vec()))
     };
     for (book, input, reading) in [books::deepest(), books::bush()] {
         assert_eq!(first(&book, input.len()), Ok(Some(reading)));
@@ -360,9 +360,22 @@ fn the_flat_row_is_read_as_it_was_written() {
 }
 
 fn text(book: &[u8], plate: &[u8]) -> String {
+    text_in(book, plate, 0)
+}
+
+fn text_in(book: &[u8], plate: &[u8], year: u16) -> String {
     let mut text = Vec::new();
-    listing::list(book, plate, &mut text).unwrap();
+    listing::list(book, plate, year, &mut text).unwrap();
     String::from_utf8(text).unwrap()
+}
+
+#[test]
+fn the_listing_program_goes_by_the_year() {
+    let seal = b"\x10\x00\x21\x00\x64\x00\xCE\x07\xD7\x07\x40\x41\x21\x00\xC8\x00\xD8\x07\xFF\xFF\x40\x41\x50";
+    assert_eq!((text(seal, b"A"), text_in(seal, b"A", 1997)), ("NO READING\n".into(), "NO READING\n".into()));
+    for (year, line) in [(1998, "1.0 = 10"), (2007, "1.0 = 10"), (2008, "1.1 = 20"), (65_535, "1.1 = 20")] {
+        assert_eq!(text_in(seal, b"A", year), format!("1: {line}\nREADINGS 1\n"), "{year}");
+    }
 }
 
 #[test]
@@ -384,5 +397,5 @@ fn the_listing_program_prints_the_lines_of_document_01() {
         assert!(text.lines().zip(1..=lines).all(|(line, place)| line.starts_with(&format!("{place}: {marks}.0 "))));
     }
     let mut room = [0; 70_000];
-    assert!(listing::list(&pairs, &[b'A'; 10], &mut room[..]).is_err(), "the text does not fit");
+    assert!(listing::list(&pairs, &[b'A'; 10], 0, &mut room[..]).is_err(), "the text does not fit");
 }

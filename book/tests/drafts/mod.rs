@@ -2,7 +2,7 @@
 
 use outside_tests::books::{Draft, Rng, Sym};
 
-/// A random book: any start, 0 to 128 rules of 0 to 8 places, any kind, mark, range and length.
+/// A random book: any start, 0 to 128 rules of 0 to 8 places, any kind, mark, range, length and years.
 pub fn draft(rng: &mut Rng) -> Draft {
     let mut draft = Draft::new(rng.below(32) as u8);
     let rules = match rng.below(6) {
@@ -19,6 +19,11 @@ pub fn draft(rng: &mut Rng) -> Draft {
         let left = rng.below(32) as u8;
         let places = (0..rng.below(9)).map(|_| symbol(rng)).collect();
         draft.rules.push((left, length, places));
+        if rng.one_in(3) {
+            let (one, other) = (rng.draw() as u16, rng.draw() as u16);
+            let (one, other) = rng.pick(&[(one, other), (one, one), (0, u16::MAX), (1998, 2007), (255, 256)]);
+            draft.years.insert(draft.rules.len() - 1, (one.min(other), one.max(other)));
+        }
     }
     draft
 }
@@ -41,7 +46,7 @@ pub fn spelt(rng: &mut Rng, draft: &Draft) -> String {
     let mut text = String::new();
     let start = kind(rng, draft.start);
     line(rng, &mut text, &["start".to_string(), start]);
-    for (left, length, places) in &draft.rules {
+    for (number, (left, length, places)) in draft.rules.iter().enumerate() {
         let mut words = vec![kind(rng, *left), "->".to_string()];
         words.extend(places.iter().map(|place| match *place {
             Sym::N(k) => kind(rng, k),
@@ -52,6 +57,9 @@ pub fn spelt(rng: &mut Rng, draft: &Draft) -> String {
             words.push("-".to_string());
         }
         words.extend([":".to_string(), millimetres(rng, *length)]);
+        if let Some((first, last)) = draft.years.get(&number) {
+            words.extend(["years".to_string(), year(rng, *first), year(rng, *last)]);
+        }
         line(rng, &mut text, &words);
     }
     if rng.one_in(4) {
@@ -78,6 +86,10 @@ fn line(rng: &mut Rng, text: &mut String, words: &[String]) {
 
 fn kind(rng: &mut Rng, kind: u8) -> String {
     format!("{}{kind}", rng.pick(&["", "", "0", "000"]))
+}
+
+fn year(rng: &mut Rng, year: u16) -> String {
+    format!("{}{year}", rng.pick(&["", "", "0", "000"]))
 }
 
 fn mark(rng: &mut Rng, mark: u8) -> String {

@@ -21,3 +21,4 @@ numberOf R.OnlyLargerTrees = 13
 numberOf R.InvalidRecognizer = 14
 numberOf R.RecognizerFull = 15
 numberOf R.RangeReversed = 16
+numberOf R.YearsReversed = 21

@@ -20,6 +20,7 @@ pub enum Refusal {
     InvalidRecognizer,
     RecognizerFull,
     RangeReversed,
+    YearsReversed,
 }
 
 // Loading: the book was accepted, or why it was refused and at which offset.
@@ -76,5 +77,6 @@ pub fn number(r: Refusal) -> u8
         Refusal::InvalidRecognizer => 14,
         Refusal::RecognizerFull => 15,
         Refusal::RangeReversed => 16,
+        Refusal::YearsReversed => 21,
     }
 }

@@ -16,7 +16,8 @@ use Rattle.grammar.specs.declared.Rule.{Rule}
 use Rattle.grammar.specs.declared.Grammar.{Grammar}
 use Rattle.grammar.specs.Valid.{all, validSymbol, validPlace, validRule, validGrammar}
 use Rattle.numbers.specs.Numbers.{byteIn, saturated}
-use Rattle.c_grammar.specs.Flat.{rowSymbol, recordsFrom, rowPlace, rowPlaces, rowRule, rowRules, grammarIn, flatOf, ruleNumbers}
+use Rattle.c_grammar.specs.Flat.{yearsAt, ruleNumbers, rowSymbol, recordsFrom, rowPlace, rowPlaces, rowRule, rowRules, grammarIn}
+use Rattle.c_grammar.specs.Flat.{flatOf}
 use Rattle.c_grammar.specs.Fits.{DeclaredGrammar}
 use Rattle.c_grammar.specs.Valid.{each, validTagged, validPlaceAt, validRuleAt, validRow}
 use Rattle.c_grammar.proofs.Records.{records-more}
@@ -80,7 +81,7 @@ symbol-judged t v =
     nonterminal e = rw (e, or-false (leb v 31), or-false (leb v 31)) (byte-limit v)
 
     terminal : t ≡ 1 → validSymbol (rowSymbol t v) ≡ validTagged t v
-    terminal e = rw (e, or-false (leb v 255)) (value (leb v 255))
+    terminal e = rw e (value (leb v 255) ∙ sym (or-false (leb v 255)))
 
     range : t ≡ 2 → validSymbol (rowSymbol t v) ≡ validTagged t v
     range e = rw e
@@ -96,8 +97,9 @@ module _ (f : List ℕ) where
   rule-judged : (at : ℕ) → validRule (rowRule f at) ≡ validRuleAt f at
   unfolding validRule rowRule rowPlaces validRuleAt
   rule-judged at =
-      within (leb (byteIn (getD f at 0)) 31) (leb (getD f at 0) 31) _ _ (getD f (at + 2) 0) 8 (byte-limit (getD f at 0))
-      (records-judged validPlace (rowPlace f) (validPlaceAt f) place-judged 2 (at + 3) (getD f (at + 2) 0) 8)
+      ap (λ (x : Bool). x && leb (getD f (at + yearsAt) 0) (getD f (at + yearsAt + 1) 0))
+      (within (leb (byteIn (getD f at 0)) 31) (leb (getD f at 0) 31) _ _ (getD f (at + 2) 0) 8 (byte-limit (getD f at 0))
+      (records-judged validPlace (rowPlace f) (validPlaceAt f) place-judged 2 (at + 3) (getD f (at + 2) 0) 8))
 
 pub judged-whole : (f : List ℕ) → validGrammar (grammarIn f) ≡ validRow f
 unfolding validGrammar grammarIn rowRules validRow
@@ -125,7 +127,9 @@ counts-kept a n m x h = dite (decLe n 65535) small large
 
 rule-kept-valid : (ρ : Rule) → validRule (keptRule ρ) ≡ validRule ρ
 unfolding validRule
-rule-kept-valid ρ = counts-kept (leb (ρ .left) 31) (ρ .count) 8 (λ n. all validPlace (take n (ρ .places))) (omega arith)
+rule-kept-valid ρ =
+    ap (λ (x : Bool). x && leb (ρ .first) (ρ .last))
+    (counts-kept (leb (ρ .left) 31) (ρ .count) 8 (λ n. all validPlace (take n (ρ .places))) (omega arith))
 
 rules-kept-valid : (n : ℕ) (l : List Rule) → all validRule (take n (map keptRule l)) ≡ all validRule (take n l)
 unfolding all

@@ -3,7 +3,7 @@
 use Prim.Native.Nat.{ℕ, _+_, _≤_, _<_}
 use native.Mathlib.Omega.{arith}
 use mathlib.Core.List.{List}
-use mathlib.Core.Path.{_≡_, _∙_}
+use mathlib.Core.Path.{_≡_, refl, _∙_}
 use lib.IntN.{ℤ}
 use lib.ListN.{getD}
 use borrow.Author.Tests.{ne-eqb, le-leb, lt-leb}
@@ -17,7 +17,7 @@ use Rattle.grammar.specs.declared.Rule.{Rule}
 use Rattle.grammar.specs.Setters.{ruleWith, grammarWith}
 use Rattle.grammar.proofs.Setters.{rule-same, grammar-same}
 use Rattle.numbers.specs.Numbers.{byteIn, signedIn}
-use Rattle.c_grammar.specs.Flat.{lowEnd, highEnd, rowSymbol, rowPlace, rowPlaces, rowRule, rowRules, grammarIn}
+use Rattle.c_grammar.specs.Flat.{yearsAt, lowEnd, highEnd, rowSymbol, rowPlace, rowPlaces, rowRule, rowRules, grammarIn}
 
 module _ (tag value v : ℕ) (e : v ≡ byteIn value) where
   pub symbol-nonterminal : tag ≡ 0 → Nonterminal v ≡ rowSymbol tag value
@@ -52,9 +52,11 @@ read-place-of f at s e = λ i. record { symbol = e i }
 -- the code keeps the length in a local of 16 bits
 pub read-rule-of : (f : List ℕ) (at l k : ℕ) (z : ℤ) (p : List Place) → l ≡ byteIn (getD f at 0) → z ≡ signedIn (getD f (at + 1) 0)
     → SFits w16 z → k ≡ getD f (at + 2) 0 → p ≡ rowPlaces f (at + 3)
-    → ruleWith l (toZ w16 (ofZ w16 z)) k p ≡ rowRule f at
+    → ruleWith l (toZ w16 (ofZ w16 z)) k p (getD f (at + yearsAt) 0) (getD f (at + yearsAt + 1) 0) ≡ rowRule f at
 unfolding rowRule
-read-rule-of f at l k z p el ez s ek ep = rule-same (ruleWith l (toZ w16 (ofZ w16 z)) k p) (rowRule f at) el (toZ-ofZ s ∙ ez) ek ep
+read-rule-of f at l k z p el ez s ek ep =
+    rule-same (ruleWith l (toZ w16 (ofZ w16 z)) k p (getD f (at + yearsAt) 0) (getD f (at + yearsAt + 1) 0)) (rowRule f at)
+    el (toZ-ofZ s ∙ ez) ek ep refl refl
 
 pub read-grammar-of : (f : List ℕ) (s k d : ℕ) (r : List Rule) → s ≡ byteIn (getD f 0 0) → k ≡ getD f 1 0 → d ≡ byteIn (getD f 2 0)
     → r ≡ rowRules f → grammarWith s k d r ≡ grammarIn f

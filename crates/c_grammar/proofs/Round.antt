@@ -4,7 +4,7 @@ use Prim.Native.Nat.{ℕ, zero, suc, _+_, _*_, _<_}
 use native.Mathlib.Omega.{arith}
 use mathlib.Core.List.{List, [], _∷_, _++_, map, map-id, flatMap, append-assoc, append-nil}
 use mathlib.Core.Path.{_≡_, refl, sym, ap, _∙_}
-use lib.ListN.{length, getD, drop}
+use lib.ListN.{length, getD, drop, length-append}
 use lib.Seq.{getD-drop, drop-drop, drop-at}
 use borrow.Author.Tests.{le-leb}
 use Rattle.sizes.specs.Sizes.{maxPlaces, maxRules}
@@ -20,7 +20,7 @@ use Rattle.grammar.proofs.Setters.{rule-same, grammar-same}
 use Rattle.numbers.specs.Numbers.{byteIn, saturated, signedIn, unsignedOf}
 use Rattle.numbers.proofs.Complement.{signed-round}
 use Rattle.c_grammar.specs.Flat.{lowEnd, highEnd, rowSymbol, recordsFrom, rowPlace, rowPlaces, rowRule, rowRules, grammarIn}
-use Rattle.c_grammar.specs.Flat.{ruleNumbers, flatPlace, flatRule, flatOf}
+use Rattle.c_grammar.specs.Flat.{yearsAt, ruleNumbers, flatPlace, flatRule, flatOf}
 use Rattle.c_grammar.specs.Fits.{SymbolBytes, DeclaredRule, DeclaredGrammar, Fits16}
 
 -- ---- one place
@@ -88,7 +88,9 @@ places-size (p ∷ l) = omega (arith, places-size l)
 
 rule-size : (ρ : Rule) → DeclaredRule ρ → length (flatRule ρ) ≡ ruleNumbers
 unfolding flatRule
-rule-size ρ d = omega (arith, places-size (ρ .places), d .places)
+rule-size ρ d =
+    let n = length-append (flatMap flatPlace (ρ .places)) (ρ .first ∷ ρ .last ∷ []) in
+    omega (arith, n, places-size (ρ .places), d .places)
 
 module _ (f : List ℕ) where
   place-back : (p : Place) (at : ℕ) (rest : List ℕ) → SymbolBytes (p .symbol) → drop at f ≡ flatPlace p ++ rest → rowPlace f at ≡ p
@@ -111,16 +113,23 @@ module _ (f : List ℕ) where
   rule-back : (ρ : Rule) (at : ℕ) (rest : List ℕ) → DeclaredRule ρ → drop at f ≡ flatRule ρ ++ rest → rowRule f at ≡ keptRule ρ
   unfolding rowRule flatRule
   rule-back ρ at rest d h =
+      let places = flatMap flatPlace (ρ .places) in
+      let years = ρ .first ∷ ρ .last ∷ [] in
       let k : getD f at 0 ≡ ρ .left = at-index f (flatRule ρ ++ rest) at 0 at (omega arith) h in
       let m : getD f (at + 1) 0 ≡ unsignedOf (ρ .length) = at-index f (flatRule ρ ++ rest) at 1 (at + 1) refl h in
       let a : byteIn (getD f at 0) ≡ ρ .left = omega (arith, d .left) in
       let b : signedIn (getD f (at + 1) 0) ≡ ρ .length = ap signedIn m ∙ signed-round (ρ .length) (d .magnitude) in
       let c : getD f (at + 2) 0 ≡ saturated (ρ .count) = at-index f (flatRule ρ ++ rest) at 2 (at + 2) refl h in
-      let e : rowPlaces f (at + 3) ≡ ρ .places =
-      places-back (ρ .places) (at + 3) rest (d .places) (d .symbols)
-      (further f (ρ .left ∷ unsignedOf (ρ .length) ∷ saturated (ρ .count) ∷ []) (flatMap flatPlace (ρ .places) ++ rest) at 3 refl h)
+      let p : drop (at + 3) f ≡ places ++ (years ++ rest) =
+      further f (ρ .left ∷ unsignedOf (ρ .length) ∷ saturated (ρ .count) ∷ []) ((places ++ years) ++ rest) at 3 refl h
+      ∙ append-assoc places years rest
       in
+      let e = places-back (ρ .places) (at + 3) (years ++ rest) (d .places) (d .symbols) p in
+      let n : length places ≡ 2 * maxPlaces = omega (arith, places-size (ρ .places), d .places) in
+      let y = further f places (years ++ rest) (at + 3) (2 * maxPlaces) n p in
       rule-same (rowRule f at) (keptRule ρ) a b c e
+      (at-index f (years ++ rest) (at + 3 + 2 * maxPlaces) 0 (at + yearsAt) (omega arith) y)
+      (at-index f (years ++ rest) (at + 3 + 2 * maxPlaces) 1 (at + yearsAt + 1) (omega arith) y)
 
 module _ (g : Grammar) (d : DeclaredGrammar g) where
   rules-back : rowRules (flatOf g) ≡ map keptRule (g .rules)

@@ -14,7 +14,7 @@ use Rattle.grammar.specs.declared.Rule.{Rule}
 use Rattle.grammar.specs.declared.Grammar.{Grammar}
 use Rattle.grammar.specs.Tagged.{tagOf, valueOf, highOf}
 use Rattle.numbers.specs.Numbers.{saturated, unsignedOf}
-use Rattle.c_grammar.specs.Flat.{flatPlace, flatRule, flatOf, flatSize, ruleNumbers}
+use Rattle.c_grammar.specs.Flat.{flatPlace, flatRule, flatOf, flatSize, yearsAt, ruleNumbers}
 use Rattle.c_grammar.proofs.Records.{put-two, put-three, flat-step}
 
 -- in f, the numbers before b are those of f₀, and the first q of the m elements of l follow, w numbers each
@@ -64,15 +64,21 @@ place-done p at f t v u h n et ev eu =
 pub rule-done : (ρ : Rule) (at : ℕ) (f₀ f : List ℕ) (u k q : ℕ) → at + ruleNumbers ≤ flatSize → length f₀ ≡ flatSize
     → SFits w16 (ρ .length) → maxPlaces ≤ q → u ≡ unsignedOf (toZ w16 (ofZ w16 (ρ .length))) → k ≡ saturated (ρ .count)
     → Written flatPlace 2 (at + 3) (ρ .places) maxPlaces (set (set (set f₀ at (ρ .left)) (at + 1) u) (at + 2) k) q f
-    → take (at + ruleNumbers) f ≡ take at f₀ ++ flatRule ρ
+    → take (at + ruleNumbers) (set (set f (at + yearsAt) (ρ .first)) (at + yearsAt + 1) (ρ .last)) ≡ take at f₀ ++ flatRule ρ
 unfolding flatRule
 rule-done ρ at f₀ f u k q low n s h eu ek r =
     let e : u ≡ unsignedOf (ρ .length) = eu ∙ ap unsignedOf (toZ-ofZ s) in
-    written-all flatPlace 2 (at + 3) (ρ .places) maxPlaces q (at + ruleNumbers) _ f h (omega arith) r
-    ∙ ap (λ (x : List ℕ). x ++ flatMap flatPlace (ρ .places))
+    let places = flatMap flatPlace (ρ .places) in
+    let years = ρ .first ∷ ρ .last ∷ [] in
+    let front = ρ .left ∷ unsignedOf (ρ .length) ∷ saturated (ρ .count) ∷ [] in
+    put-two f (at + yearsAt) (at + yearsAt + 1) (at + ruleNumbers) (ρ .first) (ρ .last) refl (omega arith) (omega (arith, r .long))
+    ∙ ap (λ (x : List ℕ). x ++ years)
+    (written-all flatPlace 2 (at + 3) (ρ .places) maxPlaces q (at + yearsAt) _ f h (omega arith) r
+    ∙ ap (λ (x : List ℕ). x ++ places)
     (put-three f₀ at (at + 1) (at + 2) (at + 3) (ρ .left) u k (omega arith) (omega arith) (omega arith) (omega arith)
     ∙ λ i. take at f₀ ++ (ρ .left ∷ e i ∷ ek i ∷ []))
-    ∙ append-assoc (take at f₀) (ρ .left ∷ unsignedOf (ρ .length) ∷ saturated (ρ .count) ∷ []) (flatMap flatPlace (ρ .places))
+    ∙ append-assoc (take at f₀) front places)
+    ∙ append-assoc (take at f₀) (front ++ places) years
 
 -- ---- a grammar
 

@@ -1,5 +1,6 @@
 -- What the declared types say of a grammar: it has 128 rules of 8 places, and each field but the counts fits the bits that a flat row has
--- for it. The counts may be any numbers. If they fit 16 bits too, a flat row holds the whole grammar. Assumes nothing.
+-- for it. The counts may be any numbers. If they fit 16 bits too, a flat row holds the whole grammar. The years are numbers of 16 bits as
+-- they are, so nothing has to be said of them. Assumes nothing.
 use Prim.Native.Nat.{ℕ, _<_}
 use mathlib.Core.Path.{_≡_}
 use lib.ListN.{length, getD}

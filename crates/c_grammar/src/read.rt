@@ -1,6 +1,7 @@
 // Reads a grammar from its row.
 use super::Flat;
 use super::RULE_NUMBERS;
+use super::YEARS_AT;
 use super::symbol::symbol;
 use grammar::Grammar;
 use grammar::Place;
@@ -45,6 +46,8 @@ fn read_rule(f: &Flat, at: usize) -> Rule
         length: length,
         count: count,
         places: places,
+        first: f[at + YEARS_AT],
+        last: f[at + YEARS_AT + 1],
     }
 }
 

@@ -2,6 +2,7 @@
 use super::FLAT_SIZE;
 use super::Flat;
 use super::RULE_NUMBERS;
+use super::YEARS_AT;
 use grammar::Grammar;
 use grammar::Place;
 use grammar::Rule;
@@ -39,6 +40,8 @@ pub fn write_rule(rule: Rule, at: usize, f: &mut Flat)
         write_place(place, at + 3 + 2 * q, f);
         q += 1;
     }
+    f[at + YEARS_AT] = rule.first;
+    f[at + YEARS_AT + 1] = rule.last;
 }
 
 // Writes the row of the grammar. The row is cleared first, so that its length is known whatever it held.

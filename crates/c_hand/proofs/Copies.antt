@@ -2,15 +2,15 @@
 use Prim.Native.Nat.{ℕ, suc, _+_, _≤_, _<_}
 use native.Mathlib.Numerals.{add-one}
 use native.Mathlib.Omega.{arith}
-use mathlib.Core.List.{List, [], _∷_, _++_, map}
-use mathlib.Core.Path.{_≡_, refl, sym, _∙_}
+use mathlib.Core.List.{List, [], _∷_, _++_, map, append-assoc}
+use mathlib.Core.Path.{_≡_, refl, sym, ap, _∙_}
 use lib.ListN.{length, getD, take, set, length-set, length-map, List·getD-map}
 use lib.Seq.{take-suc, take-suc-set, take-all}
 use Rattle.sizes.specs.Sizes.{maxInput}
 use Rattle.results.specs.Recognize.{State, stateWith}
 use Rattle.results.proofs.State.{state-same}
 use Rattle.numbers.specs.Numbers.{byteIn, saturated}
-use Rattle.c_hand.specs.Hand.{handSize, bytesIn, handCount, stateOfRow, rowOf}
+use Rattle.c_hand.specs.Hand.{handSize, yearAt, bytesIn, handCount, stateOfRow, rowOf}
 
 -- l has n elements, and its first i are those of x
 pub record Copied (x : List ℕ) (n i : ℕ) (l : List ℕ) : Type 0 where
@@ -47,17 +47,21 @@ pub read-done : (h : List ℕ) (i : ℕ) (l : List ℕ) → Copied (map byteIn h
 unfolding bytesIn
 read-done h i l c k = sym (take-all maxInput l (omega (arith, c .long))) ∙ copied-all (map byteIn h) maxInput i l c k
 
--- all bytes are written, and then the count
+-- all bytes are written, then the count, and then the year
 pub write-done : (s : State) (i : ℕ) (l : List ℕ) (k : ℕ) → Copied (s .bytes) handSize i l → length (s .bytes) ≡ maxInput → maxInput ≤ i
-    → k ≡ saturated (s .count) → set l maxInput k ≡ rowOf s
+    → k ≡ saturated (s .count) → set (set l maxInput k) yearAt (s .year) ≡ rowOf s
 unfolding rowOf
 write-done s i l k c n h e =
     let t : take maxInput l ≡ s .bytes = copied-all (s .bytes) handSize i l c h ∙ take-all maxInput (s .bytes) (omega arith) in
-    sym (take-all handSize (set l maxInput k) (omega (arith, length-set l maxInput k, c .long)))
-    ∙ take-suc-set l maxInput k (omega (arith, c .long))
-    ∙ (λ j. t j ++ (e j ∷ []))
+    let counted = set l maxInput k in
+    let long : length counted ≡ handSize = length-set l maxInput k ∙ c .long in
+    sym (take-all handSize (set counted yearAt (s .year)) (omega (arith, length-set counted yearAt (s .year))))
+    ∙ take-suc-set counted yearAt (s .year) (omega arith)
+    ∙ ap (λ (x : List ℕ). x ++ (s .year ∷ [])) (take-suc-set l maxInput k (omega (arith, c .long)))
+    ∙ (λ j. (t j ++ (e j ∷ [])) ++ (s .year ∷ []))
+    ∙ append-assoc (s .bytes) (saturated (s .count) ∷ []) (s .year ∷ [])
 
 -- the state of what was read
-pub read-of : (h l : List ℕ) (n : ℕ) → l ≡ bytesIn h → n ≡ handCount h → stateWith l n ≡ stateOfRow h
+pub read-of : (h l : List ℕ) (n : ℕ) → l ≡ bytesIn h → n ≡ handCount h → stateWith l n (getD h yearAt 0) ≡ stateOfRow h
 unfolding stateOfRow
-read-of h l n e f = state-same (stateWith l n) (stateOfRow h) e f
+read-of h l n e f = state-same (stateWith l n (getD h yearAt 0)) (stateOfRow h) e f refl

@@ -4,11 +4,11 @@ use Prim.Native.Nat.{ℕ, zero, suc, _<_}
 use native.Mathlib.Decide.{decLt}
 use native.Mathlib.Omega.{arith}
 use mathlib.Core.Bool.{true}
-use mathlib.Core.List.{List, [], _∷_, _++_, map}
+use mathlib.Core.List.{List, [], _∷_, _++_, map, append-assoc}
 use mathlib.Core.Logic.{dite}
 use mathlib.Core.Path.{_≡_, refl, sym, ap, _∙_}
 use lib.Dec.{ltb}
-use lib.ListN.{length, getD, take}
+use lib.ListN.{length, getD, take, length-append}
 use lib.Seq.{take-at, getD-at}
 use borrow.Author.Tests.{lt-ltb, le-leb}
 use Rattle.grammar.specs.Valid.{all}
@@ -17,7 +17,7 @@ use Rattle.results.proofs.State.{state-same}
 use Rattle.c_hand.specs.Declared.{DeclaredState}
 use Rattle.sizes.specs.Sizes.{maxInput}
 use Rattle.numbers.specs.Numbers.{byteIn, saturated}
-use Rattle.c_hand.specs.Hand.{isByte, bytesIn, handCount, stateOfRow, rowOf}
+use Rattle.c_hand.specs.Hand.{isByte, yearAt, bytesIn, handCount, stateOfRow, rowOf}
 
 -- ---- bytes
 
@@ -48,21 +48,29 @@ module _ (s : State) (d : DeclaredState s) where
   bytes-back : bytesIn (rowOf s) ≡ s .bytes
   unfolding bytesIn rowOf
   bytes-back =
-      ap (λ (n : ℕ). take n (map byteIn (s .bytes ++ (saturated (s .count) ∷ [])))) (sym (d .long))
-      ∙ bytes-front (s .bytes) (saturated (s .count) ∷ []) (d .each)
+      ap (λ (n : ℕ). take n (map byteIn (s .bytes ++ (saturated (s .count) ∷ s .year ∷ [])))) (sym (d .long))
+      ∙ bytes-front (s .bytes) (saturated (s .count) ∷ s .year ∷ []) (d .each)
 
   count-back : handCount (rowOf s) ≡ saturated (s .count)
   unfolding handCount rowOf
   count-back =
       rw (
-        getD-at (s .bytes) (saturated (s .count)) [] 0 maxInput (d .long),
-        take-at (s .bytes) (saturated (s .count) ∷ []) maxInput (d .long),
+        getD-at (s .bytes) (saturated (s .count)) (s .year ∷ []) 0 maxInput (d .long),
+        take-at (s .bytes) (saturated (s .count) ∷ s .year ∷ []) maxInput (d .long),
         bytes-all (s .bytes) (saturated (s .count)) (d .each),
       )
 
+  year-back : getD (rowOf s) yearAt 0 ≡ s .year
+  unfolding rowOf
+  year-back =
+      let front = s .bytes ++ (saturated (s .count) ∷ []) in
+      let long : length front ≡ yearAt = omega (arith, length-append (s .bytes) (saturated (s .count) ∷ []), d .long) in
+      ap (λ (l : List ℕ). getD l yearAt 0) (sym (append-assoc (s .bytes) (saturated (s .count) ∷ []) (s .year ∷ [])))
+      ∙ getD-at front (s .year) [] 0 yearAt long
+
   pub read-kept : stateOfRow (rowOf s) ≡ kept s
   unfolding stateOfRow
-  read-kept = state-same (stateOfRow (rowOf s)) (kept s) bytes-back count-back
+  read-kept = state-same (stateOfRow (rowOf s)) (kept s) bytes-back count-back year-back
 
   -- a state whose count is one of 16 bits is read back as it was written
   pub read-write : s .count < 65536 → stateOfRow (rowOf s) ≡ s

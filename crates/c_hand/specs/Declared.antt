@@ -1,4 +1,4 @@
--- What the declared type of a state says: it has 64 bytes. The count may be any number. Assumes nothing.
+-- What the declared type of a state says: it has 64 bytes. The count and the year may be any number. Assumes nothing.
 use Prim.Native.Nat.{ℕ, _<_}
 use mathlib.Core.Path.{_≡_}
 use lib.ListN.{length, getD}

@@ -1,6 +1,6 @@
 // A state of the recognizer (document 01: the plate in hand) as a row of 16-bit numbers, the form in which it crosses to C and Rust: the 64
-// bytes, then the count. Check 14 refuses the state read from a row exactly if the row's own numbers are invalid. It refuses the row of a
-// state exactly if it refuses the state.
+// bytes, the count, then the year. Check 14 refuses the state read from a row exactly if the row's own numbers are invalid. It refuses the
+// row of a state exactly if it refuses the state.
 use recognizer::Recognizer;
 use sizes::MAX_INPUT;
 ghost use mathlib.Core.Path.{_≡_};
@@ -9,8 +9,11 @@ ghost use Rattle.sizes.specs.Sizes.{maxInput};
 ghost use Rattle.recognizer.specs.Recognizer.{stateIn};
 ghost use Rattle.c_hand.specs.Hand.{handSize, bytesIn, handCount, stateOfRow, rowOf};
 
-// How many numbers the row has: the bytes, then the count.
-pub const HAND: usize = MAX_INPUT + 1;
+// How many numbers the row has: the bytes, the count, then the year.
+pub const HAND: usize = MAX_INPUT + 2;
+
+// Where the year is.
+const YEAR: usize = MAX_INPUT + 1;
 
 // A count that check 14 refuses.
 const INVALID_COUNT: usize = MAX_INPUT + 1;
@@ -63,7 +66,11 @@ pub fn read(h: &[u16; HAND]) -> Recognizer
 {
     let bytes = read_bytes(*h);
     let count = read_count(h);
-    Recognizer { bytes, count }
+    Recognizer {
+        bytes,
+        count,
+        year: h[YEAR],
+    }
 }
 
 // Writes the row of the state. The row is cleared first, so that its length is known whatever it held.
@@ -77,4 +84,5 @@ pub fn write(r: Recognizer, h: &mut [u16; HAND])
         k += 1;
     }
     h[MAX_INPUT] = numbers::saturate(r.count);
+    h[YEAR] = r.year;
 }

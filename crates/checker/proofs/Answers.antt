@@ -73,43 +73,43 @@ module _ (l : List (List ℕ)) (d e : List ℕ) (a : Bool) (first : a ≡ listed
 
 -- ---- the calls
 
-module _ (g : Grammar) (w chart : List ℕ) (j : Judged) (judging : Judging g (length w) (length chart) j) where
+module _ (g : Grammar) (y : ℕ) (w chart : List ℕ) (j : Judged) (judging : Judging g (length w) (length chart) j) where
   module _ (r : Refusal) (is : j ≡ Refused r) where
-    pub check-refused : (e : List ℕ) → checkingOf (refused (numberOf r)) chart ≡ checkOf (dated g) w e chart
+    pub check-refused : (e : List ℕ) → checkingOf (refused (numberOf r)) chart ≡ checkOf (dated g y) w e chart
     unfolding checkOf
-    check-refused e = call-refused g w chart _ j judging r is
+    check-refused e = call-refused g y w chart _ j judging r is
 
-    pub length-refused : (e : List ℕ) → checkingOf (refused (numberOf r)) chart ≡ lengthOf (dated g) w e chart
+    pub length-refused : (e : List ℕ) → checkingOf (refused (numberOf r)) chart ≡ lengthOf (dated g y) w e chart
     unfolding lengthOf
-    length-refused e = call-refused g w chart _ j judging r is
+    length-refused e = call-refused g y w chart _ j judging r is
 
-    pub build-refused : (a b : List ℕ) → checkingOf (refused (numberOf r)) chart ≡ sameBuildOf (dated g) w a b chart
+    pub build-refused : (a b : List ℕ) → checkingOf (refused (numberOf r)) chart ≡ sameBuildOf (dated g y) w a b chart
     unfolding sameBuildOf
-    build-refused a b = call-refused g w chart _ j judging r is
+    build-refused a b = call-refused g y w chart _ j judging r is
 
   module _ (is : j ≡ Passed) (p chart' : List ℕ) (s : ℕ) (start : s ≡ g .start)
-      (filling : (chart' ≡ filled (grammarOf (dated g)) w chart)
-      × ((r : ℕ) → rule (cfgIn (g .start) p) r ≡ rule (grammarOf (dated g)) r)) where
-    same : L (cfgIn s p) w ≡ L (grammarOf (dated g)) w
-    same = list-packed g p w (filling .1) s start
+      (filling : (chart' ≡ filled (grammarOf (dated g y)) w chart)
+      × ((r : ℕ) → rule (cfgIn (g .start) p) r ≡ rule (grammarOf (dated g y)) r)) where
+    same : L (cfgIn s p) w ≡ L (grammarOf (dated g y)) w
+    same = list-packed g y p w (filling .1) s start
 
     pub check-answered : (a : Answer Bool) (e : List ℕ) → a ≡ checkAnswer (L (cfgIn s p) w) e
-        → checkingOf a chart' ≡ checkOf (dated g) w e chart
+        → checkingOf a chart' ≡ checkOf (dated g y) w e chart
     unfolding checkOf checkIn
     check-answered a e d =
-        call-passed g w chart _ j judging chart' a is (filling .0) (d ∙ ap (λ (l : List (List ℕ)). checkAnswer l e) same)
+        call-passed g y w chart _ j judging chart' a is (filling .0) (d ∙ ap (λ (l : List (List ℕ)). checkAnswer l e) same)
 
     pub length-answered : (l : List ℤ) (a : Answer ℤ) (e : List ℕ) → l ≡ map lengthOfRule (g .rules)
-        → a ≡ lengthAnswer (lengthsIn l) (L (cfgIn s p) w) e → checkingOf a chart' ≡ lengthOf (dated g) w e chart
+        → a ≡ lengthAnswer (lengthsIn l) (L (cfgIn s p) w) e → checkingOf a chart' ≡ lengthOf (dated g y) w e chart
     unfolding lengthOf lengthIn unlisted
     length-answered l a e m d =
-        call-passed g w chart _ j judging chart' a is (filling .0)
+        call-passed g y w chart _ j judging chart' a is (filling .0)
         (d ∙ ap (λ (x : List (List ℕ)). lengthAnswer (lengthsIn l) x e) same
-        ∙ ap (λ (z : ℤ). decide (check (not (listed e (L (grammarOf (dated g)) w))) 12 ∷ []) refused (λ _. answered z))
+        ∙ ap (λ (z : ℤ). decide (check (not (listed e (L (grammarOf (dated g y)) w))) 12 ∷ []) refused (λ _. answered z))
         (tenths-row g l m e))
 
     pub build-answered : (a : Answer Bool) (b c : List ℕ) → a ≡ buildAnswer (L (cfgIn s p) w) b c
-        → checkingOf a chart' ≡ sameBuildOf (dated g) w b c chart
+        → checkingOf a chart' ≡ sameBuildOf (dated g y) w b c chart
     unfolding sameBuildOf sameBuildIn unlisted
     build-answered a b c d =
-        call-passed g w chart _ j judging chart' a is (filling .0) (d ∙ ap (λ (l : List (List ℕ)). buildAnswer l b c) same)
+        call-passed g y w chart _ j judging chart' a is (filling .0) (d ∙ ap (λ (l : List (List ℕ)). buildAnswer l b c) same)

@@ -67,28 +67,28 @@ fn compare_offered(p: &Packed, start: usize, input: &[u8], a: &[u16], b: &[u16])
 // ---- the exported calls
 
 // Whether the offered row of numbers is a derivation of the input. Refusals 8, 9 and 10.
-pub fn check(g: Grammar, input: &[u8], offered: &[u16], chart: &mut [u32]) -> Verdict
+pub fn check(g: Grammar, input: &[u8], year: u16, offered: &[u16], chart: &mut [u32]) -> Verdict
     ensures { λ r. ⌜ checkingOf (verdictOf r) (now (chart .exit))
-        ≡ checkOf (dated g) (now (input .entry)) (now (offered .entry)) (now (chart .entry)) ⌝ }
+        ≡ checkOf (dated g year) (now (input .entry)) (now (offered .entry)) (now (chart .entry)) ⌝ }
 {
     match fill_input::judge(g, input.len(), chart.len()) {
         Judged::Refused(r) => Verdict::Refused(r),
         Judged::Passed => {
-            let p = fill_input::fill(g, input, chart);
+            let p = fill_input::fill(g, input, year, chart);
             check_offered(&p, wide_byte(g.start), input, offered)
         }
     }
 }
 
 // The length of an offered derivation. Refusals 8, 9, 10 and 12.
-pub fn length(g: Grammar, input: &[u8], offered: &[u16], chart: &mut [u32]) -> Measured
+pub fn length(g: Grammar, input: &[u8], year: u16, offered: &[u16], chart: &mut [u32]) -> Measured
     ensures { λ r. ⌜ checkingOf (measuredOf r) (now (chart .exit))
-        ≡ lengthOf (dated g) (now (input .entry)) (now (offered .entry)) (now (chart .entry)) ⌝ }
+        ≡ lengthOf (dated g year) (now (input .entry)) (now (offered .entry)) (now (chart .entry)) ⌝ }
 {
     match fill_input::judge(g, input.len(), chart.len()) {
         Judged::Refused(r) => Measured::Refused(r),
         Judged::Passed => {
-            let p = fill_input::fill(g, input, chart);
+            let p = fill_input::fill(g, input, year, chart);
             let lengths = check_length::lengths_of(g);
             measure_offered(&lengths, &p, wide_byte(g.start), input, offered)
         }
@@ -96,14 +96,21 @@ pub fn length(g: Grammar, input: &[u8], offered: &[u16], chart: &mut [u32]) -> M
 }
 
 // Whether two offered derivations are the same build. Refusals 8, 9, 10 and 12.
-pub fn same_build(g: Grammar, input: &[u8], a: &[u16], b: &[u16], chart: &mut [u32]) -> Verdict
+pub fn same_build(
+    g: Grammar,
+    input: &[u8],
+    year: u16,
+    a: &[u16],
+    b: &[u16],
+    chart: &mut [u32],
+) -> Verdict
     ensures { λ r. ⌜ checkingOf (verdictOf r) (now (chart .exit))
-        ≡ sameBuildOf (dated g) (now (input .entry)) (now (a .entry)) (now (b .entry)) (now (chart .entry)) ⌝ }
+        ≡ sameBuildOf (dated g year) (now (input .entry)) (now (a .entry)) (now (b .entry)) (now (chart .entry)) ⌝ }
 {
     match fill_input::judge(g, input.len(), chart.len()) {
         Judged::Refused(r) => Verdict::Refused(r),
         Judged::Passed => {
-            let p = fill_input::fill(g, input, chart);
+            let p = fill_input::fill(g, input, year, chart);
             compare_offered(&p, wide_byte(g.start), input, a, b)
         }
     }

@@ -73,14 +73,14 @@ fn count_filled(p: &Packed, start: usize, input: &[u8], fits: &FitTable, chart: 
 // ---- the exported call
 
 // How many derivations the input has, up to 4,096. Refusals 8, 9, 10 and 13.
-pub fn count(g: Grammar, input: &[u8], chart: &mut [u32]) -> Counted
-    ensures { λ a. ⌜ checkingOf (countedOf a) (now (chart .exit)) ≡ countOf (dated g) (now (input .entry)) (now (chart .entry)) ⌝ }
+pub fn count(g: Grammar, input: &[u8], year: u16, chart: &mut [u32]) -> Counted
+    ensures { λ a. ⌜ checkingOf (countedOf a) (now (chart .exit)) ≡ countOf (dated g year) (now (input .entry)) (now (chart .entry)) ⌝ }
 {
     match fill_input::judge(g, input.len(), chart.len()) {
         Judged::Refused(r) => Counted::Refused(r),
         Judged::Passed => {
             let mut fits = [0u8; packed_fit::FIT_SIZE];
-            let p = fill_input::fill_fits(g, input, &mut fits, chart);
+            let p = fill_input::fill_fits(g, input, year, &mut fits, chart);
             count_filled(&p, wide_byte(g.start), input, &fits, chart)
         }
     }

@@ -61,8 +61,8 @@ take-kept g h m chart =
     let d : ¬ (h .count ≡ maxInput) = eqb-false (h .count) maxInput free in
     let l : length w ≤ maxInput = omega (arith, length-append (take (h .count) (h .bytes)) (m ∷ []), length-take (h .count) (h .bytes)) in
     record {
-      same-length = extended-length (grammarOf (dated g)) w chart;
-      behind = written-behind (grammarOf (dated g)) (fitsAt w) (length w) chart l;
+      same-length = extended-length (grammarOf (dated g (h .year))) w chart;
+      behind = written-behind (grammarOf (dated g (h .year))) (fitsAt w) (length w) chart l;
     })
 
 -- the calls that write no output

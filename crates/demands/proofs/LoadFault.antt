@@ -19,11 +19,12 @@ module _ (bytes : List ℕ) (at : ℕ) where
   Stops (next at′ g) = Unit {0}
   Stops (done g) = Unit {0}
 
-  -- omega proves at most 64 statements at once: the last four checks are proved together, and the others one by one
+  -- omega proves at most 64 statements at once: the last three checks are proved together, and the others one by one
   step-stops : (g : Grammar) → Stops (step bytes at g)
   unfolding step commandChecks operandChecks carriedOut
   step-stops g =
-      decide-cases stop _ Stops _ (omega arith, (omega arith, (omega arith, (omega arith, (omega arith, omega arith)))))
+      decide-cases stop _ Stops _
+      (omega arith, (omega arith, (omega arith, (omega arith, (omega arith, (omega arith, (omega arith, omega arith)))))))
       (λ p. either (eqb (getD bytes at 0) 0x50) _ _)
     where
       either : (b : Bool) (m : ℕ) (h : Grammar) → Stops (cond b (done g) (next m h))

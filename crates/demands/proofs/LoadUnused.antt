@@ -24,8 +24,8 @@ use Rattle.demands.specs.LoadDemand.{ZeroPlaces, ZeroBehind}
 
 -- ---- rules
 
-opened-zero : (k : ℕ) (z : ℤ) → ZeroPlaces (openedRule k z)
-opened-zero k z = record { size = refl; unused = refl }
+opened-zero : (k : ℕ) (z : ℤ) (first last : ℕ) → ZeroPlaces (openedRule k z first last)
+opened-zero k z first last = record { size = refl; unused = refl }
 
 placed-zero : (r : Rule) (s : Symbol) → ZeroPlaces r → ZeroPlaces (placedRule r s)
 placed-zero r s Z = record {
@@ -36,19 +36,19 @@ placed-zero r s Z = record {
 -- ---- grammars
 
 zero-zero : ZeroBehind zeroGrammar
-zero-zero = record { size = refl; unused = refl; places = replicate-each ZeroPlaces noRule zeroRule maxRules (opened-zero 0 (pos 0)) }
+zero-zero = record { size = refl; unused = refl; places = replicate-each ZeroPlaces noRule zeroRule maxRules (opened-zero 0 (pos 0) 0 0) }
 
 module _ (g : Grammar) (Z : ZeroBehind g) where
   start-zero : (k : ℕ) → ZeroBehind (withStart g k)
   unfolding withStart
   start-zero k = record { size = Z .size; unused = Z .unused; places = Z .places }
 
-  rule-zero : (k : ℕ) (z : ℤ) → ZeroBehind (withRule g k z)
+  rule-zero : (k : ℕ) (z : ℤ) (first last : ℕ) → ZeroBehind (withRule g k z first last)
   unfolding withRule
-  rule-zero k z = record {
-    size = set-rule-size g (g .count) (openedRule k z) ∙ Z .size;
+  rule-zero k z first last = record {
+    size = set-rule-size g (g .count) (openedRule k z first last) ∙ Z .size;
     unused = drop-next (g .rules) (g .count) maxRules _ zeroRule (Z .unused);
-    places = set-each ZeroPlaces noRule maxRules (g .rules) (g .count) _ (Z .places) (opened-zero k z);
+    places = set-each ZeroPlaces noRule maxRules (g .rules) (g .count) _ (Z .places) (opened-zero k z first last);
   }
 
   place-zero : (s : Symbol) → 0 < g .count → g .count ≤ maxRules → ZeroBehind (withPlace g s)
@@ -69,7 +69,11 @@ pub tidy-invariant : (bytes : List ℕ) → Invariant bytes (λ at g. Tidy g)
 tidy-invariant bytes = let kept = valid-invariant bytes in record {
   zero = record { valid = kept .zero; behind = zero-zero };
   start = λ at g T e h. record { valid = kept .start at g (T .valid) e h; behind = start-zero g (T .behind) (operand bytes at 0) };
-  rule = λ at g T h m. record { valid = kept .rule at g (T .valid) h m; behind = rule-zero g (T .behind) (operand bytes at 0) _ };
+  rule = λ at g T h m. record { valid = kept .rule at g (T .valid) h m; behind = rule-zero g (T .behind) (operand bytes at 0) _ _ _ };
+  years = λ at g T h y m. record {
+    valid = kept .years at g (T .valid) h y m;
+    behind = rule-zero g (T .behind) (operand bytes at 0) _ _ _;
+  };
   place = λ at g T s e u m h. record {
     valid = kept .place at g (T .valid) s e u m h;
     behind = place-zero g (T .behind) s m (valid-count g (T .valid));

@@ -38,7 +38,7 @@ fed-append g r (m ∷ u) v = fed-append g (takeOf g (r .state) m (r .chart)) u v
 
 -- the result after n bytes u have been taken, with this chart
 abbrev pub result : Dated → List ℕ → ℕ → List ℕ → Recognition
-result g u n c = record { answer = answered (complete (grammarOf g) n c); state = stateOf u; chart = c }
+result g u n c = record { answer = answered (complete (grammarOf g) n c); state = stateOf u (g .year); chart = c }
 
 module _ (g : Dated) (found : List ℕ) where
   -- the result after the bytes u, of which there are at most 64
@@ -47,7 +47,7 @@ module _ (g : Dated) (found : List ℕ) where
 
   -- the result after more than 64 bytes, where u is the first 64
   abbrev pub beyond : List ℕ → Recognition
-  beyond u = record { answer = refused 15; state = stateOf u; chart = filled (grammarOf g) u found }
+  beyond u = record { answer = refused 15; state = stateOf u (g .year); chart = filled (grammarOf g) u found }
 
   module _ (valid : validGrammar (g .grammar) ≡ true) (room : cells ≤ length found) where
     open-after : openOf g found ≡ after []
@@ -56,14 +56,14 @@ module _ (g : Dated) (found : List ℕ) where
 
     -- one more byte
     take-after : (u : List ℕ) (m : ℕ) → length u < maxInput
-        → takeOf (g .grammar) (stateOf u) m (filled (grammarOf g) u found) ≡ after (u ++ (m ∷ []))
+        → takeOf (g .grammar) (stateOf u (g .year)) m (filled (grammarOf g) u found) ≡ after (u ++ (m ∷ []))
     unfolding takeIn stateOf
     take-after u m l =
         let c = filled (grammarOf g) u found in
         let v = u ++ (m ∷ []) in
         let n : length u + 1 ≡ length v = omega (arith, length-snoc u m) in
-        take-passed (g .grammar) (stateOf u) m c valid l (omega (arith, filled-length (grammarOf g) u found room))
-        ∙ ap (λ (x : List ℕ). result g (x ++ (m ∷ [])) (length u + 1) (extended (grammarOf g) (x ++ (m ∷ [])) c)) (state-taken u)
+        take-passed (g .grammar) (stateOf u (g .year)) m c valid l (omega (arith, filled-length (grammarOf g) u found room))
+        ∙ ap (λ (x : List ℕ). result g (x ++ (m ∷ [])) (length u + 1) (extended (grammarOf g) (x ++ (m ∷ [])) c)) (state-taken u (g .year))
         ∙ ap (λ (i : ℕ). result g v i (extended (grammarOf g) v c)) n
         ∙ ap (result g v (length v)) (sym (filled-snoc (grammarOf g) u m found))
 
@@ -77,13 +77,13 @@ module _ (g : Dated) (found : List ℕ) where
         ∙ ap after (append-snoc u m v)
 
     module _ (u : List ℕ) (l : length u ≡ maxInput) where
-      take-beyond : (m : ℕ) → takeOf (g .grammar) (stateOf u) m (filled (grammarOf g) u found) ≡ beyond u
+      take-beyond : (m : ℕ) → takeOf (g .grammar) (stateOf u (g .year)) m (filled (grammarOf g) u found) ≡ beyond u
       unfolding takeOf stateOf
       take-beyond m =
           let c = filled (grammarOf g) u found in
           let r : cells ≤ length c = omega (arith, filled-length (grammarOf g) u found room) in
-          decide-first _ _ (grammarCheck (g .grammar) ∷ stateCheck (stateOf u) ∷ chartCheck c ∷ [])
-          (check (eqb (stateOf u .count) maxInput) 15) []
+          decide-first _ _ (grammarCheck (g .grammar) ∷ stateCheck (stateOf u (g .year)) ∷ chartCheck c ∷ [])
+          (check (eqb (stateOf u (g .year) .count) maxInput) 15) []
           (ap not valid, (le-ltb maxInput (length u) (omega arith), (le-ltb (length c) cells r, tt))) (eq-eqb (length u) maxInput l)
 
       fed-beyond : (v : List ℕ) → fed (g .grammar) (beyond u) v ≡ beyond u
@@ -139,7 +139,7 @@ module _ (g : Dated) (found : List ℕ) where
         let a : r .answer ≡ answered (complete (grammarOf g) (length ms) (filled (grammarOf g) ms found)) =
         ap (λ (x : Recognition). x .answer) e in
         record {
-          state = ap (λ (x : Recognition). x .state) e ∙ ap stateOf s;
+          state = ap (λ (x : Recognition). x .state) e ∙ ap (λ (x : List ℕ). stateOf x (g .year)) s;
           chart = c ∙ ap (λ (x : List ℕ). filled (grammarOf g) x found) s;
           tree = λ _. rw a (tree-of ms l);
           no-tree = λ _. rw a (no-tree-of ms l);

@@ -30,30 +30,30 @@ module _ (g : Grammar) (h : State) (m : ℕ) (found : List ℕ) (valid : validGr
   -- the result, with the column written at the new count
   left : Recognition
   left =
-      let c = written (grammarOf (dated g)) (fitsAt (input h m)) (h .count + 1) found in
-      record { answer = answered (has (g .start) (cell c 0 (h .count + 1))); state = stateOf (input h m); chart = c }
+      let c = written (grammarOf (dated g (h .year))) (fitsAt (input h m)) (h .count + 1) found in
+      record { answer = answered (has (g .start) (cell c 0 (h .count + 1))); state = stateOf (input h m) (h .year); chart = c }
 
   gives : takeOf g h m found ≡ left
   unfolding takeIn extended complete left
   gives = take-passed g h m found valid small room ∙ ap (λ (n : ℕ).
-      let c = written (grammarOf (dated g)) (fitsAt (input h m)) n found in
-      record { answer = answered (has (g .start) (cell c 0 (h .count + 1))); state = stateOf (input h m); chart = c }) size
+      let c = written (grammarOf (dated g (h .year))) (fitsAt (input h m)) n found in
+      record { answer = answered (has (g .start) (cell c 0 (h .count + 1))); state = stateOf (input h m) (h .year); chart = c }) size
 
-  of-left : Taken (grammarOf (dated g)) h m found (h .count + 1) left
+  of-left : Taken (grammarOf (dated g (h .year))) h m found (h .count + 1) left
   unfolding left
   of-left =
       let n = h .count + 1 in
       let fit = fitsAt (input h m) in
-      let inside = written-cell (grammarOf (dated g)) fit n found (omega arith) room in
+      let inside = written-cell (grammarOf (dated g (h .year))) fit n found (omega arith) room in
       record {
         state = refl;
-        long = written-length (grammarOf (dated g)) fit n found;
-        others = written-other (grammarOf (dated g)) fit n found;
-        closed = closed-same (grammarOf (dated g)) fit found n _ _ (λ i l. sym (inside i l))
-            (column-closed (grammarOf (dated g)) fit found n (valid-bounded (dated g) valid));
-        least = λ f c i k l e. column-least (grammarOf (dated g)) fit found n f c i k l (ap (has k) (sym (inside i l)) ∙ e);
+        long = written-length (grammarOf (dated g (h .year))) fit n found;
+        others = written-other (grammarOf (dated g (h .year))) fit n found;
+        closed = closed-same (grammarOf (dated g (h .year))) fit found n _ _ (λ i l. sym (inside i l))
+            (column-closed (grammarOf (dated g (h .year))) fit found n (valid-bounded (dated g (h .year)) valid));
+        least = λ f c i k l e. column-least (grammarOf (dated g (h .year))) fit found n f c i k l (ap (has k) (sym (inside i l)) ∙ e);
         complete = refl;
       }
 
-  pub take-any : Taken (grammarOf (dated g)) h m found (h .count + 1) (takeOf g h m found)
-  take-any = subst (Taken (grammarOf (dated g)) h m found (h .count + 1)) (sym gives) of-left
+  pub take-any : Taken (grammarOf (dated g (h .year))) h m found (h .count + 1) (takeOf g h m found)
+  take-any = subst (Taken (grammarOf (dated g (h .year))) h m found (h .count + 1)) (sym gives) of-left

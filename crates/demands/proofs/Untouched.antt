@@ -17,10 +17,10 @@ use Rattle.results.proofs.Decide.{decide-either}
 use Rattle.demands.proofs.Later.{length-later, same-build-later, count-later, first-later, next-later}
 
 pub open-untouched : (g : Dated) (chart : List ℕ) (n : ℕ) → openOf g chart .answer ≡ refused n
-    → (openOf g chart .chart ≡ chart) × (openOf g chart .state ≡ stateOf [])
+    → (openOf g chart .chart ≡ chart) × (openOf g chart .state ≡ stateOf [] 0)
 unfolding openOf openIn
 open-untouched g chart n =
-    decide-either _ _ (λ (x : Recognition). x .answer ≡ refused n → (x .chart ≡ chart) × (x .state ≡ stateOf [])) _
+    decide-either _ _ (λ (x : Recognition). x .answer ≡ refused n → (x .chart ≡ chart) × (x .state ≡ stateOf [] 0)) _
     (λ a e. (refl, refl)) (λ p e. absurd (answered-apart e))
 
 pub take-untouched : (g : Grammar) (h : State) (m : ℕ) (chart : List ℕ) (n : ℕ) → takeOf g h m chart .answer ≡ refused n

@@ -22,7 +22,7 @@ pub record OpenDemand (g : Dated) (chart : List ℕ) (r : Recognition) : Type 0 
   pub kept : ChartKept chart (r .chart)
   pub order : OpenOrder g chart (r .answer)
   -- if it is refused, it leaves the chart as found and gives a state of zeros
-  pub untouched : (n : ℕ) → r .answer ≡ refused n → (r .chart ≡ chart) × (r .state ≡ stateOf [])
+  pub untouched : (n : ℕ) → r .answer ≡ refused n → (r .chart ≡ chart) × (r .state ≡ stateOf [] 0)
   -- else the chart is the one that is filled with no bytes
   pub opened : validGrammar (g .grammar) ≡ true → cells ≤ length chart → r .chart ≡ filled (grammarOf g) [] chart
 

@@ -18,8 +18,8 @@ use Rattle.results.specs.Recognize.{stateOf, Recognition}
 
 -- the result r of opening over the chart found and then taking the bytes ms, for the grammar g
 pub record Recognized (g : Dated) (found ms : List ℕ) (r : Recognition) : Type 0 where
-  -- the state has taken the first 64 bytes, or all if there are fewer
-  pub state : r .state ≡ stateOf (take maxInput ms)
+  -- the state has taken the first 64 bytes, or all if there are fewer, and keeps the year
+  pub state : r .state ≡ stateOf (take maxInput ms) (g .year)
   -- the chart is the one that is filled with these bytes
   pub chart : r .chart ≡ filled (grammarOf g) (take maxInput ms) found
   -- up to 64 bytes: "complete" exactly if the bytes have a tree; without bytes this is opening's own answer

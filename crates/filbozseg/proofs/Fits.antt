@@ -45,8 +45,8 @@ small-fits g d S h = record {
 }
 
 -- a rule of no places
-opened-small : (k : ℕ) (z : ℤ) → k < 256 → mag z < 32768 → SmallRule (openedRule k z)
-opened-small k z h m = record {
+opened-small : (k : ℕ) (z : ℤ) (first last : ℕ) → k < 256 → mag z < 32768 → SmallRule (openedRule k z first last)
+opened-small k z first last h m = record {
   declared = record {
     left = h;
     magnitude = m;
@@ -61,7 +61,7 @@ zero-small = record {
   start = omega arith;
   count = omega arith;
   rules = refl;
-  each = replicate-each SmallRule noRule zeroRule maxRules (opened-small 0 (pos 0) (omega arith) (omega arith));
+  each = replicate-each SmallRule noRule zeroRule maxRules (opened-small 0 (pos 0) 0 0 (omega arith) (omega arith));
 }
 
 negative-small : (n m : ℕ) → n ≡ suc m → m < 32768 → mag (negℤ (pos n)) < 32768
@@ -80,13 +80,13 @@ module _ (g : Grammar) (S : Small g) where
   unfolding withStart
   start-small k h = record { start = h; count = S .count; rules = S .rules; each = S .each }
 
-  rule-small : (k : ℕ) (z : ℤ) → k < 256 → mag z < 32768 → g .count ≤ 127 → Small (withRule g k z)
+  rule-small : (k : ℕ) (z : ℤ) (first last : ℕ) → k < 256 → mag z < 32768 → g .count ≤ 127 → Small (withRule g k z first last)
   unfolding withRule
-  rule-small k z h m l = record {
+  rule-small k z first last h m l = record {
     start = S .start;
     count = omega arith;
-    rules = set-rule-size g (g .count) (openedRule k z) ∙ S .rules;
-    each = set-each SmallRule noRule maxRules (g .rules) (g .count) _ (S .each) (opened-small k z h m);
+    rules = set-rule-size g (g .count) (openedRule k z first last) ∙ S .rules;
+    each = set-each SmallRule noRule maxRules (g .rules) (g .count) _ (S .each) (opened-small k z first last h m);
   }
 
   place-small : (s : Symbol) → SymbolBytes s → openRule g .count ≤ 7 → Small (withPlace g s)
@@ -132,7 +132,9 @@ module _ (bytes : List ℕ) (small : (i : ℕ) → getD bytes i 0 < 256) where
   small-invariant = record {
     zero = zero-small;
     start = λ at g S e h. start-small g S (operand bytes at 0) (operand-small at 0);
-    rule = λ at g S h m. rule-small g S (operand bytes at 0) _ (operand-small at 0)
+    rule = λ at g S h m. rule-small g S (operand bytes at 0) _ _ _ (operand-small at 0)
+        (signed-small (operand bytes at 1) (operand bytes at 2) (operand-small at 1) (operand-small at 2)) (omega arith);
+    years = λ at g S h y m. rule-small g S (operand bytes at 0) _ _ _ (operand-small at 0)
         (signed-small (operand bytes at 1) (operand bytes at 2) (operand-small at 1) (operand-small at 2)) (omega arith);
     place = λ at g S s e u m h. place-small g S s (held-small at s e) (omega arith);
   }

@@ -60,9 +60,9 @@ enumerated a chart out = record { answer = a; chart = chart; output = out }
 
 module _ (f : List ℕ) (g : Grammar) (read : g ≡ grammarIn f) (chart₀ chart : List ℕ) (code : ℕ) where
   module _ (a : Answer Bool) (returned : code ≡ codeOf verdictCode a) where
-    pub opens-of : (s : State) (row : List ℕ) → recognized a s chart ≡ openOf (dated g) chart₀ → row ≡ rowOf s
-        → Opens (openOf (dated (grammarIn f)) chart₀) code row chart
-    opens-of s row e w = rw (← read, ← e) (record { returned = returned; state = w; left = refl })
+    pub opens-of : (y : ℕ) (s : State) (row : List ℕ) → recognized a s chart ≡ openOf (dated g y) chart₀ → row ≡ rowOf s
+        → Opens (openOf (dated (grammarIn f) y) chart₀) code row chart
+    opens-of y s row e w = rw (← read, ← e) (record { returned = returned; state = w; left = refl })
 
     -- taking reads a state too
     pub takes-of : (byte : ℕ) (found : List ℕ) (h s : State) (row : List ℕ) → h ≡ stateOfRow found
@@ -70,30 +70,30 @@ module _ (f : List ℕ) (g : Grammar) (read : g ≡ grammarIn f) (chart₀ chart
         → Takes (takeOf (grammarIn f) (stateOfRow found) byte chart₀) found code row chart
     takes-of byte found h s row state e w = rw (← read, ← state, ← e) (record { returned = returned; state = w; left = refl })
 
-    pub checks-of : (w d : List ℕ) → checked a chart ≡ checkOf (dated g) w d chart₀
-        → Checks (checkOf (dated (grammarIn f)) w d chart₀) code chart
-    checks-of w d e = rw (← read, ← e) (record { returned = returned; left = refl })
+    pub checks-of : (y : ℕ) (w d : List ℕ) → checked a chart ≡ checkOf (dated g y) w d chart₀
+        → Checks (checkOf (dated (grammarIn f) y) w d chart₀) code chart
+    checks-of y w d e = rw (← read, ← e) (record { returned = returned; left = refl })
 
-    pub checks-build-of : (w d d′ : List ℕ) → checked a chart ≡ sameBuildOf (dated g) w d d′ chart₀
-        → Checks (sameBuildOf (dated (grammarIn f)) w d d′ chart₀) code chart
-    checks-build-of w d d′ e = rw (← read, ← e) (record { returned = returned; left = refl })
+    pub checks-build-of : (y : ℕ) (w d d′ : List ℕ) → checked a chart ≡ sameBuildOf (dated g y) w d d′ chart₀
+        → Checks (sameBuildOf (dated (grammarIn f) y) w d d′ chart₀) code chart
+    checks-build-of y w d d′ e = rw (← read, ← e) (record { returned = returned; left = refl })
 
-  pub measures-of : (a : Answer ℤ) (w d : List ℕ) (found tenths : ℤ) → checked a chart ≡ lengthOf (dated g) w d chart₀
+  pub measures-of : (a : Answer ℤ) (y : ℕ) (w d : List ℕ) (found tenths : ℤ) → checked a chart ≡ lengthOf (dated g y) w d chart₀
       → code ≡ codeOf lengthCode a
-      → tenths ≡ leftOf tenthsLeft a found → Measures (lengthOf (dated (grammarIn f)) w d chart₀) found code chart tenths
-  measures-of a w d found tenths e c t = rw (← read, ← e) (record { returned = c; left = refl; measured = t })
+      → tenths ≡ leftOf tenthsLeft a found → Measures (lengthOf (dated (grammarIn f) y) w d chart₀) found code chart tenths
+  measures-of a y w d found tenths e c t = rw (← read, ← e) (record { returned = c; left = refl; measured = t })
 
-  pub counts-of : (a : Answer Figure) (w : List ℕ) (found figure : ℕ) → checked a chart ≡ countOf (dated g) w chart₀
+  pub counts-of : (a : Answer Figure) (y : ℕ) (w : List ℕ) (found figure : ℕ) → checked a chart ≡ countOf (dated g y) w chart₀
       → code ≡ codeOf figureCode a
-      → figure ≡ leftOf figureLeft a found → Counts (countOf (dated (grammarIn f)) w chart₀) found code chart figure
-  counts-of a w found figure e c t = rw (← read, ← e) (record { returned = c; left = refl; counted = t })
+      → figure ≡ leftOf figureLeft a found → Counts (countOf (dated (grammarIn f) y) w chart₀) found code chart figure
+  counts-of a y w found figure e c t = rw (← read, ← e) (record { returned = c; left = refl; counted = t })
 
   module _ (a : Answer Handing) (returned : code ≡ codeOf handingCode a) (found nodes : ℕ) (counted : nodes ≡ leftOf nodesLeft a found)
-      (w out₀ out : List ℕ) where
-    pub hands-first-of : enumerated a chart out ≡ firstOf (dated g) w chart₀ out₀
-        → Hands (firstOf (dated (grammarIn f)) w chart₀ out₀) found code chart out nodes
+      (y : ℕ) (w out₀ out : List ℕ) where
+    pub hands-first-of : enumerated a chart out ≡ firstOf (dated g y) w chart₀ out₀
+        → Hands (firstOf (dated (grammarIn f) y) w chart₀ out₀) found code chart out nodes
     hands-first-of e = rw (← read, ← e) (record { returned = returned; left = refl; written = refl; counted = counted })
 
-    pub hands-next-of : (d : List ℕ) → enumerated a chart out ≡ nextOf (dated g) w d chart₀ out₀
-        → Hands (nextOf (dated (grammarIn f)) w d chart₀ out₀) found code chart out nodes
+    pub hands-next-of : (d : List ℕ) → enumerated a chart out ≡ nextOf (dated g y) w d chart₀ out₀
+        → Hands (nextOf (dated (grammarIn f) y) w d chart₀ out₀) found code chart out nodes
     hands-next-of d e = rw (← read, ← e) (record { returned = returned; left = refl; written = refl; counted = counted })

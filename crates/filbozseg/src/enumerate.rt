@@ -11,15 +11,16 @@ ghost use Rattle.filbozseg.specs.Calls.{Hands, Counts};
 pub extern "C" fn filbozseg_first(
     grammar: &Flat,
     input: &[u8],
+    year: u16,
     chart: &mut [u32],
     output: &mut [u16],
     nodes: &mut usize,
 ) -> u32
     ensures { λ c. ⌜ Hands
-        (firstOf (dated (grammarIn (now (grammar .entry)))) (now (input .entry)) (now (chart .entry)) (now (output .entry)))
+        (firstOf (dated (grammarIn (now (grammar .entry))) year) (now (input .entry)) (now (chart .entry)) (now (output .entry)))
         (now (nodes .entry)) c (now (chart .exit)) (now (output .exit)) (now (nodes .exit)) ⌝ }
 {
-    let handed = first::first(c_grammar::read::read(grammar), input, chart, output);
+    let handed = first::first(c_grammar::read::read(grammar), input, year, chart, output);
     c_answer::of_handing(handed, nodes)
 }
 
@@ -29,19 +30,21 @@ pub extern "C" fn filbozseg_first(
 pub extern "C" fn filbozseg_next(
     grammar: &Flat,
     input: &[u8],
+    year: u16,
     offered: &[u16],
     chart: &mut [u32],
     output: &mut [u16],
     nodes: &mut usize,
 ) -> u32
     ensures { λ c. ⌜ Hands
-        (nextOf (dated (grammarIn (now (grammar .entry)))) (now (input .entry)) (now (offered .entry))
+        (nextOf (dated (grammarIn (now (grammar .entry))) year) (now (input .entry)) (now (offered .entry))
         (now (chart .entry)) (now (output .entry)))
         (now (nodes .entry)) c (now (chart .exit)) (now (output .exit)) (now (nodes .exit)) ⌝ }
 {
     let handed = next::next(
         c_grammar::read::read(grammar),
         input,
+        year,
         offered,
         chart,
         output,
@@ -54,13 +57,14 @@ pub extern "C" fn filbozseg_next(
 pub extern "C" fn filbozseg_count(
     grammar: &Flat,
     input: &[u8],
+    year: u16,
     chart: &mut [u32],
     figure: &mut usize,
 ) -> u32
     ensures { λ c. ⌜ Counts
-        (countOf (dated (grammarIn (now (grammar .entry)))) (now (input .entry)) (now (chart .entry)))
+        (countOf (dated (grammarIn (now (grammar .entry))) year) (now (input .entry)) (now (chart .entry)))
         (now (figure .entry)) c (now (chart .exit)) (now (figure .exit)) ⌝ }
 {
-    let counted = count::count(c_grammar::read::read(grammar), input, chart);
+    let counted = count::count(c_grammar::read::read(grammar), input, year, chart);
     c_answer::of_figure(counted, figure)
 }

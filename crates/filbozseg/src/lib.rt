@@ -23,18 +23,19 @@ pub extern "C" fn filbozseg_load(book: &[u8], grammar: &mut Flat, offset: &mut u
     c_answer::of_loading(outcome, offset)
 }
 
-// Opens the recognizer and leaves the state of no bytes.
+// Opens the recognizer with a year, and leaves the state of no bytes, which keeps the year.
 #[no_mangle]
 pub extern "C" fn filbozseg_open(
     grammar: &Flat,
+    year: u16,
     hand: &mut [u16; c_hand::HAND],
     chart: &mut [u32],
 ) -> u32
     ensures { λ c. ⌜ Opens
-        (openOf (dated (grammarIn (now (grammar .entry)))) (now (chart .entry)))
+        (openOf (dated (grammarIn (now (grammar .entry))) year) (now (chart .entry)))
         c (now (hand .exit)) (now (chart .exit)) ⌝ }
 {
-    let a = recognizer::open(c_grammar::read::read(grammar), chart);
+    let a = recognizer::open(c_grammar::read::read(grammar), year, chart);
     let h = a.recognizer;
     let accepted = a.accepted;
     c_hand::write(h, hand);
@@ -65,14 +66,21 @@ pub extern "C" fn filbozseg_take(
 pub extern "C" fn filbozseg_check(
     grammar: &Flat,
     input: &[u8],
+    year: u16,
     offered: &[u16],
     chart: &mut [u32],
 ) -> u32
     ensures { λ c. ⌜ Checks
-        (checkOf (dated (grammarIn (now (grammar .entry)))) (now (input .entry)) (now (offered .entry)) (now (chart .entry)))
+        (checkOf (dated (grammarIn (now (grammar .entry))) year) (now (input .entry)) (now (offered .entry)) (now (chart .entry)))
         c (now (chart .exit)) ⌝ }
 {
-    c_answer::of_verdict(checker::check(c_grammar::read::read(grammar), input, offered, chart))
+    c_answer::of_verdict(checker::check(
+        c_grammar::read::read(grammar),
+        input,
+        year,
+        offered,
+        chart,
+    ))
 }
 
 // The length of an offered derivation, in tenths of a millimetre. A refused call leaves the number as found.
@@ -80,15 +88,16 @@ pub extern "C" fn filbozseg_check(
 pub extern "C" fn filbozseg_length(
     grammar: &Flat,
     input: &[u8],
+    year: u16,
     offered: &[u16],
     chart: &mut [u32],
     tenths: &mut i32,
 ) -> u32
     ensures { λ c. ⌜ Measures
-        (lengthOf (dated (grammarIn (now (grammar .entry)))) (now (input .entry)) (now (offered .entry)) (now (chart .entry)))
+        (lengthOf (dated (grammarIn (now (grammar .entry))) year) (now (input .entry)) (now (offered .entry)) (now (chart .entry)))
         (now (tenths .entry)) c (now (chart .exit)) (now (tenths .exit)) ⌝ }
 {
-    let measured = checker::length(c_grammar::read::read(grammar), input, offered, chart);
+    let measured = checker::length(c_grammar::read::read(grammar), input, year, offered, chart);
     c_answer::of_length(measured, tenths)
 }
 
@@ -97,13 +106,22 @@ pub extern "C" fn filbozseg_length(
 pub extern "C" fn filbozseg_same_build(
     grammar: &Flat,
     input: &[u8],
+    year: u16,
     a: &[u16],
     b: &[u16],
     chart: &mut [u32],
 ) -> u32
     ensures { λ c. ⌜ Checks
-        (sameBuildOf (dated (grammarIn (now (grammar .entry)))) (now (input .entry)) (now (a .entry)) (now (b .entry)) (now (chart .entry)))
+        (sameBuildOf (dated (grammarIn (now (grammar .entry))) year) (now (input .entry)) (now (a .entry)) (now (b .entry))
+        (now (chart .entry)))
         c (now (chart .exit)) ⌝ }
 {
-    c_answer::of_verdict(checker::same_build(c_grammar::read::read(grammar), input, a, b, chart))
+    c_answer::of_verdict(checker::same_build(
+        c_grammar::read::read(grammar),
+        input,
+        year,
+        a,
+        b,
+        chart,
+    ))
 }

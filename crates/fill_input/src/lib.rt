@@ -52,13 +52,19 @@ pub fn judge_output(g: Grammar, n: usize, m: usize, k: usize) -> Judged
 }
 
 // The packed grammar. The chart is filled for the input, and the fit table is made, which the caller needs after this.
-pub fn fill_fits(g: Grammar, input: &[u8], fits: &mut FitTable, chart: &mut [u32]) -> Packed
+pub fn fill_fits(
+    g: Grammar,
+    input: &[u8],
+    year: u16,
+    fits: &mut FitTable,
+    chart: &mut [u32],
+) -> Packed
     requires { ⌜ Fillable g (length (now input)) (length (now chart)) ⌝ }
-    ensures { λ p. ⌜ ((now (chart .exit) ≡ filled (grammarOf (dated g)) (now (input .entry)) (now (chart .entry)))
-        × ((r : ℕ) → ruleOfNumber (cfgIn (g .start) p) r ≡ ruleOfNumber (grammarOf (dated g)) r))
+    ensures { λ p. ⌜ ((now (chart .exit) ≡ filled (grammarOf (dated g year)) (now (input .entry)) (now (chart .entry)))
+        × ((r : ℕ) → ruleOfNumber (cfgIn (g .start) p) r ≡ ruleOfNumber (grammarOf (dated g year)) r))
         × Told p (now (input .entry)) (now (fits .exit)) ⌝ }
 {
-    let p = packed_make::pack(g);
+    let p = packed_make::pack(g, year);
     *fits = packed_fit::table(&p, input);
     fill_columns::fill(&p, fits, input.len(), chart);
     p
@@ -66,12 +72,12 @@ pub fn fill_fits(g: Grammar, input: &[u8], fits: &mut FitTable, chart: &mut [u32
 
 // The same if the fit table is not needed after this. It does not call the function above: so short a function would be inlined into the
 // checker's calls, and the fit table would take 8 KB of stack during the checker's recursion.
-pub fn fill(g: Grammar, input: &[u8], chart: &mut [u32]) -> Packed
+pub fn fill(g: Grammar, input: &[u8], year: u16, chart: &mut [u32]) -> Packed
     requires { ⌜ Fillable g (length (now input)) (length (now chart)) ⌝ }
-    ensures { λ p. ⌜ (now (chart .exit) ≡ filled (grammarOf (dated g)) (now (input .entry)) (now (chart .entry)))
-        × ((r : ℕ) → ruleOfNumber (cfgIn (g .start) p) r ≡ ruleOfNumber (grammarOf (dated g)) r) ⌝ }
+    ensures { λ p. ⌜ (now (chart .exit) ≡ filled (grammarOf (dated g year)) (now (input .entry)) (now (chart .entry)))
+        × ((r : ℕ) → ruleOfNumber (cfgIn (g .start) p) r ≡ ruleOfNumber (grammarOf (dated g year)) r) ⌝ }
 {
-    let p = packed_make::pack(g);
+    let p = packed_make::pack(g, year);
     let fits = packed_fit::table(&p, input);
     fill_columns::fill(&p, &fits, input.len(), chart);
     p

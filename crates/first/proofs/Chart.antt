@@ -26,16 +26,16 @@ chart-true p w chart h c i j a b k e t T =
     true≢false (sym said ∙ e)
 
 -- the chart was filled, and the packed bytes have the rules of the grammar
-abbrev pub Filling : Grammar → List ℕ → List ℕ → List ℕ → List ℕ → Type 0
-Filling g p w chart chart' =
-    (chart' ≡ filled (grammarOf (dated g)) w chart) × ((r : ℕ) → rule (cfgIn (g .start) p) r ≡ rule (grammarOf (dated g)) r)
+abbrev pub Filling : Grammar → ℕ → List ℕ → List ℕ → List ℕ → List ℕ → Type 0
+Filling g y p w chart chart' =
+    (chart' ≡ filled (grammarOf (dated g y)) w chart) × ((r : ℕ) → rule (cfgIn (g .start) p) r ≡ rule (grammarOf (dated g y)) r)
 
 -- so the chart is long enough, and true for the packed grammar
-pub filled-chart : (g : Grammar) (p w chart chart' : List ℕ) → Fillable g (length w) (length chart) → Filling g p w chart chart'
+pub filled-chart : (g : Grammar) (y : ℕ) (p w chart chart' : List ℕ) → Fillable g (length w) (length chart) → Filling g y p w chart chart'
     → (length w ≤ maxInput) × (cells ≤ length chart') × ChartTrue p (bytesOf w) chart' (length w)
-filled-chart g p w chart chart' (v, short, room) (e, same) = (
+filled-chart g y p w chart chart' (v, short, room) (e, same) = (
   short,
-  rw (e, filled-length (grammarOf (dated g)) w chart room) room,
-  subst (λ (x : List ℕ). ChartTrue p (bytesOf w) x (length w)) (filled-packed g p w same chart _ refl ∙ sym e)
+  rw (e, filled-length (grammarOf (dated g y)) w chart room) room,
+  subst (λ (x : List ℕ). ChartTrue p (bytesOf w) x (length w)) (filled-packed g y p w same chart _ refl ∙ sym e)
       (chart-true p w chart short room),
 )

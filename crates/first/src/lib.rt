@@ -67,15 +67,15 @@ fn first_filled(
 // ---- the exported call
 
 // The first derivation of the input, written to the front of the output. Refusals 8 to 11 and 13.
-pub fn first(g: Grammar, input: &[u8], chart: &mut [u32], out: &mut [u16]) -> Handed
+pub fn first(g: Grammar, input: &[u8], year: u16, chart: &mut [u32], out: &mut [u16]) -> Handed
     ensures { λ a. ⌜ enumerationOf (handingOf a) (now (chart .exit)) (now (out .exit))
-        ≡ firstOf (dated g) (now (input .entry)) (now (chart .entry)) (now (out .entry)) ⌝ }
+        ≡ firstOf (dated g year) (now (input .entry)) (now (chart .entry)) (now (out .entry)) ⌝ }
 {
     match fill_input::judge_output(g, input.len(), chart.len(), out.len()) {
         Judged::Refused(r) => Handed::Refused(r),
         Judged::Passed => {
             let mut fits = [0u8; packed_fit::FIT_SIZE];
-            let p = fill_input::fill_fits(g, input, &mut fits, chart);
+            let p = fill_input::fill_fits(g, input, year, &mut fits, chart);
             first_filled(&p, wide_byte(g.start), input, &fits, chart, out)
         }
     }

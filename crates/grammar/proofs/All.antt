@@ -59,3 +59,13 @@ module _ {A : Type 0} (test : A → Bool) where
       → all test (take n (set l (n - 1) v)) ≡ true
   all-last l zero v z h e = absurd (omega arith)
   all-last l (suc q) v z h e = let p : suc q - 1 ≡ q = omega arith in rw p (all-set l q v (all-front l q h) e)
+
+  -- the test still passes after the last element is changed into one that passes if the element did
+  pub all-changed : (l : List A) (q : ℕ) (f : A → A) (d : A) → ((a : A) → test a ≡ true → test (f a) ≡ true)
+      → all test (take (suc q) l) ≡ true → all test (take (suc q) (set l q (f (getD l q d)))) ≡ true
+  unfolding all
+  all-changed [] q f d h e = refl
+  all-changed (a ∷ l) zero f d h e = and-both (test (f a)) true (h a (and-parts (test a) true e .0)) refl
+  all-changed (a ∷ l) (suc q) f d h e =
+      let p = and-parts (test a) (all test (take (suc q) l)) e in
+      and-both (test a) (all test (take (suc q) (set l q (f (getD l q d))))) (p .0) (all-changed l q f d h (p .1))

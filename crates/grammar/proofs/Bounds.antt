@@ -2,10 +2,10 @@
 -- 32; and of the declared one: it uses at most 128 rules, and each of these has at most 8 places. Assumes nothing.
 use Prim.Native.Nat.{ℕ, zero, suc, _≤_, _<_}
 use native.Mathlib.Omega.{arith}
-use mathlib.Core.Bool.{true}
+use mathlib.Core.Bool.{Bool, true, false, cond, _&&_}
 use mathlib.Core.List.{List, [], _∷_, map, List·Memᴰ, List·Memᴰ·not-nil, List·Memᴰ·cases-cons}
 use mathlib.Core.Logic.{⊎-elim}
-use mathlib.Core.Option.{Option, some, Option·some-injective}
+use mathlib.Core.Option.{Option, none, some, Option·some-injective}
 use mathlib.Core.Path.{_≡_, sym, ap, subst, _∙_}
 use lib.Dec.{leb}
 use lib.ListN.{take, getD, getElem?}
@@ -20,7 +20,7 @@ use Rattle.grammar.specs.declared.Place.{Place}
 use Rattle.grammar.specs.declared.Rule.{Rule}
 use Rattle.grammar.specs.declared.Grammar.{Grammar}
 use Rattle.grammar.specs.Valid.{all, validSymbol, validPlace, validRule, validGrammar}
-use Rattle.grammar.specs.View.{symbolOf, placeOf, ruleOf, viewedBy, wholeOf, Dated, grammarOf}
+use Rattle.grammar.specs.View.{symbolOf, placeOf, ruleOf, viewedBy, wholeOf, inForce, ruleInYear, Dated, grammarOf}
 use Rattle.grammar.specs.Zero.{noRule}
 use Rattle.grammar.proofs.All.{all-at}
 use Rattle.grammar.proofs.Laws.{noRule-valid}
@@ -28,11 +28,13 @@ use Rattle.grammar.proofs.Laws.{noRule-valid}
 -- ---- the parts of check 8
 
 pub rule-parts : (ρ : Rule) → validRule ρ ≡ true
-    → (ρ .left ≤ 31) × (ρ .count ≤ maxPlaces) × (all validPlace (take (ρ .count) (ρ .places)) ≡ true)
+    → (ρ .left ≤ 31) × (ρ .count ≤ maxPlaces) × (all validPlace (take (ρ .count) (ρ .places)) ≡ true) × (ρ .first ≤ ρ .last)
 unfolding validRule
 rule-parts ρ v =
-    let p = and-parts₃ (leb (ρ .left) 31) (leb (ρ .count) 8) (all validPlace (take (ρ .count) (ρ .places))) v in
-    (leb-true (ρ .left) 31 (p .0), leb-true (ρ .count) 8 (p .1), p .2)
+    let places = all validPlace (take (ρ .count) (ρ .places)) in
+    let years = and-parts (leb (ρ .left) 31 && leb (ρ .count) 8 && places) (leb (ρ .first) (ρ .last)) v in
+    let p = and-parts₃ (leb (ρ .left) 31) (leb (ρ .count) 8) places (years .0) in
+    (leb-true (ρ .left) 31 (p .0), leb-true (ρ .count) 8 (p .1), p .2, leb-true (ρ .first) (ρ .last) (years .1))
 
 pub grammar-parts : (g : Grammar) → validGrammar g ≡ true
     → (g .start ≤ 31) × (g .count ≤ maxRules) × (all validRule (take (g .count) (g .rules)) ≡ true)
@@ -68,6 +70,13 @@ Shows view = (ρ : Rule) (σ : Abstract.Rule) → view ρ ≡ some σ → meanin
 
 whole-shows : Shows ruleOf
 whole-shows ρ σ e = Option·some-injective (meaning ρ) σ e
+
+year-shows : (y : ℕ) → Shows (ruleInYear y)
+year-shows y ρ σ = go (inForce y ρ)
+  where
+    go : (b : Bool) → cond b (ruleOf ρ) none ≡ some σ → meaning ρ ≡ σ
+    go true e = whole-shows ρ σ e
+    go false e = clash cc
 
 module _ (view : Rule → Option Abstract.Rule) (shows : Shows view) where
   meant : (l : List Rule) (r : ℕ) (σ : Abstract.Rule) → all validRule l ≡ true → joined (getElem? (map view l) r) ≡ some σ → Meant σ
@@ -110,8 +119,8 @@ whole-bounded = view-bounded ruleOf whole-shows
 
 module _ (g : Dated) (valid : validGrammar (g .grammar) ≡ true) (r k : ℕ) (o : Of (grammarOf g) r k) where
   pub valid-bounded : k < 32
-  valid-bounded = view-bounded ruleOf whole-shows (g .grammar) valid r k o
+  valid-bounded = view-bounded (ruleInYear (g .year)) (year-shows (g .year)) (g .grammar) valid r k o
 
   -- a nonterminal in the places of a rule is below 32
   pub valid-symbols : (j : ℕ) → List·Memᴰ (Abstract.nonterminal j) (o .the .places) → j < 32
-  valid-symbols = view-symbols ruleOf whole-shows (g .grammar) valid r k o
+  valid-symbols = view-symbols (ruleInYear (g .year)) (year-shows (g .year)) (g .grammar) valid r k o

@@ -33,9 +33,15 @@ pub all-next : {A : Type 0} (test : A → Bool) (d : A) (l : List A) (q : ℕ) (
 all-next test d l q b e t h = all-more test d l q h (sym e ∙ not-false b t)
 
 module _ (r : Rule) where
-  pub valid-rule-of : r .left ≤ 31 → r .count ≤ maxPlaces → all validPlace (take (r .count) (r .places)) ≡ true → validRule r ≡ true
+  -- once all else is checked, the years decide
+  rule-years : r .left ≤ 31 → r .count ≤ maxPlaces → all validPlace (take (r .count) (r .places)) ≡ true
+      → validRule r ≡ leb (r .first) (r .last)
   unfolding validRule
-  valid-rule-of h k e = simp (le-leb (r .left) 31 h, le-leb (r .count) 8 k, e)
+  rule-years h k e = simp (le-leb (r .left) 31 h, le-leb (r .count) 8 k, e)
+
+  pub valid-rule-of : r .left ≤ 31 → r .count ≤ maxPlaces → all validPlace (take (r .count) (r .places)) ≡ true → r .first ≤ r .last
+      → validRule r ≡ true
+  valid-rule-of h k e y = rule-years h k e ∙ le-leb (r .first) (r .last) y
 
   pub rule-left : 31 < r .left → false ≡ validRule r
   unfolding validRule
@@ -50,8 +56,8 @@ module _ (r : Rule) where
   rule-place q b e t h = simp (all-refuses validPlace zeroPlace refl (r .places) (r .count) q h (sym e ∙ not-true b t), and-false)
 
   pub rule-passes : (q : ℕ) → q ≤ r .count → r .count ≤ maxPlaces → r .left ≤ 31 → all validPlace (take q (r .places)) ≡ true → r .count ≤ q
-      → true ≡ validRule r
-  rule-passes q h k l e m = sym (valid-rule-of l k (rw (le-antisymm m h) e))
+      → leb (r .first) (r .last) ≡ validRule r
+  rule-passes q h k l e m = sym (rule-years l k (rw (le-antisymm m h) e))
 
 module _ (g : Grammar) where
   pub valid-grammar-of : g .start ≤ 31 → g .count ≤ maxRules → all validRule (take (g .count) (g .rules)) ≡ true → validGrammar g ≡ true

@@ -3,5 +3,6 @@ pub mod All
 pub mod Laws
 pub mod Bounds
 pub mod RuleAt
+pub mod Years
 pub mod Setters
 pub mod Declared

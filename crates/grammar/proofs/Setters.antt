@@ -25,8 +25,10 @@ use Rattle.grammar.proofs.Bounds.{rule-parts, grammar-parts}
 
 -- ---- records of the same fields
 
-pub rule-same : (r s : Rule) → r .left ≡ s .left → r .length ≡ s .length → r .count ≡ s .count → r .places ≡ s .places → r ≡ s
-rule-same r s left hundredths count places = λ i. record { left = left i; length = hundredths i; count = count i; places = places i }
+pub rule-same : (r s : Rule) → r .left ≡ s .left → r .length ≡ s .length → r .count ≡ s .count → r .places ≡ s .places
+    → r .first ≡ s .first → r .last ≡ s .last → r ≡ s
+rule-same r s left hundredths count places first last =
+    λ i. ruleWith (left i) (hundredths i) (count i) (places i) (first i) (last i)
 
 pub grammar-same : (g h : Grammar) → g .start ≡ h .start → g .count ≡ h .count → g .depth ≡ h .depth → g .rules ≡ h .rules → g ≡ h
 grammar-same g h start count depth rules = λ i. record { start = start i; count = count i; depth = depth i; rules = rules i }
@@ -34,20 +36,21 @@ grammar-same g h start count depth rules = λ i. record { start = start i; count
 -- ---- rules
 
 -- a rule whose length was stored in a local, and whose places are all p
-pub opened-of : (k : ℕ) (y z : ℤ) (p : Place) → z ≡ y → SFits w16 z → p ≡ zeroPlace
-    → ruleWith k (toZ w16 (ofZ w16 z)) 0 (replicate maxPlaces p) ≡ openedRule k y
-opened-of k y z p f s e = ap₂ (λ (l : ℤ) (m : Place). ruleWith k l 0 (replicate maxPlaces m)) (toZ-ofZ s ∙ f) e
+pub opened-of : (k : ℕ) (y z : ℤ) (p : Place) (first last : ℕ) → z ≡ y → SFits w16 z → p ≡ zeroPlace
+    → ruleWith k (toZ w16 (ofZ w16 z)) 0 (replicate maxPlaces p) first last ≡ openedRule k y first last
+opened-of k y z p first last f s e =
+    ap₂ (λ (l : ℤ) (m : Place). ruleWith k l 0 (replicate maxPlaces m) first last) (toZ-ofZ s ∙ f) e
 
-pub opened-valid : (k : ℕ) (z : ℤ) → k ≤ 31 → validRule (openedRule k z) ≡ true
+pub opened-valid : (k : ℕ) (z : ℤ) (first last : ℕ) → k ≤ 31 → first ≤ last → validRule (openedRule k z first last) ≡ true
 unfolding all
-opened-valid k z h = valid-rule-of (openedRule k z) h (omega arith) refl
+opened-valid k z first last h y = valid-rule-of (openedRule k z first last) h (omega arith) refl y
 
 pub placed-valid : (r : Rule) (s : Symbol) → validRule r ≡ true → r .count < maxPlaces → validSymbol s ≡ true
     → validRule (placedRule r s) ≡ true
 placed-valid r s v h e =
     let p = rule-parts r v in
     let a = all-set validPlace (r .places) (r .count) (record { symbol = s }) (p .2) e in
-    valid-rule-of (placedRule r s) (p .0) (omega arith) (rw add-one a)
+    valid-rule-of (placedRule r s) (p .0) (omega arith) (rw add-one a) (p .3)
 
 -- ---- grammars
 

@@ -3,4 +3,5 @@ pub mod Zero
 pub mod Setters
 pub mod Valid
 pub mod View
+pub mod Years
 pub mod Tagged

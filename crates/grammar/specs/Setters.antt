@@ -13,28 +13,37 @@ use Rattle.grammar.specs.Zero.{zeroRule}
 -- ---- a rule
 
 -- the rule of these fields, as a row of numbers gives them
-abbrev pub ruleWith : ℕ → ℤ → ℕ → List Place → Rule
-ruleWith k hundredths n places = record { left = k; length = hundredths; count = n; places = places }
+abbrev pub ruleWith : ℕ → ℤ → ℕ → List Place → ℕ → ℕ → Rule
+ruleWith k hundredths n places first last =
+    record { left = k; length = hundredths; count = n; places = places; first = first; last = last }
 
 -- the rule with another left side, length, number of places, list of places, or place q
 abbrev pub setLeft : Rule → ℕ → Rule
-setLeft r k = record { left = k; length = r .length; count = r .count; places = r .places }
+setLeft r k = ruleWith k (r .length) (r .count) (r .places) (r .first) (r .last)
 
 abbrev pub setLength : Rule → ℤ → Rule
-setLength r hundredths = record { left = r .left; length = hundredths; count = r .count; places = r .places }
+setLength r hundredths = ruleWith (r .left) hundredths (r .count) (r .places) (r .first) (r .last)
 
 abbrev pub setPlaceCount : Rule → ℕ → Rule
-setPlaceCount r n = record { left = r .left; length = r .length; count = n; places = r .places }
+setPlaceCount r n = ruleWith (r .left) (r .length) n (r .places) (r .first) (r .last)
 
 abbrev pub setPlaces : Rule → List Place → Rule
-setPlaces r places = record { left = r .left; length = r .length; count = r .count; places = places }
+setPlaces r places = ruleWith (r .left) (r .length) (r .count) places (r .first) (r .last)
 
 abbrev pub setPlace : Rule → ℕ → Place → Rule
 setPlace r q p = setPlaces r (set (r .places) q p)
 
--- a rule of this left side and length, with no place yet
-abbrev pub openedRule : ℕ → ℤ → Rule
-openedRule k hundredths = setLength (setLeft zeroRule k) hundredths
+-- the rule with another first and last year
+abbrev pub setYears : Rule → ℕ → ℕ → Rule
+setYears r first last = ruleWith (r .left) (r .length) (r .count) (r .places) first last
+
+-- the last year there is; a rule that is opened without years holds from year 0 to it
+abbrev pub lastYear : ℕ
+lastYear = 65535
+
+-- a rule of this left side, length, first and last year, with no place yet
+abbrev pub openedRule : ℕ → ℤ → ℕ → ℕ → Rule
+openedRule k hundredths first last = setYears (setLength (setLeft zeroRule k) hundredths) first last
 
 -- the rule with one place more
 abbrev pub placedRule : Rule → Symbol → Rule

@@ -1,6 +1,6 @@
--- Check 8: start or a used nonterminal (kind) over 31, more than 128 rules, more than 8 places, or a used range whose low end is above its
--- high end is refused. Only what is used, as the counts say, is checked; the nullable depth, the lengths and unused records may hold
--- anything. Assumes nothing.
+-- Check 8: start or a used nonterminal (kind) over 31, more than 128 rules, more than 8 places, a used range whose low end is above its
+-- high end, or a used rule whose first year is above its last is refused. Only what is used, as the counts say, is checked; the nullable
+-- depth, the lengths and unused records may hold anything. Assumes nothing.
 use mathlib.Core.Bool.{Bool, true, _&&_}
 use mathlib.Core.List.{List, [], _∷_}
 use lib.Dec.{leb}
@@ -27,9 +27,9 @@ validSymbol (Range low high) = leb low high
 abbrev pub validPlace : Place → Bool
 validPlace p = validSymbol (p .symbol)
 
--- check 8 for a rule: its left side, its count, and its used places
+-- check 8 for a rule: its left side, its count, its used places, and its years
 unfoldable pub validRule : Rule → Bool
-validRule r = leb (r .left) 31 && leb (r .count) 8 && all validPlace (take (r .count) (r .places))
+validRule r = leb (r .left) 31 && leb (r .count) 8 && all validPlace (take (r .count) (r .places)) && leb (r .first) (r .last)
 
 -- check 8 for a grammar: its start symbol, its count, and its used rules
 unfoldable pub validGrammar : Grammar → Bool

@@ -1,7 +1,9 @@
 -- The abstract grammars that a declared one means, and its rule lengths by number. Assumes nothing.
+use mathlib.Core.Bool.{Bool, cond, _&&_}
 use mathlib.Core.List.{map}
-use mathlib.Core.Option.{Option, some}
+use mathlib.Core.Option.{Option, none, some}
 use Prim.Native.Nat.{ℕ}
+use lib.Dec.{leb}
 use lib.IntN.{ℤ}
 use lib.ListN.{take, getD}
 use Rattle.cfg.specs.Grammar as Abstract
@@ -30,21 +32,30 @@ ruleOf r = some (record { left = r .left; places = map placeOf (take (r .count) 
 abbrev pub viewedBy : (Rule → Option Abstract.Rule) → Grammar → Abstract.Cfg
 viewedBy view g = record { start = g .start; rules = map view (take (g .count) (g .rules)) }
 
--- the whole grammar (book). Loading and the nullable depth are about it
+-- the whole grammar (book), whatever the year. Loading, the nullable search and the nullable depth are about it
 abbrev pub wholeOf : Grammar → Abstract.Cfg
 wholeOf g = viewedBy ruleOf g
 
--- what decides the grammar by which an input is read: today a declared grammar alone
+-- whether a rule is in force in a year: from its first year to its last, both included
+abbrev pub inForce : ℕ → Rule → Bool
+inForce y r = leb (r .first) y && leb y (r .last)
+
+-- the rule that a rule record means in a year: none, and so a number without a rule, if it is not in force
+abbrev pub ruleInYear : ℕ → Rule → Option Abstract.Rule
+ruleInYear y r = cond (inForce y r) (ruleOf r) none
+
+-- what decides the grammar by which an input is read: a declared grammar, and the year of the input
 pub record Dated : Type 0 where
   pub grammar : Grammar
+  pub year : ℕ
 
-abbrev pub dated : Grammar → Dated
-dated g = record { grammar = g }
+abbrev pub dated : Grammar → ℕ → Dated
+dated g y = record { grammar = g; year = y }
 
--- the grammar by which an input is read: today the whole one. All calls on an input or a recognizer are about it
+-- the grammar by which an input is read: the rules in force. All calls on an input or a recognizer are about it
 abbrev pub grammarOf : Dated → Abstract.Cfg
-grammarOf g = viewedBy ruleOf (g .grammar)
+grammarOf g = viewedBy (ruleInYear (g .year)) (g .grammar)
 
--- the length of the rule of a number, in hundredths of a millimetre
+-- the length of the rule of a number, in hundredths of a millimetre, whatever the year
 abbrev pub lengthsOf : Grammar → ℕ → ℤ
 lengthsOf g r = getD (g .rules) r noRule .length

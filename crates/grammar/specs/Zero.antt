@@ -12,9 +12,9 @@ use Rattle.grammar.specs.declared.Grammar.{Grammar}
 abbrev pub zeroPlace : Place
 zeroPlace = record { symbol = Nonterminal 0 }
 
--- an unused rule record
+-- an unused rule record; its years are zeros too
 abbrev pub zeroRule : Rule
-zeroRule = record { left = 0; length = pos 0; count = 0; places = replicate maxPlaces zeroPlace }
+zeroRule = record { left = 0; length = pos 0; count = 0; places = replicate maxPlaces zeroPlace; first = 0; last = 0 }
 
 -- the grammar of a book without rules, which a refused book gives too
 abbrev pub zeroGrammar : Grammar
@@ -22,4 +22,4 @@ zeroGrammar = record { start = 0; count = 0; depth = 0; rules = replicate maxRul
 
 -- what a read past the end of an array of rules gives
 abbrev pub noRule : Rule
-noRule = record { left = 0; length = pos 0; count = 0; places = [] }
+noRule = record { left = 0; length = pos 0; count = 0; places = []; first = 0; last = 0 }

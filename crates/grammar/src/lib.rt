@@ -20,12 +20,15 @@ pub struct Place {
     pub symbol: Symbol,
 }
 
-// A rule record: its left side, its length in hundredths of a millimetre, and how many of its places are used.
+// A rule record: its left side, its length in hundredths of a millimetre, how many of its places are used, and the first and the last year
+// in which it holds.
 pub struct Rule {
     pub left: u8,
     pub length: i16,
     pub count: usize,
     pub places: [Place; sizes::MAX_PLACES],
+    pub first: u16,
+    pub last: u16,
 }
 
 // A loaded grammar (book): its start symbol, how many of its rules are used, and its nullable depth (blank depth).
@@ -53,6 +56,8 @@ pub fn zero_rule() -> Rule
         length: 0,
         count: 0,
         places: [zero_place(); sizes::MAX_PLACES],
+        first: 0,
+        last: 0,
     }
 }
 

@@ -17,7 +17,7 @@ pub fn valid_place(p: Place) -> bool
     }
 }
 
-// Check 8 for one rule record.
+// Check 8 for one rule record. Its years come last.
 pub fn valid_rule(rule: Rule) -> bool
     ensures { λ r. ⌜ r ≡ validRule rule ⌝ }
 {
@@ -33,5 +33,5 @@ pub fn valid_rule(rule: Rule) -> bool
         }
         q += 1;
     }
-    true
+    rule.first <= rule.last
 }

@@ -6,6 +6,7 @@ use mathlib.Core.Bool.{true, false}
 use mathlib.Core.List.{List}
 use mathlib.Core.Path.{_≡_, refl, sym, ap, _∙_, subst}
 use lib.Dec.{ltb}
+use lib.IntN.{ℤ}
 use lib.ListN.{length, getD}
 use borrow.Author.Tests.{lt-ltb}
 use mir.Syntax.{w64}
@@ -32,6 +33,7 @@ use Rattle.load_commands.proofs.Steps.{turn-step}
 use Rattle.load.specs.declared.Loaded.{Loaded}
 use Rattle.load_commands.specs.declared.opcode.Command.{Command}
 use Rattle.load_commands.specs.declared.opcode.Command.the-variants as C
+use Rattle.load_commands.specs.declared.opcode.Header.{Header}
 use Rattle.load_commands.specs.declared.opcode.Turn.{Turn}
 
 -- ---- the bounds of a command that was read
@@ -43,11 +45,14 @@ module _ (bytes : List ℕ) (at : ℕ) (t : Turn) (rules places : ℕ) (c : Comm
   pub start-room : (k : ℕ) → c ≡ C.Start k → at + 2 ≤ length bytes
   start-room k e = bounds (C.Start k) e
 
-  pub rule-room : (k low high : ℕ) → c ≡ C.Rule k low high → at + 4 ≤ length bytes
-  rule-room k low high e = bounds (C.Rule k low high) e .0
+  pub rule-some : (o : Header) (n : ℕ) → c ≡ C.Rule o n → 0 < n
+  rule-some o n e = bounds (C.Rule o n) e .0
 
-  pub rule-few : (k low high : ℕ) → c ≡ C.Rule k low high → rules < maxRules
-  rule-few k low high e = bounds (C.Rule k low high) e .1
+  pub rule-room : (o : Header) (n : ℕ) → c ≡ C.Rule o n → at + n ≤ length bytes
+  rule-room o n e = bounds (C.Rule o n) e .1
+
+  pub rule-few : (o : Header) (n : ℕ) → c ≡ C.Rule o n → rules < maxRules
+  rule-few o n e = bounds (C.Rule o n) e .2
 
   pub place-some : (s : Symbol) (n : ℕ) → c ≡ C.Place s n → 0 < n
   place-some s n e = bounds (C.Place s n) e .0
@@ -132,14 +137,18 @@ module _ (bytes : List ℕ) (at : ℕ) (t : Turn) (g : Grammar) (P : Progress by
         progress-next (C.Start k) _ _ _ _ e refl (bounded (C.Start k) e)
         (record { started = some (at + 2) (omega arith); opened = P .turn .opened }) (start-set g k)
 
-    pub progress-rule : (k low high : ℕ) (r : Rule) → c ≡ C.Rule k low high → r ≡ openedRule k (signedIn (low + 256 * high))
-        → Progress bytes (at + 4) (record { started = t .started; opened = true }) (setCount (setRule g (g .count) r) (g .count + 1))
-    progress-rule k low high r e o =
+    pub progress-rule : (o : Header) (n : ℕ) (r : Rule) → c ≡ C.Rule o n
+        → r ≡ openedRule (o .left) (signedIn (o .low + 256 * o .high)) (o .first) (o .last)
+        → Progress bytes (at + n) (record { started = t .started; opened = true }) (setCount (setRule g (g .count) r) (g .count + 1))
+    progress-rule o n r e i =
         let b = subst (Begun t) e (R .begun) in
-        progress-next (C.Rule k low high) _ _ _ _ e refl (bounded (C.Rule k low high) e .0)
-        (record { started = b ∙ some (at + 4) (omega arith); opened = some (g .count + 1) (omega arith) })
-        (ap (λ (m : Rule). setCount (setRule g (g .count) m) (g .count + 1)) (o ∙ ap (openedRule k) (signed-bytes low high))
-        ∙ rule-set g k (signed low high))
+        let bound = bounded (C.Rule o n) e in
+        let s = signed-bytes (o .low) (o .high) in
+        progress-next (C.Rule o n) _ _ _ _ e refl (bound .1)
+        (record { started = b ∙ some (at + n) (omega (arith, bound .0)); opened = some (g .count + 1) (omega arith) })
+        (ap (λ (m : Rule). setCount (setRule g (g .count) m) (g .count + 1))
+        (i ∙ ap (λ (z : ℤ). openedRule (o .left) z (o .first) (o .last)) s)
+        ∙ rule-set g (o .left) (signed (o .low) (o .high)) (o .first) (o .last))
 
     pub progress-place : (s : Symbol) (n : ℕ) (r : Rule) → c ≡ C.Place s n → r ≡ placedRule (getD (g .rules) q noRule) s
         → Progress bytes (at + n) t (setRule g q r)

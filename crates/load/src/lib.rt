@@ -63,11 +63,11 @@ pub fn load(bytes: &[u8]) -> Loaded
                 turn.started = true;
                 at += 2;
             }
-            Command::Rule(k, low, high) => {
-                g.rules[n] = building::opened(k, low, high);
+            Command::Rule(h, bytes) => {
+                g.rules[n] = building::opened(h.left, h.low, h.high, h.first, h.last);
                 g.count = n + 1;
                 turn.opened = true;
-                at += 4;
+                at += bytes;
             }
             Command::Place(s, bytes) => {
                 g.rules[q] = building::placed(open, s);

@@ -10,10 +10,11 @@ use Rattle.grammar.specs.declared.Symbol.the-variants.{Range}
 use Rattle.answers.specs.declared.Refusal.the-variants as R
 use Rattle.results.specs.Load.{unknown}
 use Rattle.load_commands.specs.Class.{byteOf}
-use Rattle.load_commands.specs.Command.{ruleCommand, placeCommand, rangeCommand, endCommand}
+use Rattle.load_commands.specs.Command.{headerWith, ruleCommand, yearsCommand, placeCommand, rangeCommand, endCommand}
 use Rattle.load_commands.specs.Turn.{late}
 use Rattle.load_commands.specs.declared.opcode.Command.{Command}
 use Rattle.load_commands.specs.declared.opcode.Command.the-variants.{Rule, Place, End, Fault}
+use Rattle.load_commands.specs.declared.opcode.Header.{Header}
 use Rattle.load_commands.specs.declared.opcode.Opcode.{Opcode}
 use Rattle.load_commands.specs.declared.opcode.Opcode.the-variants as O
 use Rattle.load_commands.specs.declared.opcode.Turn.{Turn}
@@ -24,6 +25,7 @@ pub byte-known : (k : Opcode) → unknown (byteOf k) ≡ false
 unfolding unknown
 byte-known O.Start = refl
 byte-known O.Rule = refl
+byte-known O.RuleWithYears = refl
 byte-known O.Nonterminal = refl
 byte-known O.Terminal = refl
 byte-known O.Range = refl
@@ -37,6 +39,9 @@ module _ (k : Opcode) (t : Turn) where
 
   pub late-rule : k ≡ O.Rule → not (t .started) ≡ late (byteOf k) t
   late-rule e = rw (e, or-false (not (t .started)))
+
+  pub late-years : k ≡ O.RuleWithYears → not (t .started) ≡ late (byteOf k) t
+  late-years e = rw (e, or-false (not (t .started)))
 
   pub late-nonterminal : k ≡ O.Nonterminal → late (byteOf k) t ≡ (not (t .started) || not (t .opened))
   late-nonterminal e = rw e
@@ -58,14 +63,26 @@ module _ (k : Opcode) (t : Turn) where
     pub late-closed : not (t .started) ≡ false → not (t .opened) ≡ late (byteOf k) t
     late-closed n = rw (p, n)
 
+-- ---- what a rule is opened with, from the bytes of its length
+
+pub header-same : (left low low′ high high′ first last : ℕ) → low ≡ low′ → high ≡ high′
+    → headerWith left low high first last ≡ headerWith left low′ high′ first last
+header-same left low low′ high high′ first last l h = λ i. headerWith left (l i) (h i) first last
+
 -- ---- the limits. A law of a refusal takes the number m of the code's test, which is not below the limit
 module _ (at : ℕ) where
-  module _ (rules left low high : ℕ) where
-    pub rule-many : (m : ℕ) → m ≤ rules → maxRules ≤ m → Fault R.TooManyRules at ≡ ruleCommand at rules left low high
-    rule-many m h k = rw (lt-ltb 127 rules (omega arith))
+  module _ (rules : ℕ) (o : Header) where
+    pub rule-many : (bytes m : ℕ) → m ≤ rules → maxRules ≤ m → Fault R.TooManyRules at ≡ ruleCommand at rules o bytes
+    rule-many bytes m h k = rw (lt-ltb 127 rules (omega arith))
 
-    pub rule-read : rules < maxRules → Rule left low high ≡ ruleCommand at rules left low high
-    rule-read h = rw (le-ltb 127 rules (omega arith))
+    pub rule-read : (bytes : ℕ) → rules < maxRules → Rule o bytes ≡ ruleCommand at rules o bytes
+    rule-read bytes h = rw (le-ltb 127 rules (omega arith))
+
+    pub years-reversed : o .last < o .first → Fault R.YearsReversed at ≡ yearsCommand at rules o
+    years-reversed h = rw (lt-ltb (o .last) (o .first) h)
+
+    pub years-read : o .first ≤ o .last → (m : Command) → m ≡ ruleCommand at rules o 8 → m ≡ yearsCommand at rules o
+    years-read h m e = rw (e, le-ltb (o .last) (o .first) h)
 
   module _ (places : ℕ) (s : Symbol) (bytes : ℕ) where
     pub place-many : (m : ℕ) → m ≤ places → maxPlaces ≤ m → Fault R.TooManyPlaces at ≡ placeCommand at places s bytes

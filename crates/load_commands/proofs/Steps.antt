@@ -11,18 +11,20 @@ use Rattle.laws.proofs.Bools.{clash}
 use Rattle.grammar.specs.declared.Grammar.{Grammar}
 use Rattle.grammar.specs.declared.Symbol.{Symbol}
 use Rattle.grammar.specs.declared.Symbol.the-variants.{Nonterminal, Terminal, Range}
+use Rattle.grammar.specs.Setters.{lastYear}
 use Rattle.answers.specs.declared.Refusal.the-variants as R
 use Rattle.results.specs.Answer.{decide}
 use Rattle.results.specs.Load.{fault, stop, next, step, operandChecks, commandChecks, carriedOut, unknown}
-use Rattle.results.specs.Load.{addsPlace, outOfTurn, operands, operand, after, openRule, withPlace}
+use Rattle.results.specs.Load.{addsPlace, outOfTurn, operands, operand, word, signed, after, openRule, withRule, withPlace}
 use Rattle.load_commands.specs.Class.{byteOf, Classified}
-use Rattle.load_commands.specs.Command.{tooLarge, ruleCommand, placeCommand, rangeCommand, endCommand, stepPast, stepAfter}
-use Rattle.load_commands.specs.Command.{Bounded, Begun, ChecksPassed, CommandRead}
+use Rattle.load_commands.specs.Command.{tooLarge, headerWith, ruleCommand, yearsCommand, placeCommand, rangeCommand, endCommand}
+use Rattle.load_commands.specs.Command.{stepPast, stepAfter, Bounded, Begun, ChecksPassed, CommandRead}
 use Rattle.load_commands.specs.Turn.{late, TurnAt}
 use Rattle.load_commands.specs.declared.opcode.Class.{Class}
 use Rattle.load_commands.specs.declared.opcode.Class.the-variants.{Known, Unknown}
 use Rattle.load_commands.specs.declared.opcode.Command.{Command}
 use Rattle.load_commands.specs.declared.opcode.Command.the-variants.{Start, Rule, Place, End, Fault}
+use Rattle.load_commands.specs.declared.opcode.Header.{Header}
 use Rattle.load_commands.specs.declared.opcode.Opcode.{Opcode}
 use Rattle.load_commands.specs.declared.opcode.Opcode.the-variants as O
 use Rattle.load_commands.specs.declared.opcode.Turn.{Turn}
@@ -42,19 +44,51 @@ module _ (bytes : List ℕ) (at : ℕ) (k : Opcode) (a rules places : ℕ) (room
   four : at + 1 + 3 ≡ at + 4
   four = omega arith
 
+  eight : at + 1 + 7 ≡ at + 8
+  eight = omega arith
+
   pub start-passed : k ≡ O.Start → ChecksPassed 2 bytes at (byteOf k) rules places (Start a)
   unfolding decide operandChecks carriedOut operands after
   start-passed e = let r = rw e at room in rw (e, first) (record { means = λ g p q. rw two; bounded = omega arith })
 
-  pub rule-passed : k ≡ O.Rule → (m : Command) (low high : ℕ) → low ≡ operand bytes at 1 → high ≡ operand bytes at 2
-      → m ≡ ruleCommand at rules a low high → ChecksPassed 2 bytes at (byteOf k) rules places m
-  unfolding decide operandChecks carriedOut operands after
-  rule-passed e m low high l h i = let r = rw e at room in rw (e, i, first, l, h) (go r (ltb 127 rules) refl)
+  -- a command c of so many bytes whose only limit is check 5, and what it opens a rule with
+  opened-passed : (c : ℕ) (o : Header) (size : ℕ) → 0 < size → at + size ≤ length bytes → eqb c 0x10 ≡ false
+      → ((g : Grammar) → stepPast 2 bytes at c g
+      ≡ decide (fault (ltb 127 (g .count)) 5 at ∷ []) stop (λ _. next (at + size)
+      (withRule g (o .left) (signed (o .low) (o .high)) (o .first) (o .last))))
+      → ChecksPassed 2 bytes at c rules places (ruleCommand at rules o size)
+  unfolding decide
+  opened-passed c o size z r y h = go (ltb 127 rules) refl
     where
-      go : at + 1 + 3 ≤ length bytes → (b : Bool) → ltb 127 rules ≡ b → ChecksPassed 2 bytes at 0x20 rules places
-          (cond b (Fault R.TooManyRules at) (Rule (operand bytes at 0) (operand bytes at 1) (operand bytes at 2)))
-      go r true f = record { means = λ g p q. rw (p, f); bounded = tt }
-      go r false f = record { means = λ g p q. rw (p, f, four); bounded = (omega arith, omega (arith, ltb-false 127 rules f), refl) }
+      go : (b : Bool) → ltb 127 rules ≡ b → ChecksPassed 2 bytes at c rules places (cond b (Fault R.TooManyRules at) (Rule o size))
+      go true f = record { means = λ g p q. rw (h g, p, f); bounded = tt }
+      go false f = record { means = λ g p q. rw (h g, p, f); bounded = (z, r, omega (arith, ltb-false 127 rules f), y) }
+
+  pub rule-passed : k ≡ O.Rule → (m : Command) (o : Header) → o ≡ headerWith a (operand bytes at 1) (operand bytes at 2) 0 lastYear
+      → m ≡ ruleCommand at rules o 4 → ChecksPassed 2 bytes at (byteOf k) rules places m
+  unfolding decide operandChecks carriedOut operands after
+  rule-passed e m o h i =
+      let r = rw e at room in
+      let here = headerWith a (operand bytes at 1) (operand bytes at 2) 0 lastYear in
+      rw (e, i, h) (opened-passed 0x20 here 4 (omega arith) (omega arith) refl (λ g. rw (four, first)))
+
+  -- 21: check 21 before check 5
+  pub years-passed : k ≡ O.RuleWithYears → (m : Command) (o : Header) (y z : ℕ) → y ≡ word (operand bytes at 3) (operand bytes at 4)
+      → z ≡ word (operand bytes at 5) (operand bytes at 6) → o ≡ headerWith a (operand bytes at 1) (operand bytes at 2) y z
+      → m ≡ yearsCommand at rules o → ChecksPassed 2 bytes at (byteOf k) rules places m
+  unfolding decide operandChecks carriedOut operands after
+  years-passed e m o y z ey ez h i =
+      let r = rw e at room in
+      rw (e, i, h, first, ey, ez) (go r (ltb (here .last) (here .first)) refl)
+    where
+      here : Header
+      here = headerWith (operand bytes at 0) (operand bytes at 1) (operand bytes at 2) (word (operand bytes at 3) (operand bytes at 4))
+          (word (operand bytes at 5) (operand bytes at 6))
+
+      go : at + 1 + 7 ≤ length bytes → (b : Bool) → ltb (here .last) (here .first) ≡ b → ChecksPassed 2 bytes at 0x21 rules places
+          (cond b (Fault R.YearsReversed at) (ruleCommand at rules here 8))
+      go r true f = record { means = λ g p q. rw f; bounded = tt }
+      go r false f = opened-passed 0x21 here 8 (omega arith) (omega arith) refl (λ g. rw (f, eight))
 
   -- a command c of so many bytes whose only limit is check 6, and its symbol s
   place-passed : (c : ℕ) (s : Symbol) (size : ℕ) → 0 < size → at + size ≤ length bytes → eqb c 0x10 ≡ false
@@ -156,7 +190,7 @@ begun c t f e = go (t .started) (rw e at f)
 
 begun-all : (c : ℕ) (t : Turn) → late c t ≡ false → (len at rules places : ℕ) (m : Command) → Bounded len at c rules places m → Begun t m
 begun-all c t f len at rules places (Start k) B = tt
-begun-all c t f len at rules places (Rule k low high) B = begun c t f (B .2)
+begun-all c t f len at rules places (Rule o bytes) B = begun c t f (B .3)
 begun-all c t f len at rules places (Place s bytes) B = begun c t f (B .3)
 begun-all c t f len at rules places End B = tt
 begun-all c t f len at rules places (Fault r o) B = tt

@@ -4,7 +4,7 @@ use mathlib.Core.Bool.{true}
 use mathlib.Core.Path.{_≡_}
 use Rattle.results.specs.Load.{unknown}
 use Rattle.load_commands.specs.declared.opcode.Opcode.{Opcode}
-use Rattle.load_commands.specs.declared.opcode.Opcode.the-variants.{Start, Rule, Nonterminal, Terminal, Range, End}
+use Rattle.load_commands.specs.declared.opcode.Opcode.the-variants.{Start, Rule, RuleWithYears, Nonterminal, Terminal, Range, End}
 use Rattle.load_commands.specs.declared.opcode.Class.{Class}
 use Rattle.load_commands.specs.declared.opcode.Class.the-variants.{Known, Unknown}
 
@@ -12,6 +12,7 @@ use Rattle.load_commands.specs.declared.opcode.Class.the-variants.{Known
 abbrev pub byteOf : Opcode → ℕ
 byteOf Start = 0x10
 byteOf Rule = 0x20
+byteOf RuleWithYears = 0x21
 byteOf Nonterminal = 0x30
 byteOf Terminal = 0x40
 byteOf Range = 0x41

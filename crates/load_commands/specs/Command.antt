@@ -13,19 +13,28 @@ use Rattle.answers.specs.declared.Refusal.the-variants as R
 use Rattle.answers.specs.Number.{numberOf}
 use Rattle.results.specs.Answer.{decide}
 use Rattle.results.specs.Load.{Step, stop, next, done, fault, signed, openRule, withStart, withRule, withPlace}
-use Rattle.results.specs.Load.{unknown, operandChecks, carriedOut}
+use Rattle.results.specs.Load.{unknown, opensRule, operandChecks, carriedOut}
 use Rattle.load_commands.specs.Turn.{late}
 use Rattle.load_commands.specs.declared.opcode.Command.{Command}
 use Rattle.load_commands.specs.declared.opcode.Command.the-variants.{Start, Rule, Place, End, Fault}
+use Rattle.load_commands.specs.declared.opcode.Header.{Header}
 use Rattle.load_commands.specs.declared.opcode.Turn.{Turn}
 
 -- check 4, for the command c: its first operand a is a nonterminal, and over 31
 abbrev pub tooLarge : (c a : ℕ) → Bool
-tooLarge c a = (eqb c 0x10 || eqb c 0x20 || eqb c 0x30) && ltb 31 a
+tooLarge c a = (eqb c 0x10 || opensRule c || eqb c 0x30) && ltb 31 a
 
--- 20 at an offset after this many rules
-abbrev pub ruleCommand : (at rules left low high : ℕ) → Command
-ruleCommand at rules left low high = cond (ltb 127 rules) (Fault R.TooManyRules at) (Rule left low high)
+-- what a rule is opened with
+abbrev pub headerWith : (left low high first last : ℕ) → Header
+headerWith left low high first last = record { left = left; low = low; high = high; first = first; last = last }
+
+-- a command of this many bytes that opens a rule, after this many rules
+abbrev pub ruleCommand : (at rules : ℕ) → Header → ℕ → Command
+ruleCommand at rules h bytes = cond (ltb 127 rules) (Fault R.TooManyRules at) (Rule h bytes)
+
+-- 21 after this many rules
+abbrev pub yearsCommand : (at rules : ℕ) → Header → Command
+yearsCommand at rules h = cond (ltb (h .last) (h .first)) (Fault R.YearsReversed at) (ruleCommand at rules h 8)
 
 -- a command of this many bytes that adds a place, in a rule of this many places
 abbrev pub placeCommand : (at places : ℕ) → Symbol → ℕ → Command
@@ -42,7 +51,7 @@ endCommand past len = cond (ltb past len) (Fault R.FurtherByte past) End
 -- the step that a command at an offset makes
 abbrev pub stepOf : Command → ℕ → Grammar → Step
 stepOf (Start k) at g = next (at + 2) (withStart g k)
-stepOf (Rule k low high) at g = next (at + 4) (withRule g k (signed low high))
+stepOf (Rule h bytes) at g = next (at + bytes) (withRule g (h .left) (signed (h .low) (h .high)) (h .first) (h .last))
 stepOf (Place s bytes) at g = next (at + bytes) (withPlace g s)
 stepOf End at g = done g
 stepOf (Fault r o) at g = stop (record { number = numberOf r; offset = o })
@@ -50,7 +59,7 @@ stepOf (Fault r o) at g = stop (record { number = numberOf r; offset = o })
 -- the bounds of a command with the byte c in a book of len bytes, after this many rules, the last with this many places
 abbrev pub Bounded : (len at c rules places : ℕ) → Command → Type 0
 Bounded len at c rules places (Start k) = at + 2 ≤ len
-Bounded len at c rules places (Rule k low high) = (at + 4 ≤ len) × (rules < maxRules) × (eqb c 0x10 ≡ false)
+Bounded len at c rules places (Rule h bytes) = (0 < bytes) × (at + bytes ≤ len) × (rules < maxRules) × (eqb c 0x10 ≡ false)
 Bounded len at c rules places (Place s bytes) = (0 < bytes) × (at + bytes ≤ len) × (places < maxPlaces) × (eqb c 0x10 ≡ false)
 Bounded len at c rules places End = Unit {0}
 Bounded len at c rules places (Fault r o) = Unit {0}
@@ -58,7 +67,7 @@ Bounded len at c rules places (Fault r o) = Unit {0}
 -- before a rule or a place a start has been read
 abbrev pub Begun : Turn → Command → Type 0
 Begun t (Start k) = Unit {0}
-Begun t (Rule k low high) = t .started ≡ true
+Begun t (Rule h bytes) = t .started ≡ true
 Begun t (Place s bytes) = t .started ≡ true
 Begun t End = Unit {0}
 Begun t (Fault r o) = Unit {0}

@@ -7,7 +7,7 @@ use Rattle.grammar.specs.declared.Grammar.{Grammar}
 use Rattle.results.specs.Load.{addsPlace}
 use Rattle.load_commands.specs.declared.opcode.Turn.{Turn}
 
--- a 10 that is not first, another command that is, and a place before any 20
+-- a 10 that is not first, another command that is, and a place before any 20 or 21
 abbrev pub late : ℕ → Turn → Bool
 late c t = cond (eqb c 0x10) (t .started) (not (t .started) || (addsPlace c && not (t .opened)))
 

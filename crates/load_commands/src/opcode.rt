@@ -5,7 +5,7 @@ use grammar::Symbol;
 ghost use mathlib.Core.Path.{_≡_};
 ghost use Rattle.results.specs.Load.{operands};
 ghost use Rattle.load_commands.specs.Class.{byteOf, Classified};
-ghost use Rattle.load_commands.specs.Command.{tooLarge, ruleCommand, placeCommand, rangeCommand, endCommand};
+ghost use Rattle.load_commands.specs.Command.{tooLarge, ruleCommand, yearsCommand, placeCommand, rangeCommand, endCommand};
 ghost use Rattle.load_commands.specs.Turn.{late};
 
 // A book has at most this many rules, and a rule this many places.
@@ -20,6 +20,7 @@ const NONTERMINALS: u8 = 32;
 pub enum Opcode {
     Start,
     Rule,
+    RuleWithYears,
     Nonterminal,
     Terminal,
     Range,
@@ -32,10 +33,20 @@ pub enum Class {
     Unknown,
 }
 
-// A command with its operands, or the refusal of the command and the offset that the refusal names. A place has the number of its bytes.
+// What a rule is opened with: its left side, its length as a low and a high byte, and its first and last year.
+pub struct Header {
+    pub left: u8,
+    pub low: u8,
+    pub high: u8,
+    pub first: u16,
+    pub last: u16,
+}
+
+// A command with its operands, or the refusal of the command and the offset that the refusal names. A rule and a place have the number of
+// the command's bytes.
 pub enum Command {
     Start(u8),
-    Rule(u8, u8, u8),
+    Rule(Header, usize),
     Place(Symbol, usize),
     End,
     Fault(Refusal, usize),
@@ -54,6 +65,7 @@ pub fn classify(c: u8) -> Class
     match c {
         0x10 => Class::Known(Opcode::Start),
         0x20 => Class::Known(Opcode::Rule),
+        0x21 => Class::Known(Opcode::RuleWithYears),
         0x30 => Class::Known(Opcode::Nonterminal),
         0x40 => Class::Known(Opcode::Terminal),
         0x41 => Class::Known(Opcode::Range),
@@ -69,6 +81,7 @@ pub fn operand_count(k: Opcode) -> usize
     match k {
         Opcode::Start => 1,
         Opcode::Rule => 3,
+        Opcode::RuleWithYears => 7,
         Opcode::Nonterminal => 1,
         Opcode::Terminal => 1,
         Opcode::Range => 2,
@@ -83,6 +96,7 @@ pub fn out_of_turn(k: Opcode, turn: Turn) -> bool
     match k {
         Opcode::Start => turn.started,
         Opcode::Rule => !turn.started,
+        Opcode::RuleWithYears => !turn.started,
         Opcode::Nonterminal => !turn.started || !turn.opened,
         Opcode::Terminal => !turn.started || !turn.opened,
         Opcode::Range => !turn.started || !turn.opened,
@@ -97,6 +111,7 @@ pub fn too_large(k: Opcode, a: u8) -> bool
     match k {
         Opcode::Start => a >= NONTERMINALS,
         Opcode::Rule => a >= NONTERMINALS,
+        Opcode::RuleWithYears => a >= NONTERMINALS,
         Opcode::Nonterminal => a >= NONTERMINALS,
         Opcode::Terminal => false,
         Opcode::Range => false,
@@ -104,14 +119,24 @@ pub fn too_large(k: Opcode, a: u8) -> bool
     }
 }
 
-// Check 5: command 20 after this many rules.
-pub fn rule(at: usize, rules: usize, left: u8, low: u8, high: u8) -> Command
-    ensures { λ r. ⌜ r ≡ ruleCommand at rules left low high ⌝ }
+// Check 5: a command of this many bytes that opens a rule, after this many rules.
+pub fn rule(at: usize, rules: usize, header: Header, bytes: usize) -> Command
+    ensures { λ r. ⌜ r ≡ ruleCommand at rules header bytes ⌝ }
 {
     if rules >= RULES {
         return Command::Fault(Refusal::TooManyRules, at);
     }
-    Command::Rule(left, low, high)
+    Command::Rule(header, bytes)
+}
+
+// Checks 21 and 5: command 21 after this many rules.
+pub fn rule_with_years(at: usize, rules: usize, header: Header) -> Command
+    ensures { λ r. ⌜ r ≡ yearsCommand at rules header ⌝ }
+{
+    if header.first > header.last {
+        return Command::Fault(Refusal::YearsReversed, at);
+    }
+    rule(at, rules, header, 8)
 }
 
 // Check 6: a command of this many bytes that adds a place, in an open rule of this many places.

@@ -1,18 +1,20 @@
 // The commands of a book: the command at an offset, or the fault for which it is refused. The checks of a command come in the order 2, 3,
-// 1, 4, and then 5 for a rule, 6 for a place or 7 for the end. For a range 16 comes before 6.
+// 1, 4, and then 5 for a rule, 6 for a place or 7 for the end. For a rule with years 21 comes before 5, for a range 16 before 6.
 use super::opcode;
 use super::opcode::Class;
 use super::opcode::Command;
+use super::opcode::Header;
 use super::opcode::Opcode;
 use super::opcode::Turn;
 use answers::Refusal;
 use grammar::Symbol;
+use grammar::building;
 ghost use Prim.Native.Nat.{_+_, _≤_, _<_};
 ghost use mathlib.Core.Path.{_≡_};
 ghost use lib.ListN.{length};
-ghost use Rattle.results.specs.Load.{operands, operand};
+ghost use Rattle.results.specs.Load.{operands, operand, word};
 ghost use Rattle.load_commands.specs.Class.{byteOf};
-ghost use Rattle.load_commands.specs.Command.{ChecksPassed, CommandRead};
+ghost use Rattle.load_commands.specs.Command.{headerWith, ChecksPassed, CommandRead};
 
 // Operand i, counted from 0, of the command at an offset, or 0 past the end of the book.
 pub fn operand_at(bytes: &[u8], at: usize, i: usize) -> u8
@@ -27,7 +29,31 @@ pub fn operand_at(bytes: &[u8], at: usize, i: usize) -> u8
     }
 }
 
-// Check 5, 6 or 7 of the command k at an offset, and check 16 before 6. All its operands are there, and the first is a.
+// The number of 16 bits that operand i and the one after it hold, low byte first.
+pub fn word_at(bytes: &[u8], at: usize, i: usize) -> u16
+    requires { ⌜ (at < length (now bytes)) × (i < 7) ⌝ }
+    ensures { λ r. ⌜ r ≡ word (operand (now (bytes .entry)) at i) (operand (now (bytes .entry)) at (i + 1)) ⌝ }
+{
+    let low = operand_at(bytes, at, i);
+    let high = operand_at(bytes, at, i + 1);
+    (low as u16) + 256 * (high as u16)
+}
+
+// What the command at an offset opens a rule with, in these years. Operands 1 and 2 are the length.
+pub fn header_at(bytes: &[u8], at: usize, left: u8, first: u16, last: u16) -> Header
+    requires { ⌜ at < length (now bytes) ⌝ }
+    ensures { λ h. ⌜ h ≡ headerWith left (operand (now (bytes .entry)) at 1) (operand (now (bytes .entry)) at 2) first last ⌝ }
+{
+    Header {
+        left: left,
+        low: operand_at(bytes, at, 1),
+        high: operand_at(bytes, at, 2),
+        first: first,
+        last: last,
+    }
+}
+
+// Check 5, 6 or 7 of the command k at an offset, with 21 before 5 and 16 before 6. All its operands are there, and the first is a.
 pub fn limits_at(bytes: &[u8], at: usize, k: Opcode, a: u8, rules: usize, places: usize) -> Command
     requires { ⌜ at + 1 + operands (byteOf k) ≤ length (now bytes) ⌝ }
     requires { ⌜ a ≡ operand (now bytes) at 0 ⌝ }
@@ -36,9 +62,14 @@ pub fn limits_at(bytes: &[u8], at: usize, k: Opcode, a: u8, rules: usize, places
     match k {
         Opcode::Start => Command::Start(a),
         Opcode::Rule => {
-            let low = operand_at(bytes, at, 1);
-            let high = operand_at(bytes, at, 2);
-            opcode::rule(at, rules, a, low, high)
+            let header = header_at(bytes, at, a, 0, building::LAST_YEAR);
+            opcode::rule(at, rules, header, 4)
+        }
+        Opcode::RuleWithYears => {
+            let first = word_at(bytes, at, 3);
+            let last = word_at(bytes, at, 5);
+            let header = header_at(bytes, at, a, first, last);
+            opcode::rule_with_years(at, rules, header)
         }
         Opcode::Nonterminal => opcode::place(at, places, Symbol::Nonterminal(a), 2),
         Opcode::Terminal => opcode::place(at, places, Symbol::Terminal(a), 2),

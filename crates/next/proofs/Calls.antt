@@ -45,19 +45,19 @@ module _ (p w : List ℕ) (s : ℕ) (offered chart out : List ℕ) (b : Bool) (t
 
 -- ---- the call
 
-module _ (g : Grammar) (w offered chart out : List ℕ) (j : Judged)
+module _ (g : Grammar) (y : ℕ) (w offered chart out : List ℕ) (j : Judged)
     (judging : JudgingOutput g (length w) (length chart) (length out) j) where
-  pub next-refused : (r : Refusal) → j ≡ Refused r → enumerationOf (refused (numberOf r)) chart out ≡ nextOf (dated g) w offered chart out
+  pub next-refused : (r : Refusal) → j ≡ Refused r → enumerationOf (refused (numberOf r)) chart out ≡ nextOf (dated g y) w offered chart out
   unfolding nextOf onOutput
-  next-refused r h = sym (output-refused g w chart _ _ out j judging r h)
+  next-refused r h = sym (output-refused g y w chart _ _ out j judging r h)
 
-  module _ (is : j ≡ Passed) (p chart' : List ℕ) (filling : Filling g p w chart chart') (s : ℕ) (start : s ≡ g .start) where
+  module _ (is : j ≡ Passed) (p chart' : List ℕ) (filling : Filling g y p w chart chart') (s : ℕ) (start : s ≡ g .start) where
     -- over the grammar that was packed
-    over-packed : nextFilled (cfgIn s p) w offered chart' out ≡ nextIn (grammarOf (dated g)) w offered chart out
+    over-packed : nextFilled (cfgIn s p) w offered chart' out ≡ nextIn (grammarOf (dated g y)) w offered chart out
     unfolding nextIn unlisted
-    over-packed = rw (filling .0, list-packed g p w (filling .1) s start)
+    over-packed = rw (filling .0, list-packed g y p w (filling .1) s start)
 
     pub next-answered : (a : Answer Handing) (out' : List ℕ) → enumerationOf a chart' out' ≡ nextFilled (cfgIn s p) w offered chart' out
-        → enumerationOf a chart' out' ≡ nextOf (dated g) w offered chart out
+        → enumerationOf a chart' out' ≡ nextOf (dated g y) w offered chart out
     unfolding nextOf onOutput
-    next-answered a out' d = d ∙ over-packed ∙ sym (output-passed g w chart _ _ out j judging is)
+    next-answered a out' d = d ∙ over-packed ∙ sym (output-passed g y w chart _ _ out j judging is)

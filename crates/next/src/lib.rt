@@ -84,15 +84,22 @@ fn next_filled(
 // ---- the exported call
 
 // The derivation after the offered one, written to the front of the output. Refusals 8 to 12.
-pub fn next(g: Grammar, input: &[u8], offered: &[u16], chart: &mut [u32], out: &mut [u16]) -> Handed
+pub fn next(
+    g: Grammar,
+    input: &[u8],
+    year: u16,
+    offered: &[u16],
+    chart: &mut [u32],
+    out: &mut [u16],
+) -> Handed
     ensures { λ a. ⌜ enumerationOf (handingOf a) (now (chart .exit)) (now (out .exit))
-        ≡ nextOf (dated g) (now (input .entry)) (now (offered .entry)) (now (chart .entry)) (now (out .entry)) ⌝ }
+        ≡ nextOf (dated g year) (now (input .entry)) (now (offered .entry)) (now (chart .entry)) (now (out .entry)) ⌝ }
 {
     match fill_input::judge_output(g, input.len(), chart.len(), out.len()) {
         Judged::Refused(r) => Handed::Refused(r),
         Judged::Passed => {
             let mut fits = [0u8; packed_fit::FIT_SIZE];
-            let p = fill_input::fill_fits(g, input, &mut fits, chart);
+            let p = fill_input::fill_fits(g, input, year, &mut fits, chart);
             next_filled(&p, wide_byte(g.start), input, offered, &fits, chart, out)
         }
     }

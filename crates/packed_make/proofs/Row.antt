@@ -194,7 +194,7 @@ module _ (ρ : Rule) (r q : ℕ) (p₀ p : List ℕ) (full : length (ρ .places)
   rule-done : ruleIn p r ≡ ruleOf ρ
   rule-done = rule-used p r (omega (arith, row .left, rule-parts ρ valid .0)) ∙ rw (row .left, places-done)
 
-  pub row-done : RulePacked ρ r p₀ p
+  pub row-done : RulePacked (ruleOf ρ) r p₀ p
   row-done = record {
     long = row .long;
     here = rule-done;

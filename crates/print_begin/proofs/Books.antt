@@ -21,7 +21,7 @@ use Rattle.load.specs.declared.Loaded.{Loaded}
 use Rattle.load.specs.Answer.{loadingOf}
 use Rattle.results.specs.Answer.{refusedAt, loaded}
 use Rattle.results.specs.Load.{Loading, loadOf}
-use Rattle.text.specs.Text.{inputText, loadedText, textOf}
+use Rattle.text.specs.Text.{inputText, loadedText, yearIn, textOf}
 use Rattle.print_begin.specs.declared.Due.{Due}
 use Rattle.print_begin.specs.declared.Due.the-variants.{Refusal as RefusalDue}
 use Rattle.print_begin.specs.Due.{Ahead}
@@ -30,15 +30,15 @@ use Rattle.print_begin.specs.Begun.{InputBegun, BookBegun}
 refused-apart : {n at : ℕ} → refusedAt n at ≡ loaded → ⊥
 refused-apart e = clash cc
 
-module _ (book w : List ℕ) (b : Loaded) (load : loadingOf b ≡ loadOf book) where
+module _ (book file w : List ℕ) (b : Loaded) (load : loadingOf b ≡ loadOf book) where
   -- the text, by the result of loading
-  text-loaded : loadedText (loadingOf b) w ≡ textOf book w
+  text-loaded : loadedText (loadingOf b) (yearIn file) w ≡ textOf book file w
   unfolding textOf
-  text-loaded = ap (λ (x : Loading). loadedText x w) load
+  text-loaded = ap (λ (x : Loading). loadedText x (yearIn file) w) load
 
   pub book-refused : (r : Refusal) (at : ℕ) → b .outcome ≡ Refused r at → (k n : ℕ) → k ≡ numberOf r → n ≡ k → n < 256
       → (p : List ℕ) (lengths : List ℤ) → length lengths ≡ maxRules → (chart fits tables buf : List ℕ)
-      → BookBegun book w p lengths chart chart fits tables buf buf (RefusalDue n)
+      → BookBegun book file w p lengths chart chart fits tables buf buf (RefusalDue n)
   unfolding loadedText
   book-refused r at is k n e f byte p lengths rows chart fits tables buf = record {
     rows = rows;
@@ -56,12 +56,12 @@ module _ (book w : List ℕ) (b : Loaded) (load : loadingOf b ≡ loadOf book) w
         go (inl R) = absurd (refused-apart (sym (R .answer) ∙ ap outcomeOf is))
         go (inr A) = A .valid
 
-    pub book-begun : (p : List ℕ) (lengths : List ℤ) (chart chart' fits tables buf₀ buf : List ℕ) (d : Due)
-        → InputBegun (b .grammar) w p lengths chart chart' fits tables buf₀ buf d
-        → BookBegun book w p lengths chart chart' fits tables buf₀ buf d
+    pub book-begun : (y : ℕ) → y ≡ yearIn file → (p : List ℕ) (lengths : List ℤ) (chart chart' fits tables buf₀ buf : List ℕ) (d : Due)
+        → InputBegun (dated (b .grammar) y) w p lengths chart chart' fits tables buf₀ buf d
+        → BookBegun book file w p lengths chart chart' fits tables buf₀ buf d
     unfolding loadedText
-    book-begun p lengths chart chart' fits tables buf₀ buf d I =
-        let e : loadedText (loadingOf b) w ≡ inputText (dated (b .grammar)) w = rw is in
+    book-begun y told p lengths chart chart' fits tables buf₀ buf d I =
+        let e : loadedText (loadingOf b) (yearIn file) w ≡ inputText (dated (b .grammar) y) w = rw (is, told) in
         record {
           rows = I .rows;
           chart-long = I .chart-long;

@@ -16,7 +16,7 @@ use Rattle.theory_costs.specs.Span.{bytesOf}
 use Rattle.first.proofs.Chart.{Filling, filled-chart}
 use Rattle.grammar.specs.declared.Grammar.{Grammar}
 use Rattle.grammar.specs.Valid.{validGrammar}
-use Rattle.grammar.specs.View.{dated, grammarOf, lengthsOf}
+use Rattle.grammar.specs.View.{Dated, dated, grammarOf, lengthsOf}
 use Rattle.grammar.proofs.Bounds.{valid-bounded}
 use Rattle.answers.specs.declared.Refusal.{Refusal}
 use Rattle.answers.specs.Number.{numberOf}
@@ -42,7 +42,7 @@ use Rattle.print_begin.specs.Begun.{FilledBegun, InputBegun}
 
 -- ---- a check that fails is 9
 
-module _ (g : Grammar) (w chart : List ℕ) (valid : validGrammar g ≡ true) (room : cells ≤ length chart) where
+module _ (g : Grammar) (y : ℕ) (w chart : List ℕ) (valid : validGrammar g ≡ true) (room : cells ≤ length chart) where
   -- of the three checks only 9 can fail
   nine : {r : Refusal} → Judging g (length w) (length chart) (Refused r) → (numberOf r ≡ 9) × (inputCheck w .fails ≡ true)
   nine (invalid v) = absurd (true≢false (sym valid ∙ v))
@@ -52,7 +52,7 @@ module _ (g : Grammar) (w chart : List ℕ) (valid : validGrammar g ≡ true) (r
   pub input-refused : (j : Judged) → Judging g (length w) (length chart) j → (r : Refusal) → j ≡ Refused r → (b n : ℕ)
       → b ≡ numberOf r → n ≡ b
       → (p : List ℕ) (lengths : List ℤ) → length lengths ≡ maxRules → (fits tables buf : List ℕ)
-      → InputBegun g w p lengths chart chart fits tables buf buf (RefusalDue n)
+      → InputBegun (dated g y) w p lengths chart chart fits tables buf buf (RefusalDue n)
   unfolding inputText
   input-refused j judging r is b n k e p lengths rows fits tables buf =
       let (number, fails) = nine (subst (Judging g (length w) (length chart)) is judging) in
@@ -82,46 +82,46 @@ module _ (f h : ℕ → ℤ) (same : (e : List ℕ) → tenthsOf f e ≡ tenthsO
 -- ---- the checks are passed
 
 -- without a derivation the line is the same over every chart that is long enough
-empty-any : (g : Grammar) → validGrammar g ≡ true → (w : List ℕ) → length w ≤ maxInput → (chart : List ℕ) → cells ≤ length chart
-    → cond (treeIn (grammarOf (dated g)) w chart) (refusedLine 13) noReadingLine ∷ [] ≡ emptyText (grammarOf (dated g)) w
+empty-any : (g : Dated) → validGrammar (g .grammar) ≡ true → (w : List ℕ) → length w ≤ maxInput → (chart : List ℕ) → cells ≤ length chart
+    → cond (treeIn (grammarOf g) w chart) (refusedLine 13) noReadingLine ∷ [] ≡ emptyText (grammarOf g) w
 unfolding emptyText
 empty-any g valid w short chart room =
-    let tree = tree-decided (grammarOf (dated g)) (valid-bounded (dated g) valid) w short in
+    let tree = tree-decided (grammarOf g) (valid-bounded g valid) w short in
     ap (λ (x : List ℕ). x ∷ [])
-    (treeIn-choice (grammarOf (dated g)) (valid-bounded (dated g) valid) w short chart room tree (refusedLine 13) noReadingLine
-    ∙ sym (treeIn-choice (grammarOf (dated g)) (valid-bounded (dated g) valid) w short (replicate cells 0)
+    (treeIn-choice (grammarOf g) (valid-bounded g valid) w short chart room tree (refusedLine 13) noReadingLine
+    ∙ sym (treeIn-choice (grammarOf g) (valid-bounded g valid) w short (replicate cells 0)
     (omega (arith, length-replicate {A = ℕ} cells 0)) tree (refusedLine 13) noReadingLine))
 
-module _ (g : Grammar) (w chart : List ℕ) (j : Judged) (judging : Judging g (length w) (length chart) j) (is : j ≡ Passed)
-    (p chart' : List ℕ) (filling : Filling g p w chart chart') where
+module _ (g : Grammar) (y : ℕ) (w chart : List ℕ) (j : Judged) (judging : Judging g (length w) (length chart) j) (is : j ≡ Passed)
+    (p chart' : List ℕ) (filling : Filling g y p w chart chart') where
   -- what is required of the filled chart
   pub judged-filled : (length w ≤ maxInput) × (cells ≤ length chart') × ChartTrue p (bytesOf w) chart' (length w)
-  judged-filled = filled-chart g p w chart chart' (judged-ready g (length w) (length chart) j judging is) filling
+  judged-filled = filled-chart g y p w chart chart' (judged-ready g (length w) (length chart) j judging is) filling
 
   module _ (s : ℕ) (start : s ≡ g .start) (l : List ℤ) (lengths : l ≡ map lengthOfRule (g .rules)) where
-    empty-same : cond (complete (cfgIn s p) (length w) chart') (refusedLine 13) noReadingLine ∷ [] ≡ emptyText (grammarOf (dated g)) w
+    empty-same : cond (complete (cfgIn s p) (length w) chart') (refusedLine 13) noReadingLine ∷ [] ≡ emptyText (grammarOf (dated g y)) w
     unfolding treeIn complete cfgIn
     empty-same =
         let (v, a, b) = judged-ready g (length w) (length chart) j judging is in
-        rw (filling .0, start) (empty-any g v w a chart b)
+        rw (filling .0, start) (empty-any (dated g y) v w a chart b)
 
     text-over : textBy (lengthsIn l) (cond (complete (cfgIn s p) (length w) chart') (refusedLine 13) noReadingLine ∷ []) (L (cfgIn s p) w)
-        ≡ inputText (dated g) w
+        ≡ inputText (dated g y) w
     unfolding inputText
     text-over =
         let (v, a, b) = judged-ready g (length w) (length chart) j judging is in
         text-same (lengthsIn l) (lengthsOf g) (tenths-row g l lengths) _ _
-        ∙ ap₂ (textBy (lengthsOf g)) empty-same (list-packed g p w (filling .1) s start)
+        ∙ ap₂ (textBy (lengthsOf g)) empty-same (list-packed g y p w (filling .1) s start)
         ∙ sym (decide-passed _ _ (inputCheck w ∷ []) (input-passes w a, tt))
 
     pub input-begun : length (g .rules) ≡ maxRules → (fits tables buf₀ buf : List ℕ) (d : Due)
         → FilledBegun p s w chart' fits tables buf₀ buf d
-        → InputBegun g w p l chart chart' fits tables buf₀ buf d
+        → InputBegun (dated g y) w p l chart chart' fits tables buf₀ buf d
     input-begun full fits tables buf₀ buf d F =
         let (v, a, b) = judged-ready g (length w) (length chart) j judging is in
         record {
           rows = ap length lengths ∙ length-map (g .rules) lengthOfRule ∙ full;
-          chart-long = ap length (filling .0) ∙ filled-length (grammarOf (dated g)) w chart b;
+          chart-long = ap length (filling .0) ∙ filled-length (grammarOf (dated g y)) w chart b;
           long = F .long;
           sized = F .sized;
           ahead = subst (Ahead (lengthsIn l) p fits chart' tables buf d) text-over (F .ahead (lengthsIn l));

@@ -9,8 +9,7 @@ use Rattle.sizes.specs.Sizes.{maxRules}
 use Rattle.cfg.specs.Listing.{L}
 use Rattle.chart.specs.Column.{complete}
 use Rattle.check_length.specs.Measure.{lengthsIn}
-use Rattle.grammar.specs.declared.Grammar.{Grammar}
-use Rattle.grammar.specs.View.{dated}
+use Rattle.grammar.specs.View.{Dated}
 use Rattle.packed.specs.Packed.{cfgIn}
 use Rattle.text.specs.Line.{refusedLine, noReadingLine}
 use Rattle.text.specs.Text.{textBy, inputText, textOf}
@@ -31,17 +30,17 @@ pub record FilledBegun (p : List ℕ) (s : ℕ) (w chart fits tables buf₀ buf 
       (textBy lengths (cond (complete (cfgIn s p) (length w) chart) (refusedLine 13) noReadingLine ∷ []) (L (cfgIn s p) w))
 
 -- for a grammar that is valid
-pub record InputBegun (g : Grammar) (w p : List ℕ) (lengths : List ℤ) (chart₀ chart fits tables buf₀ buf : List ℕ) (d : Due) : Type 0 where
+pub record InputBegun (g : Dated) (w p : List ℕ) (lengths : List ℤ) (chart₀ chart fits tables buf₀ buf : List ℕ) (d : Due) : Type 0 where
   pub rows : length lengths ≡ maxRules
   pub chart-long : length chart ≡ length chart₀
   pub long : length buf ≡ length buf₀
   pub sized : DueSized d
-  pub ahead : Ahead (lengthsIn lengths) p fits chart tables buf d (inputText (dated g) w)
+  pub ahead : Ahead (lengthsIn lengths) p fits chart tables buf d (inputText g w)
 
--- for the bytes of a book
-pub record BookBegun (book w p : List ℕ) (lengths : List ℤ) (chart₀ chart fits tables buf₀ buf : List ℕ) (d : Due) : Type 0 where
+-- for the bytes of a book and of a file with a year
+pub record BookBegun (book file w p : List ℕ) (lengths : List ℤ) (chart₀ chart fits tables buf₀ buf : List ℕ) (d : Due) : Type 0 where
   pub rows : length lengths ≡ maxRules
   pub chart-long : length chart ≡ length chart₀
   pub long : length buf ≡ length buf₀
   pub sized : DueSized d
-  pub ahead : Ahead (lengthsIn lengths) p fits chart tables buf d (textOf book w)
+  pub ahead : Ahead (lengthsIn lengths) p fits chart tables buf d (textOf book file w)

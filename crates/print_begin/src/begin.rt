@@ -1,5 +1,6 @@
-// Finds the first line that is due, from the bytes of the book and of the plate.
+// Finds the first line that is due, from the bytes of the book, of the file with the year and of the plate.
 use super::Due;
+use super::year::year_in;
 use answers::Outcome;
 use check_length::Lengths;
 use fill_input::Judged;
@@ -19,6 +20,7 @@ ghost use lib.ListN.{length};
 ghost use Rattle.theory_costs.specs.Span.{bytesOf};
 ghost use Rattle.packed_fit.specs.Fit.{Told};
 ghost use Rattle.grammar.specs.Valid.{validGrammar};
+ghost use Rattle.grammar.specs.View.{dated};
 ghost use Rattle.sizes.specs.Sizes.{maxRules, maxInput, cells, outputSize};
 ghost use Rattle.table_layout.specs.Exact.{ChartTrue};
 ghost use Rattle.table_layout.specs.Layout.{tablesSize};
@@ -79,10 +81,11 @@ fn begin_filled(
     }
 }
 
-// Finds the first line that is due for an input and a valid grammar.
+// Finds the first line that is due for an input, its year and a valid grammar.
 fn begin_input(
     g: Grammar,
     input: &[u8],
+    year: u16,
     p: &mut Packed,
     lengths: &mut Lengths,
     chart: &mut [u32],
@@ -92,22 +95,24 @@ fn begin_input(
 ) -> Due
     requires { ⌜ (validGrammar g ≡ true) × (length (now lengths) ≡ maxRules) × (cells ≤ length (now chart))
         × (length (now tables) ≡ tablesSize) × (outputSize ≤ length (now buf)) ⌝ }
-    ensures { λ d. ⌜ InputBegun g (now (input .entry)) (now (p .exit)) (now (lengths .exit)) (now (chart .entry)) (now (chart .exit))
-        (now (fits .exit)) (now (tables .exit)) (now (buf .entry)) (now (buf .exit)) d ⌝ }
+    ensures { λ d. ⌜ InputBegun (dated g year) (now (input .entry)) (now (p .exit)) (now (lengths .exit)) (now (chart .entry))
+        (now (chart .exit)) (now (fits .exit)) (now (tables .exit)) (now (buf .entry)) (now (buf .exit)) d ⌝ }
 {
     match fill_input::judge(g, input.len(), chart.len()) {
         Judged::Refused(r) => Due::Refusal(wide_byte(answers::number(r))),
         Judged::Passed => {
-            *p = fill_input::fill_fits(g, input, fits, chart);
+            *p = fill_input::fill_fits(g, input, year, fits, chart);
             *lengths = check_length::lengths_of(g);
             begin_filled(p, wide_byte(g.start), input, chart, fits, tables, buf)
         }
     }
 }
 
-// Finds the first line that is due, from the bytes of the book and of the plate. The book is checked before the plate.
+// Finds the first line that is due, from the bytes of the book, of the file with the year and of the plate. The book is checked before the
+// plate.
 pub fn begin(
     book: &[u8],
+    file: &[u8],
     input: &[u8],
     p: &mut Packed,
     lengths: &mut Lengths,
@@ -118,13 +123,24 @@ pub fn begin(
 ) -> Due
     requires { ⌜ (length (now lengths) ≡ maxRules) × (cells ≤ length (now chart)) × (length (now tables) ≡ tablesSize)
         × (outputSize ≤ length (now buf)) ⌝ }
-    ensures { λ d. ⌜ BookBegun (now (book .entry)) (now (input .entry)) (now (p .exit)) (now (lengths .exit)) (now (chart .entry))
-        (now (chart .exit)) (now (fits .exit)) (now (tables .exit)) (now (buf .entry)) (now (buf .exit)) d ⌝ }
+    ensures { λ d. ⌜ BookBegun (now (book .entry)) (now (file .entry)) (now (input .entry)) (now (p .exit)) (now (lengths .exit))
+        (now (chart .entry)) (now (chart .exit)) (now (fits .exit)) (now (tables .exit)) (now (buf .entry)) (now (buf .exit)) d ⌝ }
 {
+    let year = year_in(file);
     let b = load::load(book);
     let outcome = b.outcome;
     match outcome {
         Outcome::Refused(r, _) => Due::Refusal(wide_byte(answers::number(r))),
-        Outcome::Accepted => begin_input(b.grammar, input, p, lengths, chart, fits, tables, buf),
+        Outcome::Accepted => begin_input(
+            b.grammar,
+            input,
+            year,
+            p,
+            lengths,
+            chart,
+            fits,
+            tables,
+            buf,
+        ),
     }
 }

@@ -1,6 +1,8 @@
-// The first step of the listing program: from the bytes of the book and of the plate to the first line that is due.
+// The first step of the listing program: from the bytes of the book, of the file with the year and of the plate to the first line that is
+// due.
 
 pub mod begin;
+pub mod year;
 
 // What is due: the line that is printed next.
 pub enum Due {

@@ -7,7 +7,7 @@ use lib.IntN.{ℤ}
 use lib.ListN.{length, take, length-append}
 use Rattle.sizes.specs.Sizes.{most}
 use Rattle.check_length.specs.Measure.{lengthsIn}
-use Rattle.text.specs.Front.{bookFront, plateFront}
+use Rattle.text.specs.Front.{bookFront, yearFront, plateFront}
 use Rattle.text.specs.Text.{textOf}
 use Rattle.text.proofs.Front.{text-front}
 use Rattle.print_begin.specs.declared.Due.{Due}
@@ -57,14 +57,15 @@ module _ (lengths : ℕ → ℤ) (p fits chart tables : List ℕ) (d₀ : Due) (
       let P = pages-front R lines a in
       sym (P .text ∙ ap (λ (x : List (List ℕ)). flatten pages ++ flatten x) (P .ahead) ∙ append-nil (flatten pages))
 
--- the pages are the text of book and plate, although only their fronts were read, and there are few pages
-module _ (book w p : List ℕ) (lengths : List ℤ) (chart₀ chart fits tables buf₀ buf last : List ℕ) (d : Due)
-    (B : BookBegun (take bookFront book) (take plateFront w) p lengths chart₀ chart fits tables buf₀ buf d) (pages : List (List ℕ))
-    (R : Pages (lengthsIn lengths) p fits chart tables d buf pages Nothing last) where
-  pub pages-text : flatten pages ≡ flatten (textOf book w)
+-- the pages are the text of book, file with the year and plate, although only their fronts were read, and there are few pages
+module _ (book file w p : List ℕ) (lengths : List ℤ) (chart₀ chart fits tables buf₀ buf last : List ℕ) (d : Due)
+    (B : BookBegun (take bookFront book) (take yearFront file) (take plateFront w) p lengths chart₀ chart fits tables buf₀ buf d)
+    (pages : List (List ℕ)) (R : Pages (lengthsIn lengths) p fits chart tables d buf pages Nothing last) where
+  pub pages-text : flatten pages ≡ flatten (textOf book file w)
   pages-text =
-      pages-whole (lengthsIn lengths) p fits chart tables d buf pages last R (textOf (take bookFront book) (take plateFront w)) (B .ahead)
-      ∙ ap flatten (text-front book w)
+      pages-whole (lengthsIn lengths) p fits chart tables d buf pages last R
+      (textOf (take bookFront book) (take yearFront file) (take plateFront w)) (B .ahead)
+      ∙ ap flatten (text-front book file w)
 
   pub pages-few : length pages ≤ suc most
   pages-few = omega (arith, pages-steps (lengthsIn lengths) p fits chart tables d buf (B .sized) R .0, few-left d)

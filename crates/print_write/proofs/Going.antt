@@ -53,9 +53,10 @@ module _ (lengths : ℕ → ℤ) (p fits chart tables : List ℕ) (d₀ : Due) (
     module _ (some : isDone d ≡ false) (buf′ out₀ out : List ℕ) (r : ℕ) (t : Due)
         (P : Paged lengths p fits chart tables d buf buf′ out₀ out r t) where
       -- the page has the next bytes of the text
-      pub going-next : (book w : List ℕ) → Ahead lengths p fits chart tables buf₀ d₀ (textOf book w) → Next book w bytes (take r out)
-      going-next book w a =
-          let before = pages-front lengths p fits chart tables d₀ buf₀ (G .run) (textOf book w) a in
+      pub going-next : (book file w : List ℕ) → Ahead lengths p fits chart tables buf₀ d₀ (textOf book file w)
+          → Next book file w bytes (take r out)
+      going-next book file w a =
+          let before = pages-front lengths p fits chart tables d₀ buf₀ (G .run) (textOf book file w) a in
           let after = P .printed (before .left) (before .ahead) in
           record {
             front = flatten (G .pages);
@@ -106,9 +107,10 @@ module _ (lengths : ℕ → ℤ) (p fits chart tables : List ℕ) (d₀ : Due) (
   handed-failed n false e = record { handed = λ f. clash cc }
 
 -- all pages have as many bytes as the text
-pub listed : (lengths : ℕ → ℤ) (p fits chart tables : List ℕ) (d : Due) (buf : List ℕ) (n : ℕ) (all : Bool) (book w : List ℕ)
-    → HandedAll lengths p fits chart tables d buf n all → Ahead lengths p fits chart tables buf d (textOf book w) → Listed book w n all
-listed lengths p fits chart tables d buf n all book w A a = record {
+pub listed : (lengths : ℕ → ℤ) (p fits chart tables : List ℕ) (d : Due) (buf : List ℕ) (n : ℕ) (all : Bool) (book file w : List ℕ)
+    → HandedAll lengths p fits chart tables d buf n all → Ahead lengths p fits chart tables buf d (textOf book file w)
+    → Listed book file w n all
+listed lengths p fits chart tables d buf n all book file w A a = record {
   whole = λ e. let H = A .handed e in
-      H .bytes ∙ ap length (pages-whole lengths p fits chart tables d buf (H .pages) (H .last) (H .run) (textOf book w) a);
+      H .bytes ∙ ap length (pages-whole lengths p fits chart tables d buf (H .pages) (H .last) (H .run) (textOf book file w) a);
 }

@@ -16,11 +16,11 @@ use Rattle.print_page.specs.Pages.{Pages}
 abbrev pub maxText : ℕ
 maxText = pageSize * suc most
 
--- the bytes come in the text of book and plate after the first `before` bytes
-pub record Next (book w : List ℕ) (before : ℕ) (bytes : List ℕ) : Type 0 where
+-- the bytes come in the text of book, file with the year and plate after the first `before` bytes
+pub record Next (book file w : List ℕ) (before : ℕ) (bytes : List ℕ) : Type 0 where
   pub front : List ℕ
   pub rest : List ℕ
-  pub text : flatten (textOf book w) ≡ front ++ bytes ++ rest
+  pub text : flatten (textOf book file w) ≡ front ++ bytes ++ rest
   pub place : length front ≡ before
 
 -- n bytes were handed to the write: those of all pages, from what was due first until nothing is due
@@ -35,5 +35,5 @@ pub record HandedAll (lengths : ℕ → ℤ) (p fits chart tables : List ℕ) (d
   pub handed : all ≡ true → Handed lengths p fits chart tables d buf n
 
 -- n bytes were handed to the write: those of the text, unless a page could not be written
-pub record Listed (book w : List ℕ) (n : ℕ) (all : Bool) : Type 0 where
-  pub whole : all ≡ true → n ≡ length (flatten (textOf book w))
+pub record Listed (book file w : List ℕ) (n : ℕ) (all : Bool) : Type 0 where
+  pub whole : all ≡ true → n ≡ length (flatten (textOf book file w))

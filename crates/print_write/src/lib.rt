@@ -26,10 +26,10 @@ pub struct Written {
     pub all: bool,
 }
 
-// Hands bytes to the write. The `requires` says that they are those of the text of book and plate after the first `before` bytes, and book
-// and plate are parameters only for that. If the bytes can't be written, standard error says so.
-fn write(book: &[u8], plate: &[u8], before: usize, bytes: &[u8]) -> Written
-    requires { ⌜ (before ≤ maxText) × (length (now bytes) ≤ pageSize) × Next (now book) (now plate) before (now bytes) ⌝ }
+// Hands bytes to the write. The `requires` says that they are those of the text of book, file with the year and plate after the first
+// `before` bytes, and these three are parameters only for that. If the bytes can't be written, standard error says so.
+fn write(book: &[u8], file: &[u8], plate: &[u8], before: usize, bytes: &[u8]) -> Written
+    requires { ⌜ (before ≤ maxText) × (length (now bytes) ≤ pageSize) × Next (now book) (now file) (now plate) before (now bytes) ⌝ }
     ensures { λ r. ⌜ r .bytes ≡ before + length (now (bytes .entry)) ⌝ }
 {
     let all = io::write_all(libc::STDOUT_FILENO, bytes);
@@ -45,6 +45,7 @@ fn write(book: &[u8], plate: &[u8], before: usize, bytes: &[u8]) -> Written
 // Writes page after page until nothing is due, or until a page can't be written.
 pub fn write_pages(
     book: &[u8],
+    file: &[u8],
     plate: &[u8],
     due: Due,
     p: &Packed,
@@ -55,7 +56,8 @@ pub fn write_pages(
     buf: &mut [u16],
 ) -> Written
     requires { ⌜ DueSized due × (length (now lengths) ≡ maxRules) × (cells ≤ length (now chart)) × (outputSize ≤ length (now buf))
-        × Ahead (lengthsIn (now lengths)) (now p) (now fits) (now chart) (now tables) (now buf) due (textOf (now book) (now plate)) ⌝ }
+        × Ahead (lengthsIn (now lengths)) (now p) (now fits) (now chart) (now tables) (now buf) due
+        (textOf (now book) (now file) (now plate)) ⌝ }
     ensures { λ r. ⌜ HandedAll (lengthsIn (now (lengths .entry))) (now (p .entry)) (now (fits .entry)) (now (chart .entry))
         (now (tables .entry)) due (now (buf .entry)) (r .bytes) (r .all) ⌝ }
 {
@@ -66,7 +68,7 @@ pub fn write_pages(
     while left > 0 && !is_done(then) {
         let t = fill_page(then, p, lengths, fits, chart, tables, buf, &mut out);
         let n = t.bytes;
-        let w = write(book, plate, bytes, &out[..n]);
+        let w = write(book, file, plate, bytes, &out[..n]);
         if !w.all {
             return w;
         }

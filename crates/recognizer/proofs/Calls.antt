@@ -9,7 +9,7 @@ use lib.Seq.{length-take-le}
 use borrow.Author.Tests.{not-true, not-false, lt-ltb, le-ltb, eq-eqb, ne-eqb}
 use Rattle.sizes.specs.Sizes.{cells, maxInput}
 use Rattle.sets.specs.Set.{has}
-use Rattle.cfg.specs.Grammar.{rule}
+use Rattle.cfg.specs.Grammar.{Cfg, rule}
 use Rattle.chart.specs.Cell.{cell}
 use Rattle.chart.specs.Column.{opened, extended, complete}
 use Rattle.chart.proofs.SameRules.{SameRules, opened-same-rules, extended-same-rules}
@@ -31,17 +31,17 @@ given-same : (a a' : Answer Bool) (h h' : State) (c c' : List ℕ) → a ≡ a' 
 given-same a a' h h' c c' e f g = λ i. given (e i) (f i) (g i)
 
 -- the count of a state that has taken w is within its bytes
-module _ (k : State) (w : List ℕ) (next : k ≡ stateOf w) where
+module _ (k : State) (w : List ℕ) (y : ℕ) (next : k ≡ stateOf w y) where
   pub count-fits : k .count ≤ length (k .bytes)
-  count-fits = subst (λ (s : State). s .count ≤ length (s .bytes)) (sym next) (state-within w)
+  count-fits = subst (λ (s : State). s .count ≤ length (s .bytes)) (sym next) (state-within w y)
 
   pub count-part : k .count ≡ length (take (k .count) (k .bytes))
   count-part = sym (length-take-le (k .count) (k .bytes) count-fits)
 
 -- the packed grammar's rules are the grammar's, whatever its start symbol is
-same-rules : (g : Grammar) (s : ℕ) (p : List ℕ) → SameRules (cfgIn s p) (grammarOf (dated g)) → SameRules (cfgIn 0 p) (grammarOf (dated g))
+same-rules : (G : Cfg) (s : ℕ) (p : List ℕ) → SameRules (cfgIn s p) G → SameRules (cfgIn 0 p) G
 unfolding cfgIn
-same-rules g s p same r = same r
+same-rules G s p same r = same r
 
 -- what the test of the grammar says
 pub was-invalid : (t v : Bool) → t ≡ v → not t ≡ true → v ≡ false
@@ -58,27 +58,28 @@ says-same chart n k s b t start read e = ap answered (sym e ∙ read ∙ ap (λ 
 module _ (g : Grammar) (chart : List ℕ) where
   -- ---- opening
 
-  module _ (a : Answer Bool) (h : State) (zeros : h ≡ stateOf []) where
-    pub open-invalid : validGrammar g ≡ false → a ≡ refused 8 → given a h chart ≡ openOf (dated g) chart
+  module _ (y : ℕ) (a : Answer Bool) (h : State) where
+    pub open-invalid : h ≡ stateOf [] 0 → validGrammar g ≡ false → a ≡ refused 8 → given a h chart ≡ openOf (dated g y) chart
     unfolding openOf decide
-    open-invalid v e = rw v (given-same a (refused 8) h (stateOf []) chart chart e zeros refl)
+    open-invalid zeros v e = rw v (given-same a (refused 8) h (stateOf [] 0) chart chart e zeros refl)
 
-    pub open-short : validGrammar g ≡ true → length chart < cells → a ≡ refused 10 → given a h chart ≡ openOf (dated g) chart
+    pub open-short : h ≡ stateOf [] 0 → validGrammar g ≡ true → length chart < cells → a ≡ refused 10
+        → given a h chart ≡ openOf (dated g y) chart
     unfolding openOf decide
-    open-short v l e =
-        rw (v, lt-ltb (length chart) cells l) (given-same a (refused 10) h (stateOf []) chart chart e zeros refl)
+    open-short zeros v l e =
+        rw (v, lt-ltb (length chart) cells l) (given-same a (refused 10) h (stateOf [] 0) chart chart e zeros refl)
 
-    pub open-right : (p chart' : List ℕ) → validGrammar g ≡ true → cells ≤ length chart
-        → ((r : ℕ) → rule (cfgIn (g .start) p) r ≡ rule (grammarOf (dated g)) r)
-        → chart' ≡ opened (cfgIn 0 p) chart → a ≡ answered (has (g .start) (cell chart' 0 0)) → given a h chart' ≡ openOf (dated g) chart
+    pub open-right : h ≡ stateOf [] y → (p chart' : List ℕ) → validGrammar g ≡ true → cells ≤ length chart
+        → ((r : ℕ) → rule (cfgIn (g .start) p) r ≡ rule (grammarOf (dated g y)) r)
+        → chart' ≡ opened (cfgIn 0 p) chart → a ≡ answered (has (g .start) (cell chart' 0 0)) → given a h chart' ≡ openOf (dated g y) chart
     unfolding openOf openIn decide complete
-    open-right p chart' v l same e f =
-        let G = grammarOf (dated g) in
+    open-right new p chart' v l same e f =
+        let G = grammarOf (dated g y) in
         let c : chart' ≡ opened G chart =
-        e ∙ opened-same-rules (cfgIn 0 p) G (same-rules g (g .start) p same) (cfg-in-bounded 0 p) chart in
+        e ∙ opened-same-rules (cfgIn 0 p) G (same-rules G (g .start) p same) (cfg-in-bounded 0 p) chart in
         rw (v, le-ltb (length chart) cells l)
-        (given-same a (answered (complete G 0 (opened G chart))) h (stateOf []) chart' (opened G chart)
-        (f ∙ ap (λ (x : List ℕ). answered (has (g .start) (cell x 0 0))) c) zeros c)
+        (given-same a (answered (complete G 0 (opened G chart))) h (stateOf [] y) chart' (opened G chart)
+        (f ∙ ap (λ (x : List ℕ). answered (has (g .start) (cell x 0 0))) c) new c)
 
   -- ---- taking
 
@@ -109,26 +110,26 @@ module _ (g : Grammar) (chart : List ℕ) where
     abbrev input : List ℕ
     input = take (h .count) (h .bytes) ++ (m ∷ [])
 
-    module _ (a : Answer Bool) (k : State) (next : k ≡ stateOf input) (count : k .count ≡ h .count + 1) where
+    module _ (a : Answer Bool) (k : State) (next : k ≡ stateOf input (h .year)) (count : k .count ≡ h .count + 1) where
       size : length input ≡ k .count
-      size = sym (ap (λ (s : State). s .count) next ∙ state-count input)
+      size = sym (ap (λ (s : State). s .count) next ∙ state-count input (h .year))
 
       bytes : take (k .count) (k .bytes) ≡ input
-      bytes = ap (λ (s : State). take (s .count) (s .bytes)) next ∙ state-taken input
+      bytes = ap (λ (s : State). take (s .count) (s .bytes)) next ∙ state-taken input (h .year)
 
       pub take-right : (p chart' : List ℕ) → validGrammar g ≡ true → h .count < maxInput → cells ≤ length chart
-          → ((r : ℕ) → rule (cfgIn (g .start) p) r ≡ rule (grammarOf (dated g)) r)
+          → ((r : ℕ) → rule (cfgIn (g .start) p) r ≡ rule (grammarOf (dated g (h .year))) r)
           → chart' ≡ columnOf p (take (k .count) (k .bytes)) (k .count) chart
           → a ≡ answered (has (g .start) (cell chart' 0 (k .count))) → given a k chart' ≡ takeOf g h m chart
       unfolding takeOf takeIn decide complete extended
       take-right p chart' v o l same e f =
-          let G = grammarOf (dated g) in
+          let G = grammarOf (dated g (h .year)) in
           let c : chart' ≡ extended G input chart =
           e ∙ ap (λ (x : List ℕ). columnOf p x (k .count) chart) bytes ∙ ap (λ (x : ℕ). columnOf p input x chart) (sym size)
-          ∙ extended-same-rules (cfgIn 0 p) G (same-rules g (g .start) p same) (cfg-in-bounded 0 p) input chart in
+          ∙ extended-same-rules (cfgIn 0 p) G (same-rules G (g .start) p same) (cfg-in-bounded 0 p) input chart in
           let d : h .count ≤ maxInput = omega arith in
           rw (v, le-ltb maxInput (h .count) d, le-ltb (length chart) cells l, ne-eqb (h .count) maxInput (omega arith))
-          (given-same a (answered (complete G (h .count + 1) (extended G input chart))) k (stateOf input)
+          (given-same a (answered (complete G (h .count + 1) (extended G input chart))) k (stateOf input (h .year))
           chart' (extended G input chart)
           (f ∙ ap (λ (x : ℕ). answered (has (g .start) (cell chart' 0 x))) count
           ∙ ap (λ (x : List ℕ). answered (has (g .start) (cell x 0 (h .count + 1)))) c) next c)

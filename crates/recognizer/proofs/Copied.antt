@@ -27,9 +27,9 @@ module _ (old : List ℕ) (long : length old ≡ maxInput) where
       ∙ ap (λ (x : List ℕ). x ++ drop (i + 1) (replicate maxInput 0))
       (sym (take-suc old i 0 (omega arith)) ∙ ap (λ (x : ℕ). take x old) (sym (add-one i)))
 
-  pub bytes-done : (i n b : ℕ) (bytes : List ℕ) → i ≤ n → n ≤ i → n < maxInput → bytes ≡ take i old ++ drop i (replicate maxInput 0)
-      → stateWith (set bytes n b) (n + 1) ≡ stateOf (take n old ++ (b ∷ []))
-  bytes-done i n b bytes h l m e =
+  pub bytes-done : (i n b y : ℕ) (bytes : List ℕ) → i ≤ n → n ≤ i → n < maxInput → bytes ≡ take i old ++ drop i (replicate maxInput 0)
+      → stateWith (set bytes n b) (n + 1) y ≡ stateOf (take n old ++ (b ∷ [])) y
+  bytes-done i n b y bytes h l m e =
       let s : length (take n old ++ (b ∷ [])) ≡ n + 1 =
       length-append (take n old) (b ∷ []) ∙ ap (λ (x : ℕ). x + 1) (length-take-le n old (omega arith)) in
       let q : set bytes n b ≡ (take n old ++ (b ∷ [])) ++ replicate (maxInput - length (take n old ++ (b ∷ []))) 0 =
@@ -37,4 +37,4 @@ module _ (old : List ℕ) (long : length old ≡ maxInput) where
       ∙ set-next (take n old) (replicate maxInput 0) n b (length-take-le n old (omega arith)) m
       ∙ ap (λ (x : List ℕ). (take n old ++ (b ∷ [])) ++ x) (drop-replicate (n + 1) maxInput 0)
       ∙ ap (λ (x : ℕ). (take n old ++ (b ∷ [])) ++ replicate (maxInput - x) 0) (sym s) in
-      state-is (take n old ++ (b ∷ [])) (set bytes n b) (n + 1) q (sym s)
+      state-is (take n old ++ (b ∷ [])) y (set bytes n b) (n + 1) q (sym s)

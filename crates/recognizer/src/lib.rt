@@ -25,10 +25,11 @@ ghost use Rattle.results.specs.Answer.{answered, refused as refusedWith};
 ghost use Rattle.results.specs.Recognize.{openOf, takeOf};
 ghost use Rattle.recognizer.specs.Recognizer.{stateIn, recognitionOf};
 
-// The state: 64 bytes, of which the first `count` have been taken.
+// The state: 64 bytes, of which the first `count` have been taken, and the year with which it was opened.
 pub struct Recognizer {
     pub bytes: [u8; sizes::MAX_INPUT],
     pub count: usize,
+    pub year: u16,
 }
 
 // What a call gives: whether the input so far is complete, and the state.
@@ -59,30 +60,30 @@ fn refused(h: Recognizer, r: Refusal) -> Advanced
 }
 
 // Opens, once the checks are passed.
-fn opening(g: Grammar, chart: &mut [u32]) -> Advanced
+fn opening(g: Grammar, year: u16, chart: &mut [u32]) -> Advanced
     requires { ⌜ (validGrammar g ≡ true) × (cells ≤ length (now chart)) ⌝ }
-    ensures { λ r. ⌜ recognitionOf r (now (chart .exit)) ≡ openOf (dated g) (now (chart .entry)) ⌝ }
+    ensures { λ r. ⌜ recognitionOf r (now (chart .exit)) ≡ openOf (dated g year) (now (chart .entry)) ⌝ }
 {
-    let p = packed_make::pack(g);
+    let p = packed_make::pack(g, year);
     open_chart(&p, chart);
     let accepted = says(g.start, 0, chart);
     Advanced {
         accepted,
-        recognizer: blank(),
+        recognizer: blank(year),
     }
 }
 
-// Opens. Refusals 8 and 10.
-pub fn open(g: Grammar, chart: &mut [u32]) -> Advanced
-    ensures { λ r. ⌜ recognitionOf r (now (chart .exit)) ≡ openOf (dated g) (now (chart .entry)) ⌝ }
+// Opens with a year, which the state keeps. Refusals 8 and 10.
+pub fn open(g: Grammar, year: u16, chart: &mut [u32]) -> Advanced
+    ensures { λ r. ⌜ recognitionOf r (now (chart .exit)) ≡ openOf (dated g year) (now (chart .entry)) ⌝ }
 {
     if !grammar::valid(g) {
-        return refused(blank(), Refusal::InvalidGrammar);
+        return refused(blank(0), Refusal::InvalidGrammar);
     }
     if chart.len() < sizes::CELLS {
-        return refused(blank(), Refusal::ChartTooShort);
+        return refused(blank(0), Refusal::ChartTooShort);
     }
-    opening(g, chart)
+    opening(g, year, chart)
 }
 
 // Takes a byte, once the checks are passed.
@@ -90,7 +91,7 @@ fn taking(h: Recognizer, g: Grammar, byte: u8, chart: &mut [u32]) -> Advanced
     requires { ⌜ (validGrammar g ≡ true) × (h .count < maxInput) × (cells ≤ length (now chart)) ⌝ }
     ensures { λ r. ⌜ recognitionOf r (now (chart .exit)) ≡ takeOf g (stateIn h) byte (now (chart .entry)) ⌝ }
 {
-    let p = packed_make::pack(g);
+    let p = packed_make::pack(g, h.year);
     let next = with_byte(h, byte);
     let n = next.count;
     let bytes = next.bytes;
@@ -102,7 +103,7 @@ fn taking(h: Recognizer, g: Grammar, byte: u8, chart: &mut [u32]) -> Advanced
 }
 
 impl Recognizer {
-    // Takes a byte. Refusals 8, 14, 10 and 15.
+    // Takes a byte, in the year of the state. Refusals 8, 14, 10 and 15.
     pub fn take(self, g: Grammar, byte: u8, chart: &mut [u32]) -> Advanced
         ensures { λ r. ⌜ recognitionOf r (now (chart .exit)) ≡ takeOf g (stateIn self) byte (now (chart .entry)) ⌝ }
     {

@@ -8,20 +8,21 @@ ghost use Rattle.sizes.specs.Sizes.{maxInput};
 ghost use Rattle.results.specs.Recognize.{stateOf};
 ghost use Rattle.recognizer.specs.Recognizer.{stateIn};
 
-// The state of zeros.
-pub fn blank() -> Recognizer
-    ensures { λ h. ⌜ stateIn h ≡ stateOf [] ⌝ }
+// The state without bytes: zeros, and the year.
+pub fn blank(year: u16) -> Recognizer
+    ensures { λ h. ⌜ stateIn h ≡ stateOf [] year ⌝ }
 {
     Recognizer {
         bytes: [0u8; sizes::MAX_INPUT],
         count: 0,
+        year,
     }
 }
 
-// The state with one more byte, and zeros after it.
+// The state with one more byte, and zeros after it. It keeps its year.
 pub fn with_byte(h: Recognizer, byte: u8) -> Recognizer
     requires { ⌜ h .count < maxInput ⌝ }
-    ensures { λ r. ⌜ (stateIn r ≡ stateOf (takeFirst (h .count) (h .bytes) ++ (byte ∷ []))) × (r .count ≡ h .count + 1) ⌝ }
+    ensures { λ r. ⌜ (stateIn r ≡ stateOf (takeFirst (h .count) (h .bytes) ++ (byte ∷ [])) (h .year)) × (r .count ≡ h .count + 1) ⌝ }
 {
     let n = h.count;
     let mut bytes = [0u8; sizes::MAX_INPUT];
@@ -34,5 +35,6 @@ pub fn with_byte(h: Recognizer, byte: u8) -> Recognizer
     Recognizer {
         bytes,
         count: n + 1,
+        year: h.year,
     }
 }

@@ -13,7 +13,7 @@ use Rattle.results.specs.Check.{same, listed, onInput, checkIn, checkOf}
 use Rattle.results.specs.Measure as Measure
 use Rattle.results.specs.Before as Before
 use Rattle.results.specs.Enumerate as Enumerate
-use Rattle.results.specs.Starred.{outcome}
+use Rattle.results.specs.Starred.{outcomeIn}
 
 unfoldable pub computing : Unit {0}
 unfolding fits joined over when from among keep rulesFrom items upTo listing derivations has insert fitsAt piece someFrom cuts derived
@@ -27,5 +27,5 @@ unfolding fits joined over when from among keep rulesFrom items upTo listing der
     Measure.rulesUsed Measure.sameBuildIn Measure.sameBuildOf Before.occurrences Before.sameBag Before.sameBagBuildIn
     Before.sameBagBuildOf Enumerate.treeIn Enumerate.handingOut
     Enumerate.headOf Enumerate.afterIn Enumerate.figure Enumerate.onOutput Enumerate.firstIn Enumerate.firstOf Enumerate.nextIn
-    Enumerate.nextOf Enumerate.countIn Enumerate.countOf outcome
+    Enumerate.nextOf Enumerate.countIn Enumerate.countOf outcomeIn
 computing = tt

@@ -9,10 +9,11 @@ use Rattle.sizes.specs.Sizes.{cells}
 use Rattle.grammar.specs.declared.Symbol.the-variants.{Nonterminal, Terminal}
 use Rattle.grammar.specs.declared.Place.{Place}
 use Rattle.grammar.specs.declared.Rule.{Rule}
-use Rattle.grammar.specs.Setters.{openedRule, setPlaceCount, setPlaces, setCount, setDepth, setRules}
+use Rattle.grammar.specs.Setters.{lastYear, openedRule, setPlaceCount, setPlaces, setCount, setDepth, setRules, setRule}
+use Rattle.grammar.specs.View.{dated}
 use Rattle.grammar.specs.Zero.{zeroPlace, zeroRule, zeroGrammar}
 use Rattle.results.specs.Answer.{Answer, answered}
-use Rattle.results.specs.Load.{loadOf}
+use Rattle.results.specs.Load.{acceptedLoad, loadOf}
 use Rattle.results.specs.Recognize.{State, stateWith, openOf, takeOf}
 use Rattle.results.specs.Measure.{sameBuildOf}
 use Rattle.results.specs.Check.{checkOf}
@@ -58,24 +59,44 @@ abbrev pub gapPlaces : List Place
 gapPlaces = record { symbol = Nonterminal 1 } ∷ record { symbol = Terminal 65 } ∷ replicate 6 zeroPlace
 
 abbrev pub gapRules : List Rule
-gapRules = setPlaceCount (setPlaces (openedRule 0 (pos 100)) gapPlaces) 2 ∷ openedRule 1 (negℤ (pos 30)) ∷ replicate 126 zeroRule
+gapRules =
+    setPlaceCount (setPlaces (openedRule 0 (pos 100) 0 lastYear) gapPlaces) 2
+    ∷ openedRule 1 (negℤ (pos 30)) 0 lastYear
+    ∷ replicate 126 zeroRule
 
 -- the whole of a loaded grammar: what the book does not set is zero
 pub loaded-gap : loadOf gap .grammar ≡ setDepth (setCount (setRules zeroGrammar gapRules) 2) 1
 unfolding computing
 loaded-gap = refl
 
--- after a take the unused bytes of a state are zeros, whatever they were
-unfoldable pub taken : State
-taken = takeOf (grammarFrom T) (stateWith (65 ∷ replicate 63 9) 1) 66 (replicate cells 0) .state
+-- 0 → A (100), in the years 1998 to 2007
+abbrev pub decade : List ℕ
+decade = 0x10 ∷ 0x00 ∷ 0x21 ∷ 0x00 ∷ 0x64 ∷ 0x00 ∷ 0xCE ∷ 0x07 ∷ 0xD7 ∷ 0x07 ∷ 0x40 ∷ 0x41 ∷ 0x50 ∷ []
 
-pub taken-clean : taken ≡ stateWith (65 ∷ 66 ∷ replicate 62 0) 2
+abbrev pub decadeRule : Rule
+decadeRule = setPlaceCount (setPlaces (openedRule 0 (pos 100) 1998 2007) (record { symbol = Terminal 65 } ∷ replicate 7 zeroPlace)) 1
+
+-- 21: kind, length, first year, last year, low byte first; places follow it as they follow 20
+pub loaded-decade : loadOf decade .grammar ≡ setCount (setRules zeroGrammar (decadeRule ∷ replicate 127 zeroRule)) 1
+unfolding computing
+loaded-decade = refl
+
+-- 0 → nothing, in force from year 5 to 6: the nullable depth is that of the whole book
+pub depth-whole : acceptedLoad (setCount (setRule zeroGrammar 0 (openedRule 0 (pos 0) 5 6)) 1) .grammar .depth ≡ 1
+unfolding computing
+depth-whole = refl
+
+-- after a take the unused bytes of a state are zeros, whatever they were, and its year is kept
+unfoldable pub taken : State
+taken = takeOf (grammarFrom T) (stateWith (65 ∷ replicate 63 9) 1 7) 66 (replicate cells 0) .state
+
+pub taken-clean : taken ≡ stateWith (65 ∷ 66 ∷ replicate 62 0) 2 7
 unfolding taken computing
 taken-clean = refl
 
 -- a refused take gives back the state as it was, also unused bytes: here refusal 15
 abbrev pub dirty : State
-dirty = stateWith (replicate 64 9) 64
+dirty = stateWith (replicate 64 9) 64 7
 
 unfoldable pub refusedTake : State
 refusedTake = takeOf (grammarFrom T) dirty 66 (replicate cells 0) .state
@@ -84,11 +105,11 @@ pub refused-take-kept : refusedTake ≡ dirty
 unfolding refusedTake computing
 refused-take-kept = refl
 
--- a refused opening gives a state of zeros: here refusal 10
+-- a refused opening gives a state of zeros, whatever the year: here refusal 10
 unfoldable pub refusedOpening : State
-refusedOpening = openOf (datedFrom T) (replicate (cells - 1) 0) .state
+refusedOpening = openOf (dated (grammarFrom T) 7) (replicate (cells - 1) 0) .state
 
-pub refused-opening-zeros : refusedOpening ≡ stateWith (replicate 64 0) 0
+pub refused-opening-zeros : refusedOpening ≡ stateWith (replicate 64 0) 0 0
 unfolding refusedOpening computing
 refused-opening-zeros = refl
 

@@ -1,12 +1,12 @@
--- Faulty books with the number and the offset of their refusal: one for each refusal 1 to 7 and 16, and one for each order between them.
--- Assumes nothing.
+-- Faulty books with the number and the offset of their refusal: one for each refusal 1 to 7, 16 and 21, and one for each order between
+-- them. Assumes nothing.
 use Prim.Native.Nat.{ℕ}
 use mathlib.Core.List.{List, [], _∷_, map}
 use mathlib.Core.Path.{_≡_, refl}
 use Rattle.grammar.specs.Zero.{zeroGrammar}
 use Rattle.results.specs.Answer.{refusedAt}
 use Rattle.results.specs.Load.{Loading, loadOf}
-use Rattle.results.specs.Drawer.{start, newRule, A, rangePlace, close, many}
+use Rattle.results.specs.Drawer.{start, newRule, newRuleIn, A, rangePlace, close, many}
 use Rattle.results.proofs.Computing.{computing}
 
 -- a faulty book: its bytes, and the number and the offset of its refusal
@@ -32,10 +32,11 @@ faults =
     ∷ faulty (0x10 ∷ []) 1 1
     ∷ faulty (0x10 ∷ 0x00 ∷ []) 1 2
     ∷ faulty (0x10 ∷ 0x00 ∷ 0x20 ∷ 0x00 ∷ 0x00 ∷ []) 1 5
+    ∷ faulty (0x10 ∷ 0x00 ∷ 0x21 ∷ 0x00 ∷ []) 1 4
     -- 2: an unknown byte, also where another command was due
     ∷ faulty (0x60 ∷ []) 2 0
-    ∷ faulty (0x10 ∷ 0x00 ∷ 0x21 ∷ 0x00 ∷ []) 2 2
-    -- 3: 10 again, another command first, 30, 40 and 41 before any 20; before 1, 4 and 7
+    ∷ faulty (0x10 ∷ 0x00 ∷ 0x22 ∷ 0x00 ∷ []) 2 2
+    -- 3: 10 again, another command first, 30, 40 and 41 before any 20 or 21; before 1, 4, 7 and 21
     ∷ faulty (0x10 ∷ 0x00 ∷ 0x10 ∷ []) 3 2
     ∷ faulty (0x50 ∷ []) 3 0
     ∷ faulty (0x50 ∷ 0x00 ∷ []) 3 0
@@ -45,14 +46,23 @@ faults =
     ∷ faulty (0x10 ∷ 0x00 ∷ 0x41 ∷ 0x30 ∷ 0x39 ∷ []) 3 2
     ∷ faulty (0x10 ∷ 0x00 ∷ 0x41 ∷ []) 3 2
     ∷ faulty (0x41 ∷ []) 3 0
+    ∷ faulty (0x21 ∷ []) 3 0
+    ∷ faulty (newRuleIn 0 9 8 []) 3 0
     -- 4: a nonterminal over 31; after 1
     ∷ faulty (0x10 ∷ 0x20 ∷ []) 4 0
     ∷ faulty (0x10 ∷ 0x00 ∷ 0x20 ∷ 0xFF ∷ []) 1 4
     ∷ faulty (start 0 (newRule 0 (0x30 ∷ 0x20 ∷ close))) 4 6
-    -- 5: the 129th rule; after 1 and 4
+    -- 21: the first year is above the last; after 1 and 4
+    ∷ faulty (start 0 (newRuleIn 0 9 8 close)) 21 2
+    ∷ faulty (start 0 (newRuleIn 0 256 255 close)) 21 2
+    ∷ faulty (start 0 (newRuleIn 32 9 8 close)) 4 2
+    ∷ faulty (start 0 (0x21 ∷ 0x00 ∷ 0x00 ∷ 0x00 ∷ 0xFF ∷ 0xFF ∷ 0x00 ∷ [])) 1 9
+    -- 5: the 129th rule; after 1, 4 and 21
     ∷ faulty (full (newRule 0 close)) 5 514
     ∷ faulty (full (newRule 32 close)) 4 514
     ∷ faulty (full (0x20 ∷ 0x00 ∷ [])) 1 516
+    ∷ faulty (full (newRuleIn 0 8 8 close)) 5 514
+    ∷ faulty (full (newRuleIn 0 9 8 close)) 21 514
     -- 6: the ninth place; after 1 and 4
     ∷ faulty (wide (A close)) 6 22
     ∷ faulty (wide (0x30 ∷ 0x20 ∷ close)) 4 22

@@ -20,12 +20,12 @@ use Rattle.results.proofs.Decide.{decide-passed}
 use Rattle.results.proofs.Passed.{ready→pass, readyOut→pass}
 
 pub open-passed : (g : Dated) (chart : List ℕ) → validGrammar (g .grammar) ≡ true → cells ≤ length chart
-    → openOf g chart ≡ openIn (grammarOf g) chart
+    → openOf g chart ≡ openIn (grammarOf g) (g .year) chart
 unfolding openOf
 open-passed g chart v r = decide-passed _ _ _ (ap not v, (le-ltb (length chart) cells r, tt))
 
 pub take-passed : (g : Grammar) (h : State) (m : ℕ) (chart : List ℕ) → validGrammar g ≡ true → h .count < maxInput → cells ≤ length chart
-    → takeOf g h m chart ≡ takeIn (grammarOf (dated g)) h m chart
+    → takeOf g h m chart ≡ takeIn (grammarOf (dated g (h .year))) h m chart
 unfolding takeOf
 take-passed g h m chart v l r =
     decide-passed _ _ _ (

@@ -3,3 +3,4 @@ pub mod Lists
 pub mod Run
 pub mod Commands
 pub mod Valid
+pub mod Undated

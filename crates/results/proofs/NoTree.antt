@@ -10,10 +10,11 @@ use Rattle.cfg.specs.Tree.{HasTree}
 use Rattle.chart.specs.Column.{filled, complete}
 use Rattle.chart.proofs.Truth.{complete-tree}
 use Rattle.grammar.specs.Valid.{validGrammar}
-use Rattle.grammar.specs.View.{Dated, grammarOf}
+use Rattle.grammar.specs.View.{Dated, dated, grammarOf}
 use Rattle.grammar.proofs.Bounds.{valid-bounded}
 use Rattle.results.specs.Drawer.{T, bare, As}
-use Rattle.results.specs.Starred.{datedFrom}
+use Rattle.results.specs.Starred.{grammarFrom, datedFrom}
+use Rattle.results.specs.YearLines.{seals, emptyInYears, startInYears}
 use Rattle.results.specs.Requests.{onlyA}
 use Rattle.results.proofs.Computing.{computing}
 
@@ -47,3 +48,17 @@ no-tree-onlyA-empty = incomplete-no-tree (datedFrom onlyA) [] refl (omega arith)
 pub no-tree-bare-empty : HasTree (grammarOf (datedFrom bare)) [] → ⊥
 unfolding computing
 no-tree-bare-empty = incomplete-no-tree (datedFrom bare) [] refl (omega arith) refl
+
+-- ---- a year in which rules are out of force
+
+pub no-tree-seals-1997 : HasTree (grammarOf (dated (grammarFrom seals) 1997)) (As 1) → ⊥
+unfolding computing
+no-tree-seals-1997 = incomplete-no-tree (dated (grammarFrom seals) 1997) (As 1) refl (omega arith) refl
+
+pub no-tree-empty-10 : HasTree (grammarOf (dated (grammarFrom emptyInYears) 10)) (As 1) → ⊥
+unfolding computing
+no-tree-empty-10 = incomplete-no-tree (dated (grammarFrom emptyInYears) 10) (As 1) refl (omega arith) refl
+
+pub no-tree-start-4 : HasTree (grammarOf (dated (grammarFrom startInYears) 4)) (As 1) → ⊥
+unfolding computing
+no-tree-start-4 = incomplete-no-tree (dated (grammarFrom startInYears) 4) (As 1) refl (omega arith) refl

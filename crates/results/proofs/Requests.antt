@@ -1,13 +1,14 @@
 -- The plates of the requests: every line of the table, computed, and the inputs without a tree. Assumes nothing.
 use mathlib.Core.Path.{refl}
-use Rattle.results.specs.Starred.{found, absent}
+use Rattle.results.specs.Starred.{foundIn, absentIn}
 use Rattle.results.specs.Requests.{requests, sums, Requested}
 use Rattle.results.specs.Builds.{compared, builds}
+use Rattle.results.specs.YearLines.{yearLines}
 use Rattle.results.proofs.Computing.{computing}
-use Rattle.results.proofs.NoTree.{no-tree-onlyA-empty, no-tree-bare-empty}
+use Rattle.results.proofs.NoTree.{no-tree-onlyA-empty, no-tree-bare-empty, no-tree-seals-1997, no-tree-empty-10, no-tree-start-4}
 
 pub requested : Requested
-unfolding computing found absent requests sums compared builds
+unfolding computing foundIn absentIn requests sums compared builds yearLines
 requested = record {
   lines = refl;
   no-tree-terminal = no-tree-onlyA-empty;
@@ -17,4 +18,9 @@ requested = record {
   depths = refl;
   rounds = refl;
   compares = refl;
+  years = refl;
+  no-tree-before = no-tree-seals-1997;
+  no-tree-empty = no-tree-empty-10;
+  no-tree-start = no-tree-start-4;
+  depths-years = refl;
 }

@@ -1,12 +1,12 @@
 -- The starred plates of document 01 together: every line of the table, the inputs without a tree, the empty book and the sums.
 -- Assumes nothing.
 use mathlib.Core.Path.{refl}
-use Rattle.results.specs.Starred.{found, absent, table, Starred}
+use Rattle.results.specs.Starred.{foundIn, absentIn, table, Starred}
 use Rattle.results.proofs.Computing.{computing}
 use Rattle.results.proofs.NoTree.{no-tree-T-AAA, no-tree-T-B, no-tree-bare}
 
 pub starred : Starred
-unfolding computing found absent table
+unfolding computing foundIn absentIn table
 starred = record {
   lines = refl;
   no-tree-three = no-tree-T-AAA;

@@ -1,5 +1,5 @@
 -- The books of document 01's drawer, as bytes, and inputs of `A`, which is the byte 0x41. Assumes nothing.
-use Prim.Native.Nat.{ℕ, zero, suc}
+use Prim.Native.Nat.{ℕ, zero, suc, _/_, _%_}
 use mathlib.Core.List.{List, [], _∷_}
 use lib.ListN.{replicate}
 
@@ -9,6 +9,10 @@ start k rest = 0x10 ∷ k ∷ rest
 
 abbrev pub newRule : ℕ → List ℕ → List ℕ
 newRule k rest = 0x20 ∷ k ∷ 0 ∷ 0 ∷ rest
+
+-- a rule that is opened with its first and its last year
+abbrev pub newRuleIn : ℕ → ℕ → ℕ → List ℕ → List ℕ
+newRuleIn k first last rest = 0x21 ∷ k ∷ 0 ∷ 0 ∷ first % 256 ∷ first / 256 ∷ last % 256 ∷ last / 256 ∷ rest
 
 -- a place with the nonterminal k, and one with the byte `A`
 abbrev pub nonterminalPlace : ℕ → List ℕ → List ℕ

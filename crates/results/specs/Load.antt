@@ -11,22 +11,33 @@ use Rattle.grammar.specs.declared.Symbol.{Symbol}
 use Rattle.grammar.specs.declared.Symbol.the-variants.{Nonterminal, Terminal, Range}
 use Rattle.grammar.specs.declared.Rule.{Rule}
 use Rattle.grammar.specs.declared.Grammar.{Grammar}
-use Rattle.grammar.specs.Setters.{openedRule, placedRule, setStart, setCount, setDepth, setRule}
+use Rattle.grammar.specs.Setters.{lastYear, openedRule, placedRule, setStart, setCount, setDepth, setRule}
 use Rattle.grammar.specs.View.{wholeOf}
 use Rattle.grammar.specs.Zero.{zeroGrammar, noRule}
 use Rattle.results.specs.Answer.{LoadAnswer, refusedAt, loaded, Check, check, decide}
 
 -- how many operand bytes follow a command byte
 unfoldable pub operands : ℕ → ℕ
-operands c = cond (eqb c 0x20) 3 (cond (eqb c 0x41) 2 (cond (eqb c 0x50) 0 1))
+operands c = cond (eqb c 0x20) 3 (cond (eqb c 0x21) 7 (cond (eqb c 0x41) 2 (cond (eqb c 0x50) 0 1)))
 
 -- operand number i, from 0, of the command at an offset; past the end of the book it is 0
 unfoldable pub operand : List ℕ → ℕ → ℕ → ℕ
 operand bytes at i = getD bytes (at + 1 + i) 0
 
+-- a number of 16 bits, from its low and its high byte
+abbrev pub word : ℕ → ℕ → ℕ
+word low high = low + 256 * high
+
 -- a signed number of 16 bits in two's complement, from its low and its high byte
 unfoldable pub signed : ℕ → ℕ → ℤ
-signed low high = let n = low + 256 * high in cond (ltb n 32768) (pos n) (negℤ (pos (65536 - n)))
+signed low high = let n = word low high in cond (ltb n 32768) (pos n) (negℤ (pos (65536 - n)))
+
+-- 21: its first and its last year, by its operands
+abbrev pub fromYear : (ℕ → ℕ) → ℕ
+fromYear x = word (x 3) (x 4)
+
+abbrev pub toYear : (ℕ → ℕ) → ℕ
+toYear x = word (x 5) (x 6)
 
 -- the open rule: the last one
 unfoldable pub openRule : Grammar → Rule
@@ -36,9 +47,9 @@ openRule g = getD (g .rules) (g .count - 1) noRule
 unfoldable pub withStart : Grammar → ℕ → Grammar
 withStart g k = setStart g k
 
--- 20: the grammar with one rule more, after those it has: of this left side and length, and with no place yet
-unfoldable pub withRule : Grammar → ℕ → ℤ → Grammar
-withRule g k hundredths = setCount (setRule g (g .count) (openedRule k hundredths)) (g .count + 1)
+-- 20 and 21: the grammar with one rule more, after those it has: of this left side, length, first and last year, and with no place yet
+unfoldable pub withRule : Grammar → ℕ → ℤ → ℕ → ℕ → Grammar
+withRule g k hundredths first last = setCount (setRule g (g .count) (openedRule k hundredths first last)) (g .count + 1)
 
 -- 30, 40 and 41: the grammar with one place more in its open rule
 unfoldable pub withPlace : Grammar → Symbol → Grammar
@@ -47,9 +58,10 @@ withPlace g s = setRule g (g .count - 1) (placedRule (openRule g) s)
 -- the grammar after the command c with these operands
 unfoldable pub after : ℕ → (ℕ → ℕ) → Grammar → Grammar
 after c x g =
-    cond (eqb c 0x10) (withStart g (x 0)) (cond (eqb c 0x20) (withRule g (x 0) (signed (x 1) (x 2)))
+    cond (eqb c 0x10) (withStart g (x 0)) (cond (eqb c 0x20) (withRule g (x 0) (signed (x 1) (x 2)) 0 lastYear)
+    (cond (eqb c 0x21) (withRule g (x 0) (signed (x 1) (x 2)) (fromYear x) (toYear x))
     (cond (eqb c 0x30) (withPlace g (Nonterminal (x 0))) (cond (eqb c 0x40) (withPlace g (Terminal (x 0)))
-    (cond (eqb c 0x41) (withPlace g (Range (x 0) (x 1))) g))))
+    (cond (eqb c 0x41) (withPlace g (Range (x 0) (x 1))) g)))))
 
 -- the number of a refusal and its offset
 pub record Fault : Type 0 where
@@ -61,13 +73,17 @@ fault b n at = check b (record { number = n; offset = at })
 
 -- 2 unknown byte
 unfoldable pub unknown : ℕ → Bool
-unknown c = not (eqb c 0x10 || eqb c 0x20 || eqb c 0x30 || eqb c 0x40 || eqb c 0x41 || eqb c 0x50)
+unknown c = not (eqb c 0x10 || eqb c 0x20 || eqb c 0x21 || eqb c 0x30 || eqb c 0x40 || eqb c 0x41 || eqb c 0x50)
+
+-- a command that opens a rule
+abbrev pub opensRule : ℕ → Bool
+opensRule c = eqb c 0x20 || eqb c 0x21
 
 -- a command that adds a place
 abbrev pub addsPlace : ℕ → Bool
 addsPlace c = eqb c 0x30 || eqb c 0x40 || eqb c 0x41
 
--- 3 out of turn: 10 not first or again, another command first, a place before any 20
+-- 3 out of turn: 10 not first or again, another command first, a place before any 20 or 21
 unfoldable pub outOfTurn : ℕ → ℕ → Grammar → Bool
 outOfTurn c at g = cond (eqb c 0x10) (ltb 0 at) (eqb at 0 || (addsPlace c && eqb (g .count) 0))
 
@@ -75,9 +91,10 @@ outOfTurn c at g = cond (eqb c 0x10) (ltb 0 at) (eqb at 0 || (addsPlace c && eqb
 unfoldable pub operandChecks : List ℕ → ℕ → ℕ → Grammar → List (Check Fault)
 operandChecks bytes at c g =
     fault (ltb (length bytes) (at + 1 + operands c)) 1 (length bytes)
-    ∷ fault ((eqb c 0x10 || eqb c 0x20 || eqb c 0x30) && ltb 31 (operand bytes at 0)) 4 at
+    ∷ fault ((eqb c 0x10 || opensRule c || eqb c 0x30) && ltb 31 (operand bytes at 0)) 4 at
     ∷ fault (eqb c 0x41 && ltb (operand bytes at 1) (operand bytes at 0)) 16 at
-    ∷ fault (eqb c 0x20 && ltb 127 (g .count)) 5 at
+    ∷ fault (eqb c 0x21 && ltb (toYear (operand bytes at)) (fromYear (operand bytes at))) 21 at
+    ∷ fault (opensRule c && ltb 127 (g .count)) 5 at
     ∷ fault (addsPlace c && ltb 7 (openRule g .count)) 6 at
     ∷ fault (eqb c 0x50 && ltb (at + 1) (length bytes)) 7 (at + 1)
     ∷ []

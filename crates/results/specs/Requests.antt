@@ -5,11 +5,12 @@ use mathlib.Core.List.{List, [], _∷_, map}
 use mathlib.Core.Path.{_≡_}
 use lib.IntN.{ℤ, pos, negℤ}
 use Rattle.cfg.specs.Tree.{HasTree}
-use Rattle.grammar.specs.View.{grammarOf}
+use Rattle.grammar.specs.View.{dated, grammarOf}
 use Rattle.results.specs.Measure.{rounded}
 use Rattle.results.specs.Drawer.{start, newRule, nonterminalPlace, A, rangePlace, close, T, bare, As}
 use Rattle.results.specs.Builds.{twoWays, rules11, rules12, rules21, rules22, movedB, AB, beside, inside, compared, Pair, builds}
-use Rattle.results.specs.Starred.{outcome, grammarFrom, datedFrom, Line, found, absent, zeros}
+use Rattle.results.specs.Starred.{grammarFrom, datedFrom, Line, lineOutcome, found, absent, zeros}
+use Rattle.results.specs.YearLines.{seals, emptyInYears, startInYears, oneYear, yearLines}
 
 -- U1: 0 → one digit
 abbrev pub oneDigit : List ℕ
@@ -130,7 +131,7 @@ sums =
 -- what is proved of these plates
 pub record Requested : Type 0 where
   -- every line comes out as the table says
-  pub lines : map (λ (l : Line). outcome (l .bytes) (l .input)) requests ≡ map (λ (l : Line). l .gives) requests
+  pub lines : map lineOutcome requests ≡ map (λ (l : Line). l .gives) requests
   -- U2: where the table says "no reading" of an input of no bytes, it has no tree of any size
   pub no-tree-terminal : HasTree (grammarOf (datedFrom onlyA)) [] → ⊥
   pub no-tree-rules : HasTree (grammarOf (datedFrom bare)) [] → ⊥
@@ -143,3 +144,11 @@ pub record Requested : Type 0 where
   pub rounds : map (λ (s : ℤ × ℤ). rounded (s .0)) sums ≡ map (λ (s : ℤ × ℤ). s .1) sums
   -- U7: every pair comes out as its table says
   pub compares : map (λ (p : Pair). compared (p .bytes) (p .input) (p .one) (p .other)) builds ≡ map (λ (p : Pair). p .gives) builds
+  -- U9: every line comes out as its table says
+  pub years : map lineOutcome yearLines ≡ map (λ (l : Line). l .gives) yearLines
+  -- U9: where it says "no reading", the input has no tree of any size in that year
+  pub no-tree-before : HasTree (grammarOf (dated (grammarFrom seals) 1997)) (As 1) → ⊥
+  pub no-tree-empty : HasTree (grammarOf (dated (grammarFrom emptyInYears) 10)) (As 1) → ⊥
+  pub no-tree-start : HasTree (grammarOf (dated (grammarFrom startInYears) 4)) (As 1) → ⊥
+  -- U9: the depth is that of the whole book, whatever the years
+  pub depths-years : map depthFrom (seals ∷ emptyInYears ∷ startInYears ∷ oneYear ∷ []) ≡ 0 ∷ 1 ∷ 0 ∷ 1 ∷ []

@@ -30,14 +30,14 @@ pub record Outcome : Type 0 where
 abbrev pub grammarFrom : List ℕ → Grammar
 grammarFrom bytes = loadOf bytes .grammar
 
--- the same, as the calls on an input take it
+-- the same in the year 0, as the calls on an input take it
 abbrev pub datedFrom : List ℕ → Dated
-datedFrom bytes = dated (grammarFrom bytes)
+datedFrom bytes = dated (grammarFrom bytes) 0
 
--- the outcome of a book and an input, over a chart and an output that hold other numbers
-unfoldable pub outcome : List ℕ → List ℕ → Outcome
-outcome bytes w =
-    let g = datedFrom bytes in
+-- the outcome of a book and an input in a year, over a chart and an output that hold other numbers
+unfoldable pub outcomeIn : ℕ → List ℕ → List ℕ → Outcome
+outcomeIn y bytes w =
+    let g = dated (grammarFrom bytes) y in
     let chart : List ℕ = replicate cells 7 in
     record {
       loads = loadOf bytes .answer;
@@ -47,16 +47,26 @@ outcome bytes w =
       lengths = map (λ e. lengthOf g w e chart .answer) (L (grammarOf g) w);
     }
 
--- a line of the table: a book, an input, and their outcome
+-- the same in the year 0
+abbrev pub outcome : List ℕ → List ℕ → Outcome
+outcome = outcomeIn 0
+
+-- a line of the table: a book, a year, an input, and their outcome
 pub record Line : Type 0 where
   pub bytes : List ℕ
+  pub year : ℕ
   pub input : List ℕ
   pub gives : Outcome
 
+-- the outcome of a line's book and input in its year
+abbrev pub lineOutcome : Line → Outcome
+lineOutcome l = outcomeIn (l .year) (l .bytes) (l .input)
+
 -- a line whose input has derivations: the nodes of the first, how many there are, the list, and the lengths in tenths
-unfoldable pub found : List ℕ → List ℕ → ℕ → ℕ → List (List ℕ) → List ℤ → Line
-found bytes w nodes n list lengths = record {
+unfoldable pub foundIn : ℕ → List ℕ → List ℕ → ℕ → ℕ → List (List ℕ) → List ℤ → Line
+foundIn y bytes w nodes n list lengths = record {
   bytes = bytes;
+  year = y;
   input = w;
   gives = record {
     loads = loaded;
@@ -68,12 +78,20 @@ found bytes w nodes n list lengths = record {
 }
 
 -- a line whose input has no tree
-unfoldable pub absent : List ℕ → List ℕ → Line
-absent bytes w = record {
+unfoldable pub absentIn : ℕ → List ℕ → List ℕ → Line
+absentIn y bytes w = record {
   bytes = bytes;
+  year = y;
   input = w;
   gives = record { loads = loaded; first = answered nothing; count = answered (counted 0); list = []; lengths = [] };
 }
+
+-- both in the year 0
+abbrev pub found : List ℕ → List ℕ → ℕ → ℕ → List (List ℕ) → List ℤ → Line
+found = foundIn 0
+
+abbrev pub absent : List ℕ → List ℕ → Line
+absent = absentIn 0
 
 -- n lengths of zero
 abbrev pub zeros : ℕ → List ℤ
@@ -99,7 +117,7 @@ table =
 -- what is proved of the starred plates
 pub record Starred : Type 0 where
   -- every line comes out as the table says
-  pub lines : map (λ (l : Line). outcome (l .bytes) (l .input)) table ≡ map (λ (l : Line). l .gives) table
+  pub lines : map lineOutcome table ≡ map (λ (l : Line). l .gives) table
   -- where the table says "no reading", the input has no tree of any size
   pub no-tree-three : HasTree (grammarOf (datedFrom T)) (As 3) → ⊥
   pub no-tree-other : HasTree (grammarOf (datedFrom T)) (0x42 ∷ []) → ⊥

@@ -7,6 +7,6 @@ use Rattle.grammar.specs.Setters.{setDepth}
 use Rattle.grammar.specs.View.{dated}
 use Rattle.text.specs.Text.{inputText}
 
-pub text-depth : (g : Grammar) (d : ℕ) (w : List ℕ) → inputText (dated (setDepth g d)) w ≡ inputText (dated g) w
+pub text-depth : (g : Grammar) (d y : ℕ) (w : List ℕ) → inputText (dated (setDepth g d) y) w ≡ inputText (dated g y) w
 unfolding inputText
-text-depth g d w = refl
+text-depth g d y w = refl

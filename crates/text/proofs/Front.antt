@@ -1,11 +1,11 @@
--- The text of a book and a plate is that of their fronts. Assumes nothing.
+-- The text of a book, a file with a year and a plate is that of their fronts. Assumes nothing.
 use Prim.Native.Nat.{ℕ, zero, suc, _+_, _≤_, _<_}
 use native.Mathlib.Decide.{decLt}
 use native.Mathlib.Omega.{arith}
 use mathlib.Core.Bool.{Bool, true, false, cond, not}
 use mathlib.Core.List.{List, [], _∷_}
 use mathlib.Core.Logic.{dite}
-use mathlib.Core.Path.{_≡_, refl, sym, ap, _∙_}
+use mathlib.Core.Path.{_≡_, refl, sym, ap, ap₂, _∙_}
 use lib.Dec.{eqb, ltb}
 use lib.ListN.{length, getD, take}
 use lib.Seq.{take-all, getD-take, length-take-le}
@@ -20,26 +20,27 @@ use Rattle.results.specs.Load.{Step, stop, next, done, carriedOut, step, Loadin
 use Rattle.results.proofs.Decide.{Agree, agree-end, agree-same, agree-passed, decide-agree}
 use Rattle.results.proofs.Loading.Run.{run-stop, run-next, run-done, step-forward}
 use Rattle.results.proofs.Loading.Commands.{after-same, step-kept}
-use Rattle.text.specs.Front.{bookFront, plateFront}
+use Rattle.text.specs.Front.{bookFront, yearFront, plateFront}
 use Rattle.text.specs.Line.{refusedLine}
-use Rattle.text.specs.Text.{inputText, loadedText, textOf}
+use Rattle.text.specs.Text.{inputText, loadedText, yearIn, textOf}
 use Rattle.text.proofs.Near.{Near, near-invariant}
 
-operands-few : (c : ℕ) → operands c ≤ 3
+operands-few : (c : ℕ) → operands c ≤ 7
 unfolding operands
-operands-few c = go (eqb c 0x20) (eqb c 0x41) (eqb c 0x50)
+operands-few c = go (eqb c 0x20) (eqb c 0x21) (eqb c 0x41) (eqb c 0x50)
   where
-    go : (t u v : Bool) → cond t 3 (cond u 2 (cond v 0 1)) ≤ 3
-    go true u v = omega arith
-    go false true v = omega arith
-    go false false true = omega arith
-    go false false false = omega arith
+    go : (s t u v : Bool) → cond s 3 (cond t 7 (cond u 2 (cond v 0 1))) ≤ 7
+    go true t u v = omega arith
+    go false true u v = omega arith
+    go false false true v = omega arith
+    go false false false true = omega arith
+    go false false false false = omega arith
 
 -- ---- two long books with the same front
 
 -- no command starts at a greater offset
 abbrev farthest : ℕ
-farthest = 3612
+farthest = 4124
 
 near-bound : (at : ℕ) (g : Grammar) → Near at g → at ≤ farthest
 near-bound at g N = omega (arith, N .few, N .places, N .near)
@@ -48,7 +49,7 @@ module _ (s t : List ℕ) (long-s : bookFront ≤ length s) (long-t : bookFront 
     (same : (i : ℕ) → i < bookFront → getD s i 0 ≡ getD t i 0) where
   -- a command c near the start, in each of the books
   module _ (at : ℕ) (g : Grammar) (h : at ≤ farthest) (c : ℕ) where
-    operand-same : (i : ℕ) → i < 3 → operand s at i ≡ operand t at i
+    operand-same : (i : ℕ) → i < 7 → operand s at i ≡ operand t at i
     unfolding operand
     operand-same i l = same (at + 1 + i) (omega arith)
 
@@ -71,9 +72,18 @@ module _ (s t : List ℕ) (long-s : bookFront ≤ length s) (long-t : bookFront 
 
     checks-agree : Agree Fault (checks s) (checks t)
     unfolding commandChecks operandChecks
-    checks-agree = rw (operand-same 0 (omega arith), operand-same 1 (omega arith), further s long-s, further t long-t) (
+    checks-agree = rw (
+      operand-same 0 (omega arith),
+      operand-same 1 (omega arith),
+      operand-same 3 (omega arith),
+      operand-same 4 (omega arith),
+      operand-same 5 (omega arith),
+      operand-same 6 (omega arith),
+      further s long-s,
+      further t long-t,
+    ) (
         agree-passed (begins s long-s) (begins t long-t) (agree-same _ (agree-same _ (agree-passed (whole s long-s) (whole t long-t)
-        (agree-same _ (agree-same _ (agree-same _ (agree-same _ (agree-same _ agree-end)))))))))
+        (agree-same _ (agree-same _ (agree-same _ (agree-same _ (agree-same _ (agree-same _ agree-end))))))))))
 
   step-same : (at : ℕ) (g : Grammar) → at ≤ farthest → step s at g ≡ step t at g
   unfolding step
@@ -124,17 +134,28 @@ input-front g w = dite (decLt plateFront (length w))
     input-long g (take plateFront w) (omega arith) ∙ sym (input-long g w (omega arith)))
     (λ h. ap (inputText g) (take-all plateFront w (omega arith)))
 
-loaded-front : (b : Loading) (w : List ℕ) → loadedText b (take plateFront w) ≡ loadedText b w
+loaded-front : (b : Loading) (y : ℕ) (w : List ℕ) → loadedText b y (take plateFront w) ≡ loadedText b y w
 unfolding loadedText
-loaded-front b w = go (b .answer)
+loaded-front b y w = go (b .answer)
   where
-    go : (a : LoadAnswer) → loadedText (record { answer = a; grammar = b .grammar }) (take plateFront w)
-        ≡ loadedText (record { answer = a; grammar = b .grammar }) w
+    go : (a : LoadAnswer) → loadedText (record { answer = a; grammar = b .grammar }) y (take plateFront w)
+        ≡ loadedText (record { answer = a; grammar = b .grammar }) y w
     go (refusedAt n at) = refl
-    go loaded = input-front (dated (b .grammar)) w
+    go loaded = input-front (dated (b .grammar) y) w
+
+-- ---- the year
+
+year-front : (file : List ℕ) → yearIn (take yearFront file) ≡ yearIn file
+unfolding yearIn
+year-front [] = refl
+year-front (low ∷ []) = refl
+year-front (low ∷ high ∷ []) = refl
+year-front (low ∷ high ∷ other ∷ rest) = refl
 
 -- THE TEXT IS THAT OF THE FRONTS
-pub text-front : (book w : List ℕ) → textOf (take bookFront book) (take plateFront w) ≡ textOf book w
+pub text-front : (book file w : List ℕ)
+    → textOf (take bookFront book) (take yearFront file) (take plateFront w) ≡ textOf book file w
 unfolding textOf
-text-front book w =
-    ap (λ (b : Loading). loadedText b (take plateFront w)) (load-front book) ∙ loaded-front (loadOf book) w
+text-front book file w =
+    ap₂ (λ (b : Loading) (y : ℕ). loadedText b y (take plateFront w)) (load-front book) (year-front file)
+    ∙ loaded-front (loadOf book) (yearIn file) w

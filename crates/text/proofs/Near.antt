@@ -16,12 +16,12 @@ use Rattle.grammar.proofs.Setters.{set-rule-size, set-rule-at}
 use Rattle.results.specs.Load.{operand, openRule, withStart, withRule, withPlace}
 use Rattle.results.proofs.Loading.Commands.{Invariant, placeSize, place-few}
 
--- an offset, and the grammar read before it. The start takes at most 4 bytes, a rule with its places at most 28, and a place at most 3
+-- an offset, and the grammar read before it. The start takes at most 4 bytes, a rule with its places at most 32, and a place at most 3
 pub record Near (at : ℕ) (g : Grammar) : Type 0 where
   pub few : g .count ≤ maxRules
   pub size : length (g .rules) ≡ maxRules
   pub places : openRule g .count ≤ maxPlaces
-  pub near : at ≤ 4 + 28 * g .count + 3 * openRule g .count
+  pub near : at ≤ 4 + 32 * g .count + 3 * openRule g .count
 
 near-zero : Near 0 zeroGrammar
 unfolding openRule
@@ -34,20 +34,21 @@ module _ (at : ℕ) (g : Grammar) (N : Near at g) where
   unfolding withStart openRule
   start-near k at′ h = record { few = N .few; size = N .size; places = N .places; near = omega arith }
 
-  rule-open : (k : ℕ) (z : ℤ) → g .count < maxRules → openRule (withRule g k z) .count ≡ 0
+  rule-open : (k : ℕ) (z : ℤ) (first last : ℕ) → g .count < maxRules → openRule (withRule g k z first last) .count ≡ 0
   unfolding withRule openRule
-  rule-open k z h =
+  rule-open k z first last h =
       let e : g .count + 1 - 1 ≡ g .count = omega arith in
       let s = N .size in
-      rw e (ap (λ (r : Rule). r .count) (set-rule-at g (g .count) (openedRule k z) (omega arith)))
+      rw e (ap (λ (r : Rule). r .count) (set-rule-at g (g .count) (openedRule k z first last) (omega arith)))
 
-  rule-near : (k : ℕ) (z : ℤ) → g .count < maxRules → Near (at + 4) (withRule g k z)
+  rule-near : (k : ℕ) (z : ℤ) (first last size : ℕ) → size ≤ 8 → g .count < maxRules → Near (at + size) (withRule g k z first last)
   unfolding withRule
-  rule-near k z h =
-      let e = rule-open k z h in
+  rule-near k z first last size b h =
+      let e = rule-open k z first last h in
       let o = N .places in
       let n = N .near in
-      record { few = omega arith; size = set-rule-size g (g .count) (openedRule k z) ∙ N .size; places = omega arith; near = omega arith }
+      let s = set-rule-size g (g .count) (openedRule k z first last) ∙ N .size in
+      record { few = omega arith; size = s; places = omega arith; near = omega arith }
 
   place-open : (s : Symbol) → openRule (withPlace g s) .count ≡ openRule g .count + 1
   unfolding withPlace openRule
@@ -69,6 +70,7 @@ pub near-invariant : (bytes : List ℕ) → Invariant bytes Near
 near-invariant bytes = record {
   zero = near-zero;
   start = λ at g N e h. start-near at g N (operand bytes at 0) (at + 2) (omega arith);
-  rule = λ at g N h m. rule-near at g N (operand bytes at 0) _ m;
+  rule = λ at g N h m. rule-near at g N (operand bytes at 0) _ _ _ 4 (omega arith) m;
+  years = λ at g N h y m. rule-near at g N (operand bytes at 0) _ _ _ 8 (omega arith) m;
   place = λ at g N s e u m h. place-near at g N s h;
 }

@@ -13,7 +13,7 @@ use Rattle.results.specs.Load.{loadOf}
 use Rattle.results.specs.Enumerate.{figure}
 use Rattle.results.proofs.Decide.{decide-either}
 use Rattle.text.specs.Line.{readingsLine, refusedLine}
-use Rattle.text.specs.Text.{linesFrom, listText, emptyText, textBy, inputText, loadedText, textOf}
+use Rattle.text.specs.Text.{linesFrom, listText, emptyText, textBy, inputText, loadedText, yearIn, textOf}
 
 -- how many lines a text has
 pub record Lines (text : List (List ℕ)) : Type 0 where
@@ -50,16 +50,17 @@ input-lines g w =
     decide-either _ _ Lines _ (λ n. one-line (refusedLine n))
     (λ p. by-lines (lengthsOf (g .grammar)) _ (L (grammarOf g) w) (one-line _))
 
-text-sized : (book w : List ℕ) → Lines (textOf book w)
+text-sized : (book file w : List ℕ) → Lines (textOf book file w)
 unfolding textOf loadedText
-text-sized book w = go (loadOf book .answer)
+text-sized book file w = go (loadOf book .answer)
   where
-    go : (a : LoadAnswer) → Lines (elim a [ refusedAt n at ↦ refusedLine n ∷ [] | loaded ↦ inputText (dated (loadOf book .grammar)) w ])
+    go : (a : LoadAnswer)
+        → Lines (elim a [ refusedAt n at ↦ refusedLine n ∷ [] | loaded ↦ inputText (dated (loadOf book .grammar) (yearIn file)) w ])
     go (refusedAt n at) = one-line (refusedLine n)
-    go loaded = input-lines (dated (loadOf book .grammar)) w
+    go loaded = input-lines (dated (loadOf book .grammar) (yearIn file)) w
 
-pub text-lines : (book w : List ℕ) → length (textOf book w) ≤ suc most
-text-lines book w = text-sized book w .few
+pub text-lines : (book file w : List ℕ) → length (textOf book file w) ≤ suc most
+text-lines book file w = text-sized book file w .few
 
-pub text-some : (book w : List ℕ) → 0 < length (textOf book w)
-text-some book w = text-sized book w .some
+pub text-some : (book file w : List ℕ) → 0 < length (textOf book file w)
+text-some book file w = text-sized book file w .some

@@ -1,5 +1,6 @@
--- What the listing program prints, from the bytes of the book and those of the plate, as a list of lines. Assumes nothing.
-use Prim.Native.Nat.{ℕ, suc}
+-- What the listing program prints, from the bytes of the book, of the file with the year, and of the plate, as a list of lines.
+-- Assumes nothing.
+use Prim.Native.Nat.{ℕ, suc, _+_, _*_}
 use mathlib.Core.Bool.{cond}
 use mathlib.Core.List.{List, [], _∷_, _++_}
 use lib.IntN.{ℤ}
@@ -39,10 +40,17 @@ inputText g w =
     decide (inputCheck w ∷ []) (λ n. refusedLine n ∷ [])
     (λ _. textBy (lengthsOf (g .grammar)) (emptyText (grammarOf g) w) (L (grammarOf g) w))
 
--- the lines of an input for what loading gave: the book is judged first
-unfoldable pub loadedText : Loading → List ℕ → List (List ℕ)
-loadedText b w = elim (b .answer) [ refusedAt n at ↦ refusedLine n ∷ [] | loaded ↦ inputText (dated (b .grammar)) w ]
+-- the lines of an input in a year for what loading gave: the book is judged first
+unfoldable pub loadedText : Loading → ℕ → List ℕ → List (List ℕ)
+loadedText b y w = elim (b .answer) [ refusedAt n at ↦ refusedLine n ∷ [] | loaded ↦ inputText (dated (b .grammar) y) w ]
+
+-- the year that a file has: of two bytes, low and then high; of another length, and so of no file, the year 0
+unfoldable pub yearIn : List ℕ → ℕ
+yearIn [] = 0
+yearIn (low ∷ []) = 0
+yearIn (low ∷ high ∷ []) = low + 256 * high
+yearIn (low ∷ high ∷ other ∷ rest) = 0
 
 -- the text
-unfoldable pub textOf : List ℕ → List ℕ → List (List ℕ)
-textOf book w = loadedText (loadOf book) w
+unfoldable pub textOf : List ℕ → List ℕ → List ℕ → List (List ℕ)
+textOf book file w = loadedText (loadOf book) (yearIn file) w

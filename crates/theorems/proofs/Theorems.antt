@@ -1,7 +1,8 @@
 -- The final theorems over the definitions, each proved by citation. The demands are the customer's three (README gives them in short); the
 -- other sources are sections of document 01, his scope (docs/REFERENCE.md says what it fixes). The definitions are in `cfg/specs`,
--- `chart/specs`, `grammar/specs`, `results/specs`, `load_nullable/specs`, `text/specs`, `demands/specs`, `print_begin/specs` and
--- `print_page/specs`, and none is in a `proofs/` folder.
+-- `theory_listing/specs`, `theory_embedding/specs`, `chart/specs`, `grammar/specs`, `results/specs`, `load_nullable/specs`, `text/specs`,
+-- `demands/specs`, `print_begin/specs` and `print_page/specs`, and none is in a `proofs/` folder. A grammar of the type `Dated` has the
+-- year of the input with it (document 02, U9).
 --
 --   statement                         says                                                            source
 --   starred-table                     the starred plates, from book bytes to answers                   Plates from the drawer
@@ -10,6 +11,9 @@
 --   search-exact, search-few          the search finds exactly the blank kinds; how many passes        document 02, U3
 --   search-table                      books for the search, from book bytes to set and passes          document 02, U3
 --   depth-exact, depth-before         the depth is that of the highest of the lowest empty trees       document 02, U13
+--   year-rules, year-embeds           a year's rules; their grammar is inside the whole one            document 02, U9
+--   year-readings, year-list          its readings are the whole one's, without those of other rules   document 02, U9
+--   year-any, year-undated            where all rules hold in all years, all years have one grammar    document 02, U9
 --   tenths-nearest                    a length is the nearest tenth to its sum, the even one at a half document 02, U5
 --   builds-before, built-before       same build says yes only where it did before                     document 02, U7
 --   list-exact, list-rising           L holds exactly the readings, each once, in rising order         Trees and readings; The walk
@@ -25,7 +29,7 @@
 --   no-derivation-exact, ..-larger    "no reading" exactly without a tree; 13 exactly with larger ones demand 3, last sentence
 --   listing-of-T                      the three lines of T with the plate `A`, byte for byte           Listing program; document 02, U5
 --   text-depth                        the nullable depth of a grammar does not change an input's text  Listing program
---   text-front                        8,192 bytes of the book and 65 of the plate decide the text      Listing program
+--   text-front                        8,192, 3 and 65 bytes of book, year and plate decide the text    Listing program; document 02, U9
 --   pages-text, pages-few             the pages, from the first to the last, are the text; how many    Listing program
 --
 -- That the code gives and leaves what these definitions say is each exported function's contract, an equality without a condition:
@@ -52,22 +56,27 @@ use Prim.Native.Nat.{ℕ, suc, _+_, _-_, _≤_, _<_}
 use mathlib.Core.Bool.{true, false}
 use mathlib.Core.List.{List, [], _∷_, _++_, List·Memᴰ, map, flatten}
 use mathlib.Core.Logic.{_↔_, _⊎_}
-use mathlib.Core.Path.{_≡_}
+use mathlib.Core.Option.{some}
+use mathlib.Core.Path.{_≡_, refl}
 use lib.IntN.{ℤ}
 use lib.ListN.{length, getD, take, replicate}
 use Rattle.sizes.specs.Sizes.{maxInput, cells, outputSize}
 use Rattle.sets.specs.Set.{has, card}
-use Rattle.cfg.specs.Grammar.{Cfg, range, fits}
+use Rattle.cfg.specs.Grammar.{Cfg, Rule, rule, range, fits}
 use Rattle.cfg.specs.Tree.{HasTree}
 use Rattle.cfg.specs.Derivation.{Derivation, Rising, limit}
 use Rattle.cfg.specs.Listing.{L}
 use Rattle.cfg.specs.Nullable.{Nullable, Depth, depthOf, ExactDepth}
+use Rattle.theory_listing.specs.Budget.{filter}
+use Rattle.theory_embedding.specs.Embedding.{Embeds, usesOnly}
 use Rattle.grammar.specs.declared.Grammar.{Grammar}
-use Rattle.grammar.specs.Setters.{setDepth}
+use Rattle.grammar.specs.Setters.{lastYear, setDepth}
 use Rattle.grammar.specs.Valid.{validGrammar}
 use Rattle.grammar.specs.View.{wholeOf, Dated, dated, grammarOf}
+use Rattle.grammar.specs.Years.{InForce, allYears}
 use Rattle.results.specs.Answer.{refused, answered, nothing, counted, more}
 use Rattle.results.specs.Load.{step, loadOf}
+use Rattle.results.specs.Undated.{Undated}
 use Rattle.results.specs.Recognize.{State, openOf, takeOf, fed}
 use Rattle.results.specs.Check.{checkOf}
 use Rattle.results.specs.Measure.{sum, tenthsOf, NearestTenth, lengthOf, sameBuilt, sameBuildOf}
@@ -83,7 +92,7 @@ use Rattle.load_nullable.specs.Nullable.{searchOf}
 use Rattle.load_nullable.specs.Table.{SearchTable}
 use Rattle.text.specs.Text.{inputText, textOf}
 use Rattle.text.specs.Sample.{listingOfT}
-use Rattle.text.specs.Front.{bookFront, plateFront}
+use Rattle.text.specs.Front.{bookFront, yearFront, plateFront}
 use Rattle.check_length.specs.Measure.{lengthsIn}
 use Rattle.print_begin.specs.declared.Due.{Due}
 use Rattle.print_begin.specs.declared.Due.the-variants.{Nothing}
@@ -99,7 +108,11 @@ use Rattle.demands.specs.Recognized.{Recognized}
 use Rattle.cfg.proofs.Fits as Fits
 use Rattle.theory_listing.proofs.Exact as Exact
 use Rattle.theory_shrinking.proofs.Depth as Depth
+use Rattle.theory_embedding.proofs.Derivations as Embedded
+use Rattle.theory_embedding.proofs.Listed as Inside
 use Rattle.grammar.proofs.Bounds.{whole-bounded}
+use Rattle.grammar.proofs.Years as Years
+use Rattle.results.proofs.Loading.Undated as Undated
 use Rattle.results.proofs.Starred as Starred
 use Rattle.results.proofs.Requests as Requests
 use Rattle.results.proofs.Rounding as Rounding
@@ -169,6 +182,32 @@ builds-before = SameBuild.builds-before
 pub built-before : (a b : List ℕ) → sameBuilt a b ≡ true → sameBagBuilt a b ≡ true
 built-before = SameBuild.built-before
 
+-- THE REQUEST U9, for every grammar and every year: a number has a rule exactly if its record is used and its span includes the year
+pub year-rules : (g : Grammar) (y r : ℕ) → ((ρ : Rule) × (rule (grammarOf (dated g y)) r ≡ some ρ)) ↔ InForce g y r
+year-rules g y r = (λ p. Years.rule-in-force g y r (p .0) (p .1), Years.in-force-rule g y r)
+
+-- the grammar of the year is inside the whole one: one start symbol, and each of its rules is the rule of this number there
+pub year-embeds : (g : Grammar) (y : ℕ) → Embeds (λ r. r) (grammarOf (dated g y)) (wholeOf g)
+year-embeds g y = record { start = refl; rules = Years.rule-whole g y }
+
+-- so its derivations (readings) are derivations of the whole grammar
+pub year-readings : (g : Grammar) (y : ℕ) (w e : List ℕ) → Derivation (grammarOf (dated g y)) limit w e → Derivation (wholeOf g) limit w e
+year-readings g y = Embedded.derivation-same (grammarOf (dated g y)) (wholeOf g) (year-embeds g y) limit
+
+-- and its list L is that of the whole grammar, without the derivations that use a rule out of force
+pub year-list : (g : Grammar) (y : ℕ) (w : List ℕ)
+    → filter (usesOnly (grammarOf (dated g y))) (L (wholeOf g) w) ≡ L (grammarOf (dated g y)) w
+year-list g y = Inside.derivations-own (grammarOf (dated g y)) (wholeOf g) (year-embeds g y) limit
+
+-- if all used rules hold in all years, then every year has one grammar, the whole one
+pub year-any : (g : Grammar) → allYears g ≡ true → (y : ℕ) → y ≤ lastYear → grammarOf (dated g y) ≡ wholeOf g
+year-any = Years.year-any
+
+-- so has every book without the command 21
+pub year-undated : (bytes : List ℕ) → Undated bytes → (y : ℕ) → y ≤ lastYear
+    → grammarOf (dated (loadOf bytes .grammar) y) ≡ wholeOf (loadOf bytes .grammar)
+year-undated bytes undated = year-any (loadOf bytes .grammar) (Undated.undated-always bytes undated)
+
 -- THE LIST L: a row is in it exactly if it is a derivation (reading) of the input, and it is strictly rising
 pub list-exact : (G : Cfg) (w e : List ℕ) → List·Memᴰ e (L G w) ↔ Derivation G limit w e
 list-exact G w e = (Exact.listed→derivation G limit w e, Exact.derivation→listed G limit w e)
@@ -176,9 +215,9 @@ list-exact G w e = (Exact.listed→derivation G limit w e, Exact.derivation→li
 pub list-rising : (G : Cfg) (w : List ℕ) → Rising (L G w)
 list-rising G w = Exact.derivations-rising G limit w
 
--- DEMAND 1 for loading, for every row of bytes: it is refused at the first fault from the left, with a number from 1 to 7 or 16, its offset
--- and the grammar of zeros; or it is read to its end. Then the grammar has its nullable depth and passes check 8, so that demands 2 and 3
--- are about it, and what it does not use is zeros
+-- DEMAND 1 for loading, for every row of bytes: it is refused at the first fault from the left, with a number from 1 to 7, 16 or 21, its
+-- offset and the grammar of zeros; or it is read to its end. Then the grammar has its nullable depth and passes check 8, so that demands 2
+-- and 3 are about it, and what it does not use is zeros
 pub load-demand : (bytes : List ℕ) → LoadDemand bytes (loadOf bytes)
 load-demand = Load.load-demand
 
@@ -237,7 +276,7 @@ count-thirteen = Trees.count-thirteen
 -- closed under the rules with earlier columns as found; "complete" is the start symbol's bit
 pub take-any : (g : Grammar) (h : State) (m : ℕ) (found : List ℕ) → validGrammar g ≡ true → length (h .bytes) ≡ maxInput
     → h .count < maxInput
-    → cells ≤ length found → Taken (grammarOf (dated g)) h m found (h .count + 1) (takeOf g h m found)
+    → cells ≤ length found → Taken (grammarOf (dated g (h .year))) h m found (h .count + 1) (takeOf g h m found)
 take-any = Take.take-any
 
 -- DEMAND 2: opened over any chart and fed any row of bytes, the recognizer says "complete" exactly if the bytes so far have a parse tree,
@@ -298,24 +337,27 @@ module _ (g : Dated) (valid : validGrammar (g .grammar) ≡ true) (w : List ℕ)
       first-larger = Consequences.larger-exact g valid w high chart room out space
 
 -- THE LISTING PROGRAM: the listing of T with the plate `A`, byte for byte
-pub listing-of-T : textOf T (As 1) ≡ listingOfT
+pub listing-of-T : textOf T [] (As 1) ≡ listingOfT
 listing-of-T = Sample.listing-of-T
 
 -- the nullable depth that a grammar holds does not change the text of an input
-pub text-depth : (g : Grammar) (d : ℕ) (w : List ℕ) → inputText (dated (setDepth g d)) w ≡ inputText (dated g) w
+pub text-depth : (g : Grammar) (d y : ℕ) (w : List ℕ) → inputText (dated (setDepth g d) y) w ≡ inputText (dated g y) w
 text-depth = TextDepth.text-depth
 
--- a program that reads no more of book and plate than their fronts prints the same
-pub text-front : (book w : List ℕ) → textOf (take bookFront book) (take plateFront w) ≡ textOf book w
+-- a program that reads no more of book, file with the year and plate than their fronts prints the same
+pub text-front : (book file w : List ℕ)
+    → textOf (take bookFront book) (take yearFront file) (take plateFront w) ≡ textOf book file w
 text-front = Front.text-front
 
--- THE LISTING PROGRAM'S PAGES: if the first line that is due was found from the fronts of book and plate, and page after page is written
--- until nothing is due, then the pages, one after the other, are the text of the whole book and plate, and there are at most 4,097 of them
-module _ (book w p : List ℕ) (lengths : List ℤ) (chart₀ chart fits tables buf₀ buf last : List ℕ) (d : Due)
-    (begun : BookBegun (take bookFront book) (take plateFront w) p lengths chart₀ chart fits tables buf₀ buf d) (pages : List (List ℕ))
+-- THE LISTING PROGRAM'S PAGES: if the first line that is due was found from the fronts of book, file with the year and plate, and page
+-- after page is written until nothing is due, then the pages, one after the other, are the text of all three, and there are at most 4,097
+-- of them
+module _ (book file w p : List ℕ) (lengths : List ℤ) (chart₀ chart fits tables buf₀ buf last : List ℕ) (d : Due)
+    (begun : BookBegun (take bookFront book) (take yearFront file) (take plateFront w) p lengths chart₀ chart fits tables buf₀ buf d)
+    (pages : List (List ℕ))
     (run : Pages (lengthsIn lengths) p fits chart tables d buf pages Nothing last) where
-  pub pages-text : flatten pages ≡ flatten (textOf book w)
-  pages-text = Printed.pages-text book w p lengths chart₀ chart fits tables buf₀ buf last d begun pages run
+  pub pages-text : flatten pages ≡ flatten (textOf book file w)
+  pages-text = Printed.pages-text book file w p lengths chart₀ chart fits tables buf₀ buf last d begun pages run
 
   pub pages-few : length pages ≤ 4097
-  pages-few = Printed.pages-few book w p lengths chart₀ chart fits tables buf₀ buf last d begun pages run
+  pages-few = Printed.pages-few book file w p lengths chart₀ chart fits tables buf₀ buf last d begun pages run

@@ -3,6 +3,9 @@
 
 use filbozseg::{load, Grammar};
 
+/// The year that inputs are read in: any, since these books hold in all years.
+pub const YEAR: u16 = 2008;
+
 /// Book T of document 01: 0 -> 1 1 (4,600), 1 -> nothing (0), 1 -> A (25).
 pub const T: &[u8] = b"\x10\x00\x20\x00\xf8\x11\x30\x01\x30\x01\x20\x01\x00\x00\x20\x01\x19\x00\x40A\x50";
 

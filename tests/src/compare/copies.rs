@@ -1,13 +1,16 @@
 //! A book with ranges, and the book in which each rule with ranges is copied once for every byte of them: a reader must
 //! answer the same for both. A byte of the input decides which copy is used, so no reading is gained or lost.
 
+use super::in_year;
 use super::lent::{rubbish, same, Counts};
 use crate::books::{small_ranges, Draft, Rng, Sym};
-use crate::lister::grammar;
 use crate::lister::listing::derivations;
 use crate::lister::trees::LIMIT;
 use crate::lister::STEPS;
 use crate::reader::{Answer, FlatGrammar, Reader, CELLS, FLAT, HAND, RULES};
+
+/// The year of all inputs: any, since the books hold in all years.
+const YEAR: u16 = 2008;
 
 /// Compares the book of a seed with its copy. Counts the outcomes, and the books whose copy has too many rules.
 pub fn compare_copies(reader: &dyn Reader, seed: u64, counts: &mut Counts) -> Result<(), String> {
@@ -37,7 +40,7 @@ fn compared(reader: &dyn Reader, drafts: [&Draft; 2], input: &[u8], counts: &mut
     same("complete, after each mark", &answers, &other_answers)?;
     same("the chart", chart == other_chart, true)?;
     counts.add(if answers.last() == Some(&Answer::Yes) { "complete" } else { "not complete" });
-    let small = |flat| derivations(&grammar::from_flat(flat).expect("loaded"), input, LIMIT, STEPS / 10).is_ok();
+    let small = |flat| derivations(&in_year(flat, YEAR), input, LIMIT, STEPS / 10).is_ok();
     if reader.by_listing() && !(small(&one) && small(&other)) {
         return Ok(());
     }
@@ -64,11 +67,11 @@ fn loaded(reader: &dyn Reader, draft: &Draft) -> Result<FlatGrammar, String> {
 /// Opens and takes the input: the answers, and the cells of the chart.
 fn taken(reader: &dyn Reader, flat: &FlatGrammar, input: &[u8]) -> (Vec<Answer>, Vec<u32>) {
     let (mut hand, mut chart) = ([9; HAND], rubbish(&mut Rng::new(41), CELLS));
-    let mut answers = vec![reader.open(flat, &mut hand, chart.part_mut())];
+    let mut answers = vec![reader.open(flat, YEAR, &mut hand, chart.part_mut())];
     answers.extend(input.iter().map(|mark| reader.take(flat, &mut hand, *mark, chart.part_mut())));
     (answers, chart.part().to_vec())
 }
 
 fn counted(reader: &dyn Reader, flat: &FlatGrammar, input: &[u8]) -> Answer {
-    reader.count(flat, input, rubbish(&mut Rng::new(42), CELLS).part_mut(), &mut 9)
+    reader.count(flat, input, YEAR, rubbish(&mut Rng::new(42), CELLS).part_mut(), &mut 9)
 }

@@ -1,7 +1,7 @@
 //! First, on an input that passes the checks: the answer, the number of nodes, the output and the chart.
 
 use super::lent::{offset, same, Lent};
-use super::Comparison;
+use super::{Comparison, Plate};
 use crate::lister::grammar::Grammar;
 use crate::lister::trees::{self, Row, LIMIT};
 use crate::lister::walk::{self, Given};
@@ -25,10 +25,10 @@ impl Comparison<'_> {
         &mut self,
         flat: &FlatGrammar,
         grammar: &Grammar,
-        input: &[u8],
-        filled: &[u32],
+        plate: Plate<'_>,
         known: First<'_>,
     ) -> Result<(), String> {
+        let Plate { input, year, filled } = plate;
         let listed = known.list.or(known.front);
         if known.list.is_none() && self.reader.by_listing() {
             return Ok(());
@@ -39,10 +39,10 @@ impl Comparison<'_> {
         let (mut due_chart, mut due_out, mut nodes) = (chart.clone(), out.clone(), found);
         due_chart.part_mut()[..CELLS].copy_from_slice(filled);
         let (lent, before) = (Lent::of(input, 0x41), Lent::of(input, 0x41));
-        let answer = self.reader.first(&mine, lent.part(), chart.part_mut(), out.part_mut(), &mut nodes);
+        let answer = self.reader.first(&mine, lent.part(), year, chart.part_mut(), out.part_mut(), &mut nodes);
         let given = match listed {
             Some(list) => walk::first(list, known.tree),
-            None => self.unlisted(flat, grammar, input, &known, answer, out.part())?,
+            None => self.unlisted(flat, grammar, plate, &known, answer, out.part())?,
         };
         let due = match &given {
             Given::Row(row) => {
@@ -72,7 +72,7 @@ impl Comparison<'_> {
         &mut self,
         flat: &FlatGrammar,
         grammar: &Grammar,
-        input: &[u8],
+        Plate { input, year, .. }: Plate<'_>,
         known: &First<'_>,
         answer: Answer,
         out: &[u16],
@@ -82,7 +82,7 @@ impl Comparison<'_> {
             Answer::Nodes(nodes) if (1..=LIMIT).contains(&nodes) && known.tree => {
                 let row = out[..2 * nodes].to_vec();
                 same("first: a derivation, by the lister", trees::is_derivation(grammar, input, &row), true)?;
-                let own = self.reader.check(flat, input, &row, self.chart().part_mut());
+                let own = self.reader.check(flat, input, year, &row, self.chart().part_mut());
                 same("first: a derivation, by the reader's own check", own, Answer::Yes)?;
                 match at_hand.find(|other| **other < row) {
                     None => Ok(Given::Row(row)),

@@ -4,16 +4,17 @@ use super::lent::number;
 use super::Comparison;
 use crate::books::Rng;
 use crate::lister::grammar;
-use crate::reader::{record, FlatGrammar, PLACES, RULES};
+use crate::reader::{record, FlatGrammar, PLACES, RULES, YEARS};
 
-/// What is checked in a row: a number, with its index, the largest allowed value and its name; or the two numbers of a
-/// place that holds a range, with the index of its tag.
+/// What is checked in a row: a number, with its index, the largest allowed value and its name; the two numbers of a place
+/// that holds a range, with the index of its tag; or the two years of a rule, with the index of the first.
 #[derive(Clone, Copy)]
 enum Judged {
     Number(usize, u16, &'static str),
     Range(usize),
+    Years(usize),
 }
-use Judged::{Number, Range};
+use Judged::{Number, Range, Years};
 
 impl Comparison<'_> {
     /// The same grammar with rubbish in unused records and places, and any depth.
@@ -25,6 +26,7 @@ impl Comparison<'_> {
             let used = if rule < usize::from(flat[1]) { usize::from(flat[at + 2]) } else { 0 };
             if rule >= usize::from(flat[1]) {
                 dirty[at..at + 3].iter_mut().for_each(|any| *any = number(rng));
+                dirty[at + YEARS..at + YEARS + 2].iter_mut().for_each(|any| *any = number(rng));
             }
             for p in used..PLACES {
                 dirty[at + 3 + 2 * p] = if rng.one_in(2) { rng.below(3) as u16 } else { number(rng) };
@@ -54,6 +56,11 @@ impl Comparison<'_> {
                 assert!(grammar::from_flat(&bad).is_none());
                 return (bad, format!("a reversed range, {how}"));
             }
+            Years(first) => {
+                let how = reverse_years(&mut self.rng, &mut bad[first..first + 2]);
+                assert!(grammar::from_flat(&bad).is_none());
+                return (bad, format!("reversed years, {how}"));
+            }
         };
         bad[at] = over(&mut self.rng, most, flat[at]);
         assert!(grammar::from_flat(&bad).is_none());
@@ -77,6 +84,9 @@ impl Comparison<'_> {
             return rng.pick(&head);
         }
         let at = record(rng.below(rules));
+        if rng.one_in(12) {
+            return Years(at + YEARS);
+        }
         let places = usize::from(flat[at + 2]);
         if places == 0 || rng.one_in(3) {
             return rng.pick(&[Number(at, 31, "a left side"), Number(at + 2, PLACES as u16, "a number of places")]);
@@ -97,6 +107,17 @@ fn reverse(rng: &mut Rng, place: &mut [u16]) -> &'static str {
     let high = if rng.one_in(2) { low - 1 } else { rng.below(low) };
     place.copy_from_slice(&[2, (low + 256 * high) as u16]);
     match low - high {
+        1 => "by one",
+        _ => "by more",
+    }
+}
+
+/// Makes the first year of a rule later than the last, and says how far.
+fn reverse_years(rng: &mut Rng, years: &mut [u16]) -> &'static str {
+    let first = rng.within(1, 65_535);
+    let last = if rng.one_in(2) { first - 1 } else { rng.below(first) };
+    years.copy_from_slice(&[first as u16, last as u16]);
+    match first - last {
         1 => "by one",
         _ => "by more",
     }

@@ -4,9 +4,15 @@ use super::lent::number;
 use super::Comparison;
 use crate::reader::{Answer, FlatGrammar, Hand, Reader, INPUT};
 
-/// Opens, given what the hand holds before: returns the answer and the hand afterwards.
-pub(super) fn opened(r: &dyn Reader, grammar: &FlatGrammar, mut hand: Hand, chart: &mut [u32]) -> (Answer, Hand) {
-    (r.open(grammar, &mut hand, chart), hand)
+/// Opens in a year, given what the hand holds before: returns the answer and the hand afterwards.
+pub(super) fn opened(
+    r: &dyn Reader,
+    grammar: &FlatGrammar,
+    year: u16,
+    mut hand: Hand,
+    chart: &mut [u32],
+) -> (Answer, Hand) {
+    (r.open(grammar, year, &mut hand, chart), hand)
 }
 
 /// Takes a terminal, given what the hand holds before: returns the answer and the hand afterwards.
@@ -21,8 +27,8 @@ pub(super) fn taken(
 }
 
 impl Comparison<'_> {
-    /// A hand with rubbish in its unused marks, and its sort: 0 with room, 1 full, 2 a count over 64, 3 a used mark
-    /// over 255.
+    /// A hand with any year and rubbish in its unused marks, and its sort: 0 with room, 1 full, 2 a count over 64, 3 a
+    /// used mark over 255.
     pub(super) fn hand(&mut self, which: usize) -> (Hand, String) {
         let rng = &mut self.rng;
         let mut hand: Hand = std::array::from_fn(|_| number(rng));

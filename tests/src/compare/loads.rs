@@ -2,13 +2,14 @@
 
 use super::lent::{offset, row, same, Lent};
 use super::Comparison;
-use crate::books::{damage, soup};
+use crate::books::{damage, full_and_more, soup};
 use crate::lister::grammar::{self, Grammar, Symbol};
 use crate::lister::{depth, Lister};
 use crate::reader::{Answer, FlatGrammar, Reader, FLAT};
 
 impl Comparison<'_> {
-    /// Loads the book damaged, cut, and cut with one or two commands begun after the cut.
+    /// Loads the book damaged, cut, and cut with one or two commands begun after the cut; and at times one of 128 rules or
+    /// one more.
     pub(super) fn other_loads(&mut self, book: &[u8]) -> Result<(), String> {
         for number in 0..30 {
             let mut bytes = if number % 6 == 5 { soup(&mut self.rng) } else { book.to_vec() };
@@ -17,9 +18,14 @@ impl Comparison<'_> {
             } else {
                 bytes.truncate(self.rng.below(bytes.len() + 1));
                 for _ in 0..self.rng.below(4) {
-                    bytes.push(self.rng.pick(&[0x10, 0x20, 0x30, 0x40, 0x50, 0x00, 0x1F, 0x20, 0x41, 0x41, 0xFF]));
+                    bytes
+                        .push(self.rng.pick(&[0x10, 0x20, 0x30, 0x40, 0x50, 0x00, 0x1F, 0x20, 0x41, 0x41, 0x21, 0xFF]));
                 }
             }
+            self.load(&bytes, "other load").map_err(|what| format!("as {bytes:02X?}: {what}"))?;
+        }
+        if self.rng.one_in(4) {
+            let bytes = full_and_more(&mut self.rng);
             self.load(&bytes, "other load").map_err(|what| format!("as {bytes:02X?}: {what}"))?;
         }
         Ok(())
@@ -57,7 +63,15 @@ impl Comparison<'_> {
         if usize::from(depth) < depth::empty_heights(grammar).iter().flatten().count() {
             self.counts.add(&format!("{name}: depth below the number of nullable kinds"));
         }
-        for place in grammar.rules.iter().flat_map(|rule| &rule.places) {
+        for (_, rule) in grammar.numbered() {
+            let what = match (rule.first, rule.last) {
+                (0, u16::MAX) => "a rule of all years",
+                (first, last) if first == last => "a rule of one year",
+                _ => "a rule of some years",
+            };
+            self.counts.add(&format!("{name}: {what}"));
+        }
+        for place in grammar.numbered().flat_map(|(_, rule)| &rule.places) {
             if let Symbol::Range(low, high) = *place {
                 self.counts
                     .add(&format!("{name}: a place for {}", if low == high { "one byte" } else { "several bytes" }));

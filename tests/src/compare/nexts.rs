@@ -2,7 +2,7 @@
 
 use super::firsts::First;
 use super::lent::{offset, same, Counts, Lent};
-use super::Comparison;
+use super::{in_year, Comparison, Plate};
 use crate::books::{boundary, Rng};
 use crate::lister::grammar::Grammar;
 use crate::lister::trees::{self, Row, LIMIT};
@@ -23,9 +23,10 @@ pub fn compare_boundary(reader: &dyn Reader) -> Result<(), String> {
     for (more, due) in [(false, Given::Count(4096)), (true, Given::More)] {
         let book = boundary(more);
         let Some(flat) = comparison.load(&book.bytes, "load")? else { return Err("no book".to_string()) };
-        let filled =
-            comparison.takes(&flat, &crate::lister::grammar::from_flat(&flat).expect("loaded"), &book.inputs[0])?;
-        comparison.count(&flat, &book.inputs[0], &filled.part()[..CELLS], |given| same("count", given, &due))?;
+        let (input, year) = (&book.inputs[0][..], book.years[0]);
+        let filled = comparison.takes(&flat, &in_year(&flat, year), input, year)?;
+        let plate = Plate { input, year, filled: &filled.part()[..CELLS] };
+        comparison.count(&flat, plate, |given| same("count", given, &due))?;
     }
     Ok(())
 }
@@ -36,13 +37,13 @@ impl Comparison<'_> {
         &mut self,
         flat: &FlatGrammar,
         grammar: &Grammar,
-        input: &[u8],
-        filled: &[u32],
+        plate: Plate<'_>,
         known: First<'_>,
         readings: &[Row],
     ) -> Result<(), String> {
+        let input = plate.input;
         let Some(list) = known.list.or(known.front) else {
-            return self.unlisted_nexts(flat, grammar, input, filled, known);
+            return self.unlisted_nexts(flat, grammar, plate, known);
         };
         let mut offered = if known.list.is_some() { readings.to_vec() } else { list[..list.len() - 1].to_vec() };
         match known.list {
@@ -57,11 +58,11 @@ impl Comparison<'_> {
             known.offered.iter().filter(|row| !trees::is_derivation(grammar, input, row)).cloned().collect();
         self.thin(&mut strangers, if self.reader.by_listing() { 3 } else { STRANGERS });
         for row in offered.iter().chain(&strangers) {
-            let given = self.next(flat, input, filled, row)?;
+            let given = self.next(flat, plate, row)?;
             same(&format!("next of {row:?}"), &given, &walk::next(list, row))?;
         }
         let due = walk::count(list, known.tree);
-        self.count(flat, input, filled, |given| same("count", given, &due))
+        self.count(flat, plate, |given| same("count", given, &due))
     }
 
     /// Where the list is too large: offers the first derivation and the known ones. By the lister, what next returns
@@ -71,21 +72,21 @@ impl Comparison<'_> {
         &mut self,
         flat: &FlatGrammar,
         grammar: &Grammar,
-        input: &[u8],
-        filled: &[u32],
+        plate: Plate<'_>,
         known: First<'_>,
     ) -> Result<(), String> {
+        let Plate { input, year, .. } = plate;
         let mut at_hand: Vec<Row> =
             known.offered.iter().filter(|row| trees::is_derivation(grammar, input, row)).cloned().collect();
         let (mut out, mut nodes) = ([0; OUTPUT], 0);
-        if let Answer::Nodes(n) = self.reader.first(flat, input, self.chart().part_mut(), &mut out, &mut nodes) {
+        if let Answer::Nodes(n) = self.reader.first(flat, input, year, self.chart().part_mut(), &mut out, &mut nodes) {
             at_hand.push(out[..2 * n].to_vec());
         }
         at_hand.sort();
         at_hand.dedup();
         for row in at_hand.clone().iter().take(3) {
             let mut later = at_hand.iter().filter(|other| *other > row);
-            match self.next(flat, input, filled, row)? {
+            match self.next(flat, plate, row)? {
                 Given::Row(next) => {
                     same("next: a derivation, by the lister", trees::is_derivation(grammar, input, &next), true)?;
                     same("next: it follows", next > *row, true)?;
@@ -99,7 +100,7 @@ impl Comparison<'_> {
             self.counts.add("next, too many to list");
         }
         let least = at_hand.len();
-        self.count(flat, input, filled, |given| match given {
+        self.count(flat, plate, |given| match given {
             Given::Count(n) if *n >= least.max(1) => Ok(()),
             Given::More if least > 0 => Ok(()),
             Given::Refused(13) if least == 0 => Ok(()),
@@ -109,7 +110,8 @@ impl Comparison<'_> {
 
     /// Calls next on the reader, and returns what it gives. What is lent holds rubbish. Only the front of the output
     /// is written, and nothing without a derivation.
-    fn next(&mut self, flat: &FlatGrammar, input: &[u8], filled: &[u32], offered: &[u16]) -> Result<Given, String> {
+    fn next(&mut self, flat: &FlatGrammar, plate: Plate<'_>, offered: &[u16]) -> Result<Given, String> {
+        let Plate { input, year, filled } = plate;
         let (mine, mut chart, found) = (self.either(flat), self.chart(), offset(&mut self.rng));
         let length = OUTPUT + self.rng.pick(&[0, 0, 1, 40]);
         let mut out = Lent::filled(length, || self.rng.draw() as u16);
@@ -117,7 +119,8 @@ impl Comparison<'_> {
         due_chart.part_mut()[..CELLS].copy_from_slice(filled);
         let (lent, offered) = (Lent::of(input, 0x41), Lent::of(offered, 0));
         let before = (lent.clone(), offered.clone());
-        let answer = self.reader.next(&mine, lent.part(), offered.part(), chart.part_mut(), out.part_mut(), &mut nodes);
+        let (chart_lent, out_lent) = (chart.part_mut(), out.part_mut());
+        let answer = self.reader.next(&mine, lent.part(), year, offered.part(), chart_lent, out_lent, &mut nodes);
         let (given, due) = match answer {
             Answer::Nodes(n) if (1..=LIMIT).contains(&n) => {
                 let row = out.part()[..2 * n].to_vec();
@@ -146,14 +149,13 @@ impl Comparison<'_> {
     fn count(
         &mut self,
         flat: &FlatGrammar,
-        input: &[u8],
-        filled: &[u32],
+        Plate { input, year, filled }: Plate<'_>,
         judge: impl FnOnce(&Given) -> Result<(), String>,
     ) -> Result<(), String> {
         let (mine, mut chart, found) = (self.either(flat), self.chart(), offset(&mut self.rng));
         let (mut due_chart, mut count) = (chart.clone(), found);
         due_chart.part_mut()[..CELLS].copy_from_slice(filled);
-        let (given, due) = match self.reader.count(&mine, input, chart.part_mut(), &mut count) {
+        let (given, due) = match self.reader.count(&mine, input, year, chart.part_mut(), &mut count) {
             Answer::Count(n) => (Given::Count(n), n),
             Answer::More => (Given::More, found),
             Answer::Refused(number) => (Given::Refused(number), found),

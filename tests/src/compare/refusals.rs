@@ -4,14 +4,15 @@ use super::hands::{opened, taken};
 use super::lent::{self, same, Lent};
 use super::Comparison;
 use crate::lister::trees::Row;
-use crate::lister::{grammar, judged};
-use crate::reader::{Answer, FlatGrammar, Reader, HAND, INPUT, OUTPUT};
+use crate::lister::{grammar, hand, judged};
+use crate::reader::{Answer, FlatGrammar, Reader, INPUT, OUTPUT};
 
 impl Comparison<'_> {
     /// Refusals 8, 9, 10, 12, 14 and 15 in all combinations: their order, and that
     /// everything lent is untouched.
-    pub(super) fn refusals(&mut self, flat: &FlatGrammar, inputs: &[Vec<u8>]) -> Result<(), String> {
+    pub(super) fn refusals(&mut self, flat: &FlatGrammar, inputs: &[Vec<u8>], years: &[u16]) -> Result<(), String> {
         for bits in 0..16 {
+            let year = self.rng.pick(years);
             let (bad_grammar, short, which) = (bits & 1 == 1, bits & 2 == 2, bits / 4);
             let (grammar, why) = match bad_grammar {
                 true => self.out_of_range(flat),
@@ -19,15 +20,21 @@ impl Comparison<'_> {
             };
             let chart = if short { self.short_chart() } else { self.chart() };
             let found = lent::hand(&mut self.rng);
-            let call = |r: &dyn Reader, g: &FlatGrammar, c: &mut [u32]| opened(r, g, found, c);
+            let call = |r: &dyn Reader, g: &FlatGrammar, c: &mut [u32]| opened(r, g, year, found, c);
             let ((answer, left), after) = self.both("open", &grammar, &chart, call)?;
             self.seen("open", answer, &chart, &after)?;
             same("open refused", bad_grammar || short, matches!(answer, Answer::Refused(_)))?;
-            same("open: the hand left", left, [0; HAND])?;
+            let due = if bad_grammar || short { hand::of(&[], 0) } else { hand::of(&[], year) };
+            same("open: the hand left", left, due)?;
             if bad_grammar {
                 self.counts.add(&format!("refused 8: {why}"));
-            } else if grammar::unused_reversed_range(&grammar) {
-                self.counts.add("passed 8: a reversed range in an unused place");
+            } else {
+                if grammar::unused_reversed_range(&grammar) {
+                    self.counts.add("passed 8: a reversed range in an unused place");
+                }
+                if grammar::unused_years_reversed(&grammar) {
+                    self.counts.add("passed 8: reversed years in an unused rule");
+                }
             }
 
             let (found, what) = self.hand(which);
@@ -43,8 +50,8 @@ impl Comparison<'_> {
             }
 
             let input = self.input_of(which, inputs, &grammar, short);
-            self.refused_rows(&grammar, &input, &chart)?;
-            self.listing_refusals(&grammar, &input, &chart)?;
+            self.refused_rows(&grammar, &input, year, &chart)?;
+            self.listing_refusals(&grammar, &input, year, &chart)?;
         }
         Ok(())
     }
@@ -62,16 +69,16 @@ impl Comparison<'_> {
     }
 
     /// Refusals 8, 9, 10 and 12 of check, length and same build.
-    fn refused_rows(&mut self, flat: &FlatGrammar, input: &[u8], chart: &Lent<u32>) -> Result<(), String> {
+    fn refused_rows(&mut self, flat: &FlatGrammar, input: &[u8], year: u16, chart: &Lent<u32>) -> Result<(), String> {
         let row: Row = (0..self.rng.below(5)).map(|_| self.rng.below(3) as u16).collect();
         let found = lent::tenths(&mut self.rng);
         for name in ["check", "length", "same build"] {
             let call = |r: &dyn Reader, g: &FlatGrammar, c: &mut [u32]| {
                 let mut tenths = found;
                 let answer = match name {
-                    "check" => r.check(g, input, &row, c),
-                    "length" => r.length(g, input, &row, c, &mut tenths),
-                    _ => r.same_build(g, input, &row, &row, c),
+                    "check" => r.check(g, input, year, &row, c),
+                    "length" => r.length(g, input, year, &row, c, &mut tenths),
+                    _ => r.same_build(g, input, year, &row, &row, c),
                 };
                 (answer, tenths)
             };
@@ -86,7 +93,13 @@ impl Comparison<'_> {
     }
 
     /// Refusals 8 to 11 of first, next and count. Calls that would not be refused are left out.
-    fn listing_refusals(&mut self, flat: &FlatGrammar, input: &[u8], chart: &Lent<u32>) -> Result<(), String> {
+    fn listing_refusals(
+        &mut self,
+        flat: &FlatGrammar,
+        input: &[u8],
+        year: u16,
+        chart: &Lent<u32>,
+    ) -> Result<(), String> {
         let length = self.rng.pick(&[0, 1, OUTPUT - 1, OUTPUT, OUTPUT + 1]);
         let out = Lent::filled(length, || self.rng.draw() as u16);
         let found = lent::offset(&mut self.rng);
@@ -98,9 +111,9 @@ impl Comparison<'_> {
             let call = |r: &dyn Reader, g: &FlatGrammar, c: &mut [u32]| {
                 let (mut out, mut nodes) = (out.clone(), found);
                 let answer = match name {
-                    "first" => r.first(g, input, c, out.part_mut(), &mut nodes),
-                    "next" => r.next(g, input, &[1, 0], c, out.part_mut(), &mut nodes),
-                    _ => r.count(g, input, c, &mut nodes),
+                    "first" => r.first(g, input, year, c, out.part_mut(), &mut nodes),
+                    "next" => r.next(g, input, year, &[1, 0], c, out.part_mut(), &mut nodes),
+                    _ => r.count(g, input, year, c, &mut nodes),
                 };
                 (answer, nodes, out.all)
             };

@@ -2,7 +2,7 @@
 
 use super::firsts::First;
 use super::lent::{self, same, Lent};
-use super::{Comparison, WIDER};
+use super::{Comparison, Plate, WIDER};
 use crate::lister::grammar::{Grammar, Symbol};
 use crate::lister::listing::derivations;
 use crate::lister::trees::{self, Child, Node, Row, LIMIT};
@@ -17,11 +17,10 @@ const MOST_OFFERED: usize = 400;
 /// Steps of the search for the first derivations in order, if the list is too large.
 const SEARCH_STEPS: u64 = 200_000;
 
-/// An input with its filled chart, and one row or two that are offered for it.
+/// An input with its year and its filled chart, and one row or two that are offered for it.
 #[derive(Clone, Copy)]
 struct Offer<'a> {
-    input: &'a [u8],
-    filled: &'a [u32],
+    plate: Plate<'a>,
     one: &'a [u16],
     other: &'a [u16],
 }
@@ -46,13 +45,8 @@ fn compared(due: Answer, one: &[u16], other: &[u16]) -> &'static str {
 impl Comparison<'_> {
     /// Offers the derivations of an input, and rows that are none, to check, length and
     /// same build; then calls first, next and count.
-    pub(super) fn rows(
-        &mut self,
-        flat: &FlatGrammar,
-        grammar: &Grammar,
-        input: &[u8],
-        filled: &[u32],
-    ) -> Result<(), String> {
+    pub(super) fn rows(&mut self, flat: &FlatGrammar, grammar: &Grammar, plate: Plate<'_>) -> Result<(), String> {
+        let input = plate.input;
         let (list, front) = self.listed(grammar, input);
         let wider = derivations(grammar, input, WIDER, STEPS).ok();
         let tree = has_tree(grammar, input);
@@ -93,7 +87,7 @@ impl Comparison<'_> {
             let superfluous = self.classify(grammar, input, row, yes);
             let last = list.as_ref().and_then(|list| list.last());
             forbidden |= superfluous && row.len() <= 2 * LIMIT && last.is_some_and(|last| row < last);
-            let offer = Offer { input, filled, one: row, other: row };
+            let offer = Offer { plate, one: row, other: row };
             self.offered(flat, offer, "check", if yes { Answer::Yes } else { Answer::No }, None)?;
             if yes {
                 self.ranges_read(grammar, input, row);
@@ -115,18 +109,18 @@ impl Comparison<'_> {
                 true => Answer::No,
             };
             self.add(input, &format!("same build: {}", compared(due, one, other)));
-            self.offered(flat, Offer { input, filled, one, other }, "same build", due, None)?;
+            self.offered(flat, Offer { plate, one, other }, "same build", due, None)?;
         }
         let known = First { list: list.as_deref(), front: front.as_deref(), tree, offered: &offered };
-        self.first(flat, grammar, input, filled, known)?;
+        self.first(flat, grammar, plate, known)?;
         let quick = !self.reader.by_listing() || derivations(grammar, input, LIMIT, STEPS / 10).is_ok();
         if quick {
-            self.nexts(flat, grammar, input, filled, known, &readings)?;
+            self.nexts(flat, grammar, plate, known, &readings)?;
         }
         let list = if quick { list.or(front) } else { None };
         if let Some(list) = list {
             let calls = list.len().min(8) + 4;
-            self.walk(flat, input, filled, Walk { list, tree, place: 0 }, &offered, calls)?;
+            self.walk(flat, plate, Walk { list, tree, place: 0 }, &offered, calls)?;
         }
         Ok(())
     }
@@ -169,14 +163,15 @@ impl Comparison<'_> {
     ) -> Result<(), String> {
         let (mine, mut chart, found) = (self.either(flat), self.chart(), lent::tenths(&mut self.rng));
         let mut expected = chart.clone();
-        expected.part_mut()[..CELLS].copy_from_slice(offer.filled);
-        let (input, one, other) = (Lent::of(offer.input, 0x41), Lent::of(offer.one, 0), Lent::of(offer.other, 0));
+        let year = offer.plate.year;
+        expected.part_mut()[..CELLS].copy_from_slice(offer.plate.filled);
+        let (input, one, other) = (Lent::of(offer.plate.input, 0x41), Lent::of(offer.one, 0), Lent::of(offer.other, 0));
         let before = (input.clone(), one.clone(), other.clone());
         let mut left = found;
         let got = match name {
-            "check" => self.reader.check(&mine, input.part(), one.part(), chart.part_mut()),
-            "length" => self.reader.length(&mine, input.part(), one.part(), chart.part_mut(), &mut left),
-            _ => self.reader.same_build(&mine, input.part(), one.part(), other.part(), chart.part_mut()),
+            "check" => self.reader.check(&mine, input.part(), year, one.part(), chart.part_mut()),
+            "length" => self.reader.length(&mine, input.part(), year, one.part(), chart.part_mut(), &mut left),
+            _ => self.reader.same_build(&mine, input.part(), year, one.part(), other.part(), chart.part_mut()),
         };
         let all_same = || {
             same("answer and tenths", (got, left), (due, tenths.unwrap_or(found)))?;
@@ -190,7 +185,7 @@ impl Comparison<'_> {
             Answer::Refused(number) => format!("{name}: refused {number}"),
             answer => format!("{name}: {answer:?}"),
         };
-        self.add(offer.input, &what);
+        self.add(offer.plate.input, &what);
         Ok(())
     }
 
@@ -239,7 +234,8 @@ impl Comparison<'_> {
 
 /// Where the marks below a node are in the ranges that they fit.
 fn marks_in_ranges(grammar: &Grammar, node: &Node, read: &mut BTreeSet<&'static str>) {
-    for (place, child) in grammar.rules[node.rule].places.iter().zip(&node.children) {
+    let rule = grammar.rule(node.rule).expect("a rule of the grammar");
+    for (place, child) in rule.places.iter().zip(&node.children) {
         match (place, child) {
             (_, Child::Below(node)) => marks_in_ranges(grammar, node, read),
             (Symbol::Range(low, high), Child::Leaf(mark)) => {

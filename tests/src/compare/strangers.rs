@@ -4,7 +4,7 @@
 use super::{Comparison, WIDER};
 use crate::books::Rng;
 use crate::lister::chart::{self, ends_of_row, Ends};
-use crate::lister::grammar::{Grammar, Symbol};
+use crate::lister::grammar::{Grammar, Rule, Symbol};
 use crate::lister::listing::derivations;
 use crate::lister::trees::{Row, LIMIT};
 use crate::lister::STEPS;
@@ -63,7 +63,7 @@ impl Comparison<'_> {
 
     /// An input of one terminal, which fits a place of the grammar if there is one.
     fn one_terminal(&mut self, grammar: &Grammar) -> Vec<u8> {
-        let places = grammar.rules.iter().flat_map(|rule| &rule.places);
+        let places = grammar.numbered().flat_map(|(_, rule)| &rule.places);
         let fitting: Vec<u8> = places
             .filter_map(|place| match *place {
                 Symbol::Terminal(mark) | Symbol::Range(mark, _) => Some(mark),
@@ -98,14 +98,13 @@ fn random_tree(
     row: &mut Row,
 ) -> Option<()> {
     let reaches = |places: &[Symbol], a: usize| ends_of_row(places, a, input, derives) >> j & 1 == 1;
-    let fits = |r: &usize| grammar.rules[*r].left == k && reaches(&grammar.rules[*r].places, i);
-    let rules: Vec<usize> = (0..grammar.rules.len()).filter(fits).collect();
+    let fits = |rule: &Rule| rule.left == k && reaches(&rule.places, i);
+    let rules: Vec<(usize, &Rule)> = grammar.numbered().filter(|(_, rule)| fits(rule)).collect();
     if rules.is_empty() || row.len() > 2 * WIDER {
         return None;
     }
-    let number = rng.pick(&rules);
+    let (number, Rule { places, .. }) = rng.pick(&rules);
     row.extend([(j - i) as u16, number as u16]);
-    let places = &grammar.rules[number].places;
     let mut at = i;
     for (p, place) in places.iter().enumerate() {
         match *place {

@@ -5,20 +5,27 @@ use super::lent::{self, same, Lent};
 use super::Comparison;
 use crate::lister::chart::{self, cell};
 use crate::lister::grammar::Grammar;
-use crate::lister::has_tree;
-use crate::reader::{Answer, FlatGrammar, CELLS, HAND, INPUT};
+use crate::lister::{hand, has_tree};
+use crate::reader::{Answer, FlatGrammar, CELLS, INPUT, YEAR};
 
 impl Comparison<'_> {
-    /// Opens, and takes the input terminal by terminal. At first the chart is full of rubbish, and so are the unused
+    /// Opens in the year, and takes the input terminal by terminal. At first the chart is full of rubbish, and so are the unused
     /// marks of the hands. Returns the chart.
-    pub(super) fn takes(&mut self, flat: &FlatGrammar, grammar: &Grammar, input: &[u8]) -> Result<Lent<u32>, String> {
+    pub(super) fn takes(
+        &mut self,
+        flat: &FlatGrammar,
+        grammar: &Grammar,
+        input: &[u8],
+        year: u16,
+    ) -> Result<Lent<u32>, String> {
         let chart = self.chart();
         let mine = self.either(flat);
         let found = lent::hand(&mut self.rng);
-        let ((mut answer, mut hand), mut chart) = self.both("open", &mine, &chart, |r, g, c| opened(r, g, found, c))?;
+        let ((mut answer, mut hand), mut chart) =
+            self.both("open", &mine, &chart, |r, g, c| opened(r, g, year, found, c))?;
         for (n, mark) in input.iter().enumerate() {
             self.counts.add(if answer == Answer::Yes { "complete: yes" } else { "complete: no" });
-            same("the lister's hand", usize::from(hand[INPUT]), n)?;
+            same("the lister's hand: count and year", (usize::from(hand[INPUT]), hand[YEAR]), (n, year))?;
             if self.rng.one_in(2) {
                 hand[n..INPUT].iter_mut().for_each(|mark| *mark = lent::number(&mut self.rng));
                 if hand[n..INPUT].iter().any(|mark| *mark > 255) {
@@ -43,12 +50,18 @@ impl Comparison<'_> {
 
     /// The same over spoilt charts: before each take some words are changed, and the next column must be the least
     /// one over the chart as found.
-    pub(super) fn spoilt_takes(&mut self, flat: &FlatGrammar, grammar: &Grammar, input: &[u8]) -> Result<(), String> {
+    pub(super) fn spoilt_takes(
+        &mut self,
+        flat: &FlatGrammar,
+        grammar: &Grammar,
+        input: &[u8],
+        year: u16,
+    ) -> Result<(), String> {
         let mut chart = self.chart();
         chart::open(grammar, chart.part_mut());
         let nullable = chart.part()[0];
-        let mut hand = [0; HAND];
-        let kinds: Vec<u8> = grammar.rules.iter().map(|rule| rule.left).chain([grammar.start]).collect();
+        let mut hand = hand::of(&[], year);
+        let kinds: Vec<u8> = grammar.numbered().map(|(_, rule)| rule.left).chain([grammar.start]).collect();
         for (n, mark) in input.iter().enumerate() {
             for _ in 0..self.rng.within(1, 12) {
                 let b = self.rng.below(n + 1);

@@ -1,29 +1,30 @@
 //! The walk of demand 3.
 
 use super::lent::{offset, same, Counts, Lent};
-use super::{Comparison, WIDER};
+use super::{in_year, Comparison, Plate, WIDER};
 use crate::books::{Book, Rng};
 use crate::lister::listing::derivations;
 use crate::lister::trees::{self, Row, LIMIT};
 use crate::lister::walk::{Call, Given, Walk};
-use crate::lister::{chart, grammar, has_tree, STEPS};
+use crate::lister::{chart, has_tree, STEPS};
 use crate::reader::{Answer, FlatGrammar, Reader, CELLS, OUTPUT};
 
 /// Plays random lists of this many calls on each input of a book, if the input can be listed.
 pub fn play_book(reader: &dyn Reader, book: &Book, seed: u64, calls: usize, counts: &mut Counts) -> Result<(), String> {
     let mut comparison = Comparison { reader, rng: Rng::new(seed ^ 0x3A1C), counts };
     let Some(flat) = comparison.load(&book.bytes, "load")? else { return Ok(()) };
-    let grammar = grammar::from_flat(&flat).expect("a loaded grammar passes check 8");
-    for input in &book.inputs {
+    for (number, input) in book.inputs.iter().enumerate() {
+        let year = comparison.year_of(&flat, &book.years, number);
+        let grammar = in_year(&flat, year);
         let Ok(list) = derivations(&grammar, input, LIMIT, STEPS / 10) else { continue };
         let wider = derivations(&grammar, input, WIDER, STEPS / 10).unwrap_or_default();
         let offered = comparison.strangers(&grammar, input, &list[..list.len().min(400)], wider);
         let mut filled = vec![0; CELLS];
         chart::fill(&grammar, input, &mut filled);
         let walk = Walk { list, tree: has_tree(&grammar, input), place: 0 };
-        let played = comparison.walk(&flat, input, &filled, walk, &offered, calls);
+        let played = comparison.walk(&flat, Plate { input, year, filled: &filled }, walk, &offered, calls);
         played.map_err(|what| {
-            format!("seed {seed} ({}), book {:02X?}, input {input:?}: {what}", book.style, book.bytes)
+            format!("seed {seed} ({}), book {:02X?}, input {input:?}, year {year}: {what}", book.style, book.bytes)
         })?;
     }
     Ok(())
@@ -54,13 +55,12 @@ impl Comparison<'_> {
     pub(super) fn walk(
         &mut self,
         flat: &FlatGrammar,
-        input: &[u8],
-        filled: &[u32],
+        plate: Plate<'_>,
         mut walk: Walk,
         offered: &[Row],
         calls: usize,
     ) -> Result<(), String> {
-        let grammar = grammar::from_flat(flat).expect("a loaded grammar passes check 8");
+        let (input, grammar) = (plate.input, in_year(flat, plate.year));
         let mut caller = Caller::default();
         for number in 0..calls {
             let call = match (number, self.rng.below(9)) {
@@ -75,10 +75,10 @@ impl Comparison<'_> {
                 continue;
             }
             if self.rng.one_in(8) {
-                self.too_short(flat, input, call, &row)?;
+                self.too_short(flat, plate, call, &row)?;
             }
             let given = walk.call(call);
-            let got = self.called(flat, input, filled, call, &row, &given)?;
+            let got = self.called(flat, plate, call, &row, &given)?;
             match (call, got) {
                 (Call::First, Some(row)) => caller = Caller { copy: row.clone(), since: vec![row], nexts: 0 },
                 (_, Some(row)) => {
@@ -116,19 +116,19 @@ impl Comparison<'_> {
     }
 
     /// Makes the call with a chart or an output that is too short: it must be refused and write nothing.
-    fn too_short(&mut self, flat: &FlatGrammar, input: &[u8], call: Call, row: &[u16]) -> Result<(), String> {
+    fn too_short(&mut self, flat: &FlatGrammar, plate: Plate<'_>, call: Call, row: &[u16]) -> Result<(), String> {
         let short = call == Call::Count || self.rng.one_in(2);
         let mut chart = if short { self.short_chart() } else { self.chart() };
         let length = if short { OUTPUT } else { self.rng.pick(&[0, 1, OUTPUT - 1]) };
         let mut out = Lent::filled(length, || self.rng.draw() as u16);
         let (due_chart, due_out, found) = (chart.clone(), out.clone(), offset(&mut self.rng));
         let mut number = found;
-        let got = self.asked(flat, input, call, row, &mut chart, &mut out, &mut number);
+        let got = self.asked(flat, plate, call, row, &mut chart, &mut out, &mut number);
         let due = Answer::Refused(if short { 10 } else { 11 });
         same(&format!("walk, {call:?}, too short: answer and number"), (got, number), (due, found))?;
         chart.against(&due_chart, &format!("walk, {call:?}, too short: chart"))?;
         out.against(&due_out, &format!("walk, {call:?}, too short: output"))?;
-        self.add(input, "walk: too short");
+        self.add(plate.input, "walk: too short");
         Ok(())
     }
 
@@ -136,7 +136,7 @@ impl Comparison<'_> {
     fn asked(
         &self,
         flat: &FlatGrammar,
-        input: &[u8],
+        Plate { input, year, .. }: Plate<'_>,
         call: Call,
         row: &[u16],
         chart: &mut Lent<u32>,
@@ -144,9 +144,9 @@ impl Comparison<'_> {
         number: &mut usize,
     ) -> Answer {
         match call {
-            Call::First => self.reader.first(flat, input, chart.part_mut(), out.part_mut(), number),
-            Call::Count => self.reader.count(flat, input, chart.part_mut(), number),
-            _ => self.reader.next(flat, input, row, chart.part_mut(), out.part_mut(), number),
+            Call::First => self.reader.first(flat, input, year, chart.part_mut(), out.part_mut(), number),
+            Call::Count => self.reader.count(flat, input, year, chart.part_mut(), number),
+            _ => self.reader.next(flat, input, year, row, chart.part_mut(), out.part_mut(), number),
         }
     }
 
@@ -154,8 +154,7 @@ impl Comparison<'_> {
     fn called(
         &mut self,
         flat: &FlatGrammar,
-        input: &[u8],
-        filled: &[u32],
+        plate: Plate<'_>,
         call: Call,
         row: &[u16],
         given: &Given,
@@ -164,7 +163,7 @@ impl Comparison<'_> {
         let length = OUTPUT + self.rng.pick(&[0, 1, 2, 40, 1024]);
         let mut out = Lent::filled(length, || self.rng.draw() as u16);
         let (mut due_chart, mut due_out) = (chart.clone(), out.clone());
-        due_chart.part_mut()[..CELLS].copy_from_slice(filled);
+        due_chart.part_mut()[..CELLS].copy_from_slice(plate.filled);
         let found = offset(&mut self.rng);
         let (mut number, mut due_number) = (found, found);
         let due = match given {
@@ -182,7 +181,7 @@ impl Comparison<'_> {
             Given::More => Answer::More,
             Given::Refused(refusal) => Answer::Refused(*refusal),
         };
-        let got = self.asked(&mine, input, call, row, &mut chart, &mut out, &mut number);
+        let got = self.asked(&mine, plate, call, row, &mut chart, &mut out, &mut number);
         same(&format!("walk, {call:?}: answer and number"), (got, number), (due, due_number))?;
         chart.against(&due_chart, &format!("walk, {call:?}: chart"))?;
         out.against(&due_out, &format!("walk, {call:?}: output"))?;

@@ -65,7 +65,7 @@ pub fn fill_column(grammar: &Grammar, input: &[u8], chart: &mut [u32]) {
     loop {
         let mut changed = false;
         for i in 0..=n {
-            for rule in &grammar.rules {
+            for (_, rule) in grammar.numbered() {
                 let left = usize::from(rule.left);
                 let derived = ends_of_row(&rule.places, i, input, &ends) >> n & 1 == 1;
                 if derived && ends[i][left] >> n & 1 == 0 {
@@ -111,7 +111,7 @@ pub fn derives(grammar: &Grammar, input: &[u8]) -> Ends {
     loop {
         let before = ends.clone();
         for i in 0..=input.len() {
-            for rule in &grammar.rules {
+            for (_, rule) in grammar.numbered() {
                 ends[i][usize::from(rule.left)] |= ends_of_row(&rule.places, i, input, &ends);
             }
         }

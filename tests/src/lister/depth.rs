@@ -16,7 +16,7 @@ pub fn heights_in(grammar: &Grammar, passes: u16) -> [Option<u16>; 32] {
     let mut lowest: [Option<u16>; 32] = [None; 32];
     for _ in 0..passes {
         let before = lowest;
-        for rule in &grammar.rules {
+        for (_, rule) in grammar.numbered() {
             let below = rule.places.iter().try_fold(0, |highest: u16, place| match place {
                 Symbol::Nonterminal(k) => lowest[usize::from(*k)].map(|height| highest.max(height)),
                 Symbol::Terminal(_) | Symbol::Range(..) => None,
@@ -33,8 +33,12 @@ pub fn heights_in(grammar: &Grammar, passes: u16) -> [Option<u16>; 32] {
     lowest
 }
 
-/// The greatest, over the nullable nonterminals, of the height of the lowest empty tree; 0 if none is nullable.
+/// The greatest, over the nullable nonterminals, of the height of the lowest empty tree; 0 if none is nullable. It is
+/// that of the whole book, whatever the years of its rules.
 pub fn nullable_depth(grammar: &Grammar) -> u16 {
+    if fault(Fault::DepthByTheYear) {
+        return empty_heights(&grammar.clone().in_year(0)).into_iter().flatten().max().unwrap_or(0);
+    }
     let mut heights = empty_heights(grammar);
     if fault(Fault::DepthOfWhatTheStartReaches) {
         let reached = reached(grammar);
@@ -57,7 +61,7 @@ fn passes_in_place(grammar: &Grammar) -> u16 {
 fn reached(grammar: &Grammar) -> u32 {
     let mut reached = 1 << grammar.start;
     for _ in 0..32 {
-        for rule in &grammar.rules {
+        for (_, rule) in grammar.numbered() {
             for place in &rule.places {
                 match place {
                     Symbol::Nonterminal(k) if reached >> rule.left & 1 == 1 => reached |= 1 << k,

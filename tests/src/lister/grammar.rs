@@ -1,6 +1,6 @@
 //! Books and grammars: loading, and check 8.
 
-use crate::reader::{record, FlatGrammar, FLAT, PLACES, RULES};
+use crate::reader::{record, FlatGrammar, FLAT, PLACES, RULES, YEARS};
 use crate::switches::{fault, low_byte, Fault};
 
 /// What a place holds: in document 01 a kind or a mark; since request U1 of document 02 also a range, which is any mark
@@ -29,19 +29,54 @@ impl Symbol {
     }
 }
 
-/// A rule. Its length is in hundredths of a millimetre.
+/// A rule. Its length is in hundredths of a millimetre. It is in force from its first year to its last.
 #[derive(Clone, PartialEq, Eq, Debug)]
 pub struct Rule {
     pub left: u8,
     pub length: i32,
     pub places: Vec<Symbol>,
+    pub first: u16,
+    pub last: u16,
 }
 
-/// A grammar that check 8 accepts (document 01: loaded book).
+impl Rule {
+    /// Whether the rule is in force in a year, by request U9 of document 02: both ends of its span are included.
+    pub fn in_force(&self, year: u16) -> bool {
+        let begun = self.first < year || (self.first == year && !fault(Fault::FirstYearExcluded));
+        let not_ended = year < self.last || (year == self.last && !fault(Fault::LastYearExcluded));
+        begun && not_ended
+    }
+}
+
+/// A grammar that check 8 accepts (document 01: loaded book), or its grammar of a year. Rules go by their numbers; a number
+/// without a rule is that of a rule out of force.
 #[derive(Clone, PartialEq, Eq, Debug)]
 pub struct Grammar {
     pub start: u8,
-    pub rules: Vec<Rule>,
+    pub rules: Vec<Option<Rule>>,
+}
+
+impl Grammar {
+    /// The rule with this number, if there is one.
+    pub fn rule(&self, number: usize) -> Option<&Rule> {
+        self.rules.get(number)?.as_ref()
+    }
+
+    /// All rules with their numbers.
+    pub fn numbered(&self) -> impl Iterator<Item = (usize, &Rule)> {
+        self.rules.iter().enumerate().filter_map(|(number, rule)| Some((number, rule.as_ref()?)))
+    }
+
+    /// The grammar of a year: rules out of force are left out, and the others keep their numbers.
+    pub fn in_year(mut self, year: u16) -> Grammar {
+        for rule in self.rules.iter_mut().filter(|rule| rule.as_ref().is_some_and(|rule| !rule.in_force(year))) {
+            *rule = None;
+        }
+        if fault(Fault::NumbersShift) {
+            self.rules.retain(Option::is_some);
+        }
+        self
+    }
 }
 
 /// Reads a book from the left. The first fault determines number and offset.
@@ -59,22 +94,29 @@ pub fn load(book: &[u8]) -> Result<Grammar, (u8, usize)> {
             0x10 | 0x30 | 0x40 => 1,
             0x41 => 2,
             0x20 => 3,
+            0x21 => 7,
             0x50 => 0,
             _ => return Err((2, at)),
         };
         let cut = book.len() < at + 1 + operands;
-        let kind_over =
-            |most: u8| matches!(command, 0x10 | 0x20 | 0x30) && book.get(at + 1).is_some_and(|kind| *kind > most);
+        let kind_over = |most: u8| {
+            matches!(command, 0x10 | 0x20 | 0x21 | 0x30) && book.get(at + 1).is_some_and(|kind| *kind > most)
+        };
         if fault(Fault::OneBeforeThree) && cut {
             return Err((1, book.len()));
         }
         let reversed = || command == 0x41 && book[at + 1] > book.get(at + 2).copied().unwrap_or(0);
-        // 3: out of turn. 10 is the first command and occurs only there; 30, 40 and 41 need an open rule.
+        // 3: out of turn. 10 is the first command and occurs only there; 30, 40 and 41 need an open rule, which 20 and 21
+        // open.
         let in_turn = match command {
             0x10 => at == 0,
             0x50 if fault(Fault::EndAcceptedFirst) => true,
             0x41 if fault(Fault::RangeBeforeAnyRuleAccepted) => at > 0,
-            0x20 | 0x50 => at > 0,
+            0x21 if fault(Fault::YearsAcceptedFirst) => true,
+            0x20 | 0x21 | 0x50 => at > 0,
+            _ if fault(Fault::OnlyTwentyOpensARule) => {
+                grammar.numbered().any(|(_, rule)| (rule.first, rule.last) == (0, u16::MAX))
+            }
             _ => at > 0 && !grammar.rules.is_empty(),
         };
         if !in_turn {
@@ -90,9 +132,18 @@ pub fn load(book: &[u8]) -> Result<Grammar, (u8, usize)> {
         if cut {
             return Err((1, book.len()));
         }
+        let years = years(&book[at..], command);
+        let years_reversed = years.first > years.last || (fault(Fault::EqualYearsRefused) && years.first == years.last);
+        if fault(Fault::TwentyOneBeforeFour) && years_reversed {
+            return Err((21, at));
+        }
         // 4: a kind over 31.
         if kind_over(31 + u8::from(fault(Fault::Kind32Accepted))) {
             return Err((4, at + usize::from(fault(Fault::OffsetOfTheOperand))));
+        }
+        // 21: the first year is above the last.
+        if years_reversed && !fault(Fault::FiveBeforeTwentyOne) && !fault(Fault::ReversedYearsLoaded) {
+            return Err((21, at));
         }
         // 16: a range whose low end is above its high end.
         if reversed() && !fault(Fault::SixAskedBeforeSixteen) && !fault(Fault::ReversedRangeLoaded) {
@@ -100,18 +151,22 @@ pub fn load(book: &[u8]) -> Result<Grammar, (u8, usize)> {
         }
         match command {
             0x10 => grammar.start = book[at + 1],
-            0x20 => {
+            0x20 | 0x21 => {
                 // 5: the 129th rule.
                 if grammar.rules.len() == RULES + usize::from(fault(Fault::Rule129Accepted)) {
                     return Err((5, at));
                 }
-                let length = i16::from_le_bytes([book[at + 2], book[at + 3]]);
-                grammar.rules.push(Rule { left: book[at + 1], length: i32::from(length), places: Vec::new() });
+                if fault(Fault::FiveBeforeTwentyOne) && years_reversed {
+                    return Err((21, at));
+                }
+                let length = i32::from(i16::from_le_bytes([book[at + 2], book[at + 3]]));
+                let Years { first, last } = years;
+                grammar.rules.push(Some(Rule { left: book[at + 1], length, places: Vec::new(), first, last }));
             }
             0x41 if grammar.rules.is_empty() => (), // only with a fault
             0x30 | 0x40 | 0x41 => {
                 // 6: the ninth place of a rule.
-                let places = &mut grammar.rules.last_mut().expect("a rule is open").places;
+                let places = &mut grammar.rules.last_mut().and_then(Option::as_mut).expect("a rule is open").places;
                 if places.len() == PLACES + usize::from(fault(Fault::NinthPlaceAccepted)) {
                     return Err((6, at));
                 }
@@ -137,13 +192,29 @@ pub fn load(book: &[u8]) -> Result<Grammar, (u8, usize)> {
     }
 }
 
+/// The first and the last year of a rule.
+struct Years {
+    first: u16,
+    last: u16,
+}
+
+/// The years of a command with all its operands. Those of 20, and of a command that opens no rule, are all years.
+fn years(bytes: &[u8], command: u8) -> Years {
+    let year = |at: usize| low_byte(u16::from_le_bytes([bytes[at], bytes[at + 1]]), Fault::LoadedYearsByTheirLowByte);
+    match command {
+        0x21 if fault(Fault::YearsSwapped) => Years { first: year(6), last: year(4) },
+        0x21 => Years { first: year(4), last: year(6) },
+        _ => Years { first: 0, last: u16::MAX - u16::from(fault(Fault::RuleOf20EndsAt65534)) },
+    }
+}
+
 /// The grammar as a flat row. All unused numbers are zero; an unused place is the nonterminal 0.
 pub fn to_flat(grammar: &Grammar, depth: u16) -> FlatGrammar {
     let mut flat = [0; FLAT];
     flat[0] = u16::from(grammar.start);
     flat[1] = grammar.rules.len() as u16;
     flat[2] = depth;
-    for (number, rule) in grammar.rules.iter().enumerate().take(RULES) {
+    for (number, rule) in grammar.numbered().take(RULES) {
         let at = record(number);
         flat[at] = u16::from(rule.left);
         flat[at + 1] = rule.length as i16 as u16;
@@ -158,13 +229,18 @@ pub fn to_flat(grammar: &Grammar, depth: u16) -> FlatGrammar {
             flat[at + 3 + 2 * p] = tag;
             flat[at + 4 + 2 * p] = value;
         }
+        flat[at + YEARS..at + YEARS + 2].copy_from_slice(&[rule.first, rule.last]);
+    }
+    if fault(Fault::UnusedRulesHoldInAllYears) {
+        (grammar.rules.len()..RULES).for_each(|number| flat[record(number) + YEARS + 1] = u16::MAX);
     }
     flat
 }
 
 /// Check 8 on any row. None if the start or a used kind is over 31, there are more than 128 rules, or a used rule has
-/// more than 8 places. Also None if a used place holds no symbol: its tag is over 2, its mark is over 255, or its
-/// range has the low end above the high end. Unused records, unused places and the depth are ignored.
+/// more than 8 places or its first year above its last. Also None if a used place holds no symbol: its tag is over 2,
+/// its mark is over 255, or its range has the low end above the high end. Unused records, unused places and the depth
+/// are ignored.
 pub fn from_flat(flat: &FlatGrammar) -> Option<Grammar> {
     let start = low_byte(flat[0], Fault::StartByItsLowByte);
     let rules = usize::from(low_byte(flat[1], Fault::RulesByTheirLowByte));
@@ -182,7 +258,13 @@ pub fn from_flat(flat: &FlatGrammar) -> Option<Grammar> {
         if fault(Fault::Check8ReadsUnusedPlaces) && (places..PLACES).any(|p| flat[at + 3 + 2 * p] > 2) {
             return None;
         }
-        let mut rule = Rule { left: left as u8 & 31, length: i32::from(length), places: Vec::new() };
+        let (first, last) = (flat[at + YEARS], flat[at + YEARS + 1]);
+        if (first > last && !fault(Fault::ReversedYearsPassCheck8))
+            || (fault(Fault::EqualYearsFailCheck8) && first == last)
+        {
+            return None;
+        }
+        let mut rule = Rule { left: left as u8 & 31, length: i32::from(length), places: Vec::new(), first, last };
         if fault(Fault::UnsignedLength) {
             rule.length = i32::from(length as u16);
         }
@@ -198,7 +280,7 @@ pub fn from_flat(flat: &FlatGrammar) -> Option<Grammar> {
                 _ => return None,
             });
         }
-        grammar.rules.push(rule);
+        grammar.rules.push(Some(rule));
     }
     Some(grammar)
 }
@@ -213,11 +295,17 @@ fn reversed(value: u16) -> bool {
     value % 256 > value / 256
 }
 
-/// Three faults of check 8: it reads the depth, unused records, or reversed ranges in unused places.
+/// Four faults of check 8: it reads the depth, unused records, reversed ranges in unused places, or their years.
 fn unused_number_read(flat: &FlatGrammar) -> bool {
     (fault(Fault::Check8ReadsTheDepth) && flat[2] > 32)
         || (fault(Fault::Check8ReadsUnusedRecords) && (0..RULES).any(|rule| flat[record(rule)] > 31))
         || (fault(Fault::UnusedReversedRangeRefused) && unused_reversed_range(flat))
+        || (fault(Fault::UnusedYearsJudged) && unused_years_reversed(flat))
+}
+
+/// Whether an unused rule of a row has its first year above its last.
+pub fn unused_years_reversed(flat: &FlatGrammar) -> bool {
+    (usize::from(flat[1])..RULES).any(|rule| flat[record(rule) + YEARS] > flat[record(rule) + YEARS + 1])
 }
 
 /// Whether an unused place of a row has tag 2 and a value whose low end is above its high end.

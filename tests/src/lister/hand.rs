@@ -1,9 +1,9 @@
 //! The plate in hand as a row: the check of a given one, and the hand with given marks.
 
-use crate::reader::{Hand, HAND, INPUT};
+use crate::reader::{Hand, HAND, INPUT, YEAR};
 use crate::switches::{fault, low_byte, Fault};
 
-/// The used marks of a hand; None if its count is over 64 or a used mark is over 255.
+/// The used marks of a hand; None if its count is over 64 or a used mark is over 255. Its year may be any.
 pub fn marks(hand: &Hand) -> Option<Vec<u8>> {
     let count = usize::from(low_byte(hand[INPUT], Fault::HandCountByItsLowByte));
     let judged = match () {
@@ -13,18 +13,20 @@ pub fn marks(hand: &Hand) -> Option<Vec<u8>> {
     };
     let most = 255 + u16::from(fault(Fault::Mark256InAHandAccepted));
     let over = |mark: &u16| low_byte(*mark, Fault::HandMarksByTheirLowByte) > most;
-    if count > INPUT || hand[..judged].iter().any(over) {
+    let year_over = fault(Fault::YearOfAHandJudged) && hand[YEAR] > 255;
+    if count > INPUT || hand[..judged].iter().any(over) || year_over {
         return None;
     }
     Some(hand[..count].iter().map(|mark| *mark as u8).collect())
 }
 
-/// The hand with these marks: everything unused is zero.
-pub fn of(marks: &[u8]) -> Hand {
+/// The hand with these marks, opened in this year: everything unused is zero.
+pub fn of(marks: &[u8], year: u16) -> Hand {
     let mut hand = [0; HAND];
     for (number, mark) in marks.iter().enumerate() {
         hand[number] = u16::from(*mark);
     }
     hand[INPUT] = marks.len() as u16;
+    hand[YEAR] = year;
     hand
 }

@@ -1,7 +1,7 @@
 //! All derivations (readings) of an input, built as explicit trees from short spans to long ones.
 
 use super::chart::{derives, ends_of_row, members, Ends};
-use super::grammar::{Grammar, Symbol};
+use super::grammar::{Grammar, Rule, Symbol};
 use super::trees::{Child, Node, Row};
 use crate::switches::{fault, Fault};
 use std::rc::Rc;
@@ -96,7 +96,7 @@ impl Builder<'_> {
                 continue;
             }
             useful[i][usize::from(k)] |= 1 << j;
-            for rule in self.grammar.rules.iter().filter(|rule| rule.left == k) {
+            for (_, rule) in self.grammar.numbered().filter(|(_, rule)| rule.left == k) {
                 self.step()?;
                 for (p, place) in rule.places.iter().enumerate() {
                     let Symbol::Nonterminal(child) = *place else { continue };
@@ -117,14 +117,16 @@ impl Builder<'_> {
 
     /// A fault: whether the rule is taken to be an earlier one, because `Range(a, a)` is taken to be `Terminal(a)`.
     fn merged(&self, number: usize) -> bool {
-        let rules = &self.grammar.rules;
+        let rule = |number: usize| self.grammar.rule(number);
         let one = |place: &Symbol| match *place {
             Symbol::Range(low, high) if low == high => Symbol::Terminal(low),
             place => place,
         };
-        let places = |rule: usize| rules[rule].places.iter().map(one);
-        let same = |other: usize| rules[other].left == rules[number].left && places(other).eq(places(number));
-        let merged = |other: usize| same(other) && rules[other].places != rules[number].places;
+        let same = |a: &Rule, b: &Rule| a.left == b.left && a.places.iter().map(one).eq(b.places.iter().map(one));
+        let merged = |other: usize| match (rule(other), rule(number)) {
+            (Some(other), Some(rule)) => same(other, rule) && other.places != rule.places,
+            _ => false,
+        };
         fault(Fault::TwinsWithARangeMerged) && (0..number).any(merged)
     }
 
@@ -151,7 +153,7 @@ impl Builder<'_> {
     fn build(&mut self, i: usize, j: usize, useful: &Ends) -> Result<(), TooLarge> {
         for level in 1.. {
             let mut found = Vec::new();
-            for (number, rule) in self.grammar.rules.iter().enumerate() {
+            for (number, rule) in self.grammar.numbered() {
                 if useful[i][usize::from(rule.left)] >> j & 1 == 0 || self.merged(number) {
                     continue;
                 }

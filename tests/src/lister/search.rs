@@ -12,9 +12,12 @@ pub struct Sought {
 }
 
 /// Passes through the rules in order, in which a nonterminal found counts at once. The first pass that adds none is the
-/// last.
+/// last. All rules of the book count, whatever their years.
 pub fn search(grammar: &Grammar) -> Sought {
-    let mut rules: Vec<_> = grammar.rules.iter().collect();
+    let mut rules: Vec<_> = grammar.numbered().map(|(_, rule)| rule).collect();
+    if fault(Fault::SearchByTheYear) {
+        rules.retain(|rule| rule.in_force(0));
+    }
     if fault(Fault::SearchFromTheLastRule) {
         rules.reverse();
     }

@@ -42,7 +42,8 @@ impl Node {
         if fault(Fault::LimitCountsTerminals) {
             nodes += children.iter().filter(|child| matches!(child, Child::Leaf(_))).count();
         }
-        Node { rule, children, nonterminal: grammar.rules[rule].left, cover, nodes }
+        let nonterminal = grammar.rule(rule).expect("a rule of the grammar").left;
+        Node { rule, children, nonterminal, cover, nodes }
     }
 
     /// The nodes that are children of this one.
@@ -110,7 +111,7 @@ impl Node {
 /// returns the rest of the row.
 pub fn tree_of<'a>(grammar: &Grammar, nonterminal: u8, input: &[u8], row: &'a [u16]) -> Option<(Node, &'a [u16])> {
     let number = usize::from(*row.get(1)?);
-    let rule = grammar.rules.get(number)?;
+    let rule = grammar.rule(number)?;
     if rule.left != nonterminal {
         return None;
     }
@@ -151,7 +152,7 @@ pub fn is_derivation(grammar: &Grammar, input: &[u8], row: &[u16]) -> bool {
 
 /// The nonterminal of the root: the start.
 fn root(grammar: &Grammar, row: &[u16]) -> u8 {
-    let first = row.get(1).and_then(|rule| grammar.rules.get(usize::from(*rule)));
+    let first = row.get(1).and_then(|rule| grammar.rule(usize::from(*rule)));
     match first {
         Some(rule) if fault(Fault::AnyStartAccepted) => rule.left,
         _ => grammar.start,
@@ -186,7 +187,7 @@ fn of_the_empty_input(row: &[u16]) -> bool {
 /// The stack length before it is rounded: the sum of the rule lengths of all nodes of a row, including empty ones.
 pub fn hundredths(grammar: &Grammar, row: &[u16]) -> i32 {
     let measured = row.chunks(2).filter(|node| node[0] > 0 || !fault(Fault::EmptyLengthsLeftOut));
-    measured.map(|node| grammar.rules[usize::from(node[1])].length).sum()
+    measured.map(|node| grammar.rule(usize::from(node[1])).expect("a rule of the grammar").length).sum()
 }
 
 /// Hundredths rounded to tenths, by request U5 of document 02: an exact half goes to the even tenth, on both sides of

@@ -2,7 +2,7 @@
 //! the smaller cover and then the smaller rule.
 
 use crate::lister::chart::{derives, ends_of_row, members, Ends};
-use crate::lister::grammar::{Grammar, Symbol};
+use crate::lister::grammar::{Grammar, Rule, Symbol};
 use crate::lister::listing::TooLarge;
 use crate::lister::trees::Row;
 use std::rc::Rc;
@@ -48,8 +48,8 @@ impl Search<'_> {
             return Ok(()); // superfluous recursion, or one node too many
         }
         let grammar = self.grammar;
-        for (rule, _) in grammar.rules.iter().enumerate().filter(|(_, rule)| rule.left == k) {
-            if self.reaches(&grammar.rules[rule].places, i, j) {
+        for (rule, Rule { places, .. }) in grammar.numbered().filter(|(_, rule)| rule.left == k) {
+            if self.reaches(places, i, j) {
                 self.row.extend([(j - i) as u16, rule as u16]);
                 let (above, after) = (above | 1 << k, after.clone());
                 self.rest(Some(Rc::new(Open { rule, place: 0, at: i, begin: i, end: j, above, after })))?;
@@ -71,7 +71,7 @@ impl Search<'_> {
                 self.found.push(self.row.clone());
                 return Ok(());
             };
-            let places = &grammar.rules[top.rule].places;
+            let places = &grammar.rule(top.rule).expect("a rule of the grammar").places;
             let filled = |at: usize| Some(Rc::new(Open { place: top.place + 1, at, after: top.after.clone(), ..*top }));
             match places.get(top.place) {
                 None => open = top.after.clone(),

@@ -11,10 +11,19 @@ const FOUND: u16 = 0xABCD;
 const FOUND_AT: usize = 0xABCD_ABCD;
 const FOUND_TENTHS: i32 = -0x0BCD_ABCD;
 
+/// The year of a call that names none: any, for books that hold in all years.
+pub const YEAR: u16 = 2008;
+
 /// Book T of document 01, in full.
 pub const T: [u8; 21] = [
     0x10, 0x00, 0x20, 0x00, 0xF8, 0x11, 0x30, 0x01, 0x30, 0x01, 0x20, 0x01, 0x00, 0x00, 0x20, 0x01, 0x19, 0x00, 0x40,
     0x41, 0x50,
+];
+
+/// The book of request U9 (document 02): a seal code, the mark A, from 1998 to 2007 and again from 2008 on.
+pub const SEAL: [u8; 23] = [
+    0x10, 0x00, 0x21, 0x00, 0x64, 0x00, 0xCE, 0x07, 0xD7, 0x07, 0x40, 0x41, 0x21, 0x00, 0xC8, 0x00, 0xD8, 0x07, 0xFF,
+    0xFF, 0x40, 0x41, 0x50,
 ];
 
 /// Sums in hundredths with their tenths: those of request U5 (document 02), others at and beside a half, the extremes.
@@ -121,27 +130,41 @@ pub fn row(text: &str) -> Vec<u16> {
 
 /// Opens and takes the input; returns whether it is complete at the end.
 pub fn complete(flat: &FlatGrammar, input: &[u8]) -> bool {
+    complete_in(flat, input, YEAR)
+}
+
+/// The same in a year.
+pub fn complete_in(flat: &FlatGrammar, input: &[u8], year: u16) -> bool {
     let (reader, mut chart, mut hand) = (reader_under_test(), rubbish(&mut Rng::new(1), CELLS), [FOUND; HAND]);
-    let mut answer = reader.open(flat, &mut hand, chart.part_mut());
+    let mut answer = reader.open(flat, year, &mut hand, chart.part_mut());
     for mark in input {
         answer = reader.take(flat, &mut hand, *mark, chart.part_mut());
     }
     let mut due: Vec<u16> = input.iter().map(|mark| u16::from(*mark)).collect();
     due.resize(INPUT, 0);
-    due.push(input.len() as u16);
+    due.extend([input.len() as u16, year]);
     assert_eq!(hand[..], due[..]);
     assert!(matches!(answer, Answer::Yes | Answer::No));
     answer == Answer::Yes
 }
 
 pub fn check(flat: &FlatGrammar, input: &[u8], offered: &[u16]) -> Answer {
-    reader_under_test().check(flat, input, offered, rubbish(&mut Rng::new(2), CELLS).part_mut())
+    check_in(flat, input, YEAR, offered)
+}
+
+pub fn check_in(flat: &FlatGrammar, input: &[u8], year: u16, offered: &[u16]) -> Answer {
+    reader_under_test().check(flat, input, year, offered, rubbish(&mut Rng::new(2), CELLS).part_mut())
 }
 
 /// The length of a row, or its refusal's number.
 pub fn length(flat: &FlatGrammar, input: &[u8], offered: &[u16]) -> Result<i32, u8> {
+    length_in(flat, input, YEAR, offered)
+}
+
+/// The same in a year.
+pub fn length_in(flat: &FlatGrammar, input: &[u8], year: u16, offered: &[u16]) -> Result<i32, u8> {
     let (mut chart, mut tenths) = (rubbish(&mut Rng::new(3), CELLS), FOUND_TENTHS);
-    match reader_under_test().length(flat, input, offered, chart.part_mut(), &mut tenths) {
+    match reader_under_test().length(flat, input, year, offered, chart.part_mut(), &mut tenths) {
         Answer::Refused(number) => {
             assert_eq!(tenths, FOUND_TENTHS);
             Err(number)
@@ -154,16 +177,21 @@ pub fn length(flat: &FlatGrammar, input: &[u8], offered: &[u16]) -> Result<i32, 
 }
 
 pub fn same_build(flat: &FlatGrammar, input: &[u8], one: &[u16], other: &[u16]) -> Answer {
-    reader_under_test().same_build(flat, input, one, other, rubbish(&mut Rng::new(4), CELLS).part_mut())
+    reader_under_test().same_build(flat, input, YEAR, one, other, rubbish(&mut Rng::new(4), CELLS).part_mut())
 }
 
 /// The first reading, "no reading", or a refusal. The rest of the output must be left as found; without a reading,
 /// all of it and the number of nodes.
 pub fn first(flat: &FlatGrammar, input: &[u8]) -> Given {
+    first_in(flat, input, YEAR)
+}
+
+/// The same in a year.
+pub fn first_in(flat: &FlatGrammar, input: &[u8], year: u16) -> Given {
     let (mut chart, mut nodes, mut rng) = (rubbish(&mut Rng::new(6), CELLS), FOUND_AT, Rng::new(7));
     let mut out = Lent::filled(OUTPUT + 3, || rng.draw() as u16);
     let mut due = out.clone();
-    let given = match reader_under_test().first(flat, input, chart.part_mut(), out.part_mut(), &mut nodes) {
+    let given = match reader_under_test().first(flat, input, year, chart.part_mut(), out.part_mut(), &mut nodes) {
         Answer::Nodes(n) => {
             assert_eq!(nodes, n);
             due.part_mut()[..2 * n].copy_from_slice(&out.part()[..2 * n]);
@@ -184,10 +212,16 @@ pub fn first(flat: &FlatGrammar, input: &[u8]) -> Given {
 
 /// The next reading, "none", or a refusal; the output and the number of nodes as in `first`.
 pub fn next(flat: &FlatGrammar, input: &[u8], offered: &[u16]) -> Given {
+    next_in(flat, input, YEAR, offered)
+}
+
+/// The same in a year.
+pub fn next_in(flat: &FlatGrammar, input: &[u8], year: u16, offered: &[u16]) -> Given {
     let (mut chart, mut nodes, mut rng) = (rubbish(&mut Rng::new(8), CELLS), FOUND_AT, Rng::new(9));
     let mut out = Lent::filled(OUTPUT + 3, || rng.draw() as u16);
     let mut due = out.clone();
-    let given = match reader_under_test().next(flat, input, offered, chart.part_mut(), out.part_mut(), &mut nodes) {
+    let given = match reader_under_test().next(flat, input, year, offered, chart.part_mut(), out.part_mut(), &mut nodes)
+    {
         Answer::Nodes(n) => {
             assert_eq!(nodes, n);
             due.part_mut()[..2 * n].copy_from_slice(&out.part()[..2 * n]);
@@ -208,8 +242,13 @@ pub fn next(flat: &FlatGrammar, input: &[u8], offered: &[u16]) -> Given {
 
 /// The count, "more", or a refusal. Without a count the number must be left as found.
 pub fn count(flat: &FlatGrammar, input: &[u8]) -> Given {
+    count_in(flat, input, YEAR)
+}
+
+/// The same in a year.
+pub fn count_in(flat: &FlatGrammar, input: &[u8], year: u16) -> Given {
     let (mut chart, mut number) = (rubbish(&mut Rng::new(10), CELLS), FOUND_AT);
-    match reader_under_test().count(flat, input, chart.part_mut(), &mut number) {
+    match reader_under_test().count(flat, input, year, chart.part_mut(), &mut number) {
         Answer::Count(n) => {
             assert_eq!(number, n);
             Given::Count(n)

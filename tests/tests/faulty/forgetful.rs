@@ -69,9 +69,9 @@ impl Reader for Forgets {
         self.place(Forgets::Row, grammar, |g| self.place(Forgets::Offset, offset, |at| Lister.load(book, g, at)))
     }
 
-    fn open(&self, grammar: &FlatGrammar, hand: &mut Hand, chart: &mut [u32]) -> Answer {
+    fn open(&self, grammar: &FlatGrammar, year: u16, hand: &mut Hand, chart: &mut [u32]) -> Answer {
         self.place(Forgets::OpenedHand, hand, |h| {
-            self.slice(Forgets::OpenedChart, chart, |c| Lister.open(grammar, h, c))
+            self.slice(Forgets::OpenedChart, chart, |c| Lister.open(grammar, year, h, c))
         })
     }
 
@@ -81,38 +81,48 @@ impl Reader for Forgets {
         })
     }
 
-    fn check(&self, grammar: &FlatGrammar, input: &[u8], offered: &[u16], chart: &mut [u32]) -> Answer {
-        self.slice(Forgets::CheckedChart, chart, |c| Lister.check(grammar, input, offered, c))
+    fn check(&self, grammar: &FlatGrammar, input: &[u8], year: u16, offered: &[u16], chart: &mut [u32]) -> Answer {
+        self.slice(Forgets::CheckedChart, chart, |c| Lister.check(grammar, input, year, offered, c))
     }
 
     fn length(
         &self,
         grammar: &FlatGrammar,
         input: &[u8],
+        year: u16,
         offered: &[u16],
         chart: &mut [u32],
         tenths: &mut i32,
     ) -> Answer {
         self.place(Forgets::Tenths, tenths, |t| {
-            self.slice(Forgets::MeasuredChart, chart, |c| Lister.length(grammar, input, offered, c, t))
+            self.slice(Forgets::MeasuredChart, chart, |c| Lister.length(grammar, input, year, offered, c, t))
         })
     }
 
-    fn same_build(&self, grammar: &FlatGrammar, input: &[u8], one: &[u16], other: &[u16], chart: &mut [u32]) -> Answer {
-        self.slice(Forgets::ComparedChart, chart, |c| Lister.same_build(grammar, input, one, other, c))
+    fn same_build(
+        &self,
+        grammar: &FlatGrammar,
+        input: &[u8],
+        year: u16,
+        one: &[u16],
+        other: &[u16],
+        chart: &mut [u32],
+    ) -> Answer {
+        self.slice(Forgets::ComparedChart, chart, |c| Lister.same_build(grammar, input, year, one, other, c))
     }
 
     fn first(
         &self,
         grammar: &FlatGrammar,
         input: &[u8],
+        year: u16,
         chart: &mut [u32],
         out: &mut [u16],
         nodes: &mut usize,
     ) -> Answer {
         self.slice(Forgets::ListedChart, chart, |c| {
             self.slice(Forgets::Output, out, |o| {
-                self.place(Forgets::Nodes, nodes, |n| Lister.first(grammar, input, c, o, n))
+                self.place(Forgets::Nodes, nodes, |n| Lister.first(grammar, input, year, c, o, n))
             })
         })
     }
@@ -121,6 +131,7 @@ impl Reader for Forgets {
         &self,
         grammar: &FlatGrammar,
         input: &[u8],
+        year: u16,
         offered: &[u16],
         chart: &mut [u32],
         out: &mut [u16],
@@ -128,14 +139,14 @@ impl Reader for Forgets {
     ) -> Answer {
         self.slice(Forgets::ListedChart, chart, |c| {
             self.slice(Forgets::Output, out, |o| {
-                self.place(Forgets::Nodes, nodes, |n| Lister.next(grammar, input, offered, c, o, n))
+                self.place(Forgets::Nodes, nodes, |n| Lister.next(grammar, input, year, offered, c, o, n))
             })
         })
     }
 
-    fn count(&self, grammar: &FlatGrammar, input: &[u8], chart: &mut [u32], count: &mut usize) -> Answer {
+    fn count(&self, grammar: &FlatGrammar, input: &[u8], year: u16, chart: &mut [u32], count: &mut usize) -> Answer {
         self.slice(Forgets::ListedChart, chart, |c| {
-            self.place(Forgets::Count, count, |n| Lister.count(grammar, input, c, n))
+            self.place(Forgets::Count, count, |n| Lister.count(grammar, input, year, c, n))
         })
     }
 }

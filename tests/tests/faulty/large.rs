@@ -23,8 +23,8 @@ impl Large {
     ];
 
     /// Whether this is the fault, and the input shows it.
-    fn shows(self, which: Large, flat: &FlatGrammar, input: &[u8], chart: &mut [u32]) -> bool {
-        self == which && Library.count(flat, input, chart, &mut 0) == Answer::More
+    fn shows(self, which: Large, flat: &FlatGrammar, input: &[u8], year: u16, chart: &mut [u32]) -> bool {
+        self == which && Library.count(flat, input, year, chart, &mut 0) == Answer::More
     }
 }
 
@@ -33,11 +33,19 @@ impl Reader for Large {
         &Library
     }
 
-    fn first(&self, flat: &FlatGrammar, input: &[u8], chart: &mut [u32], out: &mut [u16], nodes: &mut usize) -> Answer {
-        match Library.first(flat, input, chart, out, nodes) {
-            Answer::Nodes(n) if self.shows(Large::FirstHandsOutTheSecond, flat, input, chart) => {
+    fn first(
+        &self,
+        flat: &FlatGrammar,
+        input: &[u8],
+        year: u16,
+        chart: &mut [u32],
+        out: &mut [u16],
+        nodes: &mut usize,
+    ) -> Answer {
+        match Library.first(flat, input, year, chart, out, nodes) {
+            Answer::Nodes(n) if self.shows(Large::FirstHandsOutTheSecond, flat, input, year, chart) => {
                 let first = out[..2 * n].to_vec();
-                Library.next(flat, input, &first, chart, out, nodes)
+                Library.next(flat, input, year, &first, chart, out, nodes)
             }
             answer => answer,
         }
@@ -47,24 +55,25 @@ impl Reader for Large {
         &self,
         flat: &FlatGrammar,
         input: &[u8],
+        year: u16,
         offered: &[u16],
         chart: &mut [u32],
         out: &mut [u16],
         nodes: &mut usize,
     ) -> Answer {
         let (found, found_nodes) = (out.to_vec(), *nodes);
-        match Library.next(flat, input, offered, chart, out, nodes) {
-            Answer::Nodes(n) if self.shows(Large::NextSkipsOne, flat, input, chart) => {
+        match Library.next(flat, input, year, offered, chart, out, nodes) {
+            Answer::Nodes(n) if self.shows(Large::NextSkipsOne, flat, input, year, chart) => {
                 let next = out[..2 * n].to_vec();
-                Library.next(flat, input, &next, chart, out, nodes)
+                Library.next(flat, input, year, &next, chart, out, nodes)
             }
-            Answer::Nodes(_) if self.shows(Large::NextHandsBack, flat, input, chart) => {
+            Answer::Nodes(_) if self.shows(Large::NextHandsBack, flat, input, year, chart) => {
                 out.copy_from_slice(&found);
                 out[..offered.len()].copy_from_slice(offered);
                 *nodes = offered.len() / 2;
                 Answer::Nodes(*nodes)
             }
-            Answer::Nodes(_) if self.shows(Large::NoneAfterAny, flat, input, chart) => {
+            Answer::Nodes(_) if self.shows(Large::NoneAfterAny, flat, input, year, chart) => {
                 out.copy_from_slice(&found);
                 *nodes = found_nodes;
                 Answer::NoneLeft
@@ -73,8 +82,8 @@ impl Reader for Large {
         }
     }
 
-    fn count(&self, flat: &FlatGrammar, input: &[u8], chart: &mut [u32], count: &mut usize) -> Answer {
-        match Library.count(flat, input, chart, count) {
+    fn count(&self, flat: &FlatGrammar, input: &[u8], year: u16, chart: &mut [u32], count: &mut usize) -> Answer {
+        match Library.count(flat, input, year, chart, count) {
             Answer::More if *self == Large::CountedTo4096 => {
                 *count = 4096;
                 Answer::Count(4096)

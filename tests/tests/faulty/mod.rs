@@ -9,9 +9,9 @@ pub mod switches;
 use crate::lister::chart::cell;
 use crate::lister::{grammar, hand, judged, listed, Lister};
 use outside_tests::lister::trees::Row;
-use outside_tests::reader::{Answer, FlatGrammar, Hand, Reader, CELLS, FLAT, INPUT, OUTPUT};
+use outside_tests::reader::{Answer, FlatGrammar, Hand, Reader, CELLS, FLAT, INPUT, OUTPUT, YEAR};
 use std::cell::RefCell;
-use switches::{fault, Fault};
+use switches::{fault, low_byte, Fault};
 
 /// The lister with the fault that is switched on in this thread. It knows the last row that it handed out.
 #[derive(Default)]
@@ -21,8 +21,8 @@ pub struct Faulty {
 
 impl Faulty {
     /// The last row handed out and its place in the list, if it is a derivation of this input.
-    fn kept(&self, flat: &FlatGrammar, input: &[u8]) -> Option<(Row, usize)> {
-        let grammar = judged(flat, input, CELLS, OUTPUT).ok()?;
+    fn kept(&self, flat: &FlatGrammar, input: &[u8], year: u16) -> Option<(Row, usize)> {
+        let grammar = judged(flat, input, CELLS, OUTPUT).ok()?.in_year(year);
         let last = self.last.borrow().clone();
         let place = listed(&grammar, input).0.iter().position(|row| *row == last)?;
         Some((last, place))
@@ -58,6 +58,14 @@ impl Faulty {
             }
         }
         answer
+    }
+}
+
+/// The year that a call with this fault goes by.
+fn by(which: Fault, year: u16) -> u16 {
+    match fault(which) {
+        true => 0,
+        false => low_byte(year, Fault::YearOfACallByItsLowByte),
     }
 }
 
@@ -105,9 +113,14 @@ impl Reader for Faulty {
         answer
     }
 
-    fn open(&self, flat: &FlatGrammar, hand: &mut Hand, chart: &mut [u32]) -> Answer {
+    fn open(&self, flat: &FlatGrammar, year: u16, hand: &mut Hand, chart: &mut [u32]) -> Answer {
         let found = *hand;
-        let answer = Lister.open(flat, hand, chart);
+        let answer = Lister.open(flat, by(Fault::OpenByYear0, year), hand, chart);
+        match answer {
+            Answer::Refused(_) if fault(Fault::RefusedOpeningKeepsTheYear) => hand[YEAR] = year,
+            Answer::Refused(_) => (),
+            _ => hand[YEAR] = if fault(Fault::OpenKeepsYear0) { 0 } else { year },
+        }
         if fault(Fault::OpenedHandWithoutItsCount) {
             hand[INPUT] = found[INPUT];
         }
@@ -122,11 +135,12 @@ impl Reader for Faulty {
         let answer = Lister.take(flat, hand, terminal, chart);
         let used = usize::from(hand[INPUT]).min(INPUT);
         match answer {
-            Answer::Refused(_) if fault(Fault::RefusedTakeClearsTheHand) => *hand = hand::of(&[]),
+            Answer::Refused(_) if fault(Fault::RefusedTakeClearsTheHand) => *hand = hand::of(&[], 0),
             Answer::Refused(_) if fault(Fault::RefusedTakeNormalisesTheHand) => hand[used..INPUT].fill(0),
             Answer::Refused(_) => (),
             _ if fault(Fault::HandKeepsRubbish) => hand[used..INPUT].copy_from_slice(&found[used..INPUT]),
             _ if fault(Fault::TakenHandWithoutItsCount) => hand[INPUT] = found[INPUT],
+            _ if fault(Fault::TakenHandForgetsItsYear) => hand[YEAR] = 0,
             _ if fault(Fault::WritesAnotherWord) && used < INPUT => chart[cell(used, used + 1)] = 0,
             _ if fault(Fault::WritesBehindTheCells) && chart.len() > CELLS => chart[CELLS] = 0,
             _ => (),
@@ -134,15 +148,23 @@ impl Reader for Faulty {
         answer
     }
 
-    fn check(&self, flat: &FlatGrammar, input: &[u8], offered: &[u16], chart: &mut [u32]) -> Answer {
-        Lister.check(flat, read(input), offered, chart)
+    fn check(&self, flat: &FlatGrammar, input: &[u8], year: u16, offered: &[u16], chart: &mut [u32]) -> Answer {
+        Lister.check(flat, read(input), by(Fault::CheckByYear0, year), offered, chart)
     }
 
-    fn length(&self, flat: &FlatGrammar, input: &[u8], offered: &[u16], chart: &mut [u32], tenths: &mut i32) -> Answer {
+    fn length(
+        &self,
+        flat: &FlatGrammar,
+        input: &[u8],
+        year: u16,
+        offered: &[u16],
+        chart: &mut [u32],
+        tenths: &mut i32,
+    ) -> Answer {
         if refused_as_empty(Fault::EmptyInputRefusedByLength, flat, input) {
             return Answer::Refused(9);
         }
-        let answer = Lister.length(flat, input, offered, chart, tenths);
+        let answer = Lister.length(flat, input, by(Fault::LengthByYear0, year), offered, chart, tenths);
         match answer {
             Answer::Refused(12) if fault(Fault::TwelveSpoilsTheChart) => chart[0] ^= 1,
             Answer::Refused(12) if fault(Fault::TenthsZeroWithTwelve) => *tenths = 0,
@@ -152,18 +174,34 @@ impl Reader for Faulty {
         answer
     }
 
-    fn same_build(&self, flat: &FlatGrammar, input: &[u8], one: &[u16], other: &[u16], chart: &mut [u32]) -> Answer {
+    fn same_build(
+        &self,
+        flat: &FlatGrammar,
+        input: &[u8],
+        year: u16,
+        one: &[u16],
+        other: &[u16],
+        chart: &mut [u32],
+    ) -> Answer {
         if refused_as_empty(Fault::EmptyInputRefusedByBuild, flat, input) {
             return Answer::Refused(9);
         }
-        Lister.same_build(flat, input, one, other, chart)
+        Lister.same_build(flat, input, by(Fault::BuildByYear0, year), one, other, chart)
     }
 
-    fn first(&self, flat: &FlatGrammar, input: &[u8], chart: &mut [u32], out: &mut [u16], nodes: &mut usize) -> Answer {
-        let mut answer = Lister.first(flat, input, chart, out, nodes);
+    fn first(
+        &self,
+        flat: &FlatGrammar,
+        input: &[u8],
+        year: u16,
+        chart: &mut [u32],
+        out: &mut [u16],
+        nodes: &mut usize,
+    ) -> Answer {
+        let mut answer = Lister.first(flat, input, by(Fault::FirstByYear0, year), chart, out, nodes);
         if fault(Fault::FirstGoesOn) && matches!(answer, Answer::Nodes(_)) {
-            if let Some((last, _)) = self.kept(flat, input) {
-                answer = match Lister.next(flat, input, &last, chart, out, nodes) {
+            if let Some((last, _)) = self.kept(flat, input, year) {
+                answer = match Lister.next(flat, input, year, &last, chart, out, nodes) {
                     Answer::NoneLeft => answer,
                     answer => answer,
                 };
@@ -176,6 +214,7 @@ impl Reader for Faulty {
         &self,
         flat: &FlatGrammar,
         input: &[u8],
+        year: u16,
         offered: &[u16],
         chart: &mut [u32],
         out: &mut [u16],
@@ -185,10 +224,10 @@ impl Reader for Faulty {
             return Answer::Refused(9);
         }
         let found = chart.to_vec();
-        let mut answer = Lister.next(flat, input, offered, chart, out, nodes);
+        let mut answer = Lister.next(flat, input, by(Fault::NextByYear0, year), offered, chart, out, nodes);
         if fault(Fault::NextKeepsItsOwnPlace) && matches!(answer, Answer::Nodes(_)) {
-            if let Some((last, _)) = self.kept(flat, input) {
-                answer = Lister.next(flat, input, &last, chart, out, nodes);
+            if let Some((last, _)) = self.kept(flat, input, year) {
+                answer = Lister.next(flat, input, year, &last, chart, out, nodes);
             }
         }
         match answer {
@@ -202,12 +241,12 @@ impl Reader for Faulty {
         self.left(answer, out, nodes)
     }
 
-    fn count(&self, flat: &FlatGrammar, input: &[u8], chart: &mut [u32], count: &mut usize) -> Answer {
+    fn count(&self, flat: &FlatGrammar, input: &[u8], year: u16, chart: &mut [u32], count: &mut usize) -> Answer {
         let found = *count;
-        let mut answer = Lister.count(flat, input, chart, count);
+        let mut answer = Lister.count(flat, input, by(Fault::CountByYear0, year), chart, count);
         match answer {
             Answer::Count(n) if fault(Fault::CountsWhatIsLeft) => {
-                *count = n - self.kept(flat, input).map_or(0, |(_, place)| place);
+                *count = n - self.kept(flat, input, year).map_or(0, |(_, place)| place);
                 answer = Answer::Count(*count);
             }
             Answer::Count(_) if fault(Fault::CountUnwritten) => *count = found,

@@ -47,6 +47,15 @@ impl Folder {
         fs::write(self.book(), book).expect("the book is written");
     }
 
+    /// Writes the file for the year, or removes it.
+    pub fn put_year(&self, file: Option<&[u8]>) {
+        match (file, fs::remove_file(self.year())) {
+            (Some(bytes), _) => fs::write(self.year(), bytes).expect("the year is written"),
+            (None, Err(error)) if error.kind() != io::ErrorKind::NotFound => panic!("the year is not removed: {error}"),
+            _ => (),
+        }
+    }
+
     /// Where the program runs and looks for its book.
     pub fn run(&self) -> PathBuf {
         self.0.join("run")
@@ -54,6 +63,10 @@ impl Folder {
 
     pub fn book(&self) -> PathBuf {
         self.run().join("book.bin")
+    }
+
+    pub fn year(&self) -> PathBuf {
+        self.run().join("year.bin")
     }
 
     /// A file for the program to write to, outside the folder where it runs.
@@ -111,9 +124,9 @@ impl Drop for Folder {
     }
 }
 
-/// The program prints exactly this for a book and a plate, and so does the lister.
+/// The program prints exactly this for a book and a plate without a file for the year, and so does the lister in year 0.
 pub fn prints(book: &[u8], plate: &[u8], due: &str) {
-    assert_eq!(String::from_utf8(text(book, plate).expect("small enough")).expect("ASCII"), due);
+    assert_eq!(String::from_utf8(text(book, plate, 0).expect("small enough")).expect("ASCII"), due);
     Folder::with(book).prints(plate, due.as_bytes()).expect("no difference");
 }
 

@@ -63,7 +63,7 @@ fn charts_are_filled_alike() {
     let mut random = Random::new(21);
     let mut bits = 0;
     for _ in 0..3000 {
-        let p = Packed::new(&grammar(&mut random));
+        let p = Packed::new(&grammar(&mut random), 0);
         let n = some(&mut random, [9, 30, 65]);
         bits += fills_alike(&p, &input(&mut random, n));
     }
@@ -85,7 +85,7 @@ fn the_books_of_the_benchmark_are_filled_alike() {
         books::random_full(&mut random),
         books::random_full_of_ranges(&mut random),
     ] {
-        fills_alike(&Packed::new(&loader::load(&book).unwrap()), &input);
+        fills_alike(&Packed::new(&loader::load(&book).unwrap(), 0), &input);
     }
 }
 
@@ -94,7 +94,7 @@ fn a_column_over_a_spoilt_chart_is_written_alike() {
     let mut random = Random::new(23);
     let mut bits = 0u32;
     for _ in 0..6000 {
-        let p = Packed::new(&grammar(&mut random));
+        let p = Packed::new(&grammar(&mut random), 0);
         let n = some(&mut random, [5, 20, 65]);
         let w = input(&mut random, n);
         let mut a = spoilt(&mut random);

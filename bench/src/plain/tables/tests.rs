@@ -12,7 +12,7 @@ fn blank() -> Box<Tables> {
 
 /// How many numbers below 513 both have.
 fn alike(g: &Grammar, w: &[u8]) -> usize {
-    let p = Packed::new(g);
+    let p = Packed::new(g, 0);
     let mut chart = [0; CHART];
     recognizer::fill(&p, w, &mut chart);
     let given = Given { rules: p.used(), fit: &fit_table(&p, w), chart: &chart };

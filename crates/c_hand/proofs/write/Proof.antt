@@ -35,5 +35,5 @@ write-spec = tie.close (tie.spec
     -- a turn of the loop: one byte is stored
     Inv-loop μ-loop (λ c. copied-start _ _ _ refl) (λ c. omega arith) (λ c. search needs) (λ c. omega arith) (λ c. omega arith)
     (λ c. omega arith) (λ c. omega arith) loop-again
-    -- the count is stored
-    (λ c κs. omega arith) (λ c. omega arith) returns)
+    -- the count and the year are stored
+    (λ c κs. omega arith) (λ c. omega arith) (λ c. omega arith) returns)

@@ -11,7 +11,7 @@ count-filled-requires c κs =
     let after-fill = c .before .before .before .before .before .before in
     let passed = after-fill .before .before .before in
     let filling = after-fill .fill-fits .ensures in
-    filled-ready _ _ _ _ (passed .before .before .judge .ensures) (passed .enum-told .given .1) _ _ (filling .0) (filling .1)
+    filled-ready _ _ _ _ _ (passed .before .before .judge .ensures) (passed .enum-told .given .1) _ _ (filling .0) (filling .1)
 
 pub count-spec : {M : Type 1} → statement M
 count-spec = tie.close (tie.spec

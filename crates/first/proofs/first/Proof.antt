@@ -10,7 +10,7 @@ first-filled-requires : tie.Need-first-filled-requires
 first-filled-requires c κs =
     let after-fill = c .before .before .before .before .before .before .before in
     let passed = after-fill .before .before .before in
-    filled-ready _ _ _ _ _ _ _ _ (passed .before .before .judge-output .ensures) (passed .enum-told .given .1)
+    filled-ready _ _ _ _ _ _ _ _ _ (passed .before .before .judge-output .ensures) (passed .enum-told .given .1)
     (after-fill .fill-fits .ensures)
 
 pub first-spec : {M : Type 1} → statement M

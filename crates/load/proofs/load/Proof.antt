@@ -5,9 +5,9 @@ use native.Mathlib.Omega.{arith}
 use borrow.Author.Needs.{needs}
 use lib.Dec.{lit<}
 use lib.ListN.{length}
-use Rattle.load.proofs.Progress.{start-room, rule-room, rule-few, place-some, place-room, place-few, moved-fits, moved-less}
+use Rattle.load.proofs.Progress.{start-room, rule-some, rule-room, rule-few, place-some, place-room, place-few}
 use Rattle.load.proofs.Progress.{Progress, progress-first, progress-start, progress-rule, progress-place}
-use Rattle.load.proofs.Progress.{loads-end, loads-fault}
+use Rattle.load.proofs.Progress.{moved-fits, moved-less, loads-end, loads-fault}
 use Rattle.load.proofs.load.Statement.{statement}
 use Rattle.load.proofs.load.Tie as tie
 
@@ -26,7 +26,7 @@ load-spec = tie.close (tie.spec
     (λ c. omega arith) (λ c. search (moved-fits, start-room)) (λ c. search (moved-less, start-room, lit<)) (λ c. search progress-start)
     -- a rule
     (λ c. omega arith) (λ c κs. omega arith) (λ c. omega arith) (λ c. search rule-few) (λ c. omega arith)
-    (λ c. search (moved-fits, rule-room)) (λ c. search (moved-less, rule-room, lit<)) (λ c. search progress-rule)
+    (λ c. search (moved-fits, rule-room)) (λ c. search (moved-less, rule-room, rule-some)) (λ c. search progress-rule)
     -- a place
     (λ c. omega arith) (λ c κs. search place-few) (λ c. omega arith) (λ c. omega arith) (λ c. search (moved-fits, place-room))
     (λ c. search (moved-less, place-room, place-some)) (λ c. search progress-place)

@@ -11,7 +11,7 @@ next-filled-requires : tie.Need-next-filled-requires
 next-filled-requires c κs =
     let after-fill = c .before .before .before .before .before .before .before in
     let passed = after-fill .before .before .before in
-    filled-ready _ _ _ _ _ _ _ _ (passed .before .before .judge-output .ensures) (passed .enum-told .given .1)
+    filled-ready _ _ _ _ _ _ _ _ _ (passed .before .before .judge-output .ensures) (passed .enum-told .given .1)
     (after-fill .fill-fits .ensures)
 
 pub next-spec : {M : Type 1} → statement M

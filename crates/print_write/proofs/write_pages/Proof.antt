@@ -13,11 +13,11 @@ use Rattle.print_write.proofs.write_pages.Statement.{statement}
 use Rattle.print_write.proofs.write_pages.Tie as tie
 
 abbrev Inv-loop : tie.InvT-loop
-Inv-loop book plate p lengths fits chart tables buf₀ out₀ then₀ bytes₀ left₀ buf out then bytes left =
+Inv-loop book file plate p lengths fits chart tables buf₀ out₀ then₀ bytes₀ left₀ buf out then bytes left =
     Going (lengthsIn lengths) p fits chart tables then₀ buf₀ then buf bytes left × (length out ≡ pageSize)
 
 abbrev μ-loop : tie.MeasureT-loop
-μ-loop book plate p lengths fits chart tables buf₀ out₀ then₀ bytes₀ left₀ buf out then bytes left = left
+μ-loop book file plate p lengths fits chart tables buf₀ out₀ then₀ bytes₀ left₀ buf out then bytes left = left
 
 pub write-pages-spec : {M : Type 1} → statement M
 write-pages-spec = tie.close (tie.spec

@@ -9,14 +9,14 @@ use Rattle.recognizer.proofs.open.Tie as tie
 
 returns : tie.Need-returns
 returns c =
-    open-invalid _ _ _ _ (ap stateIn (c .refused .ensures .1) ∙ c .before .blank .ensures)
+    open-invalid _ _ _ _ _ (ap stateIn (c .refused .ensures .1) ∙ c .before .blank .ensures)
     (was-invalid _ _ (c .before .before .before .valid .ensures) (c .before .before .if1 .taken)) (c .refused .ensures .0)
 
 returns-2 : tie.Need-returns-2
 returns-2 c =
     let d = c .before .before in
     let v = was-valid _ _ (d .before .before .valid .ensures) (d .before .if1 .left) in
-    open-short _ _ _ _ (ap stateIn (c .refused2 .ensures .1) ∙ c .before .blank2 .ensures) v (d .if2 .taken) (c .refused2 .ensures .0)
+    open-short _ _ _ _ _ (ap stateIn (c .refused2 .ensures .1) ∙ c .before .blank2 .ensures) v (d .if2 .taken) (c .refused2 .ensures .0)
 
 opening-requires : tie.Need-opening-requires
 opening-requires c κs =

@@ -11,7 +11,7 @@ returns c =
     let at-open = after-open .before .before .before in
     let at-pack = at-open .before .before .before in
     let at-start = at-pack .before .before in
-    open-right _ _ _ _ (c .blank .ensures) _ _ (at-start .pre .0) (at-start .pre .1) (at-pack .pack .ensures)
+    open-right _ _ _ _ _ (c .blank .ensures) _ _ (at-start .pre .0) (at-start .pre .1) (at-pack .pack .ensures)
     (at-open .open-chart .ensures) (c .before .says .ensures)
 
 pub opening-spec : {M : Type 1} → statement M

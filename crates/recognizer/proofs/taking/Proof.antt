@@ -9,7 +9,7 @@ use Rattle.recognizer.proofs.taking.Tie as tie
 slice-aggregate-write-column : tie.Need-slice-aggregate-write-column
 slice-aggregate-write-column c =
     let h = c .before .before .before in
-    count-part (stateIn (h .with-byte .result)) _ (h .with-byte .ensures .0)
+    count-part (stateIn (h .with-byte .result)) _ _ (h .with-byte .ensures .0)
 
 returns : tie.Need-returns
 returns c =
@@ -24,5 +24,5 @@ returns c =
 pub taking-spec : {M : Type 1} → statement M
 taking-spec = tie.close (tie.spec
     (λ c κs. search needs) (λ c κs. omega arith)
-    (λ c. count-fits (stateIn (c .before .before .with-byte .result)) _ (c .before .before .with-byte .ensures .0))
+    (λ c. count-fits (stateIn (c .before .before .with-byte .result)) _ _ (c .before .before .with-byte .ensures .0))
     slice-aggregate-write-column (λ c κs. omega arith) (λ c κs. omega arith) (λ c. omega arith) returns)

@@ -16,12 +16,12 @@ use Rattle.laws.proofs.Bools.{true-false, or-neither}
 use Rattle.grammar.specs.declared.Symbol.{Symbol}
 use Rattle.grammar.specs.declared.Symbol.the-variants.{Nonterminal, Terminal, Range}
 use Rattle.grammar.specs.declared.Grammar.{Grammar}
-use Rattle.grammar.specs.Setters.{openedRule, placedRule, setStart, setCount, setRule}
+use Rattle.grammar.specs.Setters.{lastYear, openedRule, placedRule, setStart, setCount, setRule}
 use Rattle.grammar.specs.Valid.{validSymbol}
 use Rattle.grammar.specs.Zero.{zeroGrammar}
-use Rattle.results.specs.Load.{operands, operand, signed, openRule, withStart, withRule, withPlace, after, unknown}
-use Rattle.results.specs.Load.{addsPlace, outOfTurn, Fault, Step, stop, next, done, operandChecks, commandChecks, carriedOut, step}
-use Rattle.results.specs.Load.{refusedLoad, acceptedLoad, run}
+use Rattle.results.specs.Load.{operands, operand, signed, fromYear, toYear, openRule, withStart, withRule, withPlace, after}
+use Rattle.results.specs.Load.{unknown, opensRule, addsPlace, outOfTurn, Fault, Step, stop, next, done, operandChecks, commandChecks}
+use Rattle.results.specs.Load.{carriedOut, step, refusedLoad, acceptedLoad, run}
 use Rattle.results.proofs.Decide.{decide-either}
 use Rattle.results.proofs.Loading.Run.{run-stop, run-next, run-done}
 
@@ -32,9 +32,10 @@ module _ (g : Grammar) where
   unfolding withStart
   start-set k = refl
 
-  pub rule-set : (k : ℕ) (z : ℤ) → setCount (setRule g (g .count) (openedRule k z)) (g .count + 1) ≡ withRule g k z
+  pub rule-set : (k : ℕ) (z : ℤ) (first last : ℕ)
+      → setCount (setRule g (g .count) (openedRule k z first last)) (g .count + 1) ≡ withRule g k z first last
   unfolding withRule
-  rule-set k z = refl
+  rule-set k z first last = refl
 
   pub place-set : (s : Symbol) → setRule g (g .count - 1) (placedRule (openRule g) s) ≡ withPlace g s
   unfolding withPlace
@@ -42,22 +43,23 @@ module _ (g : Grammar) where
 
 -- ---- which commands there are
 
-pub unknown-other : (c : ℕ) → (c ≡ 0x10 → ⊥) → (c ≡ 0x20 → ⊥) → (c ≡ 0x30 → ⊥) → (c ≡ 0x40 → ⊥) → (c ≡ 0x41 → ⊥) → (c ≡ 0x50 → ⊥)
-    → unknown c ≡ true
+pub unknown-other : (c : ℕ) → (c ≡ 0x10 → ⊥) → (c ≡ 0x20 → ⊥) → (c ≡ 0x21 → ⊥) → (c ≡ 0x30 → ⊥) → (c ≡ 0x40 → ⊥) → (c ≡ 0x41 → ⊥)
+    → (c ≡ 0x50 → ⊥) → unknown c ≡ true
 unfolding unknown
-unknown-other c n₁ n₂ n₃ n₄ n₅ n₆ =
-    rw (ne-eqb c 0x10 n₁, ne-eqb c 0x20 n₂, ne-eqb c 0x30 n₃, ne-eqb c 0x40 n₄, ne-eqb c 0x41 n₅, ne-eqb c 0x50 n₆)
+unknown-other c n₁ n₂ n₃ n₄ n₅ n₆ n₇ = rw
+    (ne-eqb c 0x10 n₁, ne-eqb c 0x20 n₂, ne-eqb c 0x21 n₃, ne-eqb c 0x30 n₄, ne-eqb c 0x40 n₅, ne-eqb c 0x41 n₆, ne-eqb c 0x50 n₇)
 
 -- what holds of each command holds of each byte that is not unknown
-pub each-command : (K : ℕ → Type 0) → K 0x10 → K 0x20 → K 0x30 → K 0x40 → K 0x41 → K 0x50 → (c : ℕ) → unknown c ≡ false → K c
-each-command K start rule nonterminal terminal range end c k =
+pub each-command : (K : ℕ → Type 0) → K 0x10 → K 0x20 → K 0x21 → K 0x30 → K 0x40 → K 0x41 → K 0x50 → (c : ℕ) → unknown c ≡ false → K c
+each-command K start rule years nonterminal terminal range end c k =
     dite (ℕ-discrete c 0x10) (λ e. subst K (sym e) start) (λ n₁.
     dite (ℕ-discrete c 0x20) (λ e. subst K (sym e) rule) (λ n₂.
-    dite (ℕ-discrete c 0x30) (λ e. subst K (sym e) nonterminal) (λ n₃.
-    dite (ℕ-discrete c 0x40) (λ e. subst K (sym e) terminal) (λ n₄.
-    dite (ℕ-discrete c 0x41) (λ e. subst K (sym e) range) (λ n₅.
-    dite (ℕ-discrete c 0x50) (λ e. subst K (sym e) end) (λ n₆.
-    absurd (true-false (unknown-other c n₁ n₂ n₃ n₄ n₅ n₆) k)))))))
+    dite (ℕ-discrete c 0x21) (λ e. subst K (sym e) years) (λ n₃.
+    dite (ℕ-discrete c 0x30) (λ e. subst K (sym e) nonterminal) (λ n₄.
+    dite (ℕ-discrete c 0x40) (λ e. subst K (sym e) terminal) (λ n₅.
+    dite (ℕ-discrete c 0x41) (λ e. subst K (sym e) range) (λ n₆.
+    dite (ℕ-discrete c 0x50) (λ e. subst K (sym e) end) (λ n₇.
+    absurd (true-false (unknown-other c n₁ n₂ n₃ n₄ n₅ n₆ n₇) k))))))))
 
 -- ---- what the checks let through
 
@@ -67,9 +69,10 @@ pub record LetThrough (bytes : List ℕ) (at c : ℕ) (g : Grammar) : Type 0 whe
   pub known : unknown c ≡ false
   pub turn : outOfTurn c at g ≡ false
   pub whole : at + 1 + operands c ≤ length bytes
-  pub nonterminal : (eqb c 0x10 || eqb c 0x20 || eqb c 0x30) ≡ true → operand bytes at 0 ≤ 31
+  pub nonterminal : (eqb c 0x10 || opensRule c || eqb c 0x30) ≡ true → operand bytes at 0 ≤ 31
   pub rising : eqb c 0x41 ≡ true → operand bytes at 0 ≤ operand bytes at 1
-  pub rules : eqb c 0x20 ≡ true → g .count ≤ 127
+  pub years : eqb c 0x21 ≡ true → fromYear (operand bytes at) ≤ toYear (operand bytes at)
+  pub rules : opensRule c ≡ true → g .count ≤ 127
   pub places : addsPlace c ≡ true → openRule g .count ≤ 7
   pub last : eqb c 0x50 ≡ true → length bytes ≤ at + 1
 
@@ -83,27 +86,36 @@ module _ (bytes : List ℕ) (at : ℕ) (g : Grammar) where
   Case P c = getD bytes at 0 ≡ c → LetThrough bytes at c g → P (carriedOut bytes at c g)
 
   -- what holds of each fault, and of each command that its checks let through, holds of a step
-  step-cases : (P : Step → Type 0) → ((f : Fault) → P (stop f)) → Case P 0x10 → Case P 0x20 → Case P 0x30 → Case P 0x40 → Case P 0x41
-      → Case P 0x50 → P (step bytes at g)
+  step-cases : (P : Step → Type 0) → ((f : Fault) → P (stop f)) → Case P 0x10 → Case P 0x20 → Case P 0x21 → Case P 0x30 → Case P 0x40
+      → Case P 0x41 → Case P 0x50 → P (step bytes at g)
   unfolding step commandChecks operandChecks
-  step-cases P faulty start rule nonterminal terminal range end = decide-either stop _ P _ faulty
-      (λ p. let (begins, (known, (turn, (whole, (small, (rising, (rules, (places, (last, u))))))))) = p in
-      each-command (Case P) start rule nonterminal terminal range end (getD bytes at 0) known refl (record {
+  step-cases P faulty start rule years nonterminal terminal range end = decide-either stop _ P _ faulty
+      (λ p. let (begins, (known, (turn, (whole, (small, (rising, (ordered, (rules, (places, (last, u)))))))))) = p in
+      each-command (Case P) start rule years nonterminal terminal range end (getD bytes at 0) known refl (record {
         begins = ltb-true at (length bytes) (not-false (ltb at (length bytes)) begins);
         known = known;
         turn = turn;
         whole = ltb-false (length bytes) (at + 1 + operands (getD bytes at 0)) whole;
         nonterminal = kept-to _ 31 (operand bytes at 0) small;
         rising = kept-to _ (operand bytes at 1) (operand bytes at 0) rising;
+        years = kept-to _ (toYear (operand bytes at)) (fromYear (operand bytes at)) ordered;
         rules = kept-to _ 127 (g .count) rules;
         places = kept-to _ 7 (openRule g .count) places;
         last = kept-to _ (at + 1) (length bytes) last;
       }))
 
 -- what a command does depends only on its operands
-pub after-same : (c : ℕ) (x y : ℕ → ℕ) (g : Grammar) → ((i : ℕ) → i < 3 → x i ≡ y i) → after c x g ≡ after c y g
+pub after-same : (c : ℕ) (x y : ℕ → ℕ) (g : Grammar) → ((i : ℕ) → i < 7 → x i ≡ y i) → after c x g ≡ after c y g
 unfolding after
-after-same c x y g same = rw (same 0 (omega arith), same 1 (omega arith), same 2 (omega arith))
+after-same c x y g same = rw (
+  same 0 (omega arith),
+  same 1 (omega arith),
+  same 2 (omega arith),
+  same 3 (omega arith),
+  same 4 (omega arith),
+  same 5 (omega arith),
+  same 6 (omega arith),
+)
 
 -- ---- the last command
 
@@ -124,7 +136,7 @@ module _ (bytes : List ℕ) (at : ℕ) (g : Grammar) where
 
   step-ends : Ends (step bytes at g)
   unfolding carriedOut
-  step-ends = step-cases bytes at g Ends (λ f. tt) (λ e L. tt) (λ e L. tt) (λ e L. tt) (λ e L. tt) (λ e L. tt)
+  step-ends = step-cases bytes at g Ends (λ f. tt) (λ e L. tt) (λ e L. tt) (λ e L. tt) (λ e L. tt) (λ e L. tt) (λ e L. tt)
       (λ e L. record { command = e; last = omega (arith, L .begins, L .last refl); same = refl })
 
   pub step-done : (g′ : Grammar) → step bytes at g ≡ done g′ → Ended bytes at g g′
@@ -154,7 +166,11 @@ pub record Invariant (bytes : List ℕ) (P : ℕ → Grammar → Type 0) : Type 
   pub zero : P 0 zeroGrammar
   pub start : (at : ℕ) (g : Grammar) → P at g → at ≡ 0 → operand bytes at 0 ≤ 31 → P (at + 2) (withStart g (operand bytes at 0))
   pub rule : (at : ℕ) (g : Grammar) → P at g → operand bytes at 0 ≤ 31 → g .count < maxRules
-      → P (at + 4) (withRule g (operand bytes at 0) (signed (operand bytes at 1) (operand bytes at 2)))
+      → P (at + 4) (withRule g (operand bytes at 0) (signed (operand bytes at 1) (operand bytes at 2)) 0 lastYear)
+  pub years : (at : ℕ) (g : Grammar) → P at g → operand bytes at 0 ≤ 31 → fromYear (operand bytes at) ≤ toYear (operand bytes at)
+      → g .count < maxRules
+      → P (at + 8) (withRule g (operand bytes at 0) (signed (operand bytes at 1) (operand bytes at 2)) (fromYear (operand bytes at))
+      (toYear (operand bytes at)))
   pub place : (at : ℕ) (g : Grammar) → P at g → (s : Symbol) → HeldIn bytes at s → validSymbol s ≡ true → 0 < g .count
       → openRule g .count < maxPlaces → P (at + placeSize s) (withPlace g s)
 
@@ -172,6 +188,9 @@ module _ {bytes : List ℕ} {P : ℕ → Grammar → Type 0} (I : Invariant byte
     four : (h : Grammar) → P (at + 4) h → P (at + 1 + 3) h
     four h = subst (λ (n : ℕ). P n h) (omega arith)
 
+    eight : (h : Grammar) → P (at + 8) h → P (at + 1 + 7) h
+    eight h = subst (λ (n : ℕ). P n h) (omega arith)
+
     placed : (s : Symbol) → HeldIn bytes at s → validSymbol s ≡ true → (eqb at 0 || eqb (g .count) 0) ≡ false
         → openRule g .count ≤ 7 → (n : ℕ) → at + placeSize s ≡ n → P n (withPlace g s)
     placed s e v o p n f =
@@ -183,6 +202,7 @@ module _ {bytes : List ℕ} {P : ℕ → Grammar → Type 0} (I : Invariant byte
     step-holds = step-cases bytes at g Kept (λ f. tt)
         (λ e L. two _ (I .start at g H (omega (arith, ltb-false 0 at (L .turn))) (L .nonterminal refl)))
         (λ e L. four _ (I .rule at g H (L .nonterminal refl) (omega (arith, L .rules refl))))
+        (λ e L. eight _ (I .years at g H (L .nonterminal refl) (L .years refl) (omega (arith, L .rules refl))))
         (λ e L. placed (Nonterminal (operand bytes at 0)) refl (le-leb (operand bytes at 0) 31 (L .nonterminal refl)) (L .turn)
         (L .places refl) _ (omega arith))
         (λ e L. placed (Terminal (operand bytes at 0)) refl refl (L .turn) (L .places refl) _ (omega arith))

@@ -9,7 +9,7 @@ use lib.ListN.{length}
 use Rattle.sizes.specs.Sizes.{maxRules, maxPlaces}
 use Rattle.grammar.specs.declared.Symbol.{Symbol}
 use Rattle.grammar.specs.declared.Grammar.{Grammar}
-use Rattle.grammar.specs.Setters.{openedRule, placedRule}
+use Rattle.grammar.specs.Setters.{lastYear, openedRule, placedRule}
 use Rattle.grammar.specs.Valid.{all, validSymbol, validGrammar}
 use Rattle.grammar.proofs.Bounds.{valid-each}
 use Rattle.grammar.proofs.Setters.{opened-valid, placed-valid, set-start-valid, next-rule-valid, last-rule-valid, set-rule-size}
@@ -17,9 +17,10 @@ use Rattle.results.specs.Load.{operand, openRule, withStart, withRule, w
 use Rattle.results.proofs.Loading.Commands.{Invariant}
 
 module _ (g : Grammar) (v : validGrammar g ≡ true) where
-  with-rule-valid : (k : ℕ) (z : ℤ) → k ≤ 31 → g .count < maxRules → validGrammar (withRule g k z) ≡ true
+  with-rule-valid : (k : ℕ) (z : ℤ) (first last : ℕ) → k ≤ 31 → first ≤ last → g .count < maxRules
+      → validGrammar (withRule g k z first last) ≡ true
   unfolding withRule
-  with-rule-valid k z h m = next-rule-valid g v (openedRule k z) (opened-valid k z h) m
+  with-rule-valid k z first last h y m = next-rule-valid g v (openedRule k z first last) (opened-valid k z first last h y) m
 
   with-place-valid : (s : Symbol) → 0 < g .count → openRule g .count < maxPlaces → validSymbol s ≡ true
       → validGrammar (withPlace g s) ≡ true
@@ -33,7 +34,8 @@ module _ (bytes : List ℕ) where
   valid-invariant = record {
     zero = refl;
     start = λ at g v e h. set-start-valid g v (operand bytes at 0) h;
-    rule = λ at g v h m. with-rule-valid g v (operand bytes at 0) _ h m;
+    rule = λ at g v h m. with-rule-valid g v (operand bytes at 0) _ 0 lastYear h (omega arith) m;
+    years = λ at g v h y m. with-rule-valid g v (operand bytes at 0) _ _ _ h y m;
     place = λ at g v s e u m h. with-place-valid g v s m h u;
   }
 
@@ -42,6 +44,7 @@ module _ (bytes : List ℕ) where
   size-invariant = record {
     zero = refl;
     start = λ at g z e h. z;
-    rule = λ at g z h m. set-rule-size g (g .count) (openedRule (operand bytes at 0) _) ∙ z;
+    rule = λ at g z h m. set-rule-size g (g .count) (openedRule (operand bytes at 0) _ _ _) ∙ z;
+    years = λ at g z h y m. set-rule-size g (g .count) (openedRule (operand bytes at 0) _ _ _) ∙ z;
     place = λ at g z s e u m h. set-rule-size g (g .count - 1) (placedRule (openRule g) s) ∙ z;
   }

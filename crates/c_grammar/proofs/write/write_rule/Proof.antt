@@ -27,7 +27,7 @@ returns c =
     let entry = at-loop .before .before .before .before in (
       rule-done _ _ _ _ _ _ _ (entry .pre .0) (entry .pre .1) (length-fits (entry .args .t1) _ (entry .good .0)) (omega arith)
           (at-loop .before .before .unsigned .ensures) (at-loop .before .saturate .ensures) (at-loop .loop .inv),
-      at-loop .loop .inv .long,
+      simp length-set (at-loop .loop .inv .long),
     )
 
 pub write-rule-spec : {M : Type 1} → statement M
@@ -38,4 +38,7 @@ write-rule-spec = tie.close (tie.spec
     (λ c κs. omega arith) (λ c. omega arith) (λ c. omega arith) (λ c. omega arith)
     -- a turn of the loop: `write_place` at the index of the place
     loop-holds (λ c. omega arith) (λ c. omega arith) (λ c. omega arith) (λ c. omega arith) (λ c. omega arith) (λ c κs. omega arith)
-    (λ c. omega arith) (λ c. omega arith) (λ c. search written-step) returns)
+    (λ c. omega arith) (λ c. omega arith) (λ c. search written-step)
+    -- the years are stored
+    (λ c. omega arith) (λ c. omega arith) (λ c. omega arith) (λ c. omega arith) (λ c. omega arith) (λ c. omega arith) (λ c. omega arith)
+    returns)

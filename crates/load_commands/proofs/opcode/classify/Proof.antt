@@ -6,5 +6,5 @@ use Rattle.load_commands.proofs.opcode.classify.Tie as tie
 
 pub classify-spec : {M : Type 1} → statement M
 classify-spec = tie.close (tie.spec
-    (λ c. omega arith) (λ c. omega arith) (λ c. omega arith) (λ c. omega arith) (λ c. omega arith) (λ c. omega arith)
+    (λ c. omega arith) (λ c. omega arith) (λ c. omega arith) (λ c. omega arith) (λ c. omega arith) (λ c. omega arith) (λ c. omega arith)
     (λ c. search unknown-other))

@@ -7,6 +7,6 @@ use Rattle.print_begin.proofs.begin.begin.Tie as tie
 
 pub begin-spec : {M : Type 1} → statement M
 begin-spec = tie.close (tie.spec
-    (λ c κs. omega arith) (λ c. omega arith) (λ c κs. omega arith) (λ c κs. omega arith) (λ c. omega arith)
+    (λ c κs. omega arith) (λ c κs. omega arith) (λ c. omega arith) (λ c κs. omega arith) (λ c κs. omega arith) (λ c. omega arith)
     (λ c κs. search (needs, book-valid)) (λ c. search (needs, book-refused)) (λ c. omega arith) (λ c. omega arith)
     (λ c. search (needs, book-begun)))

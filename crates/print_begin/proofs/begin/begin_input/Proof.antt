@@ -12,7 +12,7 @@ begin-filled-requires c κs =
     let after-fill = c .before .before .before .before .before .before .before .before .before in
     let passed = after-fill .before .before .before in
     let filling = after-fill .fill-fits .ensures in
-    let ready = judged-filled _ _ _ _ (passed .before .before .judge .ensures) (passed .enum-told .given .1) _ _ (filling .0) in
+    let ready = judged-filled _ _ _ _ _ (passed .before .before .judge .ensures) (passed .enum-told .given .1) _ _ (filling .0) in
     (ready .0, ready .1, omega arith, omega arith, filling .1, ready .2)
 
 returns-2 : tie.Need-returns-2
@@ -24,7 +24,7 @@ returns-2 c =
     let passed = after-fill .before .before .before in
     let after-judge = passed .before .before in
     let entry = after-judge .before .before .before .before in
-    input-begun _ _ _ _ (after-judge .judge .ensures) (passed .enum-told .given .1) _ _ (after-fill .fill-fits .ensures .0) _
+    input-begun _ _ _ _ _ (after-judge .judge .ensures) (passed .enum-told .given .1) _ _ (after-fill .fill-fits .ensures .0) _
     (after-start .wide-byte2 .ensures .0) _ (after-lengths .lengths-of .ensures) (rules-long (entry .args .g) _ (entry .good .0)) _ _ _ _ _
     (begun .begin-filled .ensures)
 

@@ -25,7 +25,7 @@ loop-again c =
 returns : tie.Need-returns Inv-loop μ-loop
 returns c =
     let l = c .before in (
-      bytes-done _ (bytes-long (l .before .args .t1) _ (l .before .good .0)) (l .loop .i) (l .before .args .t1 .count) _ _
+      bytes-done _ (bytes-long (l .before .args .t1) _ (l .before .good .0)) (l .loop .i) (l .before .args .t1 .count) _ _ _
           (omega arith) (omega arith) (omega arith) (l .loop .inv .1),
       refl,
     )
