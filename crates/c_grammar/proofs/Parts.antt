@@ -1,4 +1,4 @@
--- The parts of a grammar as the code reads them: a symbol from its tag and its value, and a place, a rule and a grammar from their parts.
+-- The parts of a grammar as the code reads them: a symbol from its tag and its value, and a place and a rule from their parts.
 -- Assumes nothing.
 use Prim.Native.Nat.{ℕ, _+_, _≤_, _<_}
 use native.Mathlib.Omega.{arith}
@@ -13,11 +13,10 @@ use mir.Facts.{toZ-ofZ}
 use Rattle.grammar.specs.declared.Symbol.{Symbol}
 use Rattle.grammar.specs.declared.Symbol.the-variants.{Nonterminal, Terminal, Range}
 use Rattle.grammar.specs.declared.Place.{Place}
-use Rattle.grammar.specs.declared.Rule.{Rule}
-use Rattle.grammar.specs.Setters.{ruleWith, grammarWith}
-use Rattle.grammar.proofs.Setters.{rule-same, grammar-same}
+use Rattle.grammar.specs.Setters.{ruleWith}
+use Rattle.grammar.proofs.Setters.{rule-same}
 use Rattle.numbers.specs.Numbers.{byteIn, signedIn}
-use Rattle.c_grammar.specs.Flat.{yearsAt, lowEnd, highEnd, rowSymbol, rowPlace, rowPlaces, rowRule, rowRules, grammarIn}
+use Rattle.c_grammar.specs.Flat.{yearsAt, lowEnd, highEnd, rowSymbol, rowPlace, rowPlaces, rowRule}
 
 module _ (tag value v : ℕ) (e : v ≡ byteIn value) where
   pub symbol-nonterminal : tag ≡ 0 → Nonterminal v ≡ rowSymbol tag value
@@ -57,8 +56,3 @@ unfolding rowRule
 read-rule-of f at l k z p el ez s ek ep =
     rule-same (ruleWith l (toZ w16 (ofZ w16 z)) k p (getD f (at + yearsAt) 0) (getD f (at + yearsAt + 1) 0)) (rowRule f at)
     el (toZ-ofZ s ∙ ez) ek ep refl refl
-
-pub read-grammar-of : (f : List ℕ) (s k d : ℕ) (r : List Rule) → s ≡ byteIn (getD f 0 0) → k ≡ getD f 1 0 → d ≡ byteIn (getD f 2 0)
-    → r ≡ rowRules f → grammarWith s k d r ≡ grammarIn f
-unfolding grammarIn
-read-grammar-of f s k d r es ek ed er = grammar-same (grammarWith s k d r) (grammarIn f) es ek ed er

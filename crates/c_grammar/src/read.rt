@@ -9,7 +9,7 @@ use grammar::Rule;
 ghost use mathlib.Core.Path.{_≡_};
 ghost use Prim.Native.Nat.{_+_, _*_, _≤_};
 ghost use Rattle.sizes.specs.Sizes.{maxPlaces};
-ghost use Rattle.c_grammar.specs.Flat.{rowPlace, rowPlaces, rowRule, rowRules, flatSize, ruleNumbers, grammarIn};
+ghost use Rattle.c_grammar.specs.Flat.{rowPlace, rowPlaces, rowRule, flatSize, ruleNumbers, grammarIn};
 
 fn read_place(f: &Flat, at: usize) -> Place
     requires { ⌜ at + 2 ≤ flatSize ⌝ }
@@ -51,30 +51,23 @@ fn read_rule(f: &Flat, at: usize) -> Rule
     }
 }
 
-fn read_rules(f: &Flat) -> [Rule; sizes::MAX_RULES]
-    ensures { λ l. ⌜ l ≡ rowRules (now (f .entry)) ⌝ }
-{
-    let mut rules = [grammar::zero_rule(); sizes::MAX_RULES];
-    let mut r = 0;
-    while r < sizes::MAX_RULES {
-        rules[r] = read_rule(f, 3 + RULE_NUMBERS * r);
-        r += 1;
-    }
-    rules
-}
-
-// The grammar of a row.
+// The grammar of a row. Its rules are read into place: an array of them that is made first and moved then costs as much as reading it.
 pub fn read(f: &Flat) -> Grammar
     ensures { λ g. ⌜ g ≡ grammarIn (now (f .entry)) ⌝ }
 {
     let start = numbers::byte(f[0]);
     let count = numbers::wide(f[1]);
     let depth = numbers::byte(f[2]);
-    let rules = read_rules(f);
-    Grammar {
+    let mut g = Grammar {
         start: start,
         count: count,
         depth: depth,
-        rules: rules,
+        rules: [grammar::zero_rule(); sizes::MAX_RULES],
+    };
+    let mut r = 0;
+    while r < sizes::MAX_RULES {
+        g.rules[r] = read_rule(f, 3 + RULE_NUMBERS * r);
+        r += 1;
     }
+    g
 }
