@@ -2,9 +2,13 @@
 
 mod checkout;
 
-use checkout::{until, Checkout};
+use checkout::Checkout;
 use std::fs::File;
 use std::process::{Output, Stdio};
+use std::time::{Duration, Instant};
+
+/// The longest time to wait for anything here.
+const CAP: Duration = Duration::from_secs(300);
 
 /// What the stand-in prints for the book `start 0` and the plate `A`.
 const LISTED: &str = "book 100050\nplate 41\n";
@@ -19,6 +23,15 @@ fn checkout() -> Checkout {
 fn lists(output: &Output) {
     let said = String::from_utf8_lossy(&output.stderr);
     assert_eq!((output.status.code(), &*String::from_utf8_lossy(&output.stdout)), (Some(0), LISTED), "{said}");
+}
+
+/// Waits until this is so.
+fn until(mut so: impl FnMut() -> bool) {
+    let began = Instant::now();
+    while !so() {
+        assert!(began.elapsed() < CAP, "it is not so after {CAP:?}");
+        std::thread::sleep(Duration::from_millis(5));
+    }
 }
 
 /// Two at once of what builds without a lock: the second fails. So the tests below would find a missing lock.

@@ -4,10 +4,6 @@ use std::fs;
 use std::path::{Path, PathBuf};
 use std::process::{Command, Output, Stdio};
 use std::sync::atomic::{AtomicUsize, Ordering};
-use std::time::{Duration, Instant};
-
-/// The longest time to wait for anything here.
-const CAP: Duration = Duration::from_secs(60);
 
 /// rt and cargo: each call is a line in the file `calls`. As the true ones, they build a program, and as the true rt
 /// they fail if another one is at work. Where there is a file `hold`, they work until it is gone.
@@ -29,6 +25,7 @@ const LISTER: &str = r#"#!/bin/sh
 shown() { od -An -v -tx1 | tr -d ' \n'; }
 echo "book $(shown <book.bin)"
 echo "plate $(shown)"
+[ ! -e year.bin ] || echo "year $(shown <year.bin)"
 "#;
 
 /// A fresh checkout, removed at the end.
@@ -100,14 +97,5 @@ impl Checkout {
 impl Drop for Checkout {
     fn drop(&mut self) {
         let _ = fs::remove_dir_all(&self.0); // a folder left over is no fault of the command
-    }
-}
-
-/// Waits until this is so.
-pub fn until(mut so: impl FnMut() -> bool) {
-    let began = Instant::now();
-    while !so() {
-        assert!(began.elapsed() < CAP, "it is not so after {CAP:?}");
-        std::thread::sleep(Duration::from_millis(5));
     }
 }
