@@ -3,7 +3,7 @@
 use crate::fault::Refusal;
 use crate::grammar::{Grammar, Rule, Symbol, KINDS, PLACES, RULES};
 
-const START: u8 = 0x10;
+pub const START: u8 = 0x10;
 const RULE: u8 = 0x20;
 const DATED_RULE: u8 = 0x21;
 const KIND: u8 = 0x30;

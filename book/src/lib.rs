@@ -52,6 +52,12 @@ pub fn to_bytes(text: &str) -> Result<Vec<u8>, Fault> {
     Ok(bytes::written(&parse::parsed(text)?))
 }
 
+/// Whether the contents of a file are taken as the bytes of a book: they begin with the command of the start, as every book that loads
+/// does and no text.
+pub fn is_bytes(held: &[u8]) -> bool {
+    held.first() == Some(&bytes::START)
+}
+
 /// The text of a book. Bytes that do not load are refused as the library refuses them, with the number and the offset of their first
 /// fault.
 pub fn to_text(book: &[u8]) -> Result<String, Refusal> {

@@ -1,6 +1,6 @@
-//! `book write FILE` prints the bytes of the book whose text is in the file. `book read FILE` prints the text of the
-//! book in the file. In case of an error it prints only a message on standard error, and exits with status 1 for a
-//! bad file, 2 for a wrong command line.
+//! `book write FILE` prints the bytes of the book whose text is in the file; a file of bytes it prints as it is. `book
+//! read FILE` prints the text of the book in the file. In case of an error it prints only a message on standard error,
+//! and exits with status 1 for a bad file, 2 for a wrong command line.
 
 use std::ffi::OsString;
 use std::io::Write;
@@ -37,8 +37,11 @@ fn turned(file: &Path, turn: fn(Vec<u8>) -> Result<Vec<u8>, String>) -> Result<(
     out.write_all(&printed).and_then(|()| out.flush()).map_err(|error| format!("standard output: {error}"))
 }
 
-/// From a text to the bytes of a book.
+/// From a text to the bytes of a book. Bytes stay as they are, even if they do not load.
 fn write(held: Vec<u8>) -> Result<Vec<u8>, String> {
+    if book::is_bytes(&held) {
+        return Ok(held);
+    }
     let text = String::from_utf8(held).map_err(|error| {
         let good = &error.as_bytes()[..error.utf8_error().valid_up_to()];
         format!("line {}: not UTF-8", 1 + good.iter().filter(|byte| **byte == b'\n').count())

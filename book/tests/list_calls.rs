@@ -3,11 +3,13 @@
 mod checkout;
 
 use checkout::Checkout;
+use std::fs::File;
 use std::path::PathBuf;
+use std::process::Output;
 
 /// What the command needs besides rt and cargo.
 const TOOLS: &str =
-    "awk bash cat cp cut env find flock grep mkdir mktemp mv od readlink rm sed sh sha256sum sort tee tr wc xargs";
+    "awk bash cat cp cut env find flock grep head mkdir mktemp mv od readlink rm sed sh sha256sum sort tail tee tr wc xargs";
 
 /// A checkout with the book `start 0` in two files.
 fn checkout() -> Checkout {
@@ -27,7 +29,11 @@ fn says(checkout: &Checkout, arguments: &[&str], status: i32, due: &str) {
 
 /// The plate that the program is given, in hexadecimal.
 fn plate(checkout: &Checkout, arguments: &[&str]) -> String {
-    let output = checkout.list(arguments);
+    plate_of(checkout.list(arguments), arguments)
+}
+
+/// The same from what the command printed.
+fn plate_of(output: Output, arguments: &[&str]) -> String {
     let printed = String::from_utf8(output.stdout).expect("ASCII");
     assert_eq!(output.status.code(), Some(0), "{arguments:?}: {}", String::from_utf8_lossy(&output.stderr));
     let plate = printed.strip_prefix("book 100050\nplate ").and_then(|rest| rest.strip_suffix('\n'));
@@ -115,6 +121,79 @@ fn a_bad_book_is_named() {
     let mut command = checkout.command("tools/list");
     let output = command.args(["bad.txt", "A"]).current_dir(checkout.path("sub")).output().expect("tools/list runs");
     assert_eq!(String::from_utf8_lossy(&output.stderr), "book: bad.txt: line 1: `32`: a kind over 31\n");
+    assert_eq!(checkout.held("calls"), "cargo build\n");
+}
+
+/// Bytes are known by their first one, whatever the file is called. Whether they load is the program's to say.
+#[test]
+fn a_book_may_be_bytes() {
+    let checkout = checkout();
+    for (bytes, due) in [(&b"\x10\x00\x50"[..], "100050"), (b"\x10", "10"), (b"\x10\x00\n\xFF\n", "10000aff0a")] {
+        for name in ["book.bin", "bytes.txt"] {
+            checkout.put(name, bytes);
+            let output = checkout.list(&[name, "A"]);
+            assert_eq!(output.status.code(), Some(0), "{}", String::from_utf8_lossy(&output.stderr));
+            assert_eq!(String::from_utf8_lossy(&output.stdout), format!("book {due}\nplate 41\n"));
+        }
+    }
+}
+
+/// The marks of a file, and of standard input: each byte is a mark.
+#[test]
+fn a_plate_may_be_a_file() {
+    let checkout = checkout();
+    let all: Vec<u8> = (0..=255).collect();
+    for marks in [&b""[..], b"A\0", &all, &[b'\n'; 1000]] {
+        checkout.put("sub/plate", marks);
+        let due: String = marks.iter().map(|byte| format!("{byte:02x}")).collect();
+        assert_eq!(plate(&checkout, &["--file", "b.txt", "sub/plate"]), due);
+        for arguments in [&["../b.txt", "-"][..], &["../b.txt", "-", "--file"]] {
+            let mut command = checkout.command("tools/list");
+            command.current_dir(checkout.path("sub")).stdin(File::open(checkout.path("sub/plate")).expect("a file"));
+            let output = command.args(arguments).output().expect("tools/list runs");
+            assert_eq!(output.stderr, b"", "no note");
+            assert_eq!(plate_of(output, arguments), due);
+        }
+    }
+    checkout.put("-", "B");
+    assert_eq!(plate(&checkout, &["--file", "b.txt", "./-"]), "42");
+}
+
+/// More marks than any plate has are not read to their end.
+#[test]
+fn an_endless_plate_ends() {
+    let checkout = checkout();
+    assert_eq!(plate(&checkout, &["--file", "b.txt", "/dev/zero"]), "00".repeat(1000));
+}
+
+#[test]
+fn a_newline_at_the_end_is_noted() {
+    let checkout = checkout();
+    let note = "list: note: the plate ends in a newline, which is listed as a mark\n";
+    assert_eq!(plate(&checkout, &["b.txt", "A"]), "41"); // what is built is built
+    for (marks, due) in [("A\n", "410a"), ("\n", "0a"), ("A\r\n\n", "410d0a0a")] {
+        checkout.put("plate", marks);
+        for arguments in [["--file", "b.txt", "plate"], ["--", "b.txt", marks]] {
+            let output = checkout.list(&arguments);
+            assert_eq!(String::from_utf8_lossy(&output.stderr), note);
+            assert_eq!(plate_of(output, &arguments), due);
+        }
+    }
+}
+
+/// A plate that cannot be read is named, and nothing is proved for it.
+#[test]
+fn a_bad_plate_is_named() {
+    let checkout = checkout();
+    std::fs::create_dir(checkout.path("sub")).expect("a folder");
+    says(&checkout, &["--file", "b.txt", "sub/none"], 1, "list: sub/none: No such file or directory\n");
+    says(&checkout, &["--file", "b.txt", "--", "-n: o"], 1, "list: -n: o: No such file or directory\n");
+    says(&checkout, &["--file", "b.txt", "sub"], 1, "list: sub: Is a directory\n");
+    let mut closed = checkout.command("bin/closed");
+    checkout.script("bin/closed", "#!/bin/sh\nexec tools/list b.txt - <&-\n");
+    let output = closed.output().expect("a shell");
+    assert_eq!((output.status.code(), &output.stdout[..]), (Some(1), &b""[..]));
+    assert_eq!(String::from_utf8_lossy(&output.stderr), "list: standard input: it is closed\n");
     assert_eq!(checkout.held("calls"), "cargo build\n");
 }
 

@@ -39,6 +39,18 @@ fn writes_and_reads() {
     assert_eq!(printed("write", "comment.txt", "start 0 # \u{e9}\r\n".as_bytes()), b"\x10\x00\x50");
 }
 
+/// A file that begins with the byte 10 is a book already, whether it loads or not.
+#[test]
+fn writes_bytes_as_they_are() {
+    for bytes in [&b"\x10\x00\x50"[..], b"\x10", b"\x10\x00\x50\x00\xFF", b"\x10start 0\n"] {
+        assert_eq!(printed("write", "bytes.txt", bytes), bytes);
+    }
+    assert_eq!(
+        said("write", "late.bin", b"\n\x10\x00\x50"),
+        "line 2: `\\u{10}\\u{0}P`: the first statement has to be `start KIND`\n"
+    );
+}
+
 #[test]
 fn says_what_is_wrong() {
     assert_eq!(said("write", "kind.txt", b"start 0\n32 -> - : 0\n"), "line 2: `32`: a kind over 31\n");

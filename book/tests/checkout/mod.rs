@@ -58,7 +58,7 @@ impl Checkout {
     }
 
     /// Writes a file, and makes its folder.
-    pub fn put(&self, name: &str, held: &str) {
+    pub fn put(&self, name: &str, held: impl AsRef<[u8]>) {
         let path = self.path(name);
         fs::create_dir_all(path.parent().expect("a folder")).and_then(|()| fs::write(&path, held)).expect("a file");
     }
@@ -83,7 +83,7 @@ impl Checkout {
     pub fn command(&self, name: &str) -> Command {
         let mut command = Command::new(self.path(name));
         let path = format!("{}:{}", self.path("bin").display(), std::env::var("PATH").expect("a path"));
-        command.env("PATH", path).env("CHECKOUT", &self.0).env("BOOK", env!("CARGO_BIN_EXE_book"));
+        command.env("LC_ALL", "C").env("PATH", path).env("CHECKOUT", &self.0).env("BOOK", env!("CARGO_BIN_EXE_book"));
         command.current_dir(&self.0).stdin(Stdio::null()).stdout(Stdio::piped()).stderr(Stdio::piped());
         command
     }
