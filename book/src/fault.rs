@@ -20,16 +20,16 @@ pub enum Reason {
     StartDue(String),
     /// There is a second `start`.
     StartAgain,
-    /// There is no kind after `start`.
+    /// The line ends where a kind is due, after `start`.
     StartWithoutKind,
     /// The start or a left side is not a decimal number.
     NotAKind(String),
     /// A kind is over 31.
     KindOver(String),
-    /// There is no `->` after the left side.
-    ArrowDue,
-    /// There is nothing between `->` and `:`.
-    PlacesDue,
+    /// This word is where `->` is due, after the left side; none at the end of the line.
+    ArrowDue(Option<String>),
+    /// This word is where places are due, after `->`; none at the end of the line.
+    PlacesDue(Option<String>),
     /// `-`, which means that there is no place, is not alone.
     DashWithPlaces,
     /// A place is neither a kind nor a mark nor a range.
@@ -43,8 +43,8 @@ pub enum Reason {
     /// The quote or the backslash is in quotes.
     NotInQuotes(String),
     /// There is a ninth place.
-    NinthPlace,
-    /// The places are not followed by `:` and a word.
+    NinthPlace(String),
+    /// The line ends where `:` and a length are due, after the places.
     LengthDue,
     /// A length is not a number of millimetres with at most two decimals.
     NotALength(String),
@@ -60,8 +60,8 @@ pub enum Reason {
     YearsReversed(String),
     /// A word follows the end of a statement.
     Further(String),
-    /// There is a 129th rule.
-    TooManyRules,
+    /// There is a 129th rule, with this left side.
+    TooManyRules(String),
 }
 
 /// Why bytes are not a book: a refusal of document 01, or 16 or 21 of document 02.
@@ -82,8 +82,10 @@ impl fmt::Display for Fault {
 impl fmt::Display for Reason {
     fn fmt(&self, f: &mut fmt::Formatter<'_>) -> fmt::Result {
         use Reason::*;
-        if let Some(word) = self.word() {
-            write!(f, "`{}`: ", shown(word))?;
+        match self.word() {
+            Some(word) => write!(f, "`{}`: ", shown(word))?,
+            None if self.at_end() => f.write_str("at the end of the line: ")?,
+            None => (),
         }
         f.write_str(match self {
             NoStart => "there is no `start KIND`",
@@ -92,15 +94,15 @@ impl fmt::Display for Reason {
             StartWithoutKind => "a kind is due after `start`",
             NotAKind(_) => "not a kind: a decimal number from 0 to 31",
             KindOver(_) => "a kind over 31",
-            ArrowDue => "`->` is due after the left side",
-            PlacesDue => "places are due after `->`, or `-` for no place",
+            ArrowDue(_) => "`->` is due after the left side",
+            PlacesDue(_) => "places are due after `->`, or `-` for no place",
             DashWithPlaces => "`-` says that there is no place, and must be alone",
             NotAPlace(_) => "neither a kind (0 to 31) nor a mark ('A', or =41 for any byte) nor a range ('0'..'9')",
             NotAMark(_) => "not a mark: one printable ASCII character in quotes, or = and two hexadecimal digits",
             NotARange(_) => "not a range: a mark, two points and a mark, as in '0'..'9' or =30..=39",
             RangeReversed(_) => "a reversed range: its first mark is over its last",
             NotInQuotes(_) => "quote and backslash are the marks =27 and =5C, and cannot be in quotes",
-            NinthPlace => "a ninth place",
+            NinthPlace(_) => "a ninth place",
             LengthDue => "`:` and a length in millimetres are due after the places",
             NotALength(_) => "not a length: millimetres, with at most two decimals",
             LengthOver(_) => "a length out of range: -327.68 to 327.67",
@@ -109,22 +111,29 @@ impl fmt::Display for Reason {
             YearOver(_) => "a year over 65535",
             YearsReversed(_) => "reversed years: the first is over the last",
             Further(_) => "a word after the end of the statement",
-            TooManyRules => "the 129th rule",
+            TooManyRules(_) => "the left side of a 129th rule",
         })
     }
 }
 
 impl Reason {
-    /// The wrong word, if there is one.
+    /// The wrong word, if there is one. Where it is always the same, the message itself has it.
     fn word(&self) -> Option<&str> {
         use Reason::*;
         match self {
             StartDue(word) | NotAKind(word) | KindOver(word) | NotAPlace(word) | NotAMark(word) => Some(word),
-            NotARange(word) | RangeReversed(word) | NotInQuotes(word) => Some(word),
-            NotALength(word) | LengthOver(word) | Further(word) => Some(word),
+            NotARange(word) | RangeReversed(word) | NotInQuotes(word) | NinthPlace(word) => Some(word),
+            NotALength(word) | LengthOver(word) | Further(word) | TooManyRules(word) => Some(word),
             NotAYear(word) | YearOver(word) | YearsReversed(word) => Some(word),
+            ArrowDue(word) | PlacesDue(word) => word.as_deref(),
             _ => None,
         }
+    }
+
+    /// Whether the line ends where something is due.
+    fn at_end(&self) -> bool {
+        use Reason::*;
+        matches!(self, StartWithoutKind | ArrowDue(None) | PlacesDue(None) | LengthDue | YearsDue)
     }
 }
 

@@ -17,8 +17,9 @@
 //! # The text
 //!
 //! The text is UTF-8, with one statement on each line; a line may be empty. The words of a line are separated by one or more blanks
-//! (spaces and tabs), and there may be blanks around them. `#` begins a comment that goes to the end of its line, except in the mark
-//! `'#'`, also as an end of a range. Lines end with a line feed, or with a carriage return and a line feed.
+//! (spaces and tabs), and there may be blanks around them. Around `->` and `:` blanks are not needed, and `→` means the same as `->`. `#`
+//! begins a comment that goes to the end of its line, except in the mark `'#'`, also as an end of a range. Lines end with a line feed, or
+//! with a carriage return and a line feed. A byte order mark may come before the text.
 //!
 //! - `start KIND` is the first statement, and occurs only there.
 //! - `KIND -> PLACES : LENGTH` is a rule. Rules are numbered from 0, in order; there are at most 128.
@@ -33,7 +34,8 @@
 //!   first to the last, both included, and the first must not be over the last. `'A'..'A'` and `'A'` are two books.
 //! - A length is in millimetres, from -327.68 to 327.67: an optional sign, digits, and optionally a point with one or two digits.
 //!
-//! The first fault counts, line by line and from the left. A word is checked before it is found to be one too many.
+//! The first fault counts, line by line and from the left. A word is checked before it is found to be one too many. The message has the
+//! wrong word, or says that the line ends where one is due.
 //!
 //! [`to_text`] writes each statement on a line of its own, with single spaces, lengths with two decimals, no comments, and a mark in
 //! quotes wherever that is possible. It loses nothing: [`to_bytes`] turns what it writes into the original bytes.

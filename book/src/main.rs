@@ -42,11 +42,17 @@ fn write(held: Vec<u8>) -> Result<Vec<u8>, String> {
     if book::is_bytes(&held) {
         return Ok(held);
     }
-    let text = String::from_utf8(held).map_err(|error| {
-        let good = &error.as_bytes()[..error.utf8_error().valid_up_to()];
-        format!("line {}: not UTF-8", 1 + good.iter().filter(|byte| **byte == b'\n').count())
-    })?;
+    let text = String::from_utf8(held).map_err(|error| not_utf8(error.as_bytes(), error.utf8_error().valid_up_to()))?;
     book::to_bytes(&text).map_err(|fault| fault.to_string())
+}
+
+/// What is wrong with bytes that are no UTF-8 from this one on: the line, and the word with that byte.
+fn not_utf8(held: &[u8], at: usize) -> String {
+    let ends = |byte: &u8| byte.is_ascii_whitespace();
+    let line = 1 + held[..at].iter().filter(|byte| **byte == b'\n').count();
+    let from = held[..at].iter().rposition(ends).map_or(0, |before| before + 1);
+    let to = held[at..].iter().position(ends).map_or(held.len(), |after| at + after);
+    format!("line {line}: `{}`: not UTF-8", held[from..to].escape_ascii())
 }
 
 /// From the bytes of a book to a text.

@@ -2,18 +2,20 @@
 
 use crate::fault::{Fault, Reason};
 use crate::grammar::{Grammar, Rule, Symbol, PLACES, RULES};
-use crate::words::{kind, length, place, words, year};
+use crate::words::{kind, length, place, words, year, ARROW, COLON, SHORT_ARROW};
 
 /// The word that begins the first statement.
 const START: &str = "start";
 /// The word before the years of a rule.
 const YEARS: &str = "years";
+/// What some editors write before a text: the byte order mark. It says nothing.
+const MARK: char = '\u{feff}';
 
 /// What the text says. If a text has no statement, its fault is in its last line.
 pub fn parsed(text: &str) -> Result<Grammar, Fault> {
     let mut grammar = None;
     let mut last = 1;
-    for (at, line) in text.lines().enumerate() {
+    for (at, line) in text.strip_prefix(MARK).unwrap_or(text).lines().enumerate() {
         last = at + 1;
         statement(&mut grammar, &words(line)).map_err(|reason| Fault { line: last, reason })?;
     }
@@ -25,7 +27,7 @@ fn statement(grammar: &mut Option<Grammar>, words: &[&str]) -> Result<(), Reason
     match (grammar, words) {
         (_, []) => Ok(()),
         (Some(_), [START, ..]) => Err(Reason::StartAgain),
-        (Some(grammar), [left, rest @ ..]) => add(grammar, rule(left, rest)?),
+        (Some(grammar), [left, rest @ ..]) => add(grammar, rule(left, rest)?, left),
         (grammar, [START, rest @ ..]) => {
             *grammar = Some(Grammar { start: start(rest)?, rules: Vec::new() });
             Ok(())
@@ -45,8 +47,11 @@ fn start(words: &[&str]) -> Result<u8, Reason> {
 /// A rule, from its left side and the words after it.
 fn rule(left: &str, words: &[&str]) -> Result<Rule, Reason> {
     let left = kind(left)?;
-    let ["->", rest @ ..] = words else { return Err(Reason::ArrowDue) };
-    let colon = rest.iter().position(|word| *word == ":").unwrap_or(rest.len());
+    let [ARROW | SHORT_ARROW, rest @ ..] = words else { return Err(Reason::ArrowDue(first(words))) };
+    let colon = rest.iter().position(|word| *word == COLON).unwrap_or(rest.len());
+    if colon == 0 {
+        return Err(Reason::PlacesDue(first(rest)));
+    }
     let places = places(&rest[..colon])?;
     let [_, word, rest @ ..] = &rest[colon..] else { return Err(Reason::LengthDue) };
     let length = length(word)?;
@@ -68,10 +73,8 @@ fn years(words: &[&str]) -> Result<Option<(u16, u16)>, Reason> {
 
 /// The places between `->` and `:`.
 fn places(words: &[&str]) -> Result<Vec<Symbol>, Reason> {
-    match words {
-        [] => return Err(Reason::PlacesDue),
-        ["-"] => return Ok(Vec::new()),
-        _ => (),
+    if words == ["-"] {
+        return Ok(Vec::new());
     }
     let mut places = Vec::new();
     for word in words {
@@ -80,20 +83,25 @@ fn places(words: &[&str]) -> Result<Vec<Symbol>, Reason> {
         }
         let place = place(word)?;
         if places.len() == PLACES {
-            return Err(Reason::NinthPlace);
+            return Err(Reason::NinthPlace(word.to_string()));
         }
         places.push(place);
     }
     Ok(places)
 }
 
-/// Adds a rule, unless it is the 129th.
-fn add(grammar: &mut Grammar, rule: Rule) -> Result<(), Reason> {
+/// Adds a rule with this left side, unless it is the 129th.
+fn add(grammar: &mut Grammar, rule: Rule, left: &str) -> Result<(), Reason> {
     if grammar.rules.len() == RULES {
-        return Err(Reason::TooManyRules);
+        return Err(Reason::TooManyRules(left.to_string()));
     }
     grammar.rules.push(rule);
     Ok(())
+}
+
+/// The first of the words, if there is one.
+fn first(words: &[&str]) -> Option<String> {
+    words.first().map(|word| word.to_string())
 }
 
 /// No word may follow a statement.

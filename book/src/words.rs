@@ -5,8 +5,14 @@ use crate::grammar::{Symbol, KINDS};
 
 /// What is written between the two marks of a range.
 const RANGE: &str = "..";
+/// What is written between a left side and its places.
+pub const ARROW: &str = "->";
+/// The same as one character.
+pub const SHORT_ARROW: &str = "\u{2192}";
+/// What is written between places and a length.
+pub const COLON: &str = ":";
 
-/// The words of a line without its comment.
+/// The words of a line without its comment. Arrows and colons are words of their own, also without blanks around them.
 pub fn words(line: &str) -> Vec<&str> {
     let mut words = Vec::new();
     let mut rest = line.trim_start_matches(is_blank);
@@ -18,18 +24,28 @@ pub fn words(line: &str) -> Vec<&str> {
     words
 }
 
-/// Where the word at the front ends: before a blank or `#`. The character after a quote that begins the word, or that follows `..` in
-/// it, belongs to the word, whatever it is: so `' '`, `'#'` and `' '..'#'` are words.
+/// Where the word at the front ends: before a blank, `#`, an arrow or a colon, or after it if it is one of the last two. The character
+/// after a quote that begins the word, or that follows `..` in it, belongs to the word, whatever it is: so `' '`, `'#'` and `' '..':'` are
+/// words.
 fn word_end(line: &str) -> usize {
+    if let Some(word) = sign(line) {
+        return word.len();
+    }
     let mut chars = line.char_indices();
     while let Some((at, c)) = chars.next() {
         match c {
             '\'' if at == 0 || line[..at].ends_with(RANGE) => drop(chars.next()),
             '#' | ' ' | '\t' => return at,
+            _ if sign(&line[at..]).is_some() => return at,
             _ => (),
         }
     }
     line.len()
+}
+
+/// The arrow or the colon at the front.
+fn sign(line: &str) -> Option<&'static str> {
+    [ARROW, SHORT_ARROW, COLON].into_iter().find(|word| line.starts_with(word))
 }
 
 fn is_blank(c: char) -> bool {

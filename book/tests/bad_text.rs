@@ -2,6 +2,8 @@
 
 use book::{to_bytes, Fault, Reason};
 
+const LENGTH_DUE: &str = "at the end of the line: `:` and a length in millimetres are due after the places";
+
 /// A start, and a rule with these words in line 2.
 fn rule(words: &str) -> String {
     format!("start 0\n{words}\n0 -> - : 0.00\n")
@@ -24,7 +26,7 @@ fn without_start() {
     for (text, line) in [("", 1), ("\n", 1), (" # start 0", 1), ("\n\n# start 0\n", 3), ("\n \t\n", 2)] {
         refused(text, line, Reason::NoStart, "there is no `start KIND`");
     }
-    for (text, line, word) in [("0 -> - : 0", 1, "0"), ("\n#\nStart 0", 3, "Start"), ("start: 0", 1, "start:")] {
+    for (text, line, word) in [("0 -> - : 0", 1, "0"), ("\n#\nStart 0", 3, "Start"), ("start0", 1, "start0")] {
         let printed = format!("`{word}`: the first statement has to be `start KIND`");
         refused(text, line, with(Reason::StartDue, word), &printed);
     }
@@ -32,7 +34,8 @@ fn without_start() {
 
 #[test]
 fn a_bad_start() {
-    refused("\nstart # 0\nstart 0", 2, Reason::StartWithoutKind, "a kind is due after `start`");
+    refused("\nstart # 0\nstart 0", 2, Reason::StartWithoutKind, "at the end of the line: a kind is due after `start`");
+    refused("start: 0", 1, with(Reason::NotAKind, ":"), "`:`: not a kind: a decimal number from 0 to 31");
     refused("start 0\n\nstart 0", 3, Reason::StartAgain, "a second `start`");
     refused("start 0\n0 -> - : 0\nstart\n", 3, Reason::StartAgain, "a second `start`");
     refused("start 32", 1, with(Reason::KindOver, "32"), "`32`: a kind over 31");
@@ -51,7 +54,7 @@ fn a_bad_left_side() {
         let printed = format!("`{word}`: a kind over 31");
         refused(&rule(&format!("{word} -> - : 0")), 2, with(Reason::KindOver, word), &printed);
     }
-    for word in ["A", "'A'", "=41", "-1", "->", ":", "0->", "\u{feff}0"] {
+    for word in ["A", "'A'", "=41", "-1", "->", ":", "\u{feff}0"] {
         let fault = Fault { line: 2, reason: with(Reason::NotAKind, word) };
         assert_eq!(to_bytes(&rule(&format!("{word} 0 : 0"))), Err(fault));
     }
@@ -61,21 +64,40 @@ fn a_bad_left_side() {
 
 #[test]
 fn no_arrow() {
-    for words in ["0", "0 1 1 : 0", "0 : 0", "0 = 1 : 0", "0 - > 1 : 0", "0 \u{2192} 1 : 0", "0 # -> 1 : 0"] {
-        refused(&rule(words), 2, Reason::ArrowDue, "`->` is due after the left side");
+    for words in ["0", "0 # -> 1 : 0"] {
+        refused(&rule(words), 2, Reason::ArrowDue(None), "at the end of the line: `->` is due after the left side");
+    }
+    for (words, word) in [
+        ("0 1 1 : 0", "1"),
+        ("0 : 0", ":"),
+        ("0:0", ":"),
+        ("0 = 1 : 0", "="),
+        ("0 - > 1 : 0", "-"),
+        ("0 --> 1 : 0", "-"),
+        ("0 => 1 : 0", "=>"),
+        ("0 \u{21d2} 1 : 0", "\u{21d2}"),
+    ] {
+        let shown = if word == "\u{21d2}" { "\\u{21d2}" } else { word };
+        let printed = format!("`{shown}`: `->` is due after the left side");
+        refused(&rule(words), 2, Reason::ArrowDue(Some(word.to_string())), &printed);
     }
 }
 
 #[test]
 fn bad_places() {
-    for words in ["0 ->", "0 -> : 0", "0 -> # 1"] {
-        refused(&rule(words), 2, Reason::PlacesDue, "places are due after `->`, or `-` for no place");
+    for words in ["0 ->", "0 -> # 1", "0\u{2192}"] {
+        let printed = "at the end of the line: places are due after `->`, or `-` for no place";
+        refused(&rule(words), 2, Reason::PlacesDue(None), printed);
+    }
+    for words in ["0 -> : 0", "0->:0"] {
+        let printed = "`:`: places are due after `->`, or `-` for no place";
+        refused(&rule(words), 2, Reason::PlacesDue(Some(":".to_string())), printed);
     }
     for words in ["0 -> - 1 : 0", "0 -> 1 - : 0", "0 -> - - : 0"] {
         let printed = "`-` says that there is no place, and must be alone";
         refused(&rule(words), 2, Reason::DashWithPlaces, printed);
     }
-    for word in ["A", "-1", "1.0", "->", "46.00", "0x41", "1:", "x'A'", "\u{e9}", "0..9", "..'9'"] {
+    for word in ["A", "-1", "1.0", "->", "46.00", "0x41", "1'A'", "x'A'", "\u{e9}", "0..9", "..'9'"] {
         let shown = if word == "\u{e9}" { "\\u{e9}" } else { word };
         let printed =
             format!("`{shown}`: neither a kind (0 to 31) nor a mark ('A', or =41 for any byte) nor a range ('0'..'9')");
@@ -91,7 +113,7 @@ fn bad_marks() {
     for word in words.into_iter().chain(more) {
         // the character after the first quote belongs to the word; a later blank or # ends it
         let due = match word {
-            "'" => "' :",
+            "'" => "' ",
             "'# 1" => "'#",
             "'  '" => "' ",
             _ => word,
@@ -141,15 +163,17 @@ fn bad_ranges() {
         refused(&rule(&format!("0 -> 1 {word} : 0")), 2, with(Reason::NotInQuotes, word), &printed);
     }
     // a word is checked before it is found to be one too many
-    refused(&rule("0 -> 1 1 1 1 1 1 1 1 '0'..'9' : 0"), 2, Reason::NinthPlace, "a ninth place");
+    let ninth = with(Reason::NinthPlace, "'0'..'9'");
+    refused(&rule("0 -> 1 1 1 1 1 1 1 1 '0'..'9' : 0"), 2, ninth, "`'0'..'9'`: a ninth place");
     let printed = "`'9'..'0'`: a reversed range: its first mark is over its last";
     refused(&rule("0 -> 1 1 1 1 1 1 1 1 '9'..'0' : 0"), 2, with(Reason::RangeReversed, "'9'..'0'"), printed);
 }
 
 #[test]
 fn a_ninth_place() {
-    for words in ["0 -> 1 1 1 1 1 1 1 1 1 : 0", "0 -> 1 1 1 1 1 1 1 1 'A' 1 1 :", "0 -> 1 1 1 1 1 1 1 1 =41"] {
-        refused(&rule(words), 2, Reason::NinthPlace, "a ninth place");
+    for (rest, word) in [("2 : 0", "2"), ("'A' 1 1 :", "'A'"), ("=41", "=41")] {
+        let words = format!("0 -> 1 1 1 1 1 1 1 1 {rest}");
+        refused(&rule(&words), 2, with(Reason::NinthPlace, word), &format!("`{word}`: a ninth place"));
     }
     // a word is checked before it is found to be one too many
     refused(&rule("0 -> 1 1 1 1 1 1 1 1 32 : 0"), 2, with(Reason::KindOver, "32"), "`32`: a kind over 31");
@@ -158,9 +182,10 @@ fn a_ninth_place() {
 #[test]
 fn a_bad_length() {
     for words in ["0 -> 1", "0 -> 1 :", "0 -> - : # 0", "0 -> 1 ':'"] {
-        refused(&rule(words), 2, Reason::LengthDue, "`:` and a length in millimetres are due after the places");
+        refused(&rule(words), 2, Reason::LengthDue, LENGTH_DUE);
     }
-    let words = ["46.001", "46.000", "46.", ".5", "-", "+", "--1", "1e2", "46,00", "46mm", "'1'", ":", "1.-5", "1.2.3"];
+    let words =
+        ["46.001", "46.000", "46.", ".5", "-", "+", "--1", "1e2", "46,00", "46mm", "'1'", ":", "1.-5", "1.2.3", "->"];
     for word in words {
         let printed = format!("`{word}`: not a length: millimetres, with at most two decimals");
         refused(&rule(&format!("0 -> - : {word}")), 2, with(Reason::NotALength, word), &printed);
@@ -178,7 +203,7 @@ fn a_bad_length() {
 #[test]
 fn bad_years() {
     for words in ["years", "years 1998", "years # 1998 2007"] {
-        let printed = "a first and a last year are due after `years`";
+        let printed = "at the end of the line: a first and a last year are due after `years`";
         refused(&rule(&format!("0 -> - : 1 {words}")), 2, Reason::YearsDue, printed);
     }
     for word in ["x", "-1", "+1", "1998.", "1998-2007", "0x7CE", "'1'", "years", "\u{664}"] {
@@ -209,15 +234,11 @@ fn bad_years() {
 fn the_129th_rule() {
     let full = format!("start 0\n#\n{}", "0 -> - : 0\n".repeat(128));
     assert_eq!(to_bytes(&full).map(|bytes| bytes.len()), Ok(2 + 4 * 128 + 1));
-    refused(&format!("{full}\n0 -> - : 0\nx"), 132, Reason::TooManyRules, "the 129th rule");
+    let printed = "`07`: the left side of a 129th rule";
+    refused(&format!("{full}\n07 -> - : 0\nx"), 132, with(Reason::TooManyRules, "07"), printed);
     // a word is checked before the rule is found to be one too many
     refused(&format!("{full}32 -> - : 0\n"), 131, with(Reason::KindOver, "32"), "`32`: a kind over 31");
-    refused(
-        &format!("{full}0 -> -\n"),
-        131,
-        Reason::LengthDue,
-        "`:` and a length in millimetres are due after the places",
-    );
+    refused(&format!("{full}0 -> -\n"), 131, Reason::LengthDue, LENGTH_DUE);
 }
 
 #[test]

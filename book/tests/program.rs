@@ -55,7 +55,8 @@ fn writes_bytes_as_they_are() {
 fn says_what_is_wrong() {
     assert_eq!(said("write", "kind.txt", b"start 0\n32 -> - : 0\n"), "line 2: `32`: a kind over 31\n");
     assert_eq!(said("write", "empty.txt", b""), "line 1: there is no `start KIND`\n");
-    assert_eq!(said("write", "latin.txt", b"start 0\n\n# \xE9\n"), "line 3: not UTF-8\n");
+    assert_eq!(said("write", "latin.txt", b"start 0\n\n# caf\xE9 'A'\r\n"), "line 3: `caf\\xe9`: not UTF-8\n");
+    assert_eq!(said("write", "utf16.txt", b"\xFF\xFEs\0t\0"), "line 1: `\\xff\\xfes\\x00t\\x00`: not UTF-8\n");
     let due = "refusal 1 at offset 0: the book ends inside a command, or where one is due\n";
     assert_eq!(said("read", "empty.bin", b""), due);
     let output = run(&["write", "no such file"]);

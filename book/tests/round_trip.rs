@@ -112,8 +112,8 @@ fn ranges_are_spelt_in_many_ways() {
     assert!(returns(&draft.bytes()).ends_with("0 -> ' '..' ' ' '..'#' '#'..=27 '.'..'.' : 0.00\n"));
 }
 
-/// The same book in other spellings: blanks, comments, empty lines, line ends, zeros, signs, decimals, marks in
-/// hexadecimal.
+/// The same book in other spellings: blanks or none, arrows, a byte order mark, comments, empty lines, line ends,
+/// zeros, signs, decimals, marks in hexadecimal.
 #[test]
 fn random_spellings_are_read() {
     for seed in 0..2000 {
@@ -146,6 +146,23 @@ fn years_return() {
     assert!((0..=u16::MAX)
         .step_by(13)
         .all(|year| one(year) == format!("start 31\n7 -> - : 0.00 years {year} {year}\n")));
+}
+
+/// Arrows and colons need no blanks, and in a mark they are nothing but a mark.
+#[test]
+fn arrows_and_colons_are_spelt_in_many_ways() {
+    let mut draft = Draft::new(0);
+    draft.rules.push((0, 4600, vec![Sym::N(1), Sym::N(1)]));
+    draft.rules.push((1, -25, vec![]));
+    draft.rules.push((1, 25, vec![Sym::T(b':'), Sym::R(b'-', b'>'), Sym::R(b' ', b':')]));
+    for text in [
+        "start 0\n0 -> 1 1 : 46\n1 -> - : -0.25\n1 -> ':' '-'..'>' ' '..':' : 0.25\n",
+        "start 0\n0->1 1:46\n1->-:-0.25\n1->':' '-'..'>' ' '..':':0.25#:\n",
+        "start 0\n0\u{2192}1 1:46\n1 \u{2192} -: -0.25\n1\u{2192} =3A =2d..'>' =20..':' :0.25",
+        "\u{feff}start 0\r\n0 ->1 1 :46\r\n\r\n1-> - :-0.25\r\n1 ->':' '-'..=3E\t' '..=3a : +0.25\r\n",
+    ] {
+        assert_eq!(to_bytes(text), Ok(draft.bytes()), "{text}");
+    }
 }
 
 #[test]

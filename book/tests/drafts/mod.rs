@@ -43,24 +43,35 @@ fn symbol(rng: &mut Rng) -> Sym {
 
 /// A text of the book in a random spelling, wherever there is more than one.
 pub fn spelt(rng: &mut Rng, draft: &Draft) -> String {
-    let mut text = String::new();
+    let mut text = rng.pick(&["", "", "\u{feff}"]).to_string();
     let start = kind(rng, draft.start);
-    line(rng, &mut text, &["start".to_string(), start]);
+    let statement = format!("start{}{start}", blanks(rng));
+    line(rng, &mut text, &statement);
     for (number, (left, length, places)) in draft.rules.iter().enumerate() {
-        let mut words = vec![kind(rng, *left), "->".to_string()];
-        words.extend(places.iter().map(|place| match *place {
-            Sym::N(k) => kind(rng, k),
-            Sym::T(t) => mark(rng, t),
-            Sym::R(low, high) => format!("{}..{}", mark(rng, low), mark(rng, high)),
-        }));
+        let mut words = vec![kind(rng, *left), sign(rng, &["->", "\u{2192}"])];
+        for (at, place) in places.iter().enumerate() {
+            words.push(if at > 0 { blanks(rng) } else { String::new() });
+            words.push(match *place {
+                Sym::N(k) => kind(rng, k),
+                Sym::T(t) => mark(rng, t),
+                Sym::R(low, high) => format!("{}..{}", mark(rng, low), mark(rng, high)),
+            });
+        }
         if places.is_empty() {
             words.push("-".to_string());
         }
-        words.extend([":".to_string(), millimetres(rng, *length)]);
+        words.extend([sign(rng, &[":"]), millimetres(rng, *length)]);
         if let Some((first, last)) = draft.years.get(&number) {
-            words.extend(["years".to_string(), year(rng, *first), year(rng, *last)]);
+            words.extend([
+                blanks(rng),
+                "years".to_string(),
+                blanks(rng),
+                year(rng, *first),
+                blanks(rng),
+                year(rng, *last),
+            ]);
         }
-        line(rng, &mut text, &words);
+        line(rng, &mut text, &words.concat());
     }
     if rng.one_in(4) {
         text.truncate(text.trim_end_matches(['\r', '\n']).len());
@@ -68,8 +79,19 @@ pub fn spelt(rng: &mut Rng, draft: &Draft) -> String {
     text
 }
 
-/// Adds a line, with blanks and comments, and with empty lines before it.
-fn line(rng: &mut Rng, text: &mut String, words: &[String]) {
+/// What separates two words.
+fn blanks(rng: &mut Rng) -> String {
+    rng.pick(&[" ", " ", "\t", "  \t "]).to_string()
+}
+
+/// An arrow or a colon, with and without blanks around it.
+fn sign(rng: &mut Rng, signs: &[&'static str]) -> String {
+    let around = ["", "", " ", "\t "];
+    [rng.pick(&around), rng.pick(signs), rng.pick(&around)].concat()
+}
+
+/// Adds a line with a statement, with blanks and comments, and with empty lines before it.
+fn line(rng: &mut Rng, text: &mut String, statement: &str) {
     let end = rng.pick(&["\n", "\n", "\r\n"]);
     let comment = rng.pick(&["#", "# start 1", "#0 -> 1 : 2", "# 'é', \u{2028}", "##'"]);
     for _ in 0..rng.pick(&[0, 0, 0, 1, 3]) {
@@ -78,7 +100,7 @@ fn line(rng: &mut Rng, text: &mut String, words: &[String]) {
         *text += end;
     }
     *text += rng.pick(&["", "", " ", "\t "]);
-    *text += &words.join(rng.pick(&[" ", " ", "\t", "  \t "]));
+    *text += statement;
     *text += rng.pick(&["", "", " ", "\t\t"]);
     *text += rng.pick(&["", comment]);
     *text += end;
