@@ -148,19 +148,27 @@ fn shown(word: &str) -> String {
 
 impl fmt::Display for Refusal {
     fn fmt(&self, f: &mut fmt::Formatter<'_>) -> fmt::Result {
-        let what = match self.number {
-            1 => "the book ends inside a command, or where one is due",
-            2 => "an unknown command",
-            3 => "a command out of turn",
-            4 => "a kind over 31",
-            5 => "the 129th rule",
-            6 => "a ninth place",
-            16 => "a reversed range",
-            21 => "reversed years",
-            _ => "a byte after the end of the book",
-        };
+        let what = meaning(self.number).unwrap_or("an unknown refusal");
         write!(f, "refusal {} at offset {}: {what}", self.number, self.offset)
     }
+}
+
+/// What a refusal of this number says, if it is one of a book, or one of a plate that the listing program gives.
+pub fn meaning(number: u8) -> Option<&'static str> {
+    Some(match number {
+        1 => "the book ends inside a command, or where one is due",
+        2 => "an unknown command",
+        3 => "a command out of turn",
+        4 => "a kind over 31",
+        5 => "the 129th rule",
+        6 => "a ninth place",
+        7 => "a byte after the end of the book",
+        9 => "the plate has more than 64 marks",
+        13 => "the plate can be built, but only with more than 512 parts",
+        16 => "a reversed range",
+        21 => "reversed years",
+        _ => return None,
+    })
 }
 
 impl std::error::Error for Fault {}

@@ -44,10 +44,12 @@ mod bytes;
 mod fault;
 mod grammar;
 mod parse;
+mod summary;
 mod words;
 mod write;
 
 pub use fault::{Fault, Reason, Refusal};
+pub use summary::summary;
 
 /// The bytes of the book that the text describes; they load. A bad text is refused with the line and the reason of its first fault.
 pub fn to_bytes(text: &str) -> Result<Vec<u8>, Fault> {

@@ -1,19 +1,23 @@
 //! `book write FILE` prints the bytes of the book whose text is in the file; a file of bytes it prints as it is. `book
-//! read FILE` prints the text of the book in the file. In case of an error it prints only a message on standard error,
-//! and exits with status 1 for a bad file, 2 for a wrong command line.
+//! read FILE` prints the text of the book in the file. `book summary FILE` prints in short what the file, a listing of
+//! the program `list`, says. In case of an error it prints only a message on standard error, and exits with status 1 for
+//! a bad file, 2 for a wrong command line.
 
 use std::ffi::OsString;
 use std::io::Write;
 use std::path::Path;
 use std::process::ExitCode;
 
-const USAGE: &str = "usage: book write FILE.txt > book.bin\n       book read book.bin > FILE.txt";
+const USAGE: &str = "usage: book write FILE.txt > book.bin
+       book read book.bin > FILE.txt
+       book summary LISTING";
 
 fn main() -> ExitCode {
     let arguments: Vec<OsString> = std::env::args_os().skip(1).collect();
     let turn = match &arguments[..] {
         [verb, _] if verb == "write" => write,
         [verb, _] if verb == "read" => read,
+        [verb, _] if verb == "summary" => summary,
         _ => {
             eprintln!("{USAGE}");
             return ExitCode::from(2);
@@ -58,4 +62,10 @@ fn not_utf8(held: &[u8], at: usize) -> String {
 /// From the bytes of a book to a text.
 fn read(held: Vec<u8>) -> Result<Vec<u8>, String> {
     book::to_text(&held).map(String::into_bytes).map_err(|refusal| refusal.to_string())
+}
+
+/// From a listing to its summary.
+fn summary(held: Vec<u8>) -> Result<Vec<u8>, String> {
+    let said = |line: usize| format!("line {line}: not a line of a listing");
+    book::summary(&String::from_utf8_lossy(&held)).map(String::into_bytes).map_err(said)
 }

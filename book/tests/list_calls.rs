@@ -197,6 +197,21 @@ fn a_bad_plate_is_named() {
     assert_eq!(checkout.held("calls"), "cargo build\n");
 }
 
+/// The list goes to standard output as without the summary, which comes on standard error.
+#[test]
+fn a_summary_is_added() {
+    let checkout = checkout();
+    let listing = "1: 1.0 0.1 1.2 = 462\n2: 1.0 1.2 0.1 = 462\nREADINGS 2\n";
+    checkout.script("lister", &format!("#!/bin/sh\nprintf '{listing}'\n"));
+    assert_eq!(checkout.list(&["b.txt", "A"]).stdout, listing.as_bytes());
+    for arguments in [["--summary", "b.txt", "A"], ["b.txt", "A", "--summary"]] {
+        let output = checkout.list(&arguments);
+        assert_eq!((output.status.code(), &*String::from_utf8_lossy(&output.stdout)), (Some(0), listing));
+        let due = "summary: 2 readings, 1 build\n46.2 mm: 2 readings, 1 build\n";
+        assert_eq!(String::from_utf8_lossy(&output.stderr), due);
+    }
+}
+
 /// Where nothing else is installed than the command needs: what is missing is named, and once both programs are
 /// built, nothing is missing.
 #[test]

@@ -52,6 +52,14 @@ fn writes_bytes_as_they_are() {
 }
 
 #[test]
+fn prints_a_summary() {
+    let listing = b"1: 1.0 0.1 1.2 = 462\n2: 1.0 1.2 0.1 = 462\nREADINGS 2\n";
+    let due = b"summary: 2 readings, 1 build\n46.2 mm: 2 readings, 1 build\n";
+    assert_eq!(printed("summary", "t.listing", listing), due);
+    assert_eq!(said("summary", "cut.listing", &listing[..21]), "line 1: not a line of a listing\n");
+}
+
+#[test]
 fn says_what_is_wrong() {
     assert_eq!(said("write", "kind.txt", b"start 0\n32 -> - : 0\n"), "line 2: `32`: a kind over 31\n");
     assert_eq!(said("write", "empty.txt", b""), "line 1: there is no `start KIND`\n");
