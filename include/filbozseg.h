@@ -11,8 +11,8 @@
  *     0          no; none
  *     1          yes; loaded; measured; handed out; counted
  *     2          more (only from filbozseg_count)
- *     256 + n    refusal n, 1 <= n <= 16 or n = 21: FILBOZSEG_REFUSED gives n, enum filbozseg_refusal has its name, and docs/REFERENCE.md
- *                says when a call is refused with it and what the call leaves
+ *     256 + n    refusal n, 1 <= n <= 16 or n = 21: FILBOZSEG_REFUSED gives n, enum filbozseg_refusal has its name,
+ *                filbozseg_refusal_text says what it means, and docs/REFERENCE.md when a call is refused with it and what the call leaves
  * and no other code. No function allocates or keeps anything between calls. Of the C library they need only memcpy and memset. Several
  * threads may call them at once if what is lent for writing is lent to one call only.
  *
@@ -54,13 +54,31 @@ extern "C" {
 #define FILBOZSEG_VERSION_MINOR 8
 #define FILBOZSEG_VERSION_PATCH 0
 
+/* The version as one number, which grows from version to version: 1000000 * major + 1000 * minor + patch. Like the other functions with a
+   body here it is the header's own, compiled into the program; the library has no such symbol. */
+static inline uint32_t filbozseg_version(void)
+{
+    return UINT32_C(1000000) * FILBOZSEG_VERSION_MAJOR + UINT32_C(1000) * FILBOZSEG_VERSION_MINOR + FILBOZSEG_VERSION_PATCH;
+}
+
+/* The version as a text, such as "1.2.3". The text is static. */
+#define FILBOZSEG_AS_WRITTEN(value) #value
+#define FILBOZSEG_AS_TEXT(value) FILBOZSEG_AS_WRITTEN(value)
+static inline const char *filbozseg_version_text(void)
+{
+    return FILBOZSEG_AS_TEXT(FILBOZSEG_VERSION_MAJOR) "." FILBOZSEG_AS_TEXT(FILBOZSEG_VERSION_MINOR) "."
+           FILBOZSEG_AS_TEXT(FILBOZSEG_VERSION_PATCH);
+}
+
 /* Sizes: the numbers in a grammar's row, the numbers in a hand's row, the used cells of a chart, the maximum number of bytes of an input,
-   and the minimum length of an output, which has two numbers for each of at most 512 nodes of a derivation. */
+   the minimum length of an output, which has two numbers for each of at most 512 nodes of a derivation, and the maximum number of bytes of a
+   book that loads: 128 rules with years and 8 ranges each, start and end. A longer book is refused, but may be handed in. */
 #define FILBOZSEG_ROW 2691
 #define FILBOZSEG_HAND 66
 #define FILBOZSEG_CELLS 4225
 #define FILBOZSEG_BYTES 64
 #define FILBOZSEG_OUTPUT 1024
+#define FILBOZSEG_BOOK 4099
 
 /* How many bytes of stack a call needs, rounded up to pages of 4 KiB. A thread with 256 KiB is enough for all calls but the last three.
    These three have their tables on the stack: their macros are bounds, within the 2 MiB that a Rust thread has by default. */
@@ -74,25 +92,26 @@ extern "C" {
 #define FILBOZSEG_NEXT_STACK (1900 * 1024)
 #define FILBOZSEG_COUNT_STACK (1900 * 1024)
 
-/* The refusals and their numbers. There may be more in a later version, so a switch over them needs a default. */
+/* The refusals and their numbers; filbozseg_refusal_text says what each one means. There may be more in a later version, so a switch over
+   them needs a default. */
 enum filbozseg_refusal {
-    FILBOZSEG_REFUSAL_UNEXPECTED_END = 1,         /* the book ends inside a command, or where a command is due */
-    FILBOZSEG_REFUSAL_UNKNOWN_COMMAND = 2,        /* a byte of the book is no command */
-    FILBOZSEG_REFUSAL_OUT_OF_TURN = 3,            /* a command of the book is out of turn */
-    FILBOZSEG_REFUSAL_NONTERMINAL_TOO_LARGE = 4,  /* a nonterminal of the book is over 31 */
-    FILBOZSEG_REFUSAL_TOO_MANY_RULES = 5,         /* the book has more than 128 rules */
-    FILBOZSEG_REFUSAL_TOO_MANY_PLACES = 6,        /* a rule of the book has more than 8 places */
-    FILBOZSEG_REFUSAL_FURTHER_BYTE = 7,           /* a byte follows the end of the book */
-    FILBOZSEG_REFUSAL_INVALID_GRAMMAR = 8,        /* the grammar has a used number out of its range */
-    FILBOZSEG_REFUSAL_INPUT_LENGTH = 9,           /* the input has more than 64 bytes */
-    FILBOZSEG_REFUSAL_CHART_TOO_SHORT = 10,       /* the chart has fewer than 4225 cells */
-    FILBOZSEG_REFUSAL_OUTPUT_TOO_SHORT = 11,      /* the output has fewer than 1024 numbers */
-    FILBOZSEG_REFUSAL_NOT_A_DERIVATION = 12,      /* what is offered is no derivation of the input */
-    FILBOZSEG_REFUSAL_ONLY_LARGER_TREES = 13,     /* the input has trees, but none of at most 512 nodes */
-    FILBOZSEG_REFUSAL_INVALID_RECOGNIZER = 14,    /* the hand's count is over 64, or a used mark over 255 */
-    FILBOZSEG_REFUSAL_RECOGNIZER_FULL = 15,       /* the hand has 64 marks and takes no more */
-    FILBOZSEG_REFUSAL_RANGE_REVERSED = 16,        /* a range of the book has its low end over its high end */
-    FILBOZSEG_REFUSAL_YEARS_REVERSED = 21         /* a rule of the book has its first year over its last */
+    FILBOZSEG_REFUSAL_UNEXPECTED_END = 1,
+    FILBOZSEG_REFUSAL_UNKNOWN_COMMAND = 2,
+    FILBOZSEG_REFUSAL_OUT_OF_TURN = 3,
+    FILBOZSEG_REFUSAL_NONTERMINAL_TOO_LARGE = 4,
+    FILBOZSEG_REFUSAL_TOO_MANY_RULES = 5,
+    FILBOZSEG_REFUSAL_TOO_MANY_PLACES = 6,
+    FILBOZSEG_REFUSAL_FURTHER_BYTE = 7,
+    FILBOZSEG_REFUSAL_INVALID_GRAMMAR = 8,
+    FILBOZSEG_REFUSAL_INPUT_LENGTH = 9,
+    FILBOZSEG_REFUSAL_CHART_TOO_SHORT = 10,
+    FILBOZSEG_REFUSAL_OUTPUT_TOO_SHORT = 11,
+    FILBOZSEG_REFUSAL_NOT_A_DERIVATION = 12,
+    FILBOZSEG_REFUSAL_ONLY_LARGER_TREES = 13,
+    FILBOZSEG_REFUSAL_INVALID_RECOGNIZER = 14,
+    FILBOZSEG_REFUSAL_RECOGNIZER_FULL = 15,
+    FILBOZSEG_REFUSAL_RANGE_REVERSED = 16,
+    FILBOZSEG_REFUSAL_YEARS_REVERSED = 21
 };
 
 /* The number of the refusal that a code stands for, or 0 if it is no refusal. The argument is evaluated once. */
@@ -100,6 +119,52 @@ enum filbozseg_refusal {
 static inline uint32_t filbozseg_refused(uint32_t code)
 {
     return code > 256 ? code - 256 : 0;
+}
+
+/* What the refusal with this number means, in a sentence without a capital and without a full stop. The text is static. Any number may be
+   given: 0 is no refusal, and one that this header does not know is called unknown. */
+static inline const char *filbozseg_refusal_text(uint32_t refusal)
+{
+    switch (refusal) {
+    case 0:
+        return "no refusal";
+    case FILBOZSEG_REFUSAL_UNEXPECTED_END:
+        return "the book ends inside a command, or where a command is due";
+    case FILBOZSEG_REFUSAL_UNKNOWN_COMMAND:
+        return "a byte of the book is no command";
+    case FILBOZSEG_REFUSAL_OUT_OF_TURN:
+        return "a command of the book is out of turn";
+    case FILBOZSEG_REFUSAL_NONTERMINAL_TOO_LARGE:
+        return "a nonterminal of the book is over 31";
+    case FILBOZSEG_REFUSAL_TOO_MANY_RULES:
+        return "the book has more than 128 rules";
+    case FILBOZSEG_REFUSAL_TOO_MANY_PLACES:
+        return "a rule of the book has more than 8 places";
+    case FILBOZSEG_REFUSAL_FURTHER_BYTE:
+        return "a byte follows the end of the book";
+    case FILBOZSEG_REFUSAL_INVALID_GRAMMAR:
+        return "the grammar has a used number out of its range";
+    case FILBOZSEG_REFUSAL_INPUT_LENGTH:
+        return "the input has more than 64 bytes";
+    case FILBOZSEG_REFUSAL_CHART_TOO_SHORT:
+        return "the chart has fewer than 4,225 cells";
+    case FILBOZSEG_REFUSAL_OUTPUT_TOO_SHORT:
+        return "the output has fewer than 1,024 numbers";
+    case FILBOZSEG_REFUSAL_NOT_A_DERIVATION:
+        return "what is offered is no reading of the input";
+    case FILBOZSEG_REFUSAL_ONLY_LARGER_TREES:
+        return "the input has trees, but none of at most 512 nodes";
+    case FILBOZSEG_REFUSAL_INVALID_RECOGNIZER:
+        return "the recognizer's count is over 64, or a byte that it has taken is over 255";
+    case FILBOZSEG_REFUSAL_RECOGNIZER_FULL:
+        return "the recognizer has taken 64 bytes and takes no more";
+    case FILBOZSEG_REFUSAL_RANGE_REVERSED:
+        return "a range of the book has its low end over its high end";
+    case FILBOZSEG_REFUSAL_YEARS_REVERSED:
+        return "a rule of the book has its first year over its last";
+    default:
+        return "a refusal that this version does not know";
+    }
 }
 
 /*
@@ -122,7 +187,7 @@ static inline uint32_t filbozseg_refused(uint32_t code)
  */
 
 /*
- * Loads a book of any length; one that loads has at most 4099 bytes. Returns 1, writes the row of its grammar, and leaves the offset as
+ * Loads a book of any length; one that loads has at most FILBOZSEG_BOOK bytes. Returns 1, writes the row of its grammar, and leaves the offset as
  * found. Or returns 256 + n, n from 1 to 7 or 16 or 21, writes the row of the grammar without rules, which is all zeros, and writes to
  * offset where the fault is. Either way it writes all numbers of the row.
  *

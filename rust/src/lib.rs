@@ -83,6 +83,10 @@ pub const BYTES: usize = 64;
 /// The length of an output: two numbers for each of at most 512 nodes of a derivation. A shorter output is refused.
 pub const OUTPUT: usize = 1024;
 
+/// The most bytes that a book has that loads: 128 rules with years and 8 ranges each, start and end. [`load`] takes longer ones too, and
+/// refuses them.
+pub const BOOK: usize = 4099;
+
 /// How many numbers the row of a recognizer has: its bytes, then their count, and then its year.
 pub const HAND: usize = BYTES + 2;
 

@@ -2,7 +2,7 @@
 
 use std::fmt;
 
-/// Why a call was refused. The discriminant is the refusal's number.
+/// Why a call was refused. [`Refusal::number`] is its number in the customer's documents.
 ///
 /// ```
 /// use filbozseg::{load, Refusal};
@@ -13,42 +13,48 @@ use std::fmt;
 /// ```
 #[derive(Clone, Copy, Debug, PartialEq, Eq, Hash)]
 #[non_exhaustive]
-#[repr(u8)]
 pub enum Refusal {
     /// The book ends inside a command, or before its end command.
-    UnexpectedEnd = 1,
+    UnexpectedEnd,
     /// A byte is no command where a command must be.
-    UnknownCommand = 2,
+    UnknownCommand,
     /// The first command is not a start command, a later one is, or a place comes before any rule.
-    OutOfTurn = 3,
+    OutOfTurn,
     /// A nonterminal of the book is over 31.
-    NonterminalTooLarge = 4,
+    NonterminalTooLarge,
     /// The book has a 129th rule.
-    TooManyRules = 5,
+    TooManyRules,
     /// A rule of the book has a ninth place.
-    TooManyPlaces = 6,
+    TooManyPlaces,
     /// A byte follows the end command.
-    FurtherByte = 7,
+    FurtherByte,
     /// A used number of the grammar is out of its range.
-    InvalidGrammar = 8,
+    InvalidGrammar,
     /// The input has more than 64 bytes.
-    InputLength = 9,
+    InputLength,
     /// The chart has fewer than 4,225 cells.
-    ChartTooShort = 10,
+    ChartTooShort,
     /// The output has fewer than 1,024 numbers.
-    OutputTooShort = 11,
+    OutputTooShort,
     /// An offered row is no derivation of the input.
-    NotADerivation = 12,
+    NotADerivation,
     /// The input has trees, but none of at most 512 nodes.
-    OnlyLargerTrees = 13,
+    OnlyLargerTrees,
     /// The recognizer's count is over 64, or a byte that it has taken is over 255.
-    InvalidRecognizer = 14,
+    InvalidRecognizer,
     /// The recognizer has taken 64 bytes.
-    RecognizerFull = 15,
+    RecognizerFull,
     /// A range of the book has its low end over its high end.
-    RangeReversed = 16,
+    RangeReversed,
     /// A rule of the book has its first year over its last.
-    YearsReversed = 21,
+    YearsReversed,
+    /// A refusal that this version of the crate does not know, with its number: the library that is linked is a later one. The crate never
+    /// gives a known refusal this way, and nobody else can make one.
+    #[non_exhaustive]
+    Unknown {
+        /// Its number.
+        number: u8,
+    },
 }
 
 use Refusal::*;
@@ -57,7 +63,7 @@ use Refusal::*;
 const REFUSED: u32 = 256;
 
 impl Refusal {
-    /// All refusals, in the order of their numbers, which are 1 to 16, and 21.
+    /// All refusals that have a name, in the order of their numbers, which are 1 to 16, and 21.
     pub const ALL: &'static [Refusal] = &[
         UnexpectedEnd,
         UnknownCommand,
@@ -80,22 +86,53 @@ impl Refusal {
 
     /// The refusal's number in the customer's documents.
     pub const fn number(self) -> u8 {
-        self as u8
+        match self {
+            UnexpectedEnd => 1,
+            UnknownCommand => 2,
+            OutOfTurn => 3,
+            NonterminalTooLarge => 4,
+            TooManyRules => 5,
+            TooManyPlaces => 6,
+            FurtherByte => 7,
+            InvalidGrammar => 8,
+            InputLength => 9,
+            ChartTooShort => 10,
+            OutputTooShort => 11,
+            NotADerivation => 12,
+            OnlyLargerTrees => 13,
+            InvalidRecognizer => 14,
+            RecognizerFull => 15,
+            RangeReversed => 16,
+            YearsReversed => 21,
+            Unknown { number } => number,
+        }
     }
 
-    /// The refusal with this number.
+    /// The refusal with this number, if it has a name.
     pub fn of_number(number: u8) -> Option<Refusal> {
         Refusal::ALL.iter().copied().find(|refusal| refusal.number() == number)
     }
 
     /// The code that a function of [`sys`](crate::sys) returns for this refusal.
     pub const fn code(self) -> u32 {
-        REFUSED + self as u32
+        REFUSED + self.number() as u32
     }
 
-    /// The refusal that a function of [`sys`](crate::sys) reports with this code; `None` if the code is an answer.
+    /// The refusal that a function of [`sys`](crate::sys) reports with this code, known or not; `None` if the code is none of a refusal.
+    ///
+    /// ```
+    /// use filbozseg::Refusal;
+    /// assert_eq!(Refusal::of_code(256 + 9), Some(Refusal::InputLength));
+    /// let later = Refusal::of_code(256 + 200).unwrap();
+    /// assert!(matches!(later, Refusal::Unknown { number: 200, .. }));
+    /// assert_eq!(later.to_string(), "a refusal that this version does not know (refusal 200)");
+    /// assert_eq!((Refusal::of_code(1), Refusal::of_code(256)), (None, None));
+    /// ```
     pub fn of_code(code: u32) -> Option<Refusal> {
-        Refusal::of_number(code.checked_sub(REFUSED)?.try_into().ok()?)
+        match u8::try_from(code.checked_sub(REFUSED)?) {
+            Ok(0) | Err(_) => None,
+            Ok(number) => Some(Refusal::of_number(number).unwrap_or(Unknown { number })),
+        }
     }
 
     fn sentence(self) -> &'static str {
@@ -117,6 +154,7 @@ impl Refusal {
             RecognizerFull => "the recognizer has taken 64 bytes and takes no more",
             RangeReversed => "a range of the book has its low end over its high end",
             YearsReversed => "a rule of the book has its first year over its last",
+            Unknown { .. } => "a refusal that this version does not know",
         }
     }
 }
@@ -129,7 +167,7 @@ impl fmt::Display for Refusal {
 
 impl std::error::Error for Refusal {}
 
-/// The meaning of a code: no, yes, or a refusal. The library is proved to return no other code.
+/// The meaning of a code: no, yes, or a refusal. The library is proved to return no other code, and a later one may have more refusals.
 pub(crate) fn answer(code: u32) -> Result<bool, Refusal> {
     match code {
         0 => Ok(false),

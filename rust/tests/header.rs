@@ -1,5 +1,5 @@
 //! The C header and the wrapper have the same version, sizes, refusals and functions.
-use filbozseg::{Refusal, BYTES, CELLS, HAND, OUTPUT, ROW};
+use filbozseg::{Refusal, BOOK, BYTES, CELLS, HAND, OUTPUT, ROW};
 
 const HEADER: &str = include_str!("../../include/filbozseg.h");
 
@@ -17,8 +17,8 @@ fn the_version_is_that_of_the_crate() {
 
 #[test]
 fn the_sizes_are_those_of_the_crate() {
-    let sizes = ["ROW", "HAND", "CELLS", "BYTES", "OUTPUT"].map(defined);
-    assert_eq!(sizes, [ROW, HAND, CELLS, BYTES, OUTPUT]);
+    let sizes = ["ROW", "HAND", "CELLS", "BYTES", "OUTPUT", "BOOK"].map(defined);
+    assert_eq!(sizes, [ROW, HAND, CELLS, BYTES, OUTPUT, BOOK]);
 }
 
 /// `UnexpectedEnd` as C writes it: `UNEXPECTED_END`.
@@ -33,12 +33,24 @@ fn the_refusals_are_those_of_the_crate() {
         HEADER.lines().filter_map(|line| line.trim().strip_prefix("FILBOZSEG_REFUSAL_")?.split_once(" = ")).collect();
     assert_eq!(values.len(), Refusal::ALL.len());
     for (refusal, (name, rest)) in Refusal::ALL.iter().zip(values) {
-        let (value, _) = rest.split_once(|c: char| !c.is_ascii_digit()).unwrap();
+        let value = rest.trim_end_matches(',');
         assert_eq!((name.to_string(), value), (in_c(&format!("{refusal:?}")), refusal.number().to_string().as_str()));
     }
     let (last, base) = (Refusal::ALL.len() - 1, Refusal::ALL[0].code() - 1); // the last but one, before a gap
     assert!(HEADER.contains(&format!("{base} + n    refusal n, 1 <= n <= {last} or n = 21: ")));
     assert!(HEADER.contains(&format!("return code > {base} ? code - {base} : 0;")));
+}
+
+/// The text of each refusal in the header is the wrapper's, which adds the number.
+#[test]
+fn the_texts_are_those_of_the_crate() {
+    let texts: Vec<_> = HEADER.split("    case FILBOZSEG_REFUSAL_").skip(1).collect();
+    assert_eq!(texts.len(), Refusal::ALL.len());
+    for (refusal, text) in Refusal::ALL.iter().zip(texts) {
+        let (name, rest) = text.split_once(":\n        return \"").unwrap();
+        let due = format!("{} (refusal {})", rest.split_once("\";\n").unwrap().0, refusal.number());
+        assert_eq!((name, due), (&in_c(&format!("{refusal:?}"))[..], refusal.to_string()));
+    }
 }
 
 /// The functions that a text declares after each `before`: the name, and what is between the brackets, with single spaces.

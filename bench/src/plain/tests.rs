@@ -305,7 +305,7 @@ fn lengths_round_halves_to_the_even_tenth() {
 
 #[test]
 fn faulty_books_have_the_numbers_and_offsets_of_the_design() {
-    let fault = |b: &[u8]| loader::load(b).map(|_| ()).map_err(|(r, at)| (r as u32, at));
+    let fault = |b: &[u8]| loader::load(b).map(|_| ()).map_err(|(r, at)| (u32::from(r.number()), at));
     assert_eq!(fault(&[]), Err((1, 0)));
     assert_eq!(fault(&[0x10]), Err((1, 1)));
     assert_eq!(fault(&[0x50]), Err((3, 0)));
