@@ -81,7 +81,9 @@ static inline const char *filbozseg_version_text(void)
 #define FILBOZSEG_BOOK 4099
 
 /* How many bytes of stack a call needs, rounded up to pages of 4 KiB. A thread with 256 KiB is enough for all calls but the last three.
-   These three have their tables on the stack: their macros are bounds, within the 2 MiB that a Rust thread has by default. */
+   These three have their tables on the stack: their macros are bounds, within the 2 MiB that a Rust thread has by default. How much they
+   take depends on book and input, up to 1.8 MB at their deepest. So a thread of 1 MiB passes small tests, and crashes on deep plates: give
+   it FILBOZSEG_FIRST_STACK and what the thread itself needs. */
 #define FILBOZSEG_LOAD_STACK (20 * 1024)
 #define FILBOZSEG_OPEN_STACK (48 * 1024)
 #define FILBOZSEG_TAKE_STACK (56 * 1024)
@@ -267,6 +269,10 @@ uint32_t filbozseg_first(const uint16_t grammar[FILBOZSEG_ROW], const uint8_t *i
  * output and nodes as filbozseg_first does; or returns 0 if the offered derivation is the last. Refusals, in this order: 8, 9, 10, 11 as
  * for filbozseg_first; 12 the offered row, which may have any length, is no derivation of the input. If it returns 0 or is refused, it
  * leaves output and nodes as found. If refused with 8 to 11, it leaves the chart as found too; otherwise the chart is filled for the input.
+ *
+ * Cost: nothing is kept between calls, so each call makes the tables of book and input anew, which takes 0.03 to 75 ms. To list thousands
+ * of derivations this way takes 45 to 150 times as long as with the listing program, which makes the tables once (docs/REFERENCE.md).
+ *
  * The offered row must not overlap the output, so a derivation must be copied before it is offered. This finds all derivations, in order:
  *
  *     uint16_t output[FILBOZSEG_OUTPUT], offered[FILBOZSEG_OUTPUT];
