@@ -71,8 +71,8 @@ static inline const char *filbozseg_version_text(void)
 }
 
 /* Sizes: the numbers in a grammar's row, the numbers in a hand's row, the used cells of a chart, the maximum number of bytes of an input,
-   the minimum length of an output, which has two numbers for each of at most 512 nodes of a derivation, and the maximum number of bytes of a
-   book that loads: 128 rules with years and 8 ranges each, start and end. A longer book is refused, but may be handed in. */
+   the minimum length of an output, which has two numbers for each of at most 512 nodes of a derivation, and the maximum number of bytes of
+   a book that loads: 128 rules with years and 8 ranges each, start and end. A longer book may be handed in too, and is refused. */
 #define FILBOZSEG_ROW 2691
 #define FILBOZSEG_HAND 66
 #define FILBOZSEG_CELLS 4225
@@ -189,9 +189,9 @@ static inline const char *filbozseg_refusal_text(uint32_t refusal)
  */
 
 /*
- * Loads a book of any length; one that loads has at most FILBOZSEG_BOOK bytes. Returns 1, writes the row of its grammar, and leaves the offset as
- * found. Or returns 256 + n, n from 1 to 7 or 16 or 21, writes the row of the grammar without rules, which is all zeros, and writes to
- * offset where the fault is. Either way it writes all numbers of the row.
+ * Loads a book of any length; one that loads has at most FILBOZSEG_BOOK bytes. Returns 1, writes the row of its grammar, and leaves the
+ * offset as found. Or returns 256 + n, n from 1 to 7 or 16 or 21, writes the row of the grammar without rules, which is all zeros, and
+ * writes to offset where the fault is. Either way it writes all numbers of the row.
  *
  * A book is a row of commands. Their first bytes, in hexadecimal, and their operands:
  *     10 start                 the start symbol; the first command, and only there

@@ -1,5 +1,5 @@
 //! Draws readings as indented trees: for each node its rule, the marks that it covers, and the length of its rule.
-use filbozseg::{length, load, Error, Grammar, Node, Reading, CELLS};
+use filbozseg::{load, Error, Node, Reading};
 use std::fmt::Write;
 
 /// 0 -> 1 0 (10), 0 -> 1 (20), 1 -> A 2 B (30), 2 -> nothing (-5), 2 -> C (25).
@@ -17,8 +17,8 @@ fn millimetres(hundredths: i16) -> String {
 }
 
 /// The line of a node, indented by two spaces for each node above it.
-fn line(grammar: &Grammar, plate: &[u8], node: Node<'_>) -> String {
-    let rule = grammar.rule(node.rule()).expect("a rule of the grammar");
+fn line(plate: &[u8], node: Node<'_>) -> String {
+    let rule = node.rule();
     let marks = match node.marks() {
         marks if marks.is_empty() => format!("nothing at {}", marks.start),
         marks => format!("{} to {} \"{}\"", marks.start, marks.end, plate[marks.clone()].escape_ascii()),
@@ -28,19 +28,18 @@ fn line(grammar: &Grammar, plate: &[u8], node: Node<'_>) -> String {
 }
 
 /// The picture of a reading: its line as document 01 prints it, then a line for each node.
-pub fn picture(grammar: &Grammar, plate: &[u8], reading: &Reading) -> Result<String, Error> {
-    let tenths = length(grammar, plate, YEAR, reading.numbers(), &mut vec![0; CELLS])?;
-    let mut text = format!("{reading} = {tenths}\n");
+pub fn picture(plate: &[u8], reading: &Reading) -> String {
+    let mut text = format!("{reading} = {}\n", reading.length());
     for node in reading.nodes() {
-        writeln!(text, "{}", line(grammar, plate, node)).expect("a string takes all");
+        writeln!(text, "{}", line(plate, node)).expect("a string takes all");
     }
-    Ok(text)
+    text
 }
 
 /// The pictures of all readings of the plate.
 pub fn pictures() -> Result<String, Error> {
     let grammar = load(BOOK)?;
-    grammar.readings(PLATE, YEAR).map(|reading| picture(&grammar, PLATE, &reading?)).collect()
+    grammar.readings(PLATE, YEAR).map(|reading| Ok(picture(PLATE, &reading?))).collect()
 }
 
 #[allow(dead_code)] // a test includes this file and does not call `main`

@@ -14,17 +14,19 @@ const NO_TENTHS: i32 = i32::MIN;
 /// use filbozseg::load;
 /// let grammar = load(b"\x10\x00\x20\x00\x19\x00\x40A\x50").unwrap(); // 0 -> A, 0.25 mm
 /// assert_eq!(grammar.rules().len(), 1);
-/// assert_eq!(load(b"\x10\x00").unwrap_err().to_string(), "the book is refused at offset 2");
+/// let message = "the book is refused at offset 2: the book ends inside a command, or where a command is due (refusal 1)";
+/// assert_eq!(load(b"\x10\x00").unwrap_err().to_string(), message);
 /// ```
 ///
 /// # Errors
 ///
 /// The first fault of the book, read from the left: refusals 1 to 7, 16 and 21.
 pub fn load(book: &[u8]) -> Result<Grammar, LoadError> {
-    let mut grammar = Grammar { row: Box::new([NO_NUMBER; ROW]) };
+    let mut row = [NO_NUMBER; ROW];
     let mut offset = NO_OFFSET;
     // SAFETY: the pointers point to live values of these lengths, and only this call uses the two that are written.
-    let code = unsafe { sys::filbozseg_load(book.as_ptr(), book.len(), &mut *grammar.row, &mut offset) };
+    let code = unsafe { sys::filbozseg_load(book.as_ptr(), book.len(), &mut row, &mut offset) };
+    let grammar = Grammar::from_row(&row);
     match done(code) {
         Ok(()) => Ok(grammar),
         Err(refusal) => Err(LoadError { refusal, offset, grammar }),

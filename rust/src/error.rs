@@ -4,16 +4,14 @@ use crate::{Grammar, Refusal};
 use std::error;
 use std::fmt;
 
-/// A refused book. The text of the error says where the fault is; its [source](error::Error::source) is the refusal, which says what it
-/// is.
+/// A refused book. The text of the error says where the fault is, and what it is. So it has no [source](error::Error::source), which would
+/// say the second again.
 ///
 /// ```
 /// use filbozseg::{load, Refusal};
-/// use std::error::Error;
 /// let fault = load(b"\x10\x20").unwrap_err();
 /// assert_eq!((fault.refusal, fault.offset), (Refusal::NonterminalTooLarge, 0));
-/// assert_eq!(fault.to_string(), "the book is refused at offset 0");
-/// assert_eq!(fault.source().unwrap().to_string(), "a nonterminal of the book is over 31 (refusal 4)");
+/// assert_eq!(fault.to_string(), "the book is refused at offset 0: a nonterminal of the book is over 31 (refusal 4)");
 /// ```
 #[derive(Clone, PartialEq, Eq, Hash)]
 #[non_exhaustive]
@@ -37,18 +35,14 @@ impl fmt::Debug for LoadError {
 
 impl fmt::Display for LoadError {
     fn fmt(&self, f: &mut fmt::Formatter<'_>) -> fmt::Result {
-        write!(f, "the book is refused at offset {}", self.offset)
+        write!(f, "the book is refused at offset {}: {}", self.offset, self.refusal)
     }
 }
 
-impl error::Error for LoadError {
-    fn source(&self) -> Option<&(dyn error::Error + 'static)> {
-        Some(&self.refusal)
-    }
-}
+impl error::Error for LoadError {}
 
-/// Any error of this crate, for a function that loads a book and then uses it: `?` converts both errors into this one. Its text and its
-/// source are those of the error inside.
+/// Any error of this crate, for a function that loads a book and then uses it: `?` converts both errors into this one. Its text is
+/// that of the error inside.
 ///
 /// ```
 /// fn readings(book: &[u8], input: &[u8], year: u16) -> Result<Vec<String>, filbozseg::Error> {
@@ -98,11 +92,4 @@ impl fmt::Display for Error {
     }
 }
 
-impl error::Error for Error {
-    fn source(&self) -> Option<&(dyn error::Error + 'static)> {
-        match self {
-            Error::Load(fault) => fault.source(),
-            Error::Refused(refusal) => refusal.source(),
-        }
-    }
-}
+impl error::Error for Error {}

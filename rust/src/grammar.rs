@@ -3,6 +3,7 @@
 use crate::rule::{byte, RULE};
 use crate::{check, Reading, Readings, Refusal, Rule, CELLS, ROW};
 use std::fmt;
+use std::sync::Arc;
 
 /// Where the first rule begins in a row, and how many rules a grammar has at most.
 const RULES: usize = 3;
@@ -18,6 +19,8 @@ const MAX_RULES: usize = 128;
 /// The depth, the lengths, and all numbers of unused rules and unused places may have any value. The accessors read such a row as the
 /// library does: a number over 255 as 255, and a place that holds no symbol as the nonterminal 255.
 ///
+/// A clone shares the row, which never changes; each reading has one.
+///
 /// ```
 /// # fn main() -> Result<(), filbozseg::LoadError> {
 /// use filbozseg::Symbol;
@@ -32,13 +35,13 @@ const MAX_RULES: usize = 128;
 /// ```
 #[derive(Clone, PartialEq, Eq, Hash)]
 pub struct Grammar {
-    pub(crate) row: Box<[u16; ROW]>,
+    row: Arc<[u16; ROW]>,
 }
 
 impl Grammar {
     /// The grammar of a row.
     pub fn from_row(row: &[u16; ROW]) -> Grammar {
-        Grammar { row: Box::new(*row) }
+        Grammar { row: Arc::new(*row) }
     }
 
     /// The row of the grammar.
@@ -89,7 +92,7 @@ impl Grammar {
     /// Refusals 8 and 9 of [`check`]; 12 if the row is no reading of the input in the year.
     pub fn reading(&self, input: &[u8], year: u16, numbers: &[u16]) -> Result<Reading, Refusal> {
         if check(self, input, year, numbers, &mut vec![0; CELLS])? {
-            Ok(Reading::new(self, numbers))
+            Ok(Reading::new(self, input, year, numbers))
         } else {
             Err(Refusal::NotADerivation)
         }

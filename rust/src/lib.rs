@@ -4,7 +4,7 @@
 //! with nodes:
 //!
 //! ```
-//! use filbozseg::{count, length, load, Count, CELLS};
+//! use filbozseg::{count, load, Count, CELLS};
 //!
 //! # fn main() -> Result<(), filbozseg::Error> {
 //! // Book T of document 01: 0 -> 1 1 (46 mm), 1 -> nothing (0 mm), 1 -> A (0.25 mm)
@@ -15,14 +15,14 @@
 //!
 //! let mut chart = vec![0; CELLS];
 //! assert_eq!(count(&grammar, b"A", 2008, &mut chart)?, Count::Exactly(2));
-//! assert_eq!(length(&grammar, b"A", 2008, readings[0].numbers(), &mut chart)?, 462); // tenths of a millimetre
+//! assert_eq!(readings[0].length(), 462); // tenths of a millimetre
 //! # Ok(())
 //! # }
 //! ```
 //!
 //! Each of the functions [`load`], [`open`], [`Recognizer::take`], [`check`], [`length`], [`same_build`], [`first`], [`next`] and
 //! [`count`] calls one function of the static library, which is proved to meet its contract, and turns its code into a result. They use
-//! the memory that the caller lends and allocate nothing; only `load` boxes the grammar. [`Grammar::readings`] and [`Grammar::reading`]
+//! the memory that the caller lends and allocate nothing; only `load` allocates the grammar. [`Grammar::readings`] and [`Grammar::reading`]
 //! are built on them and allocate what they need. [`sys`] has the functions of the static library themselves.
 //!
 //! # Years
@@ -40,8 +40,8 @@
 //! # Stack and threads
 //!
 //! `first`, `next`, `count` and the iterator over readings need up to 1,900 KiB of stack. A Rust thread has 2 MiB by default, and that is
-//! enough. In a thread with less, a stack overflow may end the process. `include/filbozseg.h` has the figure for each call. Nothing is
-//! kept between calls, so any number of threads may call them.
+//! enough. In a thread with less, a stack overflow may end the process; [`Readings::on_stack`] is for such a thread. `include/filbozseg.h`
+//! has the figure for each call. Nothing is kept between calls, so any number of threads may call them.
 #![deny(missing_docs)]
 #![warn(clippy::undocumented_unsafe_blocks)]
 
@@ -86,6 +86,9 @@ pub const OUTPUT: usize = 1024;
 /// The most bytes that a book has that loads: 128 rules with years and 8 ranges each, start and end. [`load`] takes longer ones too, and
 /// refuses them.
 pub const BOOK: usize = 4099;
+
+/// How many bytes of stack [`first`], [`next`] and [`count`] need at most, and so the iterator over readings.
+pub const STACK: usize = 1900 * 1024;
 
 /// How many numbers the row of a recognizer has: its bytes, then their count, and then its year.
 pub const HAND: usize = BYTES + 2;

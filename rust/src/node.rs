@@ -1,7 +1,7 @@
 //! The nodes of a reading, as a tree. Nothing here is recursive, because a reading may be nested 512 deep.
 
 use crate::span::Span;
-use crate::Reading;
+use crate::{Reading, Rule};
 use std::fmt;
 use std::iter::FusedIterator;
 use std::ops::Range;
@@ -27,9 +27,9 @@ impl<'a> Node<'a> {
         self.number
     }
 
-    /// The number of the node's rule, as [`Grammar::rule`](crate::Grammar::rule) takes it.
-    pub fn rule(self) -> usize {
-        usize::from(self.reading.numbers[2 * self.number + 1])
+    /// The node's rule; [`Rule::number`] is its number.
+    pub fn rule(self) -> Rule<'a> {
+        self.reading.rule(self.reading.numbers[2 * self.number + 1])
     }
 
     /// How many bytes the node covers.
@@ -65,7 +65,7 @@ impl fmt::Debug for Node<'_> {
     fn fmt(&self, f: &mut fmt::Formatter<'_>) -> fmt::Result {
         f.debug_struct("Node")
             .field("number", &self.number)
-            .field("rule", &self.rule())
+            .field("rule", &self.rule().number())
             .field("marks", &self.marks())
             .finish()
     }

@@ -1,7 +1,7 @@
 //! A reading (derivation). Nothing here is recursive, because a reading may be nested 512 deep.
 
 use crate::span::{spans, Span};
-use crate::{Grammar, Node, Nodes};
+use crate::{length, Grammar, Node, Nodes, Rule, CELLS};
 use std::cmp::Ordering;
 use std::fmt;
 use std::hash::{Hash, Hasher};
@@ -23,19 +23,24 @@ use std::hash::{Hash, Hasher};
 /// assert_eq!(one.parts().next(), Some((3, 0)));
 /// assert_eq!(one.nodes().map(|node| node.marks()).collect::<Vec<_>>(), [0..3, 0..1, 1..3, 1..2, 2..3]);
 /// assert_eq!(one.root().children().map(|child| child.cover()).collect::<Vec<_>>(), [1, 2]);
+/// assert_eq!(one.root().rule().to_string(), "0 -> 0 0");
 /// # Ok(())
 /// # }
 /// ```
 #[derive(Clone)]
 pub struct Reading {
+    grammar: Grammar,
+    input: Box<[u8]>,
+    year: u16,
     pub(crate) numbers: Box<[u16]>,
     pub(crate) spans: Box<[Span]>,
 }
 
 impl Reading {
-    /// The reading with these numbers, which the library has handed out or accepted as a reading for this grammar.
-    pub(crate) fn new(grammar: &Grammar, numbers: &[u16]) -> Reading {
-        Reading { numbers: numbers.into(), spans: spans(grammar, numbers) }
+    /// The reading with these numbers, which the library has handed out or accepted as one of this input in this year.
+    pub(crate) fn new(grammar: &Grammar, input: &[u8], year: u16, numbers: &[u16]) -> Reading {
+        let (numbers, spans) = (numbers.into(), spans(grammar, numbers));
+        Reading { grammar: grammar.clone(), input: input.into(), year, numbers, spans }
     }
 
     /// The numbers of the reading, as [`check`](crate::check), [`length`](crate::length), [`same_build`](crate::same_build) and
@@ -47,6 +52,35 @@ impl Reading {
     /// The nodes in preorder, each as the number of bytes that it covers and its rule.
     pub fn parts(&self) -> impl ExactSizeIterator<Item = (u16, u16)> + DoubleEndedIterator + '_ {
         self.numbers.chunks_exact(2).map(|part| (part[0], part[1]))
+    }
+
+    /// The rules of the nodes, in preorder.
+    ///
+    /// ```
+    /// # fn main() -> Result<(), filbozseg::Error> {
+    /// // 0 -> 1 1 (46 mm), 1 -> nothing (0 mm), 1 -> A (0.25 mm)
+    /// let grammar = filbozseg::load(b"\x10\x00\x20\x00\xf8\x11\x30\x01\x30\x01\x20\x01\x00\x00\x20\x01\x19\x00\x40A\x50")?;
+    /// let reading = grammar.reading(b"A", 2008, &[1, 0, 0, 1, 1, 2])?;
+    /// assert_eq!(reading.rules().map(|rule| rule.to_string()).collect::<Vec<_>>(), ["0 -> 1 1", "1 -> -", "1 -> 'A'"]);
+    /// assert_eq!(reading.rules().map(|rule| rule.number()).collect::<Vec<_>>(), [0, 1, 2]);
+    /// assert_eq!(reading.length(), 462);
+    /// # Ok(())
+    /// # }
+    /// ```
+    pub fn rules(&self) -> impl ExactSizeIterator<Item = Rule<'_>> + DoubleEndedIterator + '_ {
+        self.parts().map(|(_, rule)| self.rule(rule))
+    }
+
+    /// The rule with a number that the reading has.
+    pub(crate) fn rule(&self, number: u16) -> Rule<'_> {
+        self.grammar.rule(usize::from(number)).expect("a reading has only rules of its grammar")
+    }
+
+    /// The length in tenths of a millimetre; an exact half goes to the even tenth. It is that of the proved [`length`], which this calls
+    /// with a chart of its own and the grammar, the input and the year that the reading was found with. So it costs a fill of the chart.
+    pub fn length(&self) -> i32 {
+        let tenths = length(&self.grammar, &self.input, self.year, &self.numbers, &mut vec![0; CELLS]);
+        tenths.expect("the library has said that this is a reading")
     }
 
     /// The node that covers the whole input.

@@ -1,8 +1,13 @@
 //! The iterator over all readings of an input in a year.
 
-use crate::{first, next, Grammar, Reading, Refusal, CELLS, OUTPUT};
+use crate::{first, next, Grammar, Reading, Refusal, CELLS, OUTPUT, STACK};
 use std::fmt;
 use std::iter::FusedIterator;
+use std::panic::resume_unwind;
+use std::thread;
+
+/// The stack of a thread that is started for a call: what the call needs, and enough for the thread itself.
+const OWN_STACK: usize = STACK + 128 * 1024;
 
 /// All readings of an input in a year, in the order of document 01: see [`Grammar::readings`].
 ///
@@ -40,7 +45,8 @@ use std::iter::FusedIterator;
 /// # Stack
 ///
 /// A call needs up to 1.8 MB of stack, and little for a small book and a short input. So a thread of 1 MiB passes small tests, and a stack
-/// overflow ends the process on deep plates. A Rust thread has 2 MiB by default, and that is enough.
+/// overflow ends the process on deep plates. A Rust thread has 2 MiB by default, and that is enough. Where a thread has less, say so by
+/// [`Readings::on_stack`].
 #[derive(Clone)]
 #[must_use = "the readings are found only when they are asked for"]
 pub struct Readings<'a> {
@@ -52,24 +58,65 @@ pub struct Readings<'a> {
     /// The last reading found, which is offered to find the next one; empty before the first.
     last: Vec<u16>,
     ended: bool,
+    /// How much stack is left on the thread that asks.
+    stack: usize,
 }
 
 impl<'a> Readings<'a> {
     pub(crate) fn new(grammar: &'a Grammar, input: &'a [u8], year: u16) -> Readings<'a> {
         let (chart, output) = (vec![0; CELLS], vec![0; OUTPUT]);
-        Readings { grammar, input, year, chart, output, last: Vec::new(), ended: false }
+        Readings { grammar, input, year, chart, output, last: Vec::new(), ended: false, stack: usize::MAX }
     }
 
-    fn step(&mut self) -> Result<Option<Reading>, Refusal> {
+    /// The same readings, for a thread that has this many bytes of stack left. If that is less than [`STACK`], each call of the library runs
+    /// on a thread of its own, which has enough and ends with the call. That takes some hundredths of a millisecond for each reading.
+    /// Without this, calls run on the thread that asks, whatever stack it has.
+    ///
+    /// ```
+    /// # fn main() -> Result<(), filbozseg::Error> {
+    /// let grammar = filbozseg::load(b"\x10\x00\x20\x00\x19\x00\x40A\x50")?; // 0 -> A
+    /// let small = std::thread::Builder::new().stack_size(256 * 1024);
+    /// let counting = small.spawn(move || grammar.readings(b"A", 2008).on_stack(200 * 1024).count());
+    /// assert_eq!(counting.unwrap().join().unwrap(), 1);
+    /// # Ok(())
+    /// # }
+    /// ```
+    ///
+    /// # Panics
+    ///
+    /// The iterator panics if the system cannot start a thread.
+    pub fn on_stack(mut self, left: usize) -> Readings<'a> {
+        self.stack = left;
+        self
+    }
+
+    /// Finds the next reading: how many numbers it has at the front of the output.
+    fn found(&mut self) -> Result<Option<usize>, Refusal> {
         let handed = if self.last.is_empty() {
             first(self.grammar, self.input, self.year, &mut self.chart, &mut self.output)?
         } else {
             next(self.grammar, self.input, self.year, &self.last, &mut self.chart, &mut self.output)?
         };
-        let Some(numbers) = handed else { return Ok(None) };
+        Ok(handed.map(<[u16]>::len))
+    }
+
+    /// The same, on a thread that has the stack for it.
+    fn found_on_stack(&mut self) -> Result<Option<usize>, Refusal> {
+        if self.stack >= STACK {
+            return self.found();
+        }
+        thread::scope(|scope| {
+            let own = thread::Builder::new().stack_size(OWN_STACK).spawn_scoped(scope, || self.found());
+            own.expect("a thread with enough stack").join().unwrap_or_else(|panic| resume_unwind(panic))
+        })
+    }
+
+    fn step(&mut self) -> Result<Option<Reading>, Refusal> {
+        let Some(length) = self.found_on_stack()? else { return Ok(None) };
+        let numbers = &self.output[..length];
         self.last.clear();
         self.last.extend_from_slice(numbers);
-        Ok(Some(Reading::new(self.grammar, numbers)))
+        Ok(Some(Reading::new(self.grammar, self.input, self.year, numbers)))
     }
 }
 
@@ -96,6 +143,7 @@ impl fmt::Debug for Readings<'_> {
             .field("year", &self.year)
             .field("last", &self.last)
             .field("ended", &self.ended)
+            .field("stack", &self.stack)
             .finish_non_exhaustive()
     }
 }

@@ -73,6 +73,6 @@ fn its_reading_is_a_tree_of_nodes_that_cover_nothing() {
     let reading = t.reading(b"", YEAR, &[0, 0, 0, 1, 0, 1]).unwrap();
     assert_eq!(reading, t.readings(b"", YEAR).next().unwrap().unwrap());
     assert!(reading.nodes().all(|node| node.cover() == 0 && node.marks() == (0..0)));
-    assert_eq!(reading.root().children().map(Node::rule).collect::<Vec<_>>(), [1, 1]);
+    assert_eq!(reading.root().children().map(|child| child.rule().number()).collect::<Vec<_>>(), [1, 1]);
     assert_eq!(reading.nodes().map(Node::depth).collect::<Vec<_>>(), [0, 1, 1]);
 }

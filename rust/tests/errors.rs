@@ -6,13 +6,11 @@ use filbozseg::*;
 use std::error::Error as _;
 
 #[test]
-fn a_refused_book_says_where_and_its_source_why() {
+fn a_refused_book_says_where_and_why() {
     let fault = load(&T[..9]).unwrap_err();
-    assert_eq!(fault.to_string(), "the book is refused at offset 9");
-    let source = fault.source().unwrap();
-    assert_eq!(source.to_string(), "the book ends inside a command, or where a command is due (refusal 1)");
-    assert_eq!(source.downcast_ref::<Refusal>(), Some(&Refusal::UnexpectedEnd));
-    assert!(source.source().is_none());
+    let due = "the book is refused at offset 9: the book ends inside a command, or where a command is due (refusal 1)";
+    assert_eq!(fault.to_string(), due);
+    assert!(fault.source().is_none(), "its text has all");
     assert_eq!(format!("{fault:?}"), "LoadError { refusal: UnexpectedEnd, offset: 9, .. }");
 }
 
@@ -38,9 +36,13 @@ fn one_error_holds_both() {
     }
     assert_eq!(listed(PAIRS, b"AAAA"), Ok(5));
     let (book, input) = (listed(b"\x99", b"A").unwrap_err(), listed(T, &[b'A'; 65]).unwrap_err());
-    assert_eq!((book.to_string(), book.refusal()), ("the book is refused at offset 0".into(), Refusal::UnknownCommand));
-    assert_eq!(book.source().unwrap().to_string(), "a byte of the book is no command (refusal 2)");
+    let due = "the book is refused at offset 0: a byte of the book is no command (refusal 2)";
+    assert_eq!((book.to_string(), book.refusal()), (due.into(), Refusal::UnknownCommand));
     assert_eq!((input.to_string(), &input), (Refusal::InputLength.to_string(), &Error::Refused(Refusal::InputLength)));
-    assert!(input.source().is_none() && matches!(book, Error::Load(fault) if fault.grammar.rules().len() == 0));
+    assert!(
+        input.source().is_none()
+            && book.source().is_none()
+            && matches!(book, Error::Load(fault) if fault.grammar.rules().len() == 0)
+    );
     assert!(boxed(T).is_ok() && boxed(b"").unwrap_err().is::<LoadError>());
 }

@@ -1,5 +1,5 @@
 //! The C header and the wrapper have the same version, sizes, refusals and functions.
-use filbozseg::{Refusal, BOOK, BYTES, CELLS, HAND, OUTPUT, ROW};
+use filbozseg::{Refusal, BOOK, BYTES, CELLS, HAND, OUTPUT, ROW, STACK};
 
 const HEADER: &str = include_str!("../../include/filbozseg.h");
 
@@ -19,6 +19,13 @@ fn the_version_is_that_of_the_crate() {
 fn the_sizes_are_those_of_the_crate() {
     let sizes = ["ROW", "HAND", "CELLS", "BYTES", "OUTPUT", "BOOK"].map(defined);
     assert_eq!(sizes, [ROW, HAND, CELLS, BYTES, OUTPUT, BOOK]);
+}
+
+#[test]
+fn the_stack_is_that_of_the_crate() {
+    for call in ["FIRST", "NEXT", "COUNT"] {
+        assert!(HEADER.contains(&format!("#define FILBOZSEG_{call}_STACK ({} * 1024)\n", STACK / 1024)), "{call}");
+    }
 }
 
 /// `UnexpectedEnd` as C writes it: `UNEXPECTED_END`.

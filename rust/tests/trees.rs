@@ -8,7 +8,7 @@ use filbozseg::*;
 
 /// The rule and the marks of a node.
 fn rule_and_marks(node: Node<'_>) -> (usize, std::ops::Range<usize>) {
-    (node.rule(), node.marks())
+    (node.rule().number(), node.marks())
 }
 
 #[test]
@@ -35,13 +35,14 @@ fn a_node_has_its_rule_its_marks_and_its_children() {
 fn read_through(grammar: &Grammar, input: &[u8], reading: &Reading) {
     assert_eq!((reading.root().number(), reading.root().marks()), (0, 0..input.len()));
     for node in reading.nodes() {
-        let rule = grammar.rule(node.rule()).unwrap();
+        let rule = node.rule();
+        assert_eq!(grammar.rule(rule.number()), Some(rule));
         let (mut at, mut children) = (node.marks().start, node.children());
         for symbol in rule.places() {
             at = match symbol {
                 Symbol::Nonterminal(left) => {
                     let child = children.next().unwrap();
-                    assert_eq!((grammar.rule(child.rule()).unwrap().left(), child.marks().start), (left, at));
+                    assert_eq!((child.rule().left(), child.marks().start), (left, at));
                     assert_eq!(child.depth(), node.depth() + 1);
                     child.marks().end
                 }
