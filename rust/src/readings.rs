@@ -68,9 +68,9 @@ impl<'a> Readings<'a> {
         Readings { grammar, input, year, chart, output, last: Vec::new(), ended: false, stack: usize::MAX }
     }
 
-    /// The same readings, for a thread that has this many bytes of stack left. If that is less than [`STACK`], each call of the library runs
-    /// on a thread of its own, which has enough and ends with the call. That takes some hundredths of a millisecond for each reading.
-    /// Without this, calls run on the thread that asks, whatever stack it has.
+    /// The same readings, for a thread that has this many bytes of stack left. If that is less than [`STACK`], each call of the library
+    /// runs on a thread of its own, which has enough and ends with the call. Without this, calls run on the thread that asks, whatever
+    /// stack it has.
     ///
     /// ```
     /// # fn main() -> Result<(), filbozseg::Error> {
