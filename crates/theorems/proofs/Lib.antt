@@ -1,2 +1,3 @@
--- The final theorems.
+-- The final theorems, and the proof of the one that joins them.
 pub mod Theorems
+pub mod EveryTree

@@ -1,8 +1,8 @@
 -- The final theorems over the definitions, each proved by citation. The demands are the customer's three (README gives them in short); the
 -- other sources are sections of document 01, his scope (docs/REFERENCE.md says what it fixes). The definitions are in `cfg/specs`,
 -- `theory_listing/specs`, `theory_embedding/specs`, `chart/specs`, `grammar/specs`, `results/specs`, `load_nullable/specs`, `text/specs`,
--- `demands/specs`, `print_begin/specs` and `print_page/specs`, and none is in a `proofs/` folder. A grammar of the type `Dated` has the
--- year of the input with it (document 02, U9).
+-- `demands/specs`, `print_begin/specs`, `print_page/specs` and `theorems/specs`, and none is in a `proofs/` folder. A grammar of the type
+-- `Dated` has the year of the input with it (document 02, U9).
 --
 --   statement                         says                                                            source
 --   starred-table                     the starred plates, from book bytes to answers                   Plates from the drawer
@@ -27,6 +27,7 @@
 --   first-then-next, ..-said          first, then next, hand out L and end with "none"                 demand 3, second sentence
 --   count-exact, count-more           N up to 4,096, "more" exactly above                              demand 3, third sentence
 --   no-derivation-exact, ..-larger    "no reading" exactly without a tree; 13 exactly with larger ones demand 3, last sentence
+--   book-trees                        from book bytes to trees: first, then next, hand out every one   demands 1 and 3; The walk
 --   listing-of-T                      the three lines of T with the plate `A`, byte for byte           Listing program; document 02, U5
 --   text-depth                        the nullable depth of a grammar does not change an input's text  Listing program
 --   text-front                        8,192, 3 and 65 bytes of book, year and plate decide the text    Listing program; document 02, U9
@@ -74,7 +75,7 @@ use Rattle.grammar.specs.Setters.{lastYear, setDepth}
 use Rattle.grammar.specs.Valid.{validGrammar}
 use Rattle.grammar.specs.View.{wholeOf, Dated, dated, grammarOf}
 use Rattle.grammar.specs.Years.{InForce, allYears}
-use Rattle.results.specs.Answer.{refused, answered, nothing, counted, more}
+use Rattle.results.specs.Answer.{refused, answered, nothing, counted, more, loaded}
 use Rattle.results.specs.Load.{step, loadOf}
 use Rattle.results.specs.Undated.{Undated}
 use Rattle.results.specs.Recognize.{State, openOf, takeOf, fed}
@@ -105,6 +106,7 @@ use Rattle.demands.specs.LoadOrder.{CommandOrder}
 use Rattle.demands.specs.LoadDemand.{LoadDemand}
 use Rattle.demands.specs.Taken.{Taken}
 use Rattle.demands.specs.Recognized.{Recognized}
+use Rattle.theorems.specs.EveryTree.{EveryTree}
 use Rattle.cfg.proofs.Fits as Fits
 use Rattle.theory_listing.proofs.Exact as Exact
 use Rattle.theory_shrinking.proofs.Depth as Depth
@@ -134,6 +136,7 @@ use Rattle.demands.proofs.LoadDemand as Load
 use Rattle.demands.proofs.Check as Check
 use Rattle.demands.proofs.Taken as Take
 use Rattle.demands.proofs.Recognized as Fed
+use Rattle.theorems.proofs.EveryTree as EveryTree
 
 -- THE STARRED TABLE
 pub starred-table : Starred
@@ -335,6 +338,13 @@ module _ (g : Dated) (valid : validGrammar (g .grammar) ≡ true) (w : List ℕ)
 
       pub first-larger : (firstOf g w chart out .answer ≡ refused 13) ↔ Larger g w
       first-larger = Consequences.larger-exact g valid w high chart room out space
+
+-- THE BOOK'S TREES, for every book that loads, every year and every input of at most 64 bytes: first, and then next until none is left,
+-- hand out exactly the parse trees of the grammar that was loaded, each once, in rising order. It joins load-demand, list-exact,
+-- list-rising and first-then-next, and is about the results that load, first and next are proved to give
+pub book-trees : (bytes : List ℕ) → loadOf bytes .answer ≡ loaded → (y : ℕ) (w : List ℕ) → length w ≤ maxInput
+    → EveryTree (dated (loadOf bytes .grammar) y) w
+book-trees bytes accepted y = EveryTree.every-tree (dated (loadOf bytes .grammar) y) (EveryTree.loaded-valid bytes accepted)
 
 -- THE LISTING PROGRAM: the listing of T with the plate `A`, byte for byte
 pub listing-of-T : textOf T [] (As 1) ≡ listingOfT

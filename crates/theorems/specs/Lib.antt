@@ -1,0 +1,2 @@
+-- What the theorem from a book to its parse trees says.
+pub mod EveryTree
