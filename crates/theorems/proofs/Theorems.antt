@@ -50,8 +50,9 @@
 -- next in the text. `list` of list/src/main.rt promises that none is left out, unless a write fails. So each byte that is handed to the
 -- write, and their order, is proved; that the write writes it is only tested.
 --
--- `tools/trace-check` reads the table above and fails if a call lacks its equality or has a `requires`; it also checks the table of the
--- calls in docs/TOUR.md against this file. With the last three equalities, demand-3 is a claim about the code's first, next and count.
+-- `tools/trace-check` reads the table above and fails if a call lacks its equality, or if a call or a C function has a `requires`; it also
+-- checks the table of the calls in docs/TOUR.md against this file. With the last three equalities, demand-3 is a claim about the code's
+-- first, next and count.
 -- Assumes nothing.
 use Prim.Native.Nat.{ℕ, suc, _+_, _-_, _≤_, _<_}
 use mathlib.Core.Bool.{true, false}
