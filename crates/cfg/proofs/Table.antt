@@ -9,9 +9,10 @@ use native.Mathlib.Omega.{arith}
 use lib.ListN.{length, replicate}
 use Rattle.sets.specs.Set.{has, insert}
 use Rattle.cfg.specs.Grammar.{Cfg, Rule, Symbol, nonterminal, terminal, byte, fits, joined, Of}
-use Rattle.cfg.specs.Tree.{end, leaf, node, yield}
+use Rattle.cfg.specs.Tree.{end, leaf, node, yield, code}
 use Rattle.cfg.specs.Derivation.{Has, has-here, has-below, has-beside, has-after, first-less, first-same}
 use Rattle.cfg.specs.Derivation.{Superfluous, super-here, super-below, super-beside, super-after, Rising, rising-one, rising-more}
+use Rattle.cfg.specs.Decode.{placesOf, withSiblings, rowIn, belowIn, forestIn}
 use Rattle.cfg.specs.Listing.{L, over, when, from, among, keep, rulesFrom, items, upTo, listing, derivations}
 use Rattle.cfg.specs.Nullable.{symbolsIn, heads, level, firstHeight, depthOf}
 
@@ -44,6 +45,13 @@ pairs-listed = refl
 -- they are in rising order
 pub pairs-rising : Rising ((3 ∷ 0 ∷ 1 ∷ 1 ∷ []) ∷ (3 ∷ 0 ∷ 2 ∷ 0 ∷ []) ∷ [])
 pairs-rising = rising-more (first-same (first-same (first-less {a = 1} {b = 2} (omega arith)))) rising-one
+
+-- bytes and a code give the forest back
+pub pairs-decoded
+    : forestIn pairs (nonterminal 0 ∷ []) (65 ∷ 66 ∷ 67 ∷ 68 ∷ []) (4 ∷ 0 ∷ 2 ∷ 0 ∷ 1 ∷ 1 ∷ 1 ∷ 1 ∷ 2 ∷ 0 ∷ 1 ∷ 1 ∷ 1 ∷ 1 ∷ [])
+    ≡ node 0 (node 0 (node 1 (leaf 65 end) (node 1 (leaf 66 end) end)) (node 0 (node 1 (leaf 67 end) (node 1 (leaf 68 end) end)) end)) end
+unfolding joined yield code placesOf withSiblings rowIn belowIn forestIn
+pairs-decoded = refl
 
 -- twin rules count as two, and the smaller number comes first; a number without a rule is counted too
 pub twins-listed : listOf (grammar (0 ⇒ (A ∷ []) ∷ none ∷ 0 ⇒ (A ∷ []) ∷ [])) 1 ≡ (1 ∷ 0 ∷ []) ∷ (1 ∷ 2 ∷ []) ∷ []

@@ -2,5 +2,6 @@
 pub mod Grammar
 pub mod Tree
 pub mod Derivation
+pub mod Decode
 pub mod Listing
 pub mod Nullable
