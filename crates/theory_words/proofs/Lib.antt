@@ -1,0 +1,8 @@
+-- Rows that the definitions must give; equal texts are equal derivations; how long a text is.
+pub mod Computed
+pub mod Rules
+pub mod Same
+pub mod Filled
+pub mod Names
+pub mod Derived
+pub mod Size
