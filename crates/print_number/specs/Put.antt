@@ -2,13 +2,14 @@
 use Prim.Native.Nat.{ℕ, _+_}
 use mathlib.Core.List.{List, _++_}
 use mathlib.Core.Path.{_≡_}
-use lib.ListN.{length, take}
+use lib.ListN.{length, take, drop}
 
--- from `at` up to `end` the buffer holds the bytes x, and the bytes before them are as found
+-- from `at` up to `end` the buffer holds the bytes x, and the bytes before and after them are as found
 pub record Put (x : List ℕ) (at end : ℕ) (out₀ out : List ℕ) : Type 0 where
   pub long : length out ≡ length out₀
   pub grown : end ≡ at + length x
   pub front : take end out ≡ take at out₀ ++ x
+  pub back : drop end out ≡ drop end out₀
 
 -- the most bytes that a length has: a minus sign and seven digits
 abbrev pub lengthSize : ℕ

@@ -1,0 +1,3 @@
+-- The laws of the length of a text. What others cite: Exact.
+pub mod Sums
+pub mod Exact

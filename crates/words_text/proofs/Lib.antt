@@ -1,0 +1,3 @@
+-- The laws of the pieces of a text.
+pub mod Digits
+pub mod Names
