@@ -1,0 +1,1 @@
+// Clearing the columns of a chart from one on: definitions and theorems, no code.
