@@ -1,0 +1,74 @@
+-- The plain machine of request U6: what remains of an input while bytes are taken, points set and returned to. It knows no chart and no
+-- call: it says which bytes remain, and when an operation is refused. Assumes nothing.
+use Prim.Native.Nat.{ℕ}
+use mathlib.Core.Bool.{true, false, cond}
+use mathlib.Core.List.{List, [], _∷_, _++_, map}
+use mathlib.Core.Option.{Option, none, some}
+use lib.Dec.{eqb, leb, ltb}
+use lib.ListN.{length, getD, take, set, replicate}
+use Rattle.sizes.specs.Sizes.{maxInput}
+use Rattle.grammar.specs.declared.Grammar.{Grammar}
+
+-- points are named by the numbers below this
+abbrev pub maxPoints : ℕ
+maxPoints = 8
+
+-- an operation on a plate in hand: a byte (mark) is taken, or the point of this name is set or returned to
+pub data Op : Type 0 where
+  takeByte : ℕ → Op
+  setPoint : ℕ → Op
+  returnTo : ℕ → Op
+
+-- what remains: the grammar, the year, the bytes, and for each name how many bytes remained when its point was set, if it is set
+pub record Remaining : Type 0 where
+  pub grammar : Grammar
+  pub year : ℕ
+  pub bytes : List ℕ
+  pub points : List (Option ℕ)
+
+-- with other bytes and points
+abbrev pub remain : Remaining → List ℕ → List (Option ℕ) → Remaining
+remain r bytes points = record { grammar = r .grammar; year = r .year; bytes = bytes; points = points }
+
+-- after opening: no byte, and no point is set
+abbrev pub begun : Grammar → ℕ → Remaining
+begun g y = record { grammar = g; year = y; bytes = []; points = replicate maxPoints none }
+
+-- what an operation comes to: it is refused with this number; or this remains, and the answer is whether these bytes are complete
+pub data Effect : Type 0 where
+  refusedBy : ℕ → Effect
+  remains : Remaining → Effect
+
+-- a point, after a return to where p bytes remained: it is gone if it is beyond
+unfoldable pub pointUpTo : ℕ → Option ℕ → Option ℕ
+pointUpTo p none = none
+pointUpTo p (some n) = cond (leb n p) (some n) none
+
+-- the return to a point that is set where p bytes remained, or not set
+unfoldable pub returned : Option ℕ → Remaining → Effect
+returned none r = refusedBy 19
+returned (some p) r = remains (remain r (take p (r .bytes)) (map (pointUpTo p) (r .points)))
+
+-- one operation. 15: 64 bytes remain already; 19: the name is over 7, or is to be returned to and not set
+unfoldable pub moved : Op → Remaining → Effect
+moved (takeByte m) r =
+    elim (eqb (length (r .bytes)) maxInput) [
+      | true ↦ refusedBy 15
+      | false ↦ remains (remain r (r .bytes ++ (m ∷ [])) (r .points))
+    ]
+moved (setPoint k) r =
+    elim (ltb k maxPoints) [
+      | true ↦ remains (remain r (r .bytes) (set (r .points) k (some (length (r .bytes)))))
+      | false ↦ refusedBy 19
+    ]
+moved (returnTo k) r = returned (getD (r .points) k none) r
+
+-- what remains after it: if it is refused, all is as it was
+unfoldable pub remainder : Effect → Remaining → Remaining
+remainder (refusedBy n) r = r
+remainder (remains s) r = s
+
+-- what remains after a list of operations
+unfoldable pub remainsAfter : List Op → Remaining → Remaining
+remainsAfter [] r = r
+remainsAfter (op ∷ ops) r = remainsAfter ops (remainder (moved op r) r)
