@@ -1,0 +1,2 @@
+-- The turns of the two loops.
+pub mod Turns
