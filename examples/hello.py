@@ -9,7 +9,7 @@ import sys
 from ctypes import POINTER, byref, c_char_p, c_int32, c_size_t, c_uint16, c_uint32
 
 # the sizes of include/filbozseg.h
-ROW, CELLS, OUTPUT = 2691, 4225, 1024
+ROW, CELLS, OUTPUT = 3715, 4225, 1024
 BOOK = bytes.fromhex("10 00 20 00 F8 11 30 01 30 01 20 01 00 00 20 01 19 00 40 41 50")
 PLATE, YEAR = b"A", 2008
 

@@ -15,12 +15,12 @@
 enum { KIB = 1024, PAGE = 4096, LARGE = 4096 * KIB, KNOWN = 100 * KIB, PAINT = 0xA5 };
 enum { YEAR = 2008 }; /* any, since all rules of the books here are in force in it */
 
-static uint8_t book[4099], plate[FILBOZSEG_BYTES];
+static uint8_t book[FILBOZSEG_BOOK], plate[FILBOZSEG_BYTES], text[FILBOZSEG_TEXT];
 static uint16_t full[FILBOZSEG_ROW], deep[FILBOZSEG_ROW], wide[FILBOZSEG_ROW], left[FILBOZSEG_ROW], hand[FILBOZSEG_HAND];
 static uint16_t nested[FILBOZSEG_OUTPUT], output[FILBOZSEG_OUTPUT];
 static uint16_t twin[FILBOZSEG_ROW];
 static uint32_t chart[FILBOZSEG_CELLS], code;
-static size_t offset, size, nodes;
+static size_t offset, size, nodes, length, bytes;
 static int32_t tenths;
 static ucontext_t home, away;
 
@@ -33,6 +33,14 @@ static void known(void)
     code = room[0] + 1;
 }
 static void load(void) { code = filbozseg_load(book, size, left, &offset); }
+/* The name of the last rule of a full book. */
+static void name_last(void)
+{
+    length = 0;
+    code = filbozseg_name(book, size, 127, &offset, &length);
+    if (code == 1 && (length != 8 || memcmp(book + offset, "RULE0127", 8) != 0))
+        code = ~0u;
+}
 static void open_full(void) { code = filbozseg_open(full, YEAR, hand, chart, FILBOZSEG_CELLS); }
 static void take_full(void)
 {
@@ -46,6 +54,15 @@ static void take_full(void)
 static void check_deep(void) { code = filbozseg_check(deep, plate, 64, YEAR, nested, 1024, chart, FILBOZSEG_CELLS); }
 static void check_full(void) { code = filbozseg_check(full, plate, 64, YEAR, nested, 1024, chart, FILBOZSEG_CELLS); }
 static void length_deep(void) { code = filbozseg_length(deep, plate, 64, YEAR, nested, 1024, chart, FILBOZSEG_CELLS, &tenths); }
+/* 512 nodes of 10 bytes each, 4 commas at each turn but the last, which has 3, and 64 bytes of 3. */
+static void words_deep(void)
+{
+    bytes = 0;
+    code = filbozseg_words(deep, plate, 64, YEAR, nested, 1024, chart, FILBOZSEG_CELLS, text, FILBOZSEG_TEXT, &bytes);
+    /* the last mark, and then 512 brackets */
+    if (code == 1 && (bytes != 5375 || memcmp(text, "RULE0000(RULE0001(", 18) != 0 || memcmp(text + bytes - 515, "=41))", 5) != 0))
+        code = ~0u;
+}
 static void build_deep(void)
 {
     code = filbozseg_same_build(deep, plate, 64, YEAR, nested, 1024, nested, 1024, chart, FILBOZSEG_CELLS);
@@ -107,11 +124,13 @@ static const struct {
 } calls[] = {
     {"known", known, 1, KNOWN + KIB},
     {"load", load, 1, FILBOZSEG_LOAD_STACK},
+    {"name", name_last, 1, FILBOZSEG_NAME_STACK},
     {"open", open_full, 0, FILBOZSEG_OPEN_STACK},
     {"take", take_full, 0, FILBOZSEG_TAKE_STACK},
     {"check deep", check_deep, 1, FILBOZSEG_CHECK_STACK},
     {"check full", check_full, 0, FILBOZSEG_CHECK_STACK},
     {"length", length_deep, 1, FILBOZSEG_LENGTH_STACK},
+    {"words", words_deep, 1, FILBOZSEG_WORDS_STACK},
     {"same build", build_deep, 1, FILBOZSEG_SAME_BUILD_STACK},
     {"first deep", first_deep, 1, FILBOZSEG_FIRST_STACK},
     {"first full", first_wide, 1, FILBOZSEG_FIRST_STACK},
@@ -165,16 +184,25 @@ static void put(const uint8_t *command, size_t n)
     size += n;
 }
 
-/* k -> k+1 for k = 0..30, 31 -> A A A A 0, 31 -> A A A A: no derivation has more nodes and bytes before its last place. */
+/* Names the open rule k. */
+static void put_name(size_t k)
+{
+    put((uint8_t[]){0x60, 'R', 'U', 'L', 'E', '0', '0' + k / 100, '0' + k / 10 % 10, '0' + k % 10}, 9);
+}
+
+/* k -> k+1 for k = 0..30, 31 -> A A A A 0, 31 -> A A A A: no derivation has more nodes and bytes before its last place. All are named. */
 static int load_deep(void)
 {
     size_t k;
     size = 0;
     put((uint8_t[]){0x10, 0}, 2);
-    for (k = 0; k < 31; k++)
+    for (k = 0; k < 31; k++) {
         put((uint8_t[]){0x20, k, 1, 0, 0x30, k + 1}, 6);
+        put_name(k);
+    }
     for (k = 0; k < 2; k++) {
         put((uint8_t[]){0x20, 31, 1, 0, 0x40, 'A', 0x40, 'A', 0x40, 'A', 0x40, 'A'}, 12);
+        put_name(31 + k);
         put(k == 0 ? (uint8_t[]){0x30, 0} : (uint8_t[]){0x50, 0}, k == 0 ? 2 : 1);
     }
     for (k = 0; k < 512; k++) {
@@ -192,7 +220,7 @@ static int load_twin(void)
     return filbozseg_load(book, size, twin, &offset) == 1;
 }
 
-/* 128 rules of 8 places with their years, and a range in every second place. */
+/* 128 rules of 8 places with their years and names, and a range in every second place. */
 static int load_full(void)
 {
     size_t k, q;
@@ -200,6 +228,7 @@ static int load_full(void)
     put((uint8_t[]){0x10, 0}, 2);
     for (k = 0; k < 128; k++) {
         put((uint8_t[]){0x21, k % 32, 1, 0, k, 0, 0xFF, 0xFF}, 8);
+        put_name(k);
         for (q = 0; q < 8; q++)
             put(q % 2 ? (uint8_t[]){0x41, 'A', 'B'} : (uint8_t[]){0x30, (k + q) % 32}, q % 2 ? 3 : 2);
     }
@@ -207,8 +236,8 @@ static int load_full(void)
     return filbozseg_load(book, size, full, &offset) == 1;
 }
 
-/* 128 rules of 8 places with their years: in a quarter of them every place holds a range, in the others every second one. 64 bytes have
-   derivations. */
+/* 128 rules of 8 places with their years and names: in a quarter of them every place holds a range, in the others every second one. 64
+   bytes have derivations. */
 static int load_wide(void)
 {
     size_t k, q;
@@ -216,6 +245,7 @@ static int load_wide(void)
     put((uint8_t[]){0x10, 0}, 2);
     for (k = 0; k < 128; k++) {
         put((uint8_t[]){0x21, k % 32, 1, 0, k, 0, 0xFF, 0xFF}, 8);
+        put_name(k);
         for (q = 0; q < 8; q++)
             put(q % 2 || k / 32 == 3 ? (uint8_t[]){0x41, 0, 255} : (uint8_t[]){0x30, (k + 5 * q) % 32}, q % 2 || k / 32 == 3 ? 3 : 2);
     }

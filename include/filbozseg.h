@@ -9,9 +9,9 @@
  *
  * Every function returns a code:
  *     0          no; none
- *     1          yes; loaded; measured; handed out; counted
+ *     1          yes; loaded; found; measured; written; handed out; counted
  *     2          more (only from filbozseg_count)
- *     256 + n    refusal n, 1 <= n <= 16 or n = 21: FILBOZSEG_REFUSED gives n, enum filbozseg_refusal has its name,
+ *     256 + n    refusal n, 1 <= n <= 18 or n = 21: FILBOZSEG_REFUSED gives n, enum filbozseg_refusal has its name,
  *                filbozseg_refusal_text says what it means, and docs/REFERENCE.md when a call is refused with it and what the call leaves
  * and no other code. No function allocates or keeps anything between calls. Of the C library they need only memcpy and memset. Several
  * threads may call them at once if what is lent for writing is lent to one call only.
@@ -23,16 +23,17 @@
  * Overlap. What is lent for writing (every pointer to non-const) must not overlap anything else that is lent to the same call, and nobody
  * else may read or write it until the call returns. What is lent for reading may overlap.
  *
- * What is written. A lent number is written only with an answer that carries it: the offset with a refused book, the tenths with a
- * measured derivation, the nodes with a derivation handed out, the count with a counted input. With any other answer it is left as found.
- * Each call says below what it leaves in a row, a hand, a chart and an output. Cells from 4225 on are never touched. What a lent place
- * holds before a call has no effect, except for the hand and the chart of filbozseg_take.
+ * What is written. A lent number is written only with an answer that carries it: the offset with a refused book, offset and length with a
+ * name found, the tenths with a measured derivation, the bytes with a text written, the nodes with a derivation handed out, the count with
+ * a counted input. With any other answer it is left as found. Each call says below what it leaves in a row, a hand, a chart, an output and
+ * a buffer. Cells from 4225 on are never touched. What a lent place holds before a call has no effect, except for the hand and the chart
+ * of filbozseg_take.
  *
  * Years. Each rule has a first and a last year, and is in force from one to the other, both included. A call on an input goes by the year
  * that it is given, and filbozseg_take by the year that the hand was opened with: only rules in force in that year build trees, empty ones
  * included. Out of force, a rule keeps its number. Any year from 0 to 65535 may be given.
  *
- * Words: a grammar is a loaded book, an input a plate, a hand a plate in hand, a mark one of its bytes, a chart a sheet, a derivation a
+ * Terms: a grammar is a loaded book, an input a plate, a hand a plate in hand, a mark one of its bytes, a chart a sheet, a derivation a
  * reading, a node a part.
  *
  * Stack. Nothing proves how much stack a call needs. The macro named at each call is a figure in bytes, measured on x86-64 for a full
@@ -51,7 +52,7 @@ extern "C" {
 
 /* The version of this header and of the library that it describes. */
 #define FILBOZSEG_VERSION_MAJOR 0
-#define FILBOZSEG_VERSION_MINOR 8
+#define FILBOZSEG_VERSION_MINOR 9
 #define FILBOZSEG_VERSION_PATCH 0
 
 /* The version as one number, which grows from version to version: 1000000 * major + 1000 * minor + patch. Like the other functions with a
@@ -71,24 +72,28 @@ static inline const char *filbozseg_version_text(void)
 }
 
 /* Sizes: the numbers in a grammar's row, the numbers in a hand's row, the used cells of a chart, the maximum number of bytes of an input,
-   the minimum length of an output, which has two numbers for each of at most 512 nodes of a derivation, and the maximum number of bytes of
-   a book that loads: 128 rules with years and 8 ranges each, start and end. A longer book may be handed in too, and is refused. */
-#define FILBOZSEG_ROW 2691
+   the minimum length of an output, which has two numbers for each of at most 512 nodes of a derivation, the maximum number of bytes of a
+   derivation's text, for which a buffer of this size is always enough, and the maximum number of bytes of a book that loads: 128 rules
+   with years, a name and 8 ranges each, start and end. A longer book may be handed in too, and is refused. */
+#define FILBOZSEG_ROW 3715
 #define FILBOZSEG_HAND 66
 #define FILBOZSEG_CELLS 4225
 #define FILBOZSEG_BYTES 64
 #define FILBOZSEG_OUTPUT 1024
-#define FILBOZSEG_BOOK 4099
+#define FILBOZSEG_TEXT 5888
+#define FILBOZSEG_BOOK 5251
 
 /* How many bytes of stack a call needs, rounded up to pages of 4 KiB. A thread with 256 KiB is enough for all calls but the last three.
    These three have their tables on the stack: their macros are bounds, within the 2 MiB that a Rust thread has by default. How much they
    take depends on book and input, up to 1.8 MB at their deepest. So a thread of 1 MiB passes small tests, and crashes on deep plates: give
    it FILBOZSEG_FIRST_STACK and what the thread itself needs. */
-#define FILBOZSEG_LOAD_STACK (20 * 1024)
+#define FILBOZSEG_LOAD_STACK (48 * 1024)
+#define FILBOZSEG_NAME_STACK (40 * 1024)
 #define FILBOZSEG_OPEN_STACK (48 * 1024)
 #define FILBOZSEG_TAKE_STACK (56 * 1024)
 #define FILBOZSEG_CHECK_STACK (148 * 1024)
 #define FILBOZSEG_LENGTH_STACK (148 * 1024)
+#define FILBOZSEG_WORDS_STACK (152 * 1024)
 #define FILBOZSEG_SAME_BUILD_STACK (148 * 1024)
 #define FILBOZSEG_FIRST_STACK (1900 * 1024)
 #define FILBOZSEG_NEXT_STACK (1900 * 1024)
@@ -113,6 +118,8 @@ enum filbozseg_refusal {
     FILBOZSEG_REFUSAL_INVALID_RECOGNIZER = 14,
     FILBOZSEG_REFUSAL_RECOGNIZER_FULL = 15,
     FILBOZSEG_REFUSAL_RANGE_REVERSED = 16,
+    FILBOZSEG_REFUSAL_INVALID_NAME = 17,
+    FILBOZSEG_REFUSAL_TEXT_TOO_LONG = 18,
     FILBOZSEG_REFUSAL_YEARS_REVERSED = 21
 };
 
@@ -162,6 +169,10 @@ static inline const char *filbozseg_refusal_text(uint32_t refusal)
         return "the recognizer has taken 64 bytes and takes no more";
     case FILBOZSEG_REFUSAL_RANGE_REVERSED:
         return "a range of the book has its low end over its high end";
+    case FILBOZSEG_REFUSAL_INVALID_NAME:
+        return "a name of the book is empty, has a wrong byte, or is that of an earlier rule";
+    case FILBOZSEG_REFUSAL_TEXT_TOO_LONG:
+        return "the text of the reading is longer than the buffer";
     case FILBOZSEG_REFUSAL_YEARS_REVERSED:
         return "a rule of the book has its first year over its last";
     default:
@@ -170,18 +181,20 @@ static inline const char *filbozseg_refusal_text(uint32_t refusal)
 }
 
 /*
- * The row of a grammar has numbers of 16 bits: the start symbol, the number of rules, the nullable depth, and then 21 numbers for each of
+ * The row of a grammar has numbers of 16 bits: the start symbol, the number of rules, the nullable depth, and then 29 numbers for each of
  * 128 rules. These are the left side, the length in hundredths of a millimetre (two's complement), the number of places, for each of 8
- * places a tag and a value, the first year and the last year. Tag 0 is a nonterminal and 1 a terminal. Tag 2 is a range, whose value is
- * low + 256 * high: any byte from low to high fits such a place, both ends included, and no other.
+ * places a tag and a value, the first year, the last year, and the eight bytes of the name. Tag 0 is a nonterminal and 1 a terminal. Tag 2
+ * is a range, whose value is low + 256 * high: any byte from low to high fits such a place, both ends included, and no other. A name is one
+ * to eight capitals A to Z and digits 0 to 9, filled up with blanks (0x20); eight zeros are no name.
  *
  * The nullable depth of a loaded grammar is 0 to 32: the greatest, over all nonterminals that have an empty tree, of the height of the
  * lowest one, and 0 if none has any. A rule without places makes a tree of height 1. All rules count, whatever their years.
  *
  * A row may hold anything, and all 16 bits of each number are checked. Refusal 8: a start over 31; more than 128 rules; in a used rule a
- * left side over 31, more than 8 places, or a first year over the last; in a used place a tag over 2, a nonterminal over 31, a terminal
- * over 255, or a range with low over high. A rule is used if its number is below the number of rules. A place is used if its number is
- * below its rule's number of places. The depth, the lengths, and all numbers of unused rules and unused places may have any value.
+ * left side over 31, more than 8 places, a first year over the last, or eight bytes that are neither a name nor zeros; in a used place a
+ * tag over 2, a nonterminal over 31, a terminal over 255, or a range with low over high; two used rules with one name. A rule is used if
+ * its number is below the number of rules. A place is used if its number is below its rule's number of places. The depth, the lengths, and
+ * all numbers of unused rules and unused places may have any value.
  *
  * The row of a hand has numbers of 16 bits: 64 marks, then the count, hand[FILBOZSEG_BYTES], and then the year that it was opened with,
  * hand[FILBOZSEG_BYTES + 1]. It may hold anything too, and all 16 bits of each number are checked. Refusal 14: a count over 64, or a used
@@ -190,7 +203,7 @@ static inline const char *filbozseg_refusal_text(uint32_t refusal)
 
 /*
  * Loads a book of any length; one that loads has at most FILBOZSEG_BOOK bytes. Returns 1, writes the row of its grammar, and leaves the
- * offset as found. Or returns 256 + n, n from 1 to 7 or 16 or 21, writes the row of the grammar without rules, which is all zeros, and
+ * offset as found. Or returns 256 + n, n from 1 to 7 or 16, 17 or 21, writes the row of the grammar without rules, which is all zeros, and
  * writes to offset where the fault is. Either way it writes all numbers of the row.
  *
  * A book is a row of commands. Their first bytes, in hexadecimal, and their operands:
@@ -200,11 +213,21 @@ static inline const char *filbozseg_refusal_text(uint32_t refusal)
  *     30 nonterminal           adds a place to that rule
  *     40 byte                  adds a place that this byte fits
  *     41 low high              adds a place that any byte from low to high fits; 40 a and 41 a a are two symbols
+ *     60 name                  names the open rule, before, between or after its places: eight bytes as in a row, but not eight zeros
  *     50                       the end; the last byte
- * At one command the order of the refusals is 2, 3, 1, then 4 or 16, then 21, then 5 or 6, then 7.
+ * A second name for a rule is refused 3, and a name that an earlier rule has is refused 17. At one command the order of the refusals is 2,
+ * 3, 1, then 4, 16 or 17, then 21, then 5 or 6, then 7.
  * Stack: FILBOZSEG_LOAD_STACK.
  */
 uint32_t filbozseg_load(const uint8_t *book, size_t book_length, uint16_t grammar[FILBOZSEG_ROW], size_t *offset);
+
+/*
+ * Finds the name of a rule, any number, in the bytes of its book. Returns 1 and writes where it is: from book + offset on, length bytes, 1
+ * to 8, which follow the 60 of the rule, without the blanks that fill them up. Or returns 0 and leaves both as found, if the bytes do not
+ * load, the book has no such rule, or the rule has no name. No refusal.
+ * Stack: FILBOZSEG_NAME_STACK.
+ */
+uint32_t filbozseg_name(const uint8_t *book, size_t book_length, size_t rule, size_t *offset, size_t *length);
 
 /*
  * Opens the recognizer in a year: writes the hand without marks, which is zeros and then the year, clears the first 4225 cells of the chart
@@ -242,6 +265,20 @@ uint32_t filbozseg_check(const uint16_t grammar[FILBOZSEG_ROW], const uint8_t *i
  */
 uint32_t filbozseg_length(const uint16_t grammar[FILBOZSEG_ROW], const uint8_t *input, size_t input_length, uint16_t year,
                           const uint16_t *offered, size_t offered_length, uint32_t *chart, size_t chart_length, int32_t *tenths);
+
+/*
+ * Writes the text of the offered derivation to the front of the buffer, leaves the rest of the buffer as found, writes its length in bytes
+ * to bytes, and returns 1. The text ends in no zero byte. For a node it is the name of its rule, `(`, the texts of its places with commas
+ * between them, and `)`. A rule without a name is `#` and its number in three digits, and a byte of the input is `=` and two hexadecimal
+ * digits in capitals: BODY(#001(),PORT(=41)). For one grammar two texts are equal exactly if inputs and derivations are equal. The buffer
+ * may have any length; FILBOZSEG_TEXT bytes are always enough. Refusals, in this order: 8, 9, 10, 12 as for filbozseg_length; 18 the text
+ * is longer than the buffer. If refused, it leaves buffer and bytes as found, and the chart as found (8, 9, 10) or filled for the input
+ * (12, 18).
+ * Stack: FILBOZSEG_WORDS_STACK.
+ */
+uint32_t filbozseg_words(const uint16_t grammar[FILBOZSEG_ROW], const uint8_t *input, size_t input_length, uint16_t year,
+                         const uint16_t *offered, size_t offered_length, uint32_t *chart, size_t chart_length,
+                         uint8_t *buffer, size_t buffer_length, size_t *bytes);
 
 /*
  * Returns whether two offered derivations of the input are the same build: whether their nodes that cover something have the same rules

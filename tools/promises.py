@@ -45,7 +45,7 @@ def plain(source):
 
 def contract(source, name):
     """The contract of a public function, from its head to its body, or None. The body begins on a line of its own."""
-    found = re.search(rf"^ *pub (?:extern \"C\" )?fn {re.escape(name)}\(.*?\n\s*\{{\n", source, re.M | re.S)
+    found = re.search(rf"^ *pub (?:extern \"C\" )?fn {re.escape(name)}(?:<'a>)?\(.*?\n\s*\{{\n", source, re.M | re.S)
     return found.group(0) if found else None
 
 

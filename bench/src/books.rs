@@ -13,6 +13,31 @@ use P::{N, R, T};
 
 pub struct Book(Vec<u8>);
 
+/// The command that names rule r: eight letters and digits, with a front that all names share.
+fn name(r: usize) -> Vec<u8> {
+    format!("\x60RULE0{r:03}").into_bytes()
+}
+
+/// The book with a name for each of its rules.
+pub fn named(book: &[u8]) -> Vec<u8> {
+    let (mut out, mut at, mut rules) = (Vec::new(), 0, 0);
+    while at < book.len() {
+        let size = match book[at] {
+            0x20 => 4,
+            0x41 => 3,
+            0x50 => 1,
+            _ => 2,
+        };
+        out.extend(&book[at..at + size]);
+        if book[at] == 0x20 {
+            out.extend(name(rules));
+            rules += 1;
+        }
+        at += size;
+    }
+    out
+}
+
 impl Book {
     pub fn new(start: u8) -> Book {
         Book(vec![0x10, start])

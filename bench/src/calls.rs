@@ -1,12 +1,12 @@
 //! The calls that are timed, once over the proved library and once over the plain code, with the same arguments. A
-//! grammar is a flat row, which each call reads anew. An answer is a code: 0 no; 1 yes, loaded, measured, handed out or
-//! counted; 2 more; or a refusal's code. The library's functions are those that the wrapper declares.
+//! grammar is a flat row, which each call reads anew. An answer is a code: 0 no; 1 yes, loaded, measured, written,
+//! handed out or counted; 2 more; or a refusal's code. The library's functions are those that the wrapper declares.
 
 use crate::plain::enumerator;
 use crate::plain::flat::{self, FLAT};
 pub use crate::plain::hand::Hand;
 use crate::plain::hand::{self, HAND};
-use crate::plain::{checker, loader, recognizer, Grammar, Refusal, CHART, INPUT};
+use crate::plain::{checker, loader, names, recognizer, words, Grammar, Refusal, CHART, INPUT};
 use filbozseg::sys;
 
 pub type Flat = [u16; FLAT];
@@ -16,10 +16,12 @@ pub const YEAR: u16 = 0;
 
 pub trait Reader {
     fn load(book: &[u8], flat: &mut Flat, offset: &mut usize) -> u32;
+    fn name(book: &[u8], rule: usize, offset: &mut usize, length: &mut usize) -> u32;
     fn open(flat: &Flat, hand: &mut Hand, chart: &mut [u32]) -> u32;
     fn take(flat: &Flat, hand: &mut Hand, byte: u8, chart: &mut [u32]) -> u32;
     fn check(flat: &Flat, input: &[u8], offered: &[u16], chart: &mut [u32]) -> u32;
     fn length(flat: &Flat, input: &[u8], offered: &[u16], chart: &mut [u32], tenths: &mut i32) -> u32;
+    fn words(flat: &Flat, input: &[u8], offered: &[u16], chart: &mut [u32], text: &mut [u8], bytes: &mut usize) -> u32;
     fn same_build(flat: &Flat, input: &[u8], a: &[u16], b: &[u16], chart: &mut [u32]) -> u32;
     fn first(flat: &Flat, input: &[u8], chart: &mut [u32], out: &mut [u16], nodes: &mut usize) -> u32;
     fn next(flat: &Flat, input: &[u8], offered: &[u16], chart: &mut [u32], out: &mut [u16], nodes: &mut usize) -> u32;
@@ -45,6 +47,10 @@ impl Reader for Proved {
         unsafe { sys::filbozseg_load(book.as_ptr(), book.len(), flat, offset) }
     }
 
+    fn name(book: &[u8], rule: usize, offset: &mut usize, length: &mut usize) -> u32 {
+        unsafe { sys::filbozseg_name(book.as_ptr(), book.len(), rule, offset, length) }
+    }
+
     fn open(flat: &Flat, hand: &mut Hand, chart: &mut [u32]) -> u32 {
         unsafe { sys::filbozseg_open(flat, YEAR, hand, chart.as_mut_ptr(), chart.len()) }
     }
@@ -63,6 +69,12 @@ impl Reader for Proved {
         unsafe {
             sys::filbozseg_length(flat, w, input.len(), YEAR, e, offered.len(), chart.as_mut_ptr(), chart.len(), tenths)
         }
+    }
+
+    fn words(flat: &Flat, input: &[u8], offered: &[u16], chart: &mut [u32], text: &mut [u8], bytes: &mut usize) -> u32 {
+        let (w, e) = (input.as_ptr(), offered.as_ptr());
+        let ((x, cells), (t, room)) = ((chart.as_mut_ptr(), chart.len()), (text.as_mut_ptr(), text.len()));
+        unsafe { sys::filbozseg_words(flat, w, input.len(), YEAR, e, offered.len(), x, cells, t, room, bytes) }
     }
 
     fn same_build(flat: &Flat, input: &[u8], a: &[u16], b: &[u16], chart: &mut [u32]) -> u32 {
@@ -123,6 +135,14 @@ impl Reader for Plain {
         }
     }
 
+    fn name(book: &[u8], rule: usize, offset: &mut usize, length: &mut usize) -> u32 {
+        let Some(part) = names::lookup(book, rule) else {
+            return 0;
+        };
+        (*offset, *length) = (part.start, part.len());
+        1
+    }
+
     fn open(flat: &Flat, hand: &mut Hand, chart: &mut [u32]) -> u32 {
         *hand = [0; HAND];
         code(recognizer::open(&flat::read(flat), YEAR, chart))
@@ -149,6 +169,10 @@ impl Reader for Plain {
             }
             Err(refusal) => refusal.code(),
         }
+    }
+
+    fn words(flat: &Flat, input: &[u8], offered: &[u16], chart: &mut [u32], text: &mut [u8], bytes: &mut usize) -> u32 {
+        written(words::words(&flat::read(flat), input, YEAR, offered, chart, text).map(Some), 0, bytes)
     }
 
     fn same_build(flat: &Flat, input: &[u8], a: &[u16], b: &[u16], chart: &mut [u32]) -> u32 {

@@ -4,6 +4,7 @@
 
 mod calls;
 mod firsts;
+mod named;
 mod nexts;
 mod program;
 mod spans;
@@ -113,13 +114,16 @@ fn loads() {
     assert_eq!(full.len(), 2563);
     time_load("full valid book, 2,563 bytes", &full);
     let mut faulty = full.clone();
-    faulty[2562] = 0x60;
+    faulty[2562] = 0x70;
     let (code, _, at) = load_both(&faulty);
     assert_eq!((code, at), (Refusal::UnknownCommand.code(), 2562));
     time_load("the same, unknown byte at 2,562", &faulty);
     let ranges = books::full_of_ranges();
     assert_eq!((ranges.len(), loaded(&ranges)[1]), (3587, 128));
     time_load("full valid book of ranges, 3,587 bytes", &ranges);
+    let named = books::named(&ranges);
+    assert_eq!((named.len(), loaded(&named)[1]), (4739, 128));
+    time_load("the same with 128 names, 4,739 bytes", &named);
     time_load("empty chain of 32 kinds, one found in each pass", &books::chain(&[&[]]));
     time_load("10 00 50", &[0x10, 0, 0x50]);
 }
@@ -389,7 +393,7 @@ fn sweep(count: usize) {
 fn main() {
     let count = std::env::args()
         .nth(1)
-        .map_or(200, |n| n.parse().expect("usage: bench [BOOKS IN THE SWEEP [first|next|program|spans]]"));
+        .map_or(200, |n| n.parse().expect("usage: bench [BOOKS IN THE SWEEP [first|next|names|program|spans]]"));
     println!(
         "The proved library (C functions of libfilbozseg.a) compared with the same algorithms in plain Rust. Load average {}.",
         load_average()
@@ -402,6 +406,9 @@ fn main() {
     }
     if only.as_deref() == Some("next") {
         return nexts::nexts(count);
+    }
+    if only.as_deref() == Some("names") {
+        return named::names();
     }
     if only.as_deref() == Some("program") {
         return program::program();
@@ -417,6 +424,7 @@ fn main() {
     spans::spans(&list);
     overheads(&list);
     checks();
+    named::names();
     firsts::firsts(count / 10);
     nexts::nexts(count);
     program::program();

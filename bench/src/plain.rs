@@ -8,12 +8,15 @@ pub mod flat;
 pub mod hand;
 pub mod listing;
 pub mod loader;
+pub mod names;
 pub mod packed;
 pub mod recognizer;
 pub mod spans;
 pub mod tables;
+pub mod words;
 
 pub use filbozseg::Refusal;
+pub use names::Name;
 
 pub const RULES: usize = 128;
 pub const PLACES: usize = 8;
@@ -45,6 +48,7 @@ pub struct Rule {
     pub places: [Symbol; PLACES],
     pub first: u16,
     pub last: u16,
+    pub name: Name,
 }
 
 #[derive(Clone, Debug, PartialEq)]
@@ -56,14 +60,22 @@ pub struct Grammar {
 }
 
 impl Rule {
-    pub const ZERO: Rule =
-        Rule { left: 0, length: 0, count: 0, places: [Symbol::Nonterminal(0); PLACES], first: 0, last: 0 };
+    pub const ZERO: Rule = Rule {
+        left: 0,
+        length: 0,
+        count: 0,
+        places: [Symbol::Nonterminal(0); PLACES],
+        first: 0,
+        last: 0,
+        name: names::NONE,
+    };
 
     fn valid(&self) -> bool {
         self.left < 32
             && self.count <= PLACES
             && self.places[..self.count].iter().all(Symbol::valid)
             && self.first <= self.last
+            && (self.name == names::NONE || names::valid(&self.name))
     }
 
     /// Whether the rule is in force in the year.
@@ -77,7 +89,10 @@ impl Grammar {
 
     /// Check 8.
     pub fn valid(&self) -> bool {
-        self.start < 32 && self.count <= RULES && self.rules[..self.count].iter().all(Rule::valid)
+        self.start < 32
+            && self.count <= RULES
+            && self.rules[..self.count].iter().all(Rule::valid)
+            && names::distinct(&self.rules[..self.count])
     }
 }
 

@@ -58,16 +58,26 @@ pub enum Reason {
     YearOver(String),
     /// The first year of a rule is over the last.
     YearsReversed(String),
+    /// `name` is not followed by a word.
+    NameDue,
+    /// A name is not one to eight capitals and digits.
+    NotAName(String),
+    /// A name is that of an earlier rule.
+    NameAgain(String),
+    /// `after` is not followed by a word.
+    AfterDue,
+    /// After `after` comes no decimal number, or one over the number of the rule's places.
+    NotAfter(String),
     /// A word follows the end of a statement.
     Further(String),
     /// There is a 129th rule, with this left side.
     TooManyRules(String),
 }
 
-/// Why bytes are not a book: a refusal of document 01, or 16 or 21 of document 02.
+/// Why bytes are not a book: a refusal of document 01, or 16, 17 or 21 of document 02.
 #[derive(Clone, Copy, Debug, PartialEq, Eq)]
 pub struct Refusal {
-    /// Its number: 1 to 7, 16 or 21.
+    /// Its number: 1 to 7, 16, 17 or 21.
     pub number: u8,
     /// Its offset: that of the command; for 1 the number of bytes; for 7 the byte after the end.
     pub offset: usize,
@@ -110,6 +120,11 @@ impl fmt::Display for Reason {
             NotAYear(_) => "not a year: a decimal number from 0 to 65535",
             YearOver(_) => "a year over 65535",
             YearsReversed(_) => "reversed years: the first is over the last",
+            NameDue => "a name is due after `name`",
+            NotAName(_) => "not a name: one to eight capitals A to Z and digits",
+            NameAgain(_) => "the name of an earlier rule",
+            AfterDue => "a number of places is due after `after`",
+            NotAfter(_) => "not a number of places: a decimal number, not over that of the rule's places",
             Further(_) => "a word after the end of the statement",
             TooManyRules(_) => "the left side of a 129th rule",
         })
@@ -125,6 +140,7 @@ impl Reason {
             NotARange(word) | RangeReversed(word) | NotInQuotes(word) | NinthPlace(word) => Some(word),
             NotALength(word) | LengthOver(word) | Further(word) | TooManyRules(word) => Some(word),
             NotAYear(word) | YearOver(word) | YearsReversed(word) => Some(word),
+            NotAName(word) | NameAgain(word) | NotAfter(word) => Some(word),
             ArrowDue(word) | PlacesDue(word) => word.as_deref(),
             _ => None,
         }
@@ -133,7 +149,7 @@ impl Reason {
     /// Whether the line ends where something is due.
     fn at_end(&self) -> bool {
         use Reason::*;
-        matches!(self, StartWithoutKind | ArrowDue(None) | PlacesDue(None) | LengthDue | YearsDue)
+        matches!(self, StartWithoutKind | ArrowDue(None) | PlacesDue(None) | LengthDue | YearsDue | NameDue | AfterDue)
     }
 }
 
@@ -158,7 +174,7 @@ pub fn meaning(number: u8) -> Option<&'static str> {
     Some(match number {
         1 => "the book ends inside a command, or where one is due",
         2 => "an unknown command",
-        3 => "a command out of turn",
+        3 => "a command out of turn, or a second name of a rule",
         4 => "a kind over 31",
         5 => "the 129th rule",
         6 => "a ninth place",
@@ -166,6 +182,7 @@ pub fn meaning(number: u8) -> Option<&'static str> {
         9 => "the plate has more than 64 marks",
         13 => "the plate can be built, but only with more than 512 parts",
         16 => "a reversed range",
+        17 => "no name, or that of an earlier rule",
         21 => "reversed years",
         _ => return None,
     })

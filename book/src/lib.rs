@@ -26,6 +26,8 @@
 //! - `KIND -> PLACES : LENGTH years FIRST LAST` is a rule that is in force from its first year to its last, both included. A year is a
 //!   decimal number from 0 to 65535, and the first must not be over the last. A rule without years holds in all of them; it and one with
 //!   `years 0 65535` are two books.
+//! - After the length, or after the years, `name NAME` names the rule. A name is one to eight capitals and digits, and no two rules have
+//!   the same. In the book the name comes after the places of the rule; with `name NAME after N` it comes after the first N of them.
 //! - A kind is a decimal number from 0 to 31.
 //! - The places are 1 to 8 kinds, marks and ranges, or `-` alone for no place.
 //! - A mark is one byte: `'A'` for a printable ASCII character (the space is one), or `=41` for any byte, two hexadecimal digits.

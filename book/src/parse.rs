@@ -1,13 +1,16 @@
 //! Parses a text, or finds its first fault.
 
 use crate::fault::{Fault, Reason};
-use crate::grammar::{Grammar, Rule, Symbol, PLACES, RULES};
-use crate::words::{kind, length, place, words, year, ARROW, COLON, SHORT_ARROW};
+use crate::grammar::{Grammar, Name, Rule, Symbol, PLACES, RULES};
+use crate::words::{kind, length, letters, place, places_before, words, year, ARROW, COLON, SHORT_ARROW};
 
 /// The word that begins the first statement.
 const START: &str = "start";
 /// The word before the years of a rule.
 const YEARS: &str = "years";
+/// The word before the name of a rule, and that before the number of places after which it is given.
+const NAME: &str = "name";
+const AFTER: &str = "after";
 /// What some editors write before a text: the byte order mark. It says nothing.
 const MARK: char = '\u{feff}';
 
@@ -55,20 +58,36 @@ fn rule(left: &str, words: &[&str]) -> Result<Rule, Reason> {
     let places = places(&rest[..colon])?;
     let [_, word, rest @ ..] = &rest[colon..] else { return Err(Reason::LengthDue) };
     let length = length(word)?;
-    let years = years(rest)?;
-    Ok(Rule { left, length, years, places })
+    let (years, rest) = years(rest)?;
+    let (name, rest) = name(rest, places.len())?;
+    nothing_more(rest)?;
+    Ok(Rule { left, length, years, places, name })
 }
 
+/// Part of a statement, if it is there, and the words after it.
+type Part<'a, 'b, T> = (Option<T>, &'a [&'b str]);
+
 /// The years of a rule, from the words after its length. A rule without years has none.
-fn years(words: &[&str]) -> Result<Option<(u16, u16)>, Reason> {
-    let [YEARS, rest @ ..] = words else { return nothing_more(words).map(|()| None) };
+fn years<'a, 'b>(words: &'a [&'b str]) -> Result<Part<'a, 'b, (u16, u16)>, Reason> {
+    let [YEARS, rest @ ..] = words else { return Ok((None, words)) };
     let first = year(rest.first().ok_or(Reason::YearsDue)?)?;
     let last = year(rest.get(1).ok_or(Reason::YearsDue)?)?;
     if first > last {
         return Err(Reason::YearsReversed(format!("{first} {last}")));
     }
-    nothing_more(&rest[2..])?;
-    Ok(Some((first, last)))
+    Ok((Some((first, last)), &rest[2..]))
+}
+
+/// The name of a rule with so many places, from the words after its length and years. It is given after all places unless its words
+/// say otherwise. A rule without a name has none.
+fn name<'a, 'b>(words: &'a [&'b str], places: usize) -> Result<Part<'a, 'b, Name>, Reason> {
+    let [NAME, rest @ ..] = words else { return Ok((None, words)) };
+    let letters = letters(rest.first().ok_or(Reason::NameDue)?)?;
+    let (after, rest) = match &rest[1..] {
+        [AFTER, rest @ ..] => (places_before(rest.first().ok_or(Reason::AfterDue)?, places)?, &rest[1..]),
+        rest => (places, rest),
+    };
+    Ok((Some(Name { letters, after }), rest))
 }
 
 /// The places between `->` and `:`.
@@ -90,10 +109,14 @@ fn places(words: &[&str]) -> Result<Vec<Symbol>, Reason> {
     Ok(places)
 }
 
-/// Adds a rule with this left side, unless it is the 129th.
+/// Adds a rule with this left side, unless it is the 129th or has the name of an earlier one.
 fn add(grammar: &mut Grammar, rule: Rule, left: &str) -> Result<(), Reason> {
     if grammar.rules.len() == RULES {
         return Err(Reason::TooManyRules(left.to_string()));
+    }
+    match &rule.name {
+        Some(name) if grammar.has_name(&name.letters) => return Err(Reason::NameAgain(name.letters.clone())),
+        _ => (),
     }
     grammar.rules.push(rule);
     Ok(())

@@ -1,7 +1,7 @@
 //! The words of a line, and what a single word means.
 
 use crate::fault::Reason;
-use crate::grammar::{Symbol, KINDS};
+use crate::grammar::{is_name, Symbol, KINDS};
 
 /// What is written between the two marks of a range.
 const RANGE: &str = "..";
@@ -116,6 +116,20 @@ pub fn year(word: &str) -> Result<u16, Reason> {
         return Err(Reason::NotAYear(word.to_string()));
     }
     u16::try_from(number(word)).map_err(|_| Reason::YearOver(word.to_string()))
+}
+
+/// A name: one to eight capitals and digits.
+pub fn letters(word: &str) -> Result<String, Reason> {
+    match is_name(word) {
+        true => Ok(word.to_string()),
+        false => Err(Reason::NotAName(word.to_string())),
+    }
+}
+
+/// How many of a rule's places come before its name: a decimal number, at most all of them.
+pub fn places_before(word: &str, places: usize) -> Result<usize, Reason> {
+    let before = if is_digits(word) { usize::try_from(number(word)).ok() } else { None };
+    before.filter(|before| *before <= places).ok_or_else(|| Reason::NotAfter(word.to_string()))
 }
 
 /// The number that the digits write. If there are too many digits, a number that is out of every range here.

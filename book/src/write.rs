@@ -1,6 +1,6 @@
 //! The text of a book, always written in the same way.
 
-use crate::grammar::{Grammar, Rule, Symbol};
+use crate::grammar::{Grammar, Name, Rule, Symbol};
 
 /// The text: the start kind, then a line for each rule.
 pub fn text(grammar: &Grammar) -> String {
@@ -15,7 +15,11 @@ fn line(rule: &Rule) -> String {
         places.push("-".to_string());
     }
     let years = rule.years.map_or(String::new(), |(first, last)| format!(" years {first} {last}"));
-    format!("{} -> {} : {}{years}\n", rule.left, places.join(" "), millimetres(rule.length))
+    let name = rule.name.as_ref().map_or(String::new(), |Name { letters, after }| match *after {
+        after if after == rule.places.len() => format!(" name {letters}"),
+        after => format!(" name {letters} after {after}"),
+    });
+    format!("{} -> {} : {}{years}{name}\n", rule.left, places.join(" "), millimetres(rule.length))
 }
 
 /// A place: a kind in decimal, a mark, or a range as two marks.

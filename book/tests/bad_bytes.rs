@@ -48,6 +48,19 @@ fn each_refusal() {
         (vec![0x10, 0x00, 0x21, 0x00, 0, 0, 0, 1, 255, 0], 21, 2),
         (with(&full, &[0x21, 0x00, 0, 0, 1, 0, 0, 0]), 21, 514),
         (with(&full, &[0x21, 0x00, 0, 0, 1, 0, 1, 0]), 5, 514),
+        (vec![0x70], 2, 0),
+        (vec![0x10, 0x00, 0x70, 0x00], 2, 2),
+        (vec![0x60], 3, 0),
+        (vec![0x10, 0x00, 0x60], 3, 2),
+        (with(&full[..6], b"\x60BODY    \x60"), 3, 15),
+        (with(&full[..6], b"\x60BODY    \x40A\x60OTHER   "), 3, 17),
+        (with(&full[..6], b"\x60bod"), 1, 10),
+        (with(&full[..6], b"\x60        "), 17, 6),
+        (with(&full[..6], b"\x60\0\0\0\0\0\0\0\0"), 17, 6),
+        (with(&full[..6], b"\x60BO DY   "), 17, 6),
+        (with(&full[..6], b"\x60BODY   \xC3"), 17, 6),
+        (with(&full[..6], b"\x60BODY   \x09"), 17, 6),
+        (with(&full[..6], b"\x60BODY    \x20\0\0\0\x60A       \x20\0\0\0\x60BODY    "), 17, 32),
         (vec![0x10, 0x00, 0x50, 0x00], 7, 3),
         (vec![0x10, 0x00, 0x50, 0x50, 0x50], 7, 3),
     ];
@@ -62,15 +75,16 @@ fn refusals_are_printed() {
     let due = [
         "refusal 1 at offset 9: the book ends inside a command, or where one is due",
         "refusal 2 at offset 9: an unknown command",
-        "refusal 3 at offset 9: a command out of turn",
+        "refusal 3 at offset 9: a command out of turn, or a second name of a rule",
         "refusal 4 at offset 9: a kind over 31",
         "refusal 5 at offset 9: the 129th rule",
         "refusal 6 at offset 9: a ninth place",
         "refusal 7 at offset 9: a byte after the end of the book",
         "refusal 16 at offset 9: a reversed range",
+        "refusal 17 at offset 9: no name, or that of an earlier rule",
         "refusal 21 at offset 9: reversed years",
     ];
-    let printed = (1..=7).chain([16, 21]).map(|number| Refusal { number, offset: 9 }.to_string());
+    let printed = (1..=7).chain([16, 17, 21]).map(|number| Refusal { number, offset: 9 }.to_string());
     assert_eq!(printed.collect::<Vec<_>>(), due);
 }
 
@@ -89,7 +103,7 @@ fn damaged_books_are_judged_as_the_lister_judges_them() {
             0 => damage(rng, &mut bytes),
             1 => {
                 bytes.truncate(rng.below(bytes.len() + 1));
-                let some = [0x10, 0x20, 0x21, 0x30, 0x40, 0x41, 0x50, 0x1F, 0x20, 0xFF];
+                let some = [0x10, 0x20, 0x21, 0x30, 0x40, 0x41, 0x50, 0x60, 0x1F, 0x20, 0xFF];
                 bytes.extend((0..rng.below(4)).map(|_| rng.pick(&some)));
             }
             _ => {
@@ -119,7 +133,7 @@ fn damaged_books_are_judged_as_the_lister_judges_them() {
             (got, due) => panic!("{bytes:02X?}: {got:?}, due {due:?}"),
         }
     }
-    let due = [0, 1, 2, 3, 4, 5, 6, 7, 16, 21];
+    let due = [0, 1, 2, 3, 4, 5, 6, 7, 16, 17, 21];
     assert!(
         came_up.keys().eq(&due) && came_up.values().all(|times| *times > 50),
         "loaded (0), or refused: {came_up:?}"

@@ -231,6 +231,50 @@ fn bad_years() {
 }
 
 #[test]
+fn bad_names() {
+    for words in ["name", "years 1998 2007 name", "name # BODY"] {
+        let printed = "at the end of the line: a name is due after `name`";
+        refused(&rule(&format!("0 -> - : 1 {words}")), 2, Reason::NameDue, printed);
+    }
+    for word in ["body", "Body", "BODY-1", "NINELETTER", "123456789", "'A'", "=41", "->", ":", "\u{c4}", "A,"] {
+        let shown = if word == "\u{c4}" { "\\u{c4}" } else { word };
+        let printed = format!("`{shown}`: not a name: one to eight capitals A to Z and digits");
+        refused(&rule(&format!("0 -> - : 1 name {word}")), 2, with(Reason::NotAName, word), &printed);
+    }
+    for words in ["0 -> 1 : 1 name A after", "0 -> 1 : 1 years 0 1 name A after # 1"] {
+        let printed = "at the end of the line: a number of places is due after `after`";
+        refused(&rule(words), 2, Reason::AfterDue, printed);
+    }
+    for word in ["3", "9", "-1", "+1", "x", "1.0", "'1'", "99999999999999999999999999", "name"] {
+        let printed = format!("`{word}`: not a number of places: a decimal number, not over that of the rule's places");
+        refused(&rule(&format!("0 -> 1 1 : 1 name A after {word}")), 2, with(Reason::NotAfter, word), &printed);
+    }
+    assert!(to_bytes(&rule("0 -> 1 1 : 1 name A after 2")).is_ok());
+    for (words, word) in [
+        ("1 name A B", "B"),
+        ("1 name A name B", "name"),
+        ("1 name A years 1998 2007", "years"),
+        ("1 name A after 0 0", "0"),
+        ("1 Name A", "Name"),
+        ("1 A", "A"),
+        ("1 years 1998 2007 A", "A"),
+    ] {
+        let printed = format!("`{word}`: a word after the end of the statement");
+        refused(&rule(&format!("0 -> - : {words}")), 2, with(Reason::Further, word), &printed);
+    }
+    // the name of any earlier rule, not of the last one only; all letters are compared
+    let again = "start 0\n0 -> - : 0 name A\n0 -> - : 0 name AB\n0 -> - : 0\n0 -> 1 : 0 name A after 0\n";
+    refused(again, 5, with(Reason::NameAgain, "A"), "`A`: the name of an earlier rule");
+    // a word is checked before the name is found to be given before
+    refused(
+        &again.replace("after 0", "x"),
+        5,
+        with(Reason::Further, "x"),
+        "`x`: a word after the end of the statement",
+    );
+}
+
+#[test]
 fn the_129th_rule() {
     let full = format!("start 0\n#\n{}", "0 -> - : 0\n".repeat(128));
     assert_eq!(to_bytes(&full).map(|bytes| bytes.len()), Ok(2 + 4 * 128 + 1));
@@ -239,6 +283,10 @@ fn the_129th_rule() {
     // a word is checked before the rule is found to be one too many
     refused(&format!("{full}32 -> - : 0\n"), 131, with(Reason::KindOver, "32"), "`32`: a kind over 31");
     refused(&format!("{full}0 -> -\n"), 131, Reason::LengthDue, LENGTH_DUE);
+    // the rule is too many before its name is found to be given before, as in the bytes
+    let named = full.replacen(": 0", ": 0 name A", 1);
+    let printed = "`0`: the left side of a 129th rule";
+    refused(&format!("{named}0 -> - : 0 name A\n"), 131, with(Reason::TooManyRules, "0"), printed);
 }
 
 #[test]

@@ -4,7 +4,7 @@ mod drafts;
 
 use book::{to_bytes, to_text};
 use drafts::{draft, spelt};
-use outside_tests::books::{book, full_book, Draft, Rng, Sym};
+use outside_tests::books::{book, filled, full_book, Draft, Rng, Sym};
 use outside_tests::lister::grammar::load;
 use std::collections::BTreeSet;
 
@@ -20,7 +20,7 @@ fn random_books_return() {
     let (mut lefts, mut kinds, mut marks, mut lows) =
         (BTreeSet::new(), BTreeSet::new(), BTreeSet::new(), BTreeSet::new());
     let (mut starts, mut places, mut rules, mut negative) = (BTreeSet::new(), BTreeSet::new(), BTreeSet::new(), 0);
-    let mut dated = 0;
+    let (mut dated, mut named) = (0, [0; 3]);
     for seed in 0..2000 {
         let draft = draft(&mut Rng::new(seed));
         let text = returns(&draft.bytes());
@@ -28,6 +28,10 @@ fn random_books_return() {
         starts.insert(draft.start);
         rules.insert(draft.rules.len());
         dated += draft.years.len();
+        for (number, (_, after)) in &draft.names {
+            let places = draft.rules[*number].2.len();
+            named[if *after == places { 2 } else { usize::from(*after > 0) }] += 1;
+        }
         for (left, length, row) in &draft.rules {
             lefts.insert(*left);
             places.insert(row.len());
@@ -45,7 +49,7 @@ fn random_books_return() {
     assert_eq!([starts.len(), lefts.len(), kinds.len(), marks.len(), lows.len()], [32, 32, 32, 256, 256]);
     assert!((0..=8).all(|count| places.contains(&count)));
     assert!([0, 1, 127, 128].iter().all(|count| rules.contains(count)) && rules.len() > 100);
-    assert!(negative > 10_000 && dated > 10_000);
+    assert!(negative > 10_000 && dated > 10_000 && named.iter().all(|times| *times > 1500), "{named:?}");
 }
 
 /// The books with which the lister and the proved library are compared, as far as they load.
@@ -148,6 +152,37 @@ fn years_return() {
         .all(|year| one(year) == format!("start 31\n7 -> - : 0.00 years {year} {year}\n")));
 }
 
+/// A name is written after length and years, and with it where it is given, unless that is after all places.
+#[test]
+fn names_return() {
+    let mut draft = Draft::new(0);
+    draft.rules = vec![(0, 100, vec![Sym::T(b'A'), Sym::N(1)]); 4];
+    draft.rules.push((1, 0, vec![]));
+    draft.years = [(0, (1998, 2007))].into();
+    let named = |(number, name, after): (usize, &str, usize)| (number, (filled(name), after));
+    draft.names = [(0, "BODY", 2), (1, "BODY0", 0), (2, "B", 1), (4, "01234567", 0)].map(named).into_iter().collect();
+    let due = "start 0\n0 -> 'A' 1 : 1.00 years 1998 2007 name BODY\n0 -> 'A' 1 : 1.00 name BODY0 after 0\n\
+        0 -> 'A' 1 : 1.00 name B after 1\n0 -> 'A' 1 : 1.00\n1 -> - : 0.00 name 01234567\n";
+    assert_eq!(returns(&draft.bytes()), due);
+    for (word, spelt) in [
+        (" name BODY\n", "\tname  BODY# name\n"),
+        (" name BODY\n", " name BODY after 2\n"),
+        (" name B after 1", " name B  after\t01"),
+        (" name 01234567", " name 01234567 after 000 # after"),
+    ] {
+        let text = due.replacen(word, spelt, 1);
+        assert_ne!(text, due);
+        assert_eq!(to_bytes(&text), Ok(draft.bytes()), "{text}");
+    }
+    // words of a text are names too
+    for word in ["START", "NAME", "AFTER", "YEARS", "0", "A", "ZZZZZZZZ", "99999999"] {
+        let mut draft = Draft::new(0);
+        draft.rules.push((0, 0, vec![]));
+        draft.names.insert(0, (filled(word), 0));
+        assert_eq!(returns(&draft.bytes()), format!("start 0\n0 -> - : 0.00 name {word}\n"));
+    }
+}
+
 /// Arrows and colons need no blanks, and in a mark they are nothing but a mark.
 #[test]
 fn arrows_and_colons_are_spelt_in_many_ways() {
@@ -209,6 +244,7 @@ fn the_smallest_book_and_the_largest_return() {
     assert_eq!(returns(&draft.bytes()), format!("start 31\n{}", line.repeat(128)));
     draft.rules = vec![(31, -32768, vec![Sym::R(0, 255); 8]); 128];
     draft.years = (0..128).map(|rule| (rule, (0, 65_535))).collect();
-    assert_eq!(draft.bytes().len(), 4099);
+    draft.names = (0..128).map(|rule| (rule, (filled(&format!("RULE{rule:04}")), rule % 9))).collect();
+    assert_eq!(draft.bytes().len(), 5251);
     returns(&draft.bytes());
 }

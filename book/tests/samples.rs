@@ -1,7 +1,7 @@
 //! The sample books of `samples/`: checks their texts, and compares their listings with the lister.
 
 use book::{to_bytes, to_text};
-use outside_tests::lister::{grammar, listed, trees};
+use outside_tests::lister::{grammar, listed, parse, trees, words};
 use std::path::PathBuf;
 
 /// Each listing: its sample, its year if there is one in its name, the number of parts of the first reading, and the number
@@ -16,7 +16,11 @@ const LISTINGS: &[(&str, Option<u16>, usize, usize)] = &[
     ("service", None, 3, 6),
     ("seal", Some(1998), 1, 1),
     ("seal", Some(2008), 1, 1),
+    ("names", None, 3, 4),
 ];
+
+/// The samples whose readings are also there in words, as the option --words of `tools/list` prints them.
+const IN_WORDS: &[&str] = &["names"];
 
 /// Book T of document 01, in full.
 const T: [u8; 21] = [
@@ -65,6 +69,24 @@ fn each_listing_is_the_listers() {
         let first = due.lines().next().expect("a line");
         assert_eq!(first.split(' ').count(), 1 + parts + 2, "{name}");
         assert!(due.ends_with(&format!("\nREADINGS {readings}\n")), "{name}");
+    }
+}
+
+/// Below each line of the listing is the reading in words, as the lister writes it; its parser finds the reading in it.
+#[test]
+fn each_reading_in_words_is_the_listers() {
+    for name in IN_WORDS {
+        let book = grammar::load(&to_bytes(&text(name)).expect(name)).expect(name);
+        let (plate, mut due) = (held(name, "plate"), String::new());
+        let listing = String::from_utf8(held(name, "listing")).expect("ASCII");
+        for (line, row) in listing.lines().zip(listed(&book, &plate).0) {
+            let (tree, _) = trees::tree_of(&book, book.start, &plate, &row).expect("a reading");
+            let words = words::text(&book, &tree);
+            assert_eq!(parse::parsed(&book, words.as_bytes()), Some((plate.clone(), row)));
+            due += &format!("{line}\n   {words}\n");
+        }
+        due += &format!("{}\n", listing.lines().last().expect("a last line"));
+        assert_eq!(String::from_utf8(held(name, "words")).expect("ASCII"), due, "{name}");
     }
 }
 
@@ -147,6 +169,7 @@ fn no_sample_is_left_out() {
         ["txt".to_string(), "plate".to_string(), kind(year)].map(|kind| format!("{name}.{kind}"))
     };
     let mut due: Vec<String> = LISTINGS.iter().flat_map(files).collect();
+    due.extend(IN_WORDS.iter().map(|name| format!("{name}.words")));
     found.sort();
     due.sort();
     due.dedup();

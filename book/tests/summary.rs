@@ -70,7 +70,7 @@ fn refusals_in_words() {
     for (number, due) in [
         (1, "the book ends inside a command, or where one is due"),
         (2, "an unknown command"),
-        (3, "a command out of turn"),
+        (3, "a command out of turn, or a second name of a rule"),
         (4, "a kind over 31"),
         (5, "the 129th rule"),
         (6, "a ninth place"),

@@ -20,7 +20,7 @@ const NO_TENTHS: i32 = i32::MIN;
 ///
 /// # Errors
 ///
-/// The first fault of the book, read from the left: refusals 1 to 7, 16 and 21.
+/// The first fault of the book, read from the left: refusals 1 to 7, 16, 17 and 21.
 pub fn load(book: &[u8]) -> Result<Grammar, LoadError> {
     let mut row = [NO_NUMBER; ROW];
     let mut offset = NO_OFFSET;

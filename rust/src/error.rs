@@ -16,7 +16,7 @@ use std::fmt;
 #[derive(Clone, PartialEq, Eq, Hash)]
 #[non_exhaustive]
 pub struct LoadError {
-    /// Why the book is refused: refusals 1 to 7, 16 and 21.
+    /// Why the book is refused: refusals 1 to 7, 16, 17 and 21.
     pub refusal: Refusal,
     /// The offset of the faulty command. If the book ends too early, its length; if a byte follows its end, the offset of that byte.
     pub offset: usize,

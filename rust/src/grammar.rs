@@ -9,13 +9,15 @@ use std::sync::Arc;
 const RULES: usize = 3;
 const MAX_RULES: usize = 128;
 
-/// A grammar, as the row of numbers that is passed to the library: start symbol, number of rules, nullable depth, and 21 numbers for each
-/// of 128 rules: left side, length in two's complement, number of places, a tag and a value for each of 8 places, first year and last year.
-/// Tag 0 is a nonterminal and 1 a terminal. Tag 2 is a range, whose value is low + 256 × high.
+/// A grammar, as the row of numbers that is passed to the library: start symbol, number of rules, nullable depth, and 29 numbers for each
+/// of 128 rules: left side, length in two's complement, number of places, a tag and a value for each of 8 places, first year, last year and
+/// the eight bytes of its name. Tag 0 is a nonterminal and 1 a terminal. Tag 2 is a range, whose value is low + 256 × high. Eight zeros are
+/// no name.
 ///
 /// [`load`](crate::load) makes one from a book. The row of [`Grammar::from_row`] may hold anything: each call checks all 16 bits of each
-/// number. Refused with 8: a start over 31; more than 128 rules; in a used rule a left side over 31, more than 8 places, or a first year
-/// over the last; in a used place a tag over 2, a nonterminal over 31, a terminal over 255, or a range whose low end is over its high end.
+/// number. Refused with 8: a start over 31; more than 128 rules; in a used rule a left side over 31, more than 8 places, a first year over
+/// the last, or a name that is not well formed; in a used place a tag over 2, a nonterminal over 31, a terminal over 255, or a range whose
+/// low end is over its high end; two used rules with one name. A well-formed name is one to eight capitals and digits, and then blanks.
 /// The depth, the lengths, and all numbers of unused rules and unused places may have any value. The accessors read such a row as the
 /// library does: a number over 255 as 255, and a place that holds no symbol as the nonterminal 255.
 ///

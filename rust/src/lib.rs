@@ -20,10 +20,10 @@
 //! # }
 //! ```
 //!
-//! Each of the functions [`load`], [`open`], [`Recognizer::take`], [`check`], [`length`], [`same_build`], [`first`], [`next`] and
-//! [`count`] calls one function of the static library, which is proved to meet its contract, and turns its code into a result. They use
-//! the memory that the caller lends and allocate nothing; only `load` allocates the grammar. [`Grammar::readings`] and [`Grammar::reading`]
-//! are built on them and allocate what they need. [`sys`] has the functions of the static library themselves.
+//! Each of the functions [`load`], [`name`], [`open`], [`Recognizer::take`], [`check`], [`length`], [`words`], [`same_build`], [`first`],
+//! [`next`] and [`count`] calls one function of the static library, which is proved to meet its contract, and turns its code into a result.
+//! They use the memory that the caller lends and allocate nothing; only `load` allocates the grammar. [`Grammar::readings`] and
+//! [`Grammar::reading`] are built on them and allocate what they need. [`sys`] has the functions of the static library themselves.
 //!
 //! # Years
 //!
@@ -31,7 +31,12 @@
 //! given a year, and only the rules in force in it build trees. Rules keep their numbers. A recognizer keeps the year that it was opened
 //! with. A book without years holds in all of them.
 //!
-//! # Words
+//! # Names
+//!
+//! A rule may have a [name](Rule::name). [`words`] and [`Reading::words`] write a reading with the names of its rules, such as
+//! `BODY(#001(),PORT(=41))`, and [`name`] finds the name of a rule in the bytes of the book itself.
+//!
+//! # Terms
 //!
 //! This crate uses the standard terms of parsing. Document 01, the customer's scope, uses the words of a trade: a grammar is a loaded
 //! book, a nonterminal a kind, a terminal a mark, an input a plate, a recognizer a plate in hand, a chart a sheet, a derivation a reading,
@@ -50,6 +55,7 @@ mod counting;
 mod error;
 mod grammar;
 mod listing;
+mod name;
 mod node;
 mod reading;
 mod readings;
@@ -58,21 +64,24 @@ mod refusal;
 mod rule;
 mod span;
 pub mod sys;
+mod words;
 
 pub use calls::{check, length, load, same_build};
 pub use counting::{count, Count};
 pub use error::{Error, LoadError};
 pub use grammar::Grammar;
 pub use listing::{first, next};
+pub use name::{name, Name};
 pub use node::{Children, Node, Nodes};
 pub use reading::Reading;
 pub use readings::Readings;
 pub use recognizer::{open, Recognizer};
 pub use refusal::Refusal;
 pub use rule::{Rule, Symbol};
+pub use words::words;
 
 /// How many numbers the row of a grammar has.
-pub const ROW: usize = 2691;
+pub const ROW: usize = 3715;
 
 /// How many cells of a chart are used. A shorter chart is refused.
 pub const CELLS: usize = 4225;
@@ -83,9 +92,12 @@ pub const BYTES: usize = 64;
 /// The length of an output: two numbers for each of at most 512 nodes of a derivation. A shorter output is refused.
 pub const OUTPUT: usize = 1024;
 
-/// The most bytes that a book has that loads: 128 rules with years and 8 ranges each, start and end. [`load`] takes longer ones too, and
-/// refuses them.
-pub const BOOK: usize = 4099;
+/// The most bytes that the text of a derivation has. A buffer of [`words`] may be shorter, and is refused only if the text is longer.
+pub const TEXT: usize = 5888;
+
+/// The most bytes that a book has that loads: 128 rules with years, a name and 8 ranges each, start and end. [`load`] takes longer ones
+/// too, and refuses them.
+pub const BOOK: usize = 5251;
 
 /// How many bytes of stack [`first`], [`next`] and [`count`] need at most, and so the iterator over readings.
 pub const STACK: usize = 1900 * 1024;

@@ -1,7 +1,7 @@
 //! A reading (derivation). Nothing here is recursive, because a reading may be nested 512 deep.
 
 use crate::span::{spans, Span};
-use crate::{length, Grammar, Node, Nodes, Rule, CELLS};
+use crate::{length, words, Grammar, Node, Nodes, Rule, CELLS, TEXT};
 use std::cmp::Ordering;
 use std::fmt;
 use std::hash::{Hash, Hasher};
@@ -81,6 +81,26 @@ impl Reading {
     pub fn length(&self) -> i32 {
         let tenths = length(&self.grammar, &self.input, self.year, &self.numbers, &mut vec![0; CELLS]);
         tenths.expect("the library has said that this is a reading")
+    }
+
+    /// The text of the reading, with the names of its rules. It is that of the proved [`words`], called as [`length`](Reading::length)
+    /// calls its own. So it costs a fill of the chart, and up to 152 KiB of stack.
+    ///
+    /// ```
+    /// # fn main() -> Result<(), filbozseg::Error> {
+    /// // 0 -> 1 1, named BODY, 1 -> nothing, and 1 -> A
+    /// let book = b"\x10\x00\x20\x00\x00\x00\x60BODY    \x30\x01\x30\x01\x20\x01\x00\x00\x20\x01\x00\x00\x40A\x50";
+    /// let grammar = filbozseg::load(book)?;
+    /// let texts = grammar.readings(b"A", 2008).map(|reading| Ok(reading?.words())).collect::<Result<Vec<_>, filbozseg::Error>>()?;
+    /// assert_eq!(texts, ["BODY(#001(),#002(=41))", "BODY(#002(=41),#001())"]);
+    /// # Ok(())
+    /// # }
+    /// ```
+    pub fn words(&self) -> String {
+        let (mut chart, mut buffer) = (vec![0; CELLS], vec![0; TEXT]);
+        let text = words(&self.grammar, &self.input, self.year, &self.numbers, &mut chart, &mut buffer);
+        let text = text.expect("the library has said that this is a reading, and no text is longer than the buffer");
+        text.iter().copied().map(char::from).collect()
     }
 
     /// The node that covers the whole input.

@@ -18,7 +18,7 @@ pub enum Refusal {
     UnexpectedEnd,
     /// A byte is no command where a command must be.
     UnknownCommand,
-    /// The first command is not a start command, a later one is, or a place comes before any rule.
+    /// The first command is not a start command, a later one is, a place or a name comes before any rule, or a rule gets a second name.
     OutOfTurn,
     /// A nonterminal of the book is over 31.
     NonterminalTooLarge,
@@ -46,6 +46,10 @@ pub enum Refusal {
     RecognizerFull,
     /// A range of the book has its low end over its high end.
     RangeReversed,
+    /// A name of the book is empty, has a byte that may not stand there, or is that of an earlier rule.
+    InvalidName,
+    /// The text of the derivation is longer than the buffer.
+    TextTooLong,
     /// A rule of the book has its first year over its last.
     YearsReversed,
     /// A refusal that this version of the crate does not know, with its number: the library that is linked is a later one. The crate never
@@ -81,6 +85,8 @@ impl Refusal {
         InvalidRecognizer,
         RecognizerFull,
         RangeReversed,
+        InvalidName,
+        TextTooLong,
         YearsReversed,
     ];
 
@@ -103,6 +109,8 @@ impl Refusal {
             InvalidRecognizer => 14,
             RecognizerFull => 15,
             RangeReversed => 16,
+            InvalidName => 17,
+            TextTooLong => 18,
             YearsReversed => 21,
             Unknown { number } => number,
         }
@@ -153,6 +161,8 @@ impl Refusal {
             InvalidRecognizer => "the recognizer's count is over 64, or a byte that it has taken is over 255",
             RecognizerFull => "the recognizer has taken 64 bytes and takes no more",
             RangeReversed => "a range of the book has its low end over its high end",
+            InvalidName => "a name of the book is empty, has a wrong byte, or is that of an earlier rule",
+            TextTooLong => "the text of the reading is longer than the buffer",
             YearsReversed => "a rule of the book has its first year over its last",
             Unknown { .. } => "a refusal that this version does not know",
         }

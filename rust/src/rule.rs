@@ -1,24 +1,26 @@
 //! A rule of a grammar, and what its places hold.
 
+use crate::Name;
 use std::fmt;
 use std::ops::RangeInclusive;
 
 /// How many numbers a rule has in a row, where its places begin, and how many places it has at most.
-pub(crate) const RULE: usize = 21;
+pub(crate) const RULE: usize = 29;
 const PLACES: usize = 3;
 const MAX_PLACES: usize = 8;
 
-/// Where the first and the last year of a rule are.
+/// Where the first and the last year of a rule are, and where its name begins.
 const FIRST: usize = PLACES + 2 * MAX_PLACES;
 const LAST: usize = FIRST + 1;
+const NAME: usize = LAST + 1;
 
 /// A number of a row as a byte: a number over 255 is read as 255.
 pub(crate) fn byte(number: u16) -> u8 {
     number.min(255) as u8
 }
 
-/// A rule of a grammar. It is displayed as `0 -> 1 'A'`, with `-` for no places; `Debug` adds the length, and the
-/// years unless these are all.
+/// A rule of a grammar. It is displayed as `0 -> 1 'A'`, with `-` for no places; `Debug` adds the length, the years unless these are all,
+/// and the name if there is one.
 #[derive(Clone, Copy, PartialEq, Eq, Hash)]
 pub struct Rule<'a> {
     number: usize,
@@ -62,6 +64,21 @@ impl<'a> Rule<'a> {
         self.row[FIRST]..=self.row[LAST]
     }
 
+    /// The name, if the rule has one.
+    ///
+    /// ```
+    /// # fn main() -> Result<(), filbozseg::LoadError> {
+    /// // 0 -> A, named SEAL, and 0 -> B without a name
+    /// let grammar = filbozseg::load(b"\x10\x00\x20\x00\x00\x00\x60SEAL    \x40A\x20\x00\x00\x00\x40B\x50")?;
+    /// assert_eq!(grammar.rule(0).unwrap().name().unwrap().as_bytes(), b"SEAL");
+    /// assert_eq!(grammar.rule(1).unwrap().name(), None);
+    /// # Ok(())
+    /// # }
+    /// ```
+    pub fn name(self) -> Option<Name> {
+        Name::new(std::array::from_fn(|at| byte(self.row[NAME + at])))
+    }
+
     /// The places, in order.
     pub fn places(self) -> impl ExactSizeIterator<Item = Symbol> + DoubleEndedIterator + 'a {
         let used = usize::from(self.row[2]).min(MAX_PLACES);
@@ -92,6 +109,9 @@ impl fmt::Debug for Rule<'_> {
         write!(f, "{self} ({}", self.length())?;
         if self.years() != (0..=u16::MAX) {
             write!(f, ", {} to {}", self.row[FIRST], self.row[LAST])?;
+        }
+        if let Some(name) = self.name() {
+            write!(f, ", {name}")?;
         }
         f.write_str(")")
     }

@@ -12,6 +12,15 @@ extern "C" {
     /// Loads a book: see [`crate::load`].
     pub fn filbozseg_load(book: *const u8, book_length: usize, grammar: *mut [u16; ROW], offset: *mut usize) -> u32;
 
+    /// Where the name of a rule is in the bytes of its book: see [`crate::name`].
+    pub fn filbozseg_name(
+        book: *const u8,
+        book_length: usize,
+        rule: usize,
+        offset: *mut usize,
+        length: *mut usize,
+    ) -> u32;
+
     /// Opens the recognizer: see [`crate::open`].
     pub fn filbozseg_open(
         grammar: *const [u16; ROW],
@@ -53,6 +62,21 @@ extern "C" {
         chart: *mut u32,
         chart_length: usize,
         tenths: *mut i32,
+    ) -> u32;
+
+    /// The text of an offered derivation: see [`crate::words`].
+    pub fn filbozseg_words(
+        grammar: *const [u16; ROW],
+        input: *const u8,
+        input_length: usize,
+        year: u16,
+        offered: *const u16,
+        offered_length: usize,
+        chart: *mut u32,
+        chart_length: usize,
+        buffer: *mut u8,
+        buffer_length: usize,
+        bytes: *mut usize,
     ) -> u32;
 
     /// Whether two offered derivations are the same build: see [`crate::same_build`].

@@ -17,7 +17,7 @@ fn chart() -> Vec<u32> {
 
 /// Where the first and the last rule of T begin in its row.
 const FIRST: usize = 3;
-const LAST: usize = 45;
+const LAST: usize = 61;
 
 /// T with one number of its row changed.
 fn changed(at: usize, number: u16) -> Grammar {
@@ -29,7 +29,7 @@ fn changed(at: usize, number: u16) -> Grammar {
 #[test]
 fn a_book_is_loaded_or_refused_at_its_offset() {
     assert_eq!(load(T).unwrap().row()[3..12], [0, 4600, 2, 0, 1, 0, 1, 0, 0]);
-    let faults: [(&[u8], u8, usize); 13] = [
+    let faults: [(&[u8], u8, usize); 16] = [
         (b"", 1, 0),
         (b"\x10", 1, 1),
         (b"\x99", 2, 0),
@@ -43,6 +43,9 @@ fn a_book_is_loaded_or_refused_at_its_offset() {
         (b"\x10\x00\x21\x00\xe7\xff\x01\x00\x00", 1, 9),
         (b"\x10\x00\x21\x00\xe7\xff\x01\x00\x00\x00", 21, 2),
         (b"\x10\x00\x21\x20\xe7\xff\x01\x00\x00\x00", 4, 2),
+        (b"\x10\x00\x60SEAL    ", 3, 2),
+        (b"\x10\x00\x20\x00\xe7\xff\x60SEAL   ", 1, 14),
+        (b"\x10\x00\x20\x00\xe7\xff\x60seal    ", 17, 6),
     ];
     for (book, number, offset) in faults {
         let fault = load(book).unwrap_err();
@@ -62,6 +65,7 @@ fn the_numbers_of_a_grammar_are_judged_whole() {
     bad.extend(small(3).map(|tag| (LAST + 3, tag)));
     bad.push((LAST + 3, 2)); // its value is 65, so the range is reversed
     bad.extend([256, 256 + 65, 0xFF00, u16::MAX].map(|terminal| (LAST + 4, terminal)));
+    bad.extend([1, 0x41, 256, 256 + 0x41, u16::MAX].map(|letter| (LAST + 21, letter))); // the first byte of a name
     for (at, number) in bad {
         assert_eq!(open(&changed(at, number), YEAR, &mut chart).1, Err(Refusal::InvalidGrammar), "{number} at {at}");
     }
@@ -69,7 +73,7 @@ fn the_numbers_of_a_grammar_are_judged_whole() {
     assert_eq!(open(&Grammar::from_row(&[u16::MAX; ROW]), YEAR, &mut chart).1, Err(Refusal::InvalidGrammar));
     assert_eq!(chart, self::chart());
     // the depth, a length, an unused place, an unused rule
-    for at in [2, FIRST + 1, FIRST + 7, FIRST + 8, LAST + 21, LAST + 23, LAST + 24] {
+    for at in [2, FIRST + 1, FIRST + 7, FIRST + 8, LAST + 29, LAST + 31, LAST + 32, LAST + 50] {
         assert_eq!(open(&changed(at, u16::MAX), YEAR, &mut chart).1, Ok(true), "{at}");
     }
 }
@@ -282,13 +286,13 @@ fn derivations_are_counted_up_to_4096() {
 
 #[test]
 fn refusals_numbers_and_codes_agree() {
-    for (number, &refusal) in (1..=16).chain([21]).zip(Refusal::ALL) {
+    for (number, &refusal) in (1..=18).chain([21]).zip(Refusal::ALL) {
         assert_eq!((refusal.number(), Refusal::of_number(number)), (number, Some(refusal)));
         let code = 256 + u32::from(number);
         assert_eq!((refusal.code(), Refusal::of_code(code)), (code, Some(refusal)));
     }
-    assert_eq!(Refusal::ALL.len(), 17);
-    assert!([0, 17, 20, 22, 255].iter().all(|&number| Refusal::of_number(number).is_none()));
+    assert_eq!(Refusal::ALL.len(), 19);
+    assert!([0, 19, 20, 22, 255].iter().all(|&number| Refusal::of_number(number).is_none()));
     let codes = [0, 1, 2, 255, 256, 512, 513, u32::MAX];
     assert!(codes.iter().all(|&code| Refusal::of_code(code).is_none()));
 }

@@ -32,7 +32,7 @@ fn a_range_says_its_two_ends() {
     assert_eq!(bore.places().collect::<Vec<_>>(), [Symbol::Terminal(b'V'), digit, digit]);
     assert_eq!(bore.to_string(), "1 -> 'V' '0'..'9' '0'..'9'");
     assert_eq!(grammar.rule(4).unwrap().to_string(), r"2 -> '\x00'..'\xff'");
-    assert_eq!(grammar.row()[47..54], [3, 1, 0x56, 2, 0x3930, 2, 0x3930]);
+    assert_eq!(grammar.row()[63..70], [3, 1, 0x56, 2, 0x3930, 2, 0x3930]);
     // a range of one byte is no terminal
     assert_ne!(Symbol::Range(65, 65), Symbol::Terminal(65));
     assert_eq!(
@@ -47,6 +47,7 @@ fn any_row_is_read_as_the_library_reads_it() {
     assert_eq!((rubbish.start(), rubbish.nullable_depth(), rubbish.rules().len()), (255, 255, 128));
     for rule in rubbish.rules() {
         assert_eq!((rule.left(), rule.length(), rule.years()), (255, -1, 65_535..=65_535));
+        assert_eq!(rule.name().unwrap().as_bytes(), [255; 8]);
         assert_eq!(rule.places().collect::<Vec<_>>(), [Symbol::Nonterminal(255); 8]);
     }
     let mut row = [0; ROW];

@@ -146,7 +146,7 @@ fn it_is_proved_first_and_then_all_is_there() {
         said(Command::new("nm").args(["-D", "--defined-only", "-j"]).arg(checkout.path("here/lib/libfilbozseg.so")));
     let mut shown: Vec<_> = shown.lines().collect();
     shown.sort();
-    let calls = ["check", "count", "first", "length", "load", "next", "open", "same_build", "take"];
+    let calls = ["check", "count", "first", "length", "load", "name", "next", "open", "same_build", "take", "words"];
     assert_eq!(shown, calls.map(|call| format!("filbozseg_{call}")));
 }
 

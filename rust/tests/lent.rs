@@ -1,7 +1,7 @@
 //! What is lent to the calls: empty slices, the same row twice, and the stacks of several threads.
 mod books;
 
-use books::{deep, wide, MIXED, PAIRS, T, YEAR};
+use books::{deep, wide, MIXED, NAMED, PAIRS, T, YEAR};
 use filbozseg::*;
 
 #[test]
@@ -17,6 +17,7 @@ fn slices_of_no_length_are_judged_as_any() {
         for offered in [none, good] {
             assert_eq!(check(&t, input, YEAR, offered, &mut []), Err(refusal));
             assert_eq!(length(&t, input, YEAR, offered, &mut []), Err(refusal));
+            assert_eq!(words(&t, input, YEAR, offered, &mut [], &mut []), Err(refusal));
             assert_eq!(same_build(&t, input, YEAR, offered, none, &mut []), Err(refusal));
             assert_eq!(next(&t, input, YEAR, offered, &mut [], &mut []), Err(refusal));
         }
@@ -29,6 +30,7 @@ fn slices_of_no_length_are_judged_as_any() {
     for input in [&b""[..], b"A"] {
         assert_eq!(check(&t, input, YEAR, none, &mut chart), Ok(false));
         assert_eq!(length(&t, input, YEAR, none, &mut chart), Err(Refusal::NotADerivation));
+        assert_eq!(words(&t, input, YEAR, none, &mut chart, &mut []), Err(Refusal::NotADerivation));
         assert_eq!(same_build(&t, input, YEAR, none, none, &mut chart), Err(Refusal::NotADerivation));
         assert_eq!(same_build(&t, input, YEAR, good, none, &mut chart), Err(Refusal::NotADerivation));
         assert_eq!(next(&t, input, YEAR, none, &mut chart, &mut output), Err(Refusal::NotADerivation));
@@ -68,32 +70,34 @@ fn said(grammar: &Grammar, input: &[u8]) -> String {
         let checked = check(grammar, input, YEAR, &row, &mut chart);
         let tenths = length(grammar, input, YEAR, &row, &mut chart);
         let same = same_build(grammar, input, YEAR, &row, &last, &mut chart);
-        text += &format!("\n{item:?} {checked:?} {tenths:?} {same:?}");
+        let words = words(grammar, input, YEAR, &row, &mut chart, &mut [0; TEXT]).map(|text| text.to_vec());
+        text += &format!("\n{item:?} {checked:?} {tenths:?} {same:?} {words:?}");
         last = row;
     }
     text += &format!("\n{:?}", count(grammar, input, YEAR, &mut chart));
     text + &format!(" {chart:?}")
 }
 
-/// The results of loading a book cut to each length.
+/// The results of loading a book cut to each length, and the name of its first rule.
 fn loads(book: &[u8]) -> String {
     (0..=book.len())
-        .map(|length| format!("{:?}\n", load(&book[..length]).map(|grammar| grammar.row().to_vec())))
+        .map(|length| (load(&book[..length]), name(&book[..length], 0)))
+        .map(|(loaded, name)| format!("{:?} {name:?}\n", loaded.map(|grammar| grammar.row().to_vec())))
         .collect()
 }
 
 #[test]
 fn four_threads_say_what_one_says() {
-    let grammars = [load(T).unwrap(), load(PAIRS).unwrap(), load(MIXED).unwrap(), wide(0), wide(4), deep()];
+    let grammars = [load(NAMED).unwrap(), load(PAIRS).unwrap(), load(MIXED).unwrap(), wide(0), wide(4), deep()];
     let inputs = [&b"A"[..], b"AA", b"", b"ACBABC", b"AAAAAAA", &[b'A'; 64]];
     let cases: Vec<_> = grammars.iter().flat_map(|grammar| inputs.map(|input| (grammar, input))).collect();
     let serial: Vec<_> = cases.iter().map(|(grammar, input)| said(grammar, input)).collect();
-    let loaded = [T, PAIRS, MIXED].map(loads);
+    let loaded = [NAMED, PAIRS, MIXED].map(loads);
     std::thread::scope(|scope| {
         for thread in 0..4 {
             let (cases, serial, loaded) = (&cases, &serial, &loaded);
             scope.spawn(move || {
-                assert_eq!([T, PAIRS, MIXED].map(loads), *loaded);
+                assert_eq!([NAMED, PAIRS, MIXED].map(loads), *loaded);
                 for at in (0..cases.len()).map(|at| (at + 9 * thread) % cases.len()) {
                     assert_eq!(said(cases[at].0, cases[at].1), serial[at]);
                 }
@@ -106,7 +110,7 @@ fn four_threads_say_what_one_says() {
 fn all_types_may_go_to_other_threads() {
     fn goes<T: Send + Sync>() {}
     goes::<(Grammar, Rule<'_>, Recognizer, Reading, Node<'_>, Nodes<'_>, Children<'_>, Readings<'_>)>();
-    goes::<(Error, LoadError, Refusal, Count, Symbol)>();
+    goes::<(Error, LoadError, Refusal, Count, Symbol, Name)>();
 }
 
 /// The variable with which the next test tells its child process to overflow the stack.

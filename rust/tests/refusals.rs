@@ -8,7 +8,7 @@ fn each_code_of_a_refusal_is_one() {
         let refusal = Refusal::of_code(code);
         assert_eq!(refusal.map(Refusal::code), (257..512).contains(&code).then_some(code));
         let known = refusal.is_some_and(|refusal| Refusal::ALL.contains(&refusal));
-        assert_eq!(known, (257..=272).contains(&code) || code == 277, "{code}");
+        assert_eq!(known, (257..=274).contains(&code) || code == 277, "{code}");
         if let Some(refusal) = refusal {
             assert_eq!(u32::from(refusal.number()), code - 256);
             assert_eq!(Refusal::of_number(refusal.number()), known.then_some(refusal));
@@ -22,13 +22,20 @@ fn each_code_of_a_refusal_is_one() {
 #[test]
 fn the_largest_book_loads() {
     let place = b"\x41\x00\xff";
-    let rule = [&b"\x21\x1f\xff\xff\x00\x00\xff\xff"[..], &place.repeat(8)].concat();
-    let book = |rest: &[u8]| [&b"\x10\x1f"[..], &rule.repeat(128), rest].concat();
+    let rule = |name: usize| {
+        let name = format!("\x60{name:08}");
+        [&b"\x21\x1f\xff\xff\x00\x00\xff\xff"[..], name.as_bytes(), &place.repeat(8)].concat()
+    };
+    let book = |rest: &[u8]| {
+        let rules: Vec<u8> = (0..128).flat_map(rule).collect();
+        [&b"\x10\x1f"[..], &rules, rest].concat()
+    };
     let largest = book(b"\x50");
     assert_eq!((largest.len(), load(&largest).unwrap().rules().len()), (BOOK, 128));
     for (rest, due) in [
         (&place[..], Refusal::TooManyPlaces),
-        (&rule, Refusal::TooManyRules),
+        (&rule(128), Refusal::TooManyRules),
+        (b"\x6000000128", Refusal::OutOfTurn),
         (b"\x50\x50", Refusal::FurtherByte),
         (b"", Refusal::UnexpectedEnd),
     ] {

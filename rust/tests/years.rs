@@ -23,8 +23,8 @@ fn a_rule_says_its_years() {
     assert_eq!(format!("{:?}", seal.rule(0).unwrap()), "0 -> 'A' (100, 1998 to 2007)");
     assert!(t.rules().all(|rule| rule.years() == (0..=65_535)));
     assert_eq!(format!("{:?}", t.rule(2).unwrap()), "1 -> 'A' (25)");
-    assert_eq!((&seal.row()[22..24], &seal.row()[43..45]), (&[1998, 2007][..], &[2008, 65_535][..]));
-    assert!(seal.row()[45..].iter().all(|&number| number == 0)); // unused rules, their years included
+    assert_eq!((&seal.row()[22..24], &seal.row()[51..53]), (&[1998, 2007][..], &[2008, 65_535][..]));
+    assert!(seal.row()[53..].iter().all(|&number| number == 0)); // unused rules, their years included
 }
 
 #[test]
@@ -41,6 +41,9 @@ fn both_ends_of_the_years_are_included() {
             assert_eq!(check(&seal, b"A", year, &[1, rule], &mut chart), Ok(in_force));
             let measured = length(&seal, b"A", year, &[1, rule], &mut chart);
             assert_eq!(measured, if in_force { Ok(tenths) } else { Err(Refusal::NotADerivation) });
+            let text = words(&seal, b"A", year, &[1, rule], &mut chart, &mut [0; TEXT]).map(|text| text.to_vec());
+            let due = format!("#00{rule}(=41)").into_bytes();
+            assert_eq!(text, if in_force { Ok(due) } else { Err(Refusal::NotADerivation) });
             let same = same_build(&seal, b"A", year, &[1, rule], &[1, rule], &mut chart);
             assert_eq!(same, if in_force { Ok(true) } else { Err(Refusal::NotADerivation) });
             assert_eq!(seal.reading(b"A", year, &[1, rule]).is_ok(), in_force);
@@ -89,6 +92,6 @@ fn years_reversed_are_refused_where_the_rule_is_used() {
         open(&Grammar::from_row(&row), 2008, &mut vec![0; CELLS]).1
     };
     assert_eq!(with(22, 1998, 1997), Err(Refusal::InvalidGrammar));
-    assert_eq!(with(43, 65_535, 0), Err(Refusal::InvalidGrammar));
-    assert_eq!((with(22, 1998, 1998), with(64, 1, 0)), (Ok(false), Ok(false)));
+    assert_eq!(with(51, 65_535, 0), Err(Refusal::InvalidGrammar));
+    assert_eq!((with(22, 1998, 1998), with(80, 1, 0)), (Ok(false), Ok(false)));
 }

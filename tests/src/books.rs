@@ -2,9 +2,13 @@
 //! fail on.
 
 mod dated;
+mod named;
+
+pub use named::{bad_name, filled, Name};
 
 use crate::reader::RULES;
 use dated::{date, dated_rule, exchange_years, ALL_YEARS};
+use named::{christen, damage_names, name_command};
 use std::collections::BTreeMap;
 
 /// A plain xorshift generator; the seed is mixed first.
@@ -62,12 +66,13 @@ pub enum Sym {
 use Sym::{N, R, T};
 
 /// A grammar being drafted: its start, and rules with left side, length and places. A rule whose number has a first and a
-/// last year is opened by 21, any other by 20.
+/// last year is opened by 21, any other by 20. A rule whose number has a name is named after so many of its places.
 #[derive(Clone, Default)]
 pub struct Draft {
     pub start: u8,
     pub rules: Vec<(u8, i16, Vec<Sym>)>,
     pub years: BTreeMap<usize, (u16, u16)>,
+    pub names: BTreeMap<usize, (Name, usize)>,
 }
 
 impl Draft {
@@ -90,11 +95,16 @@ impl Draft {
             if let Some((first, last)) = years {
                 book.extend([first.to_le_bytes(), last.to_le_bytes()].concat());
             }
-            for place in places {
-                match *place {
-                    N(k) => book.extend([0x30, k]),
-                    T(t) => book.extend([0x40, t]),
-                    R(low, high) => book.extend([0x41, low, high]),
+            for at in 0..=places.len() {
+                if let Some((name, _)) = self.names.get(&number).filter(|(_, after)| *after == at) {
+                    book.push(0x60);
+                    book.extend(name);
+                }
+                match places.get(at) {
+                    None => (),
+                    Some(N(k)) => book.extend([0x30, *k]),
+                    Some(T(t)) => book.extend([0x40, *t]),
+                    Some(R(low, high)) => book.extend([0x41, *low, *high]),
                 }
             }
         }
@@ -492,12 +502,12 @@ fn dress(rng: &mut Rng, draft: &mut Draft) -> [u8; 2] {
 pub fn damage(rng: &mut Rng, book: &mut Vec<u8>) {
     for _ in 0..rng.within(1, 2) {
         let byte = match rng.below(3) {
-            0 => rng.pick(&[0x10, 0x20, 0x21, 0x30, 0x40, 0x41, 0x50]),
+            0 => rng.pick(&[0x10, 0x20, 0x21, 0x30, 0x40, 0x41, 0x50, 0x60]),
             1 => rng.pick(&[0, 31, 32, 33, 255]),
             _ => rng.draw() as u8,
         };
         let at = rng.below(book.len() + 1);
-        match rng.below(11) {
+        match rng.below(14) {
             0 => book.truncate(at),
             1 | 2 if at < book.len() => book[at] = byte,
             3 => book.insert(at, byte),
@@ -506,6 +516,7 @@ pub fn damage(rng: &mut Rng, book: &mut Vec<u8>) {
             6 => exchange(rng, book),
             7 => drop(book.splice(at..at, dated_rule(rng))),
             8 => exchange_years(rng, book),
+            9..=11 => damage_names(rng, book),
             _ => book.push(byte),
         }
     }
@@ -535,7 +546,7 @@ fn range(rng: &mut Rng) -> [u8; 3] {
 pub fn soup(rng: &mut Rng) -> Vec<u8> {
     let mut book = if rng.one_in(6) { Vec::new() } else { vec![0x10, rng.below(33) as u8] };
     for _ in 0..rng.below(9) {
-        match rng.below(18) {
+        match rng.below(22) {
             0 => book.push(rng.draw() as u8),
             1 => book.extend([0x10, 0]),
             2..=4 => book.extend([0x20, rng.below(33) as u8, 0, 0xFF]),
@@ -544,7 +555,9 @@ pub fn soup(rng: &mut Rng) -> Vec<u8> {
             9 => book.push(0x50),
             10..=12 => book.extend(range(rng)),
             14 | 15 => book.extend(dated_rule(rng)),
+            16..=19 => book.extend(name_command(rng)),
             13 => book.extend([&[0x20, 0, 1, 0][..], &[0x40, A].repeat(8)].concat()),
+            20 => book.extend([&[0x20, 0, 1, 0][..], &[0x40, A].repeat(8), &range(rng)].concat()),
             _ => book.extend([0x20, 0, 1, 0, 0x40, A]),
         }
     }
@@ -613,6 +626,7 @@ pub fn book(seed: u64) -> Book {
     let marks = dress(rng, &mut rules);
     let inputs = inputs(rng, &rules, style, marks);
     let years = date(&mut Rng::new(seed ^ 0x21), &mut rules);
+    christen(&mut Rng::new(seed ^ 0x60), &mut rules);
     let mut bytes = rules.bytes();
     if rng.one_in(7) {
         damage(rng, &mut bytes);

@@ -7,6 +7,7 @@ mod grammars;
 mod hands;
 mod lent;
 mod loads;
+mod names;
 mod nexts;
 mod refusals;
 mod rows;
@@ -14,6 +15,7 @@ mod searches;
 mod strangers;
 mod takes;
 mod walks;
+mod words;
 mod years;
 
 pub use copies::compare_copies;

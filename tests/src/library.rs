@@ -205,4 +205,39 @@ impl Reader for Library {
             },
         }
     }
+
+    fn words(
+        &self,
+        grammar: &FlatGrammar,
+        input: &[u8],
+        year: u16,
+        offered: &[u16],
+        chart: &mut [u32],
+        buffer: &mut [u8],
+        bytes: &mut usize,
+    ) -> Answer {
+        let ((w, n), (e, k)) = ((input.as_ptr(), input.len()), (offered.as_ptr(), offered.len()));
+        let ((c, m), (b, l)) = ((chart.as_mut_ptr(), chart.len()), (buffer.as_mut_ptr(), buffer.len()));
+        match said(lend(bytes, |bytes| unsafe { sys::filbozseg_words(grammar, w, n, year, e, k, c, m, b, l, bytes) })) {
+            Answer::Yes => Answer::Bytes(*bytes),
+            Answer::Refused(number) => Answer::Refused(number),
+            answer => panic!("words answered {answer:?}"),
+        }
+    }
+
+    fn name(&self, book: &[u8], rule: usize, offset: &mut usize, length: &mut usize) -> Answer {
+        let (found, part) = ((*offset, *length), filbozseg::name(book, rule));
+        let answer = said(lend(offset, |offset| {
+            lend(length, |length| unsafe { sys::filbozseg_name(book.as_ptr(), book.len(), rule, offset, length) })
+        }));
+        // the wrapper's part is the same: not only equal bytes, but the same place
+        let due = if answer == Answer::Yes { &book[*offset..*offset + *length] } else { &[] };
+        assert_eq!(part, due, "the wrapper's name, and that of the library");
+        if answer == Answer::Yes {
+            assert_eq!(part.as_ptr(), due.as_ptr(), "the wrapper's name is another place");
+        } else {
+            assert_eq!((*offset, *length), found, "numbers written without a name");
+        }
+        answer
+    }
 }

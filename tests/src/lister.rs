@@ -1,4 +1,4 @@
-//! The simple reference, written from document 01 and requests U1 to U3, U5, U9 and U13 of document 02 alone: explicit
+//! The simple reference, written from document 01 and requests U1 to U5, U9 and U13 of document 02 alone: explicit
 //! trees, the definitions word by word, no cleverness.
 //! As a `Reader` it can be the code under test. Read each `fault(..)` as "no": only tests/faults.rs compiles these
 //! files with faults that can be switched on.
@@ -8,9 +8,12 @@ pub mod depth;
 pub mod grammar;
 pub mod hand;
 pub mod listing;
+pub mod names;
+pub mod parse;
 pub mod search;
 pub mod trees;
 pub mod walk;
+pub mod words;
 pub mod year;
 
 use crate::reader::{Answer, FlatGrammar, Hand, Reader, CELLS, FLAT, INPUT, OUTPUT, YEAR};
@@ -22,6 +25,9 @@ use walk::Given;
 pub const STEPS: u64 = 40_000;
 /// Steps for calls that must give an answer.
 const MANY_STEPS: u64 = 20_000_000;
+
+/// The bytes of the shortest text, `A()`. Only a fault asks.
+const SHORTEST_TEXT: usize = 3;
 
 pub struct Lister;
 
@@ -267,6 +273,50 @@ impl Reader for Lister {
             Ok(grammar) => {
                 let (list, tree) = listed(&grammar, input);
                 answered(walk::count(&list, tree), &mut [], count)
+            }
+        }
+    }
+
+    fn words(
+        &self,
+        flat: &FlatGrammar,
+        input: &[u8],
+        year: u16,
+        offered: &[u16],
+        chart: &mut [u32],
+        buffer: &mut [u8],
+        bytes: &mut usize,
+    ) -> Answer {
+        let grammar = match filled(flat, input, year, chart) {
+            Err(refused) => return refused,
+            Ok(_) if fault(Fault::EighteenBeforeTwelve) && buffer.len() < SHORTEST_TEXT => return Answer::Refused(18),
+            Ok(grammar) => grammar,
+        };
+        let text = match trees::tree_of(&grammar, grammar.start, input, offered) {
+            Some((tree, _)) if trees::is_derivation(&grammar, input, offered) => {
+                words::text(&grammar, &tree).into_bytes()
+            }
+            _ => return Answer::Refused(12),
+        };
+        let room = match buffer.len() {
+            length if fault(Fault::EighteenOneTooLate) => length + 1,
+            length if fault(Fault::EighteenWhereItJustFits) => length.saturating_sub(1),
+            length => length,
+        };
+        if text.len() > room {
+            return Answer::Refused(18);
+        }
+        buffer.iter_mut().zip(&text).for_each(|(place, byte)| *place = *byte);
+        *bytes = text.len();
+        Answer::Bytes(text.len())
+    }
+
+    fn name(&self, book: &[u8], rule: usize, offset: &mut usize, length: &mut usize) -> Answer {
+        match names::lookup(book, rule) {
+            None => Answer::No,
+            Some(part) => {
+                (*offset, *length) = part;
+                Answer::Yes
             }
         }
     }

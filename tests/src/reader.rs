@@ -6,10 +6,13 @@ pub const FLAT: usize = 3 + RULES * RULE_WIDTH;
 pub const RULES: usize = 128;
 /// Places of a rule record.
 pub const PLACES: usize = 8;
-/// Numbers of one rule record: left side, length, places used, 8 x (tag, value), first year, last year.
-pub const RULE_WIDTH: usize = 3 + 2 * PLACES + 2;
+/// Numbers of one rule record: left side, length, places used, 8 x (tag, value), first year, last year, 8 x name.
+pub const RULE_WIDTH: usize = NAME + NAME_WIDTH;
 /// Where the first year is in a rule record; the last year follows it.
 pub const YEARS: usize = 3 + 2 * PLACES;
+/// Where the name is in a rule record, and how many bytes it has, filling included.
+pub const NAME: usize = YEARS + 2;
+pub const NAME_WIDTH: usize = 8;
 /// Cells of a chart (document 01: words of a sheet).
 pub const CELLS: usize = 65 * 65;
 /// Numbers of an output that is long enough.
@@ -24,7 +27,8 @@ pub const YEAR: usize = INPUT + 1;
 /// used, nullable depth (blank depth), then for each of 128 rule records: left
 /// side, length (two's complement), places used, then 8 times tag (0 nonterminal,
 /// 1 terminal, 2 range) and value (of a range low + 256 * high), then first year and
-/// last year. All 16 bits of each number are checked.
+/// last year, then the 8 bytes of its name, a number each. All 16 bits of each number
+/// are checked.
 pub type FlatGrammar = [u16; FLAT];
 
 /// Where the record of a rule begins in a flat grammar.
@@ -39,8 +43,9 @@ pub type Hand = [u16; HAND];
 /// What a call answers.
 #[derive(Clone, Copy, PartialEq, Eq, Debug)]
 pub enum Answer {
-    /// Yes; from load: loaded; from length: measured.
+    /// Yes; from load: loaded; from length: measured; from name: found.
     Yes,
+    /// No; from name: the empty part.
     No,
     /// A refusal with its number in documents 01 and 02.
     Refused(u8),
@@ -54,6 +59,8 @@ pub enum Answer {
     Count(usize),
     /// Count: "more".
     More,
+    /// Words: a text of this many bytes is in the buffer.
+    Bytes(usize),
 }
 
 /// The code under test. Each call on an input is given the year in which it is read; take goes by the year of the hand.
@@ -147,5 +154,25 @@ pub trait Reader {
     /// Writes the count with `Count` only.
     fn count(&self, grammar: &FlatGrammar, input: &[u8], year: u16, chart: &mut [u32], count: &mut usize) -> Answer {
         self.inner().count(grammar, input, year, chart, count)
+    }
+
+    /// Writes the front of the buffer and the number of bytes, with `Bytes` only.
+    #[allow(clippy::too_many_arguments)] // as many as the call has
+    fn words(
+        &self,
+        grammar: &FlatGrammar,
+        input: &[u8],
+        year: u16,
+        offered: &[u16],
+        chart: &mut [u32],
+        buffer: &mut [u8],
+        bytes: &mut usize,
+    ) -> Answer {
+        self.inner().words(grammar, input, year, offered, chart, buffer, bytes)
+    }
+
+    /// The part of the book that is the name of a rule, without its filling. Writes offset and length with `Yes` only.
+    fn name(&self, book: &[u8], rule: usize, offset: &mut usize, length: &mut usize) -> Answer {
+        self.inner().name(book, rule, offset, length)
     }
 }

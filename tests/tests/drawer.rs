@@ -208,7 +208,7 @@ fn faulty_books() {
         (with(rule, &[0x41]), 1, 7),
         (with(rule, &[0x41, 0xFF]), 1, 8),
         (with(rule, &[0x41, 0x39, 0x30]), 16, 6),
-        (with(rule, &[0x41, 0x01, 0x00, 0x60]), 16, 6),
+        (with(rule, &[0x41, 0x01, 0x00, 0x70]), 16, 6),
         (with(rule, &[0x41, 0xFF, 0xFE]), 16, 6),
         (with(&nine, &[0x41, 0x30, 0x39]), 6, 22),
         (with(&nine, &[0x41, 0x39, 0x30]), 16, 22),
@@ -260,7 +260,7 @@ fn the_nullable_depth() {
     // a kind's lowest tree counts, not its first rule's
     assert_eq!(depth(&["0: 1", "0:", "1: 2", "2:"]), 2);
     // a refused book has none, though its first rule is blank
-    assert_eq!(fault(&[0x10, 0x00, 0x20, 0x00, 0, 0, 0x60]), (Some((2, 6)), [0; FLAT]));
+    assert_eq!(fault(&[0x10, 0x00, 0x20, 0x00, 0, 0, 0x70]), (Some((2, 6)), [0; FLAT]));
 }
 
 /// Which marks complete a book with one rule and this place.

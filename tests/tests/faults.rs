@@ -67,7 +67,7 @@ fn all_caught<T: Sync>(cases: &[(String, T)], try_one: impl Fn(&T) -> Option<(u6
 #[test]
 fn every_fault_is_caught() {
     let faults: Vec<(String, Fault)> = Fault::ALL.iter().map(|fault| (format!("{fault:?}"), *fault)).collect();
-    assert!(faults.len() >= 210);
+    assert!(faults.len() >= 285);
     all_caught(&faults, |fault| {
         switch_on(Some(*fault));
         caught(&Faulty::default())

@@ -83,7 +83,7 @@ fn what_cannot_be_read_is_no_file() {
 #[test]
 fn the_book_is_judged_first() {
     for (file, _) in YEAR_FILES {
-        assert_eq!(printed(&[0x60], b"A", file), "REFUSED 2\n");
+        assert_eq!(printed(&[0x70], b"A", file), "REFUSED 2\n");
         assert_eq!(printed(&SEAL[..22], b"A", file), "REFUSED 1\n");
         assert_eq!(printed(&SEAL, &[b'A'; 65], file), "REFUSED 9\n");
     }

@@ -44,7 +44,9 @@ fn sums_are_printed_in_tenths() {
 fn refusals_are_printed() {
     for plate in [&b""[..], b"A", &[b'A'; 65]] {
         assert_eq!(printed(&[], plate), "REFUSED 1\n"); // the book is judged first
-        assert_eq!(printed(&[0x60], plate), "REFUSED 2\n");
+        assert_eq!(printed(&[0x70], plate), "REFUSED 2\n");
+        assert_eq!(printed(&[0x60], plate), "REFUSED 3\n");
+        assert_eq!(printed(&[&T[..6], b"\x60        \x50"].concat(), plate), "REFUSED 17\n");
         assert_eq!(printed(&[&T[..], &[0]].concat(), plate), "REFUSED 7\n");
     }
     assert_eq!(printed(&T, &[b'A'; 64]), "NO READING\n");

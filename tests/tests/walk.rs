@@ -20,13 +20,13 @@ const DUE: &[(&str, u64)] = &[
     ("walk: too short", 1000),
     ("empty input, walk, First: handed out", 200),
     ("empty input, walk, First: NoDerivation", 400),
-    ("empty input, walk, First: Refused(13)", 8),
+    ("empty input, walk, First: Refused(13)", 4),
     ("empty input, walk, NextWithCopy: handed out", 200),
     ("empty input, walk, NextWithCopy: NoneLeft", 600),
     ("empty input, walk, NextWithCopy: Refused(12)", 2000),
     ("empty input, walk, NextWithNoDerivation: Refused(12)", 400),
     ("empty input, walk, Count: counted", 400),
-    ("empty input, walk, Count: Refused(13)", 5),
+    ("empty input, walk, Count: Refused(13)", 4),
     ("empty input, walk: too short", 500),
 ];
 

@@ -7,10 +7,10 @@ mod calls;
 mod plates;
 
 use calls::{book, check, check_in, complete_in, count_in, fault, first_in, length_in, loaded, next_in, row, SEAL, T};
-use outside_tests::books::{Draft, Rng, Sym};
+use outside_tests::books::{filled, Draft, Rng, Sym};
 use outside_tests::compare::rubbish;
 use outside_tests::lister::walk::Given;
-use outside_tests::reader::{record, Answer, Reader, CELLS, FLAT, HAND, INPUT, YEAR, YEARS};
+use outside_tests::reader::{record, Answer, Reader, CELLS, FLAT, HAND, INPUT, NAME, YEAR, YEARS};
 use outside_tests::reader_under_test;
 use plates::plate_in;
 
@@ -137,7 +137,7 @@ fn the_faults_of_21() {
     // a place may follow a rule opened by 21, as one opened by 20
     let one = loaded(&[start, &rule(0, 7, 7), &[0x40, 0x41, 0x30, 0x01, 0x41, 0x30, 0x39, 0x50]].concat());
     assert_eq!(one[record(0)..record(0) + 9], [0, 100, 3, 1, 0x41, 0, 1, 2, 0x3930]);
-    assert_eq!(one[record(0) + YEARS..record(1)], [7, 7]);
+    assert_eq!(one[record(0) + YEARS..record(0) + NAME], [7, 7]);
     let nine = [start, &rule(0, 7, 7), &[0x40, 0x41].repeat(9)].concat();
     assert_eq!(fault(&nine).0, Some((6, 26)));
 }
@@ -152,11 +152,11 @@ fn the_years_of_a_row() {
     assert!(mixed[record(3)..].iter().all(|number| *number == 0));
     for (first, last) in [(0, 0), (0, 1), (255, 256), (256, 256), (0x1234, 0x5678), (65_535, 65_535)] {
         let flat = loaded(&dated(0, &[("0: A", first, last)]).bytes());
-        assert_eq!(flat[record(0) + YEARS..record(1)], [first, last]);
+        assert_eq!(flat[record(0) + YEARS..record(0) + NAME], [first, last]);
     }
     // the row of a book of 20s
     let t = loaded(&T);
-    assert!((0..3).all(|rule| t[record(rule) + YEARS..record(rule + 1)] == [0, 65_535]));
+    assert!((0..3).all(|rule| t[record(rule) + YEARS..record(rule) + NAME] == [0, 65_535]));
     assert!(t[record(3)..].iter().all(|number| *number == 0));
 }
 
@@ -166,7 +166,7 @@ fn years_in_a_row() {
     let flat = loaded(&book(0, &["0: A", "1: 0"]));
     let with = |rule: usize, first: u16, last: u16| {
         let mut row = flat;
-        row[record(rule) + YEARS..record(rule + 1)].copy_from_slice(&[first, last]);
+        row[record(rule) + YEARS..record(rule) + NAME].copy_from_slice(&[first, last]);
         check(&row, b"A", &[1, 0])
     };
     for (first, last, due) in [
@@ -222,16 +222,17 @@ fn hands_of_two_years() {
     }
 }
 
-/// The longest book that loads: 128 times 21 with eight ranges each.
+/// The longest book that loads: 128 times 21 with eight ranges and a name each.
 #[test]
 fn the_longest_book() {
     let mut draft = Draft::new(0);
     for rule in 0..128_u8 {
         draft.rules.push((rule % 32, 25, vec![Sym::R(rule, rule + 1); 8]));
         draft.years.insert(rule.into(), (u16::from(rule), 1000 + u16::from(rule)));
+        draft.names.insert(rule.into(), (filled(&format!("{rule:08}")), usize::from(rule) % 9));
     }
     let book = draft.bytes();
-    assert_eq!(book.len(), 4099);
+    assert_eq!(book.len(), 5251);
     let flat = loaded(&book);
     assert_eq!((flat[1], flat[2]), (128, 0));
     // kind 0 has rules 0, 32, 64 and 96

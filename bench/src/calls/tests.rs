@@ -1,7 +1,7 @@
 //! Both sides check all 16 bits of each number, and leave the same in what is lent.
 
 use super::{chart, hand, Plain, Proved, Reader, Refusal, FLAT};
-use crate::books::{chain, random_full, random_full_of_ranges};
+use crate::books::{chain, named, random_full, random_full_of_ranges};
 use crate::random::Random;
 
 /// Opens with a row in which one number is changed: both sides give this answer and leave the same hand and chart.
@@ -21,27 +21,27 @@ fn both_sides_judge_the_numbers_of_a_row_whole() {
     let book = b"\x10\x00\x20\x00\xf8\x11\x30\x01\x30\x01\x20\x01\x00\x00\x20\x01\x19\x00\x40A\x50";
     let (mut row, mut offset) = ([9; FLAT], 9);
     assert_eq!((Proved::load(book, &mut row, &mut offset), offset), (1, 9));
-    for at in [0, 1, 3, 5, 7, 45, 48] {
+    for at in [0, 1, 3, 5, 7, 24, 31, 61, 64] {
         for number in [256, 257, 256 + 31, 0xff00, u16::MAX] {
             assert_eq!(opened(&row, at, number), Refusal::InvalidGrammar.code(), "{number} at {at}");
         }
     }
     // with tag 2 the value 65 is a reversed range
     let more =
-        [(0, 32), (1, 129), (3, 32), (5, 9), (7, 32), (48, 2), (48, 3), (48, 255), (49, 256 + 65), (49, u16::MAX)];
+        [(0, 32), (1, 129), (3, 32), (5, 9), (7, 32), (64, 2), (64, 3), (64, 255), (65, 256 + 65), (65, u16::MAX)];
     assert!(more.iter().all(|&(at, number)| opened(&row, at, number) == Refusal::InvalidGrammar.code()));
-    row[48] = 2;
+    row[64] = 2;
     for (value, code) in [(0x4141, 1), (0xff00, 1), (0xffff, 1), (0, 1), (0x4041, 264), (1, 264), (0xfeff, 264)] {
-        assert_eq!(opened(&row, 49, value), code, "{value:04x}");
+        assert_eq!(opened(&row, 65, value), code, "{value:04x}");
     }
-    row[48] = 1;
+    row[64] = 1;
     // the years of the first rule: the last is 65,535
     assert!([0, 1, u16::MAX].iter().all(|&first| opened(&row, 22, first) == if first == 0 { 1 } else { 0 }));
     row[22] = 1;
     assert_eq!((opened(&row, 23, 0), opened(&row, 23, 1)), (Refusal::InvalidGrammar.code(), 0));
     row[22] = 0;
     // the depth, a length, the numbers of an unused place and of an unused rule
-    assert!([2, 4, 10, 11, 66, 67, 68, 69, 70].iter().all(|&at| opened(&row, at, u16::MAX) == 1));
+    assert!([2, 4, 10, 11, 90, 91, 92, 93, 94, 111, 118].iter().all(|&at| opened(&row, at, u16::MAX) == 1));
 }
 
 #[test]
@@ -99,6 +99,14 @@ fn both_sides_load_the_same_row() {
         compared(&book[..random.below(book.len())]);
     }
     compared(&chain(&[&[]]));
+    // named rules: cut at each byte, and with one byte changed
+    let seals = named(b"\x10\x00\x20\x00\x64\x00\x40A\x20\x00\xc8\x00\x40B\x50");
+    (0..=seals.len()).for_each(|cut| compared(&seals[..cut]));
+    for at in 0..seals.len() {
+        for byte in [0, b' ', b'0', b'A', b'R', b'a', 0x50, 0x60, 0xff] {
+            compared(&[&seals[..at], &[byte], &seals[at + 1..]].concat());
+        }
+    }
     // rules with their years: cut at each byte, reversed, and as the 129th
     let seal = b"\x10\x00\x21\x00\x64\x00\xce\x07\xd7\x07\x40A\x21\x00\xc8\x00\xd8\x07\xff\xff\x40A\x50";
     (0..=seal.len()).for_each(|cut| compared(&seal[..cut]));
@@ -173,4 +181,68 @@ fn both_sides_hand_out_the_same_next_reading_and_count_alike() {
         }
     }
     assert!(seen[1] > 20 && seen[2] >= 32 && seen[3] > 10 && seen[5] >= 16, "{seen:?}");
+}
+
+/// A row whose first rule has this name, and its third another one.
+fn row_with(name: &[u8; 8], other: &[u8; 8]) -> [u16; FLAT] {
+    let (mut row, mut offset) = ([9; FLAT], 9);
+    let book = b"\x10\x00\x20\x00\xf8\x11\x30\x01\x30\x01\x20\x01\x00\x00\x20\x01\x19\x00\x40A\x50";
+    assert_eq!(Proved::load(book, &mut row, &mut offset), 1);
+    row[24..32].copy_from_slice(&name.map(u16::from));
+    row[82..90].copy_from_slice(&other.map(u16::from));
+    row
+}
+
+#[test]
+fn both_sides_judge_the_names_of_a_row() {
+    let good = b"SEAL    ";
+    let faulty =
+        [b"        ", b"SEAL\0\0\0\0", b"\0SEAL   ", b" SEAL   ", b"SE AL   ", b"SEAL   1", b"seal    ", b"SEAL/:@["];
+    for (row, due) in [(row_with(good, &[0; 8]), 1), (row_with(good, b"SEALS   "), 1), (row_with(good, good), 264)]
+        .into_iter()
+        .chain(faulty.iter().flat_map(|bad| [(row_with(bad, good), 264), (row_with(good, bad), 264)]))
+    {
+        assert_eq!(opened(&row, 2, 0), due, "{:?} {:?}", &row[24..32], &row[82..90]);
+        // names of unused rules may be anything
+        assert_eq!(opened(&row, 1, 0), 0);
+        if row[24..32] == good.map(u16::from) {
+            assert_eq!(opened(&row, 1, 2), 1);
+        }
+    }
+}
+
+#[test]
+fn both_sides_write_the_same_text_and_find_the_same_names() {
+    let mut random = Random::new(14);
+    let (mut seen, mut found) = ([0; 3], [0; 2]);
+    for number in 0..16 {
+        let (book, input) = random_book(&mut random, number);
+        let book = if number % 4 < 2 { named(&book) } else { book };
+        let (mut row, mut offset) = ([9; FLAT], 9);
+        assert_eq!(Proved::load(&book, &mut row, &mut offset), 1);
+        for (input, _) in lengths(&input) {
+            let (mut offered, mut m) = (vec![7; 1024], 9);
+            Proved::first(&row, input, &mut chart(), &mut offered, &mut m);
+            offered.truncate(2 * m);
+            for room in [5888, 100, 0] {
+                let (mut x, mut y, mut m, mut n) = (chart(), chart(), 9, 9);
+                let (mut a, mut b) = (vec![7u8; room], vec![7u8; room]);
+                let code = Proved::words(&row, input, &offered, &mut x, &mut a, &mut m);
+                assert_eq!(code, Plain::words(&row, input, &offered, &mut y, &mut b, &mut n));
+                assert!(x == y && a == b && m == n && a[if code == 1 { m } else { 0 }..].iter().all(|&byte| byte == 7));
+                seen[if code == 1 { 0 } else { 1 + usize::from(code == Refusal::TextTooLong.code()) }] += 1;
+            }
+        }
+        for rule in [0, 1, 64, 127, 128, usize::MAX] {
+            for book in [&book[..], &book[..random.below(book.len())]] {
+                let (mut a, mut b) = ((9, 9), (9, 9));
+                let code = Proved::name(book, rule, &mut a.0, &mut a.1);
+                assert_eq!(code, Plain::name(book, rule, &mut b.0, &mut b.1));
+                assert!(a == b && (code == 1 || a == (9, 9)));
+                found[code as usize] += 1;
+            }
+        }
+    }
+    assert!(seen[0] > 5 && seen[1] > 20 && seen[2] > 5, "{seen:?}");
+    assert!(found[0] > 50 && found[1] > 20, "{found:?}");
 }

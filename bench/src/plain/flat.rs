@@ -1,12 +1,13 @@
-//! A grammar as the row of 2,691 numbers that C passes: start, count, depth, then 21 numbers for each rule.
+//! A grammar as the row of 3,715 numbers that C passes: start, count, depth, then 29 numbers for each rule.
 
 use super::{Grammar, Rule, Symbol};
 
-pub const FLAT: usize = 2691;
+pub const FLAT: usize = 3715;
 
-/// How many numbers a rule has, and where its first year is.
-const RULE: usize = 21;
+/// How many numbers a rule has, where its first year is, and where its name begins.
+const RULE: usize = 29;
 const FIRST: usize = 19;
+const NAME: usize = FIRST + 2;
 
 /// A number as a byte: a number over 255 becomes 255, which check 8 refuses.
 fn byte(number: u16) -> u8 {
@@ -41,6 +42,9 @@ pub fn read(flat: &[u16; FLAT]) -> Grammar {
             *place = symbol(f[0], f[1]);
         }
         (rule.first, rule.last) = (f[FIRST], f[FIRST + 1]);
+        for (letter, &number) in rule.name.iter_mut().zip(&f[NAME..]) {
+            *letter = byte(number);
+        }
     }
     g
 }
@@ -50,6 +54,9 @@ fn write_rule(rule: &Rule, f: &mut [u16]) {
     f[1] = rule.length as u16;
     f[2] = rule.count as u16;
     (f[FIRST], f[FIRST + 1]) = (rule.first, rule.last);
+    for (number, &letter) in f[NAME..].iter_mut().zip(&rule.name) {
+        *number = letter.into();
+    }
     for (place, f) in rule.places.iter().zip(f[3..FIRST].chunks_exact_mut(2)) {
         (f[0], f[1]) = match *place {
             Symbol::Nonterminal(k) => (0, k as u16),

@@ -1,17 +1,20 @@
 //! Loading a book: one command after the other, by a match over its first byte; then the nullable kinds, by passes
 //! until one adds nothing; then their depth, level by level.
 
+use super::names::{self, Name, Names};
 use super::{Grammar, Refusal, Rule, Symbol, PLACES, RULES};
 
-/// A rule and a place have as many operands as they say.
+/// A rule and a place have as many operands as they say, a name has eight.
 enum Command {
     Start(u8),
     Rule(Rule, usize),
     Place(Symbol, usize),
+    Name(Name),
     End,
 }
 
-fn command(bytes: &[u8], at: usize, rules: usize, places: usize) -> Result<Command, (Refusal, usize)> {
+/// The command at a byte, after so many rules and places; `named` says whether the open rule has a name.
+fn command(bytes: &[u8], at: usize, rules: usize, places: usize, named: bool) -> Result<Command, (Refusal, usize)> {
     let Some(&byte) = bytes.get(at) else {
         return Err((Refusal::UnexpectedEnd, bytes.len()));
     };
@@ -84,6 +87,16 @@ fn command(bytes: &[u8], at: usize, rules: usize, places: usize) -> Result<Comma
             }
             Ok(place)
         }
+        0x60 => {
+            if at == 0 || rules == 0 || named {
+                return Err((Refusal::OutOfTurn, at));
+            }
+            match bytes[at + 1..].first_chunk() {
+                Some(name) if names::valid(name) => Ok(Command::Name(*name)),
+                Some(_) => Err((Refusal::InvalidName, at)),
+                None => Err((Refusal::UnexpectedEnd, bytes.len())),
+            }
+        }
         0x50 => {
             if at == 0 {
                 return Err((Refusal::OutOfTurn, at));
@@ -134,12 +147,21 @@ pub(super) fn nullable_depth(g: &Grammar, set: u32) -> u8 {
 }
 
 pub fn load(bytes: &[u8]) -> Result<Grammar, (Refusal, usize)> {
+    load_with(bytes, &mut [0; RULES])
+}
+
+/// Loads a book, and says where the name of each rule begins that has one.
+pub fn load_with(bytes: &[u8], parts: &mut [usize; RULES]) -> Result<Grammar, (Refusal, usize)> {
     let mut g = Grammar::ZERO;
+    let mut known = Names::EMPTY;
     let mut at = 0;
     loop {
         let n = g.count;
-        let places = if n == 0 { 0 } else { g.rules[n - 1].count };
-        match command(bytes, at, n, places)? {
+        let (places, named) = match n.checked_sub(1).map(|last| &g.rules[last]) {
+            Some(open) => (open.count, open.name != names::NONE),
+            None => (0, false),
+        };
+        match command(bytes, at, n, places, named)? {
             Command::Start(k) => {
                 g.start = k;
                 at += 2;
@@ -154,6 +176,15 @@ pub fn load(bytes: &[u8]) -> Result<Grammar, (Refusal, usize)> {
                 rule.places[rule.count] = symbol;
                 rule.count += 1;
                 at += 1 + operands;
+            }
+            Command::Name(name) => {
+                if known.has(&name, n - 1) {
+                    return Err((Refusal::InvalidName, at));
+                }
+                known.set(n - 1, &name);
+                g.rules[n - 1].name = name;
+                parts[n - 1] = at + 1;
+                at += 9;
             }
             Command::End => {
                 g.depth = nullable_depth(&g, nullable_set(&g));

@@ -3,7 +3,7 @@
 
 use super::packed::Packed;
 use super::recognizer::{fill, write_column};
-use super::{checker, enumerator, flat, listing, loader, Grammar, Refusal, Rule, Symbol, CHART};
+use super::{checker, enumerator, flat, listing, loader, names, words, Grammar, Refusal, Rule, Symbol, CHART};
 use crate::books;
 use crate::random::Random;
 
@@ -313,7 +313,7 @@ fn faulty_books_have_the_numbers_and_offsets_of_the_design() {
     assert_eq!(fault(&[0x10, 0, 0x10]), Err((3, 2)));
     assert_eq!(fault(&[0x10, 0, 0x20, 0xff]), Err((1, 4)));
     assert_eq!(fault(&[0x10, 0, 0x50, 0]), Err((7, 3)));
-    assert_eq!(fault(&[0x10, 0, 0x60]), Err((2, 2)));
+    assert_eq!((fault(&[0x10, 0, 0x60]), fault(&[0x10, 0, 0x70])), (Err((3, 2)), Err((2, 2))));
     let rule = |more: &[u8]| fault(&[&[0x10, 0, 0x20, 0, 0, 0], more].concat());
     assert_eq!(fault(&[0x10, 0, 0x41, 0x30, 0x39]), Err((3, 2)));
     assert_eq!((rule(&[0x41]), rule(&[0x41, 0xFF])), (Err((1, 7)), Err((1, 8))));
@@ -322,6 +322,59 @@ fn faulty_books_have_the_numbers_and_offsets_of_the_design() {
     assert_eq!(ninth(&[0x41, 0x39, 0x30]), Err((16, 22)));
     assert_eq!((ninth(&[0x41, 0x30, 0x39]), ninth(&[0x41, 0x39])), (Err((6, 22)), Err((1, 24))));
     assert_eq!(fault(&[0x10, 0, 0x50]), Ok(()));
+}
+
+#[test]
+fn faulty_names_have_the_numbers_and_offsets_of_the_design() {
+    let fault = |b: &[u8]| loader::load(b).map(|_| ()).map_err(|(r, at)| (u32::from(r.number()), at));
+    let rule = |more: &[u8]| fault(&[b"\x10\x00\x20\x00\x00\x00", more].concat());
+    assert_eq!((fault(b"\x60"), fault(b"\x10\x00\x60SEAL    ")), (Err((3, 0)), Err((3, 2))));
+    assert_eq!((rule(b"\x60SEAL   "), rule(b"\x60seal   ")), (Err((1, 14)), Err((1, 14))));
+    for name in [b"        ", b"\0\0\0\0\0\0\0\0", b"SEAL\0\0\0\0", b" SEAL   ", b"SEA L   ", b"seal    ", b"SEAL/:@["]
+    {
+        assert_eq!(rule(&[&[0x60][..], name].concat()), Err((17, 6)), "{name:?}");
+    }
+    for name in [b"A       ", b"09AZ    ", b"SEALSEAL"] {
+        let named = [&[0x60][..], name].concat();
+        assert_eq!(rule(&[&named[..], &[0x50]].concat()), Ok(()), "{name:?}");
+        assert_eq!(rule(&[&named[..], &[0x60]].concat()), Err((3, 15)), "a second name");
+        let next = [0x20, 0, 0, 0];
+        assert_eq!(rule(&[&named[..], &next, &next, &named].concat()), Err((17, 23)), "an earlier name");
+    }
+}
+
+#[test]
+fn texts_and_names_are_those_of_request_u4() {
+    let book = b"\x10\x00\x20\x00\xf8\x11\x30\x01\x60BODY    \x30\x01\x20\x01\x00\x00\x20\x01\x19\x00\x40A\x50";
+    let g = loader::load(book).unwrap();
+    let text = |reading: &[u16]| {
+        let mut text = [0; 40];
+        let bytes = words::words(&g, b"A", 0, reading, &mut [0; CHART], &mut text).unwrap();
+        String::from_utf8(text[..bytes].to_vec()).unwrap()
+    };
+    assert_eq!(text(&[1, 0, 0, 1, 1, 2]), "BODY(#001(),#002(=41))");
+    assert_eq!(text(&[1, 0, 1, 2, 0, 1]), "BODY(#002(=41),#001())");
+    let refused =
+        |reading: &[u16], room: usize| words::words(&g, b"A", 0, reading, &mut [0; CHART], &mut vec![0; room]);
+    assert_eq!(
+        (refused(&[1, 0, 0, 1, 1, 2], 21), refused(&[], 0)),
+        (Err(Refusal::TextTooLong), Err(Refusal::NotADerivation))
+    );
+    assert_eq!([0, 1, 2, 3].map(|r| names::lookup(book, r)), [Some(9..13), None, None, None]);
+    assert_eq!(names::lookup(&book[..20], 0), None);
+}
+
+#[test]
+fn check_8_judges_names() {
+    let g = loader::load(&books::named(&books::full())).unwrap();
+    let with = |r: usize, name: names::Name, count: usize| {
+        let mut g = g.clone();
+        (g.rules[r].name, g.count) = (name, count);
+        g.valid()
+    };
+    assert!(g.valid() && with(5, names::NONE, 128) && with(127, *b"SEAL    ", 128));
+    assert!(!with(5, g.rules[127].name, 128) && !with(127, g.rules[0].name, 128) && with(127, g.rules[0].name, 127));
+    assert!(!with(5, *b"SEAL\0\0\0\0", 128) && !with(5, *b"        ", 128) && with(5, *b"        ", 5));
 }
 
 /// Whether kind k has an empty tree of at most this height.
@@ -353,6 +406,7 @@ fn the_flat_row_is_read_as_it_was_written() {
     for _ in 0..200 {
         let mut g = small_grammar(&mut random);
         g.rules[0].length = random.draw() as i16;
+        g.rules[0].name = random.draw().to_le_bytes();
         let mut row = [9u16; flat::FLAT];
         flat::write(&g, &mut row);
         assert_eq!(flat::read(&row), g);

@@ -13,7 +13,7 @@ mkdir busy 2>/dev/null || { echo "rt: sizes NOT PROVED"; exit 1; }
 while [ -e hold ]; do sleep 0.01; done
 case $0 in
 */rt) mkdir -p target/bin && cp lister target/bin/list && echo "rt: sizes proved (unchanged)" && echo "rt: list proved (1 s)" ;;
-*/cargo) mkdir -p cargo/target/debug && cp "$BOOK" cargo/target/debug/book ;;
+*/cargo) mkdir -p cargo/target/debug/examples && cp "$BOOK" cargo/target/debug/book && cp writer cargo/target/debug/examples/words ;;
 esac
 status=$?
 rmdir busy
@@ -28,6 +28,13 @@ echo "plate $(shown)"
 [ ! -e year.bin ] || echo "year $(shown <year.bin)"
 "#;
 
+/// The program of the option --words: it prints what it is given.
+const WRITER: &str = r#"#!/bin/sh
+shown() { od -An -v -tx1 | tr -d ' \n'; }
+cat "$4"
+echo "words of $(shown <"$1") $(shown <"$2") $3"
+"#;
+
 /// A fresh checkout, removed at the end.
 pub struct Checkout(PathBuf);
 
@@ -38,14 +45,17 @@ impl Checkout {
         let number = NUMBER.fetch_add(1, Ordering::Relaxed);
         let path = PathBuf::from(env!("CARGO_TARGET_TMPDIR")).join(format!("checkout-{}-{number}", std::process::id()));
         let checkout = Checkout(path);
-        checkout.put("crates.txt", "sizes:\nother:\nlist: sizes io # a comment\n");
-        for name in ["sizes", "other", "list"] {
+        checkout.put("crates.txt", "sizes:\nother:\nlist: sizes io # a comment\nonly:\nfilbozseg: sizes only\n");
+        for name in ["sizes", "other", "list", "only", "filbozseg"] {
             checkout.put(&format!("crates/{name}/src/lib.rt"), name);
         }
         for name in [".ci/toolchain", "book/src/lib.rs", "book/Cargo.toml", "cargo/Cargo.toml", "cargo/Cargo.lock"] {
             checkout.put(name, name);
         }
-        for (name, held) in [("bin/rt", BUILDER), ("bin/cargo", BUILDER), ("lister", LISTER)] {
+        for name in ["src/lib.rs", "build.rs", "Cargo.toml", "examples/words.rs"] {
+            checkout.put(&format!("rust/{name}"), name);
+        }
+        for (name, held) in [("bin/rt", BUILDER), ("bin/cargo", BUILDER), ("lister", LISTER), ("writer", WRITER)] {
             checkout.script(name, held);
         }
         let list = Path::new(env!("CARGO_MANIFEST_DIR")).join("../tools/list");

@@ -1,8 +1,8 @@
 //! Random books within the sizes of document 01, and random spellings of their texts.
 
-use outside_tests::books::{Draft, Rng, Sym};
+use outside_tests::books::{filled, Draft, Rng, Sym};
 
-/// A random book: any start, 0 to 128 rules of 0 to 8 places, any kind, mark, range, length and years.
+/// A random book: any start, 0 to 128 rules of 0 to 8 places, any kind, mark, range, length, years and name.
 pub fn draft(rng: &mut Rng) -> Draft {
     let mut draft = Draft::new(rng.below(32) as u8);
     let rules = match rng.below(6) {
@@ -24,8 +24,23 @@ pub fn draft(rng: &mut Rng) -> Draft {
             let (one, other) = rng.pick(&[(one, other), (one, one), (0, u16::MAX), (1998, 2007), (255, 256)]);
             draft.years.insert(draft.rules.len() - 1, (one.min(other), one.max(other)));
         }
+        if rng.one_in(3) {
+            name(rng, &mut draft);
+        }
     }
     draft
+}
+
+/// Names the last rule, unless an earlier one has the name. The name comes before, between or after the places.
+fn name(rng: &mut Rng, draft: &mut Draft) {
+    let any = b"ABCDEFGHIJKLMNOPQRSTUVWXYZ0123456789".map(char::from);
+    let letters: String = (0..rng.pick(&[1, 2, 2, 3, 5, 7, 8, 8])).map(|_| rng.pick(&any)).collect();
+    let places = draft.rules[draft.rules.len() - 1].2.len();
+    let after = rng.within(0, places);
+    let after = rng.pick(&[0, after, places, places]);
+    if draft.names.values().all(|(other, _)| *other != filled(&letters)) {
+        draft.names.insert(draft.rules.len() - 1, (filled(&letters), after));
+    }
 }
 
 fn symbol(rng: &mut Rng) -> Sym {
@@ -70,6 +85,13 @@ pub fn spelt(rng: &mut Rng, draft: &Draft) -> String {
                 blanks(rng),
                 year(rng, *last),
             ]);
+        }
+        if let Some((name, after)) = draft.names.get(&number) {
+            let letters = String::from_utf8_lossy(name).trim_end().to_string();
+            words.extend([blanks(rng), "name".to_string(), blanks(rng), letters]);
+            if *after < places.len() || rng.one_in(2) {
+                words.extend([blanks(rng), "after".to_string(), blanks(rng), kind(rng, *after as u8)]);
+            }
         }
         line(rng, &mut text, &words.concat());
     }

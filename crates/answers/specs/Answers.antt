@@ -1,4 +1,5 @@
 -- What the calls return, as the answers of document 01: a refusal by its number, or what was asked. Assumes nothing.
+use Prim.Native.Nat.{ℕ}
 use mathlib.Core.Bool.{Bool, true, false}
 use lib.IntN.{ℤ}
 use Rattle.results.specs.Answer.{Answer, refused, answered, Handing, handed, nothing, Figure, counted, more, LoadAnswer, refusedAt, loaded}
@@ -8,6 +9,8 @@ use Rattle.answers.specs.declared.Verdict.{Verdict}
 use Rattle.answers.specs.declared.Verdict.the-variants as Verdicts
 use Rattle.answers.specs.declared.Measured.{Measured}
 use Rattle.answers.specs.declared.Measured.the-variants as Measures
+use Rattle.answers.specs.declared.Written.{Written}
+use Rattle.answers.specs.declared.Written.the-variants as Writes
 use Rattle.answers.specs.declared.Handed.{Handed}
 use Rattle.answers.specs.declared.Handed.the-variants as Handings
 use Rattle.answers.specs.declared.Counted.{Counted}
@@ -29,6 +32,11 @@ verdictOf (Verdicts.Refused r) = refused (numberOf r)
 abbrev pub measuredOf : Measured → Answer ℤ
 measuredOf (Measures.Tenths z) = answered z
 measuredOf (Measures.Refused r) = refused (numberOf r)
+
+-- words: how many bytes the text has
+abbrev pub writtenOf : Written → Answer ℕ
+writtenOf (Writes.Bytes n) = answered n
+writtenOf (Writes.Refused r) = refused (numberOf r)
 
 -- first and next: the number of nodes, or that there is none
 abbrev pub handingOf : Handed → Answer Handing

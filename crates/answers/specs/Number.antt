@@ -21,4 +21,6 @@ numberOf R.OnlyLargerTrees = 13
 numberOf R.InvalidRecognizer = 14
 numberOf R.RecognizerFull = 15
 numberOf R.RangeReversed = 16
+numberOf R.InvalidName = 17
+numberOf R.TextTooLong = 18
 numberOf R.YearsReversed = 21

@@ -20,6 +20,8 @@ pub enum Refusal {
     InvalidRecognizer,
     RecognizerFull,
     RangeReversed,
+    InvalidName,
+    TextTooLong,
     YearsReversed,
 }
 
@@ -39,6 +41,12 @@ pub enum Verdict {
 // Length: tenths of a millimetre, or why the call was refused.
 pub enum Measured {
     Tenths(i32),
+    Refused(Refusal),
+}
+
+// Words: how many bytes the text has, or why the call was refused.
+pub enum Written {
+    Bytes(usize),
     Refused(Refusal),
 }
 
@@ -77,6 +85,8 @@ pub fn number(r: Refusal) -> u8
         Refusal::InvalidRecognizer => 14,
         Refusal::RecognizerFull => 15,
         Refusal::RangeReversed => 16,
+        Refusal::InvalidName => 17,
+        Refusal::TextTooLong => 18,
         Refusal::YearsReversed => 21,
     }
 }

@@ -5,7 +5,7 @@ use mathlib.Core.Bool.{Bool, true, false}
 use mathlib.Core.Path.{_≡_, refl, sym, ap, ap₂, _∙_}
 use Rattle.results.specs.Answer.{Answer, refused, answered, Handing, handed, nothing, Figure, counted, more, LoadAnswer, refusedAt, loaded}
 use Rattle.c_answer.specs.Code.{codeOf, leftOf, verdictCode, lengthCode, tenthsLeft, handingCode, nodesLeft, figureCode, figureLeft}
-use Rattle.c_answer.specs.Code.{loadCode, offsetLeft, CodeKnown}
+use Rattle.c_answer.specs.Code.{wordsCode, bytesLeft, loadCode, offsetLeft, CodeKnown}
 
 module _ {A B : Type 0} (code : A → ℕ) (left : A → B → B) (read : ℕ → B → A) where
   -- the code of an answer is below those of refusals, and `read` gives the answer back from its code and what it left
@@ -45,6 +45,11 @@ verdict-apart x y e = apart verdictCode (λ _ v. v) verdictIn verdict-tells x y 
 
 pub length-known : CodeKnown lengthCode tenthsLeft
 length-known = known lengthCode tenthsLeft (λ _ z. z) (λ z found. record { small = omega arith; back = refl; kept = λ h. absurd (h refl) })
+
+-- ---- words
+
+pub words-known : CodeKnown wordsCode bytesLeft
+words-known = known wordsCode bytesLeft (λ _ n. n) (λ n found. record { small = omega arith; back = refl; kept = λ h. absurd (h refl) })
 
 -- ---- first and next
 

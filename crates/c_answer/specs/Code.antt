@@ -1,5 +1,5 @@
 -- The code that a call returns for its answer, and what the answer leaves in a lent place, given what was found there. A code is 0 for no
--- and none; 1 for yes, loaded, measured, handed out and counted; 2 for more; 256 plus the number of a refusal. Assumes nothing.
+-- and none; 1 for yes, loaded, measured, written, handed out and counted; 2 for more; 256 plus the number of a refusal. Assumes nothing.
 use Prim.Native.Nat.{ℕ, _+_}
 use mathlib.Core.Bool.{Bool, true, false}
 use mathlib.Core.List.{List}
@@ -35,6 +35,14 @@ lengthCode z = 1
 -- length: the tenths of a millimetre
 abbrev pub tenthsLeft : ℤ → ℤ → ℤ
 tenthsLeft z found = z
+
+-- words
+abbrev pub wordsCode : ℕ → ℕ
+wordsCode n = 1
+
+-- words: how many bytes were written
+abbrev pub bytesLeft : ℕ → ℕ → ℕ
+bytesLeft n found = n
 
 -- first and next
 abbrev pub handingCode : Handing → ℕ

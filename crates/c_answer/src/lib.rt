@@ -1,19 +1,20 @@
 // The codes that the exported functions return for their answers, and what each answer leaves in the place that was lent for it. A code is
-// 0 for no and none; 1 for yes, loaded, measured, handed out and counted; 2 for more; 256 + n for refusal n.
+// 0 for no and none; 1 for yes, loaded, measured, written, handed out and counted; 2 for more; 256 + n for refusal n.
 use answers::Counted;
 use answers::Handed;
 use answers::Measured;
 use answers::Outcome;
 use answers::Refusal;
 use answers::Verdict;
+use answers::Written;
 use recognizer::Recognizer;
 ghost use Prim.Native.Nat.{_+_};
 ghost use mathlib.Core.Path.{_≡_};
 ghost use Rattle.answers.specs.Number.{numberOf};
-ghost use Rattle.answers.specs.Answers.{measuredOf, countedOf, handingOf, outcomeOf, verdictOf};
+ghost use Rattle.answers.specs.Answers.{measuredOf, writtenOf, countedOf, handingOf, outcomeOf, verdictOf};
 ghost use Rattle.recognizer.specs.Recognizer.{stateIn};
 ghost use Rattle.c_answer.specs.Code.{codeOf, leftOf, verdictCode, rowLeft, lengthCode, tenthsLeft, handingCode, nodesLeft};
-ghost use Rattle.c_answer.specs.Code.{figureCode, figureLeft, loadCode, offsetLeft};
+ghost use Rattle.c_answer.specs.Code.{wordsCode, bytesLeft, figureCode, figureLeft, loadCode, offsetLeft};
 
 // A refusal: 256 plus its number.
 pub fn of_refusal(r: Refusal) -> u32
@@ -76,6 +77,20 @@ pub fn of_length(measured: Measured, tenths: &mut i32) -> u32
             1
         }
         Measured::Refused(r) => of_refusal(r),
+    }
+}
+
+// Words: the number of bytes is written unless the call is refused.
+pub fn of_words(written: Written, bytes: &mut usize) -> u32
+    ensures { λ c. ⌜ c ≡ codeOf wordsCode (writtenOf written) ⌝ }
+    ensures left { λ _. ⌜ now (bytes .exit) ≡ leftOf bytesLeft (writtenOf written) (now (bytes .entry)) ⌝ }
+{
+    match written {
+        Written::Bytes(n) => {
+            *bytes = n;
+            1
+        }
+        Written::Refused(r) => of_refusal(r),
     }
 }
 

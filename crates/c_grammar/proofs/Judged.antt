@@ -6,22 +6,25 @@ use native.Mathlib.Omega.{arith}
 use mathlib.Core.Bool.{Bool, true, false, cond, _&&_, and-true, and-false, and-assoc, or-false}
 use mathlib.Core.List.{List, [], _∷_, _++_, map}
 use mathlib.Core.Logic.{dite}
-use mathlib.Core.Path.{_≡_, refl, sym, ap, _∙_}
+use mathlib.Core.Path.{_≡_, refl, sym, ap, ap₂, _∙_}
 use lib.Dec.{leb}
 use lib.ListN.{getD, take}
-use borrow.Author.Tests.{ne-eqb, le-leb, lt-leb}
+use borrow.Author.Tests.{ne-eqb, leb-true, le-leb, lt-leb}
 use Rattle.sizes.specs.Sizes.{maxRules}
+use Rattle.laws.proofs.Bools.{by-test, and-parts₃}
+use Rattle.theory_words.specs.Name.{allowedName}
 use Rattle.grammar.specs.declared.Symbol.the-variants.{Nonterminal, Terminal}
 use Rattle.grammar.specs.declared.Rule.{Rule}
 use Rattle.grammar.specs.declared.Grammar.{Grammar}
-use Rattle.grammar.specs.Valid.{all, validSymbol, validPlace, validRule, validGrammar}
+use Rattle.grammar.specs.Valid.{all, validSymbol, validPlace, validRule, distinctNames, validGrammar}
 use Rattle.numbers.specs.Numbers.{byteIn, saturated}
 use Rattle.c_grammar.specs.Flat.{yearsAt, ruleNumbers, rowSymbol, recordsFrom, rowPlace, rowPlaces, rowRule, rowRules, grammarIn}
 use Rattle.c_grammar.specs.Flat.{flatOf}
 use Rattle.c_grammar.specs.Fits.{DeclaredGrammar}
-use Rattle.c_grammar.specs.Valid.{each, validTagged, validPlaceAt, validRuleAt, validRow}
+use Rattle.c_grammar.specs.Valid.{each, validTagged, validPlaceAt, nameNumbers, validRuleAt, validRow}
 use Rattle.c_grammar.proofs.Records.{records-more}
-use Rattle.c_grammar.proofs.Round.{keptRule, read-kept}
+use Rattle.c_grammar.proofs.Round.{keptRule, kept, read-kept}
+use Rattle.c_grammar.proofs.Named.{name-judged, names-read}
 
 -- ---- tests
 
@@ -97,15 +100,34 @@ module _ (f : List ℕ) where
   rule-judged : (at : ℕ) → validRule (rowRule f at) ≡ validRuleAt f at
   unfolding validRule rowRule rowPlaces validRuleAt
   rule-judged at =
-      ap (λ (x : Bool). x && leb (getD f (at + yearsAt) 0) (getD f (at + yearsAt + 1) 0))
+      ap₂ (λ (x y : Bool). x && leb (getD f (at + yearsAt) 0) (getD f (at + yearsAt + 1) 0) && y)
       (within (leb (byteIn (getD f at 0)) 31) (leb (getD f at 0) 31) _ _ (getD f (at + 2) 0) 8 (byte-limit (getD f at 0))
       (records-judged validPlace (rowPlace f) (validPlaceAt f) place-judged 2 (at + 3) (getD f (at + 2) 0) 8))
+      (name-judged f at)
+
+  -- the names of valid rules together
+  names-judged : getD f 1 0 ≤ maxRules → all validRule (take (getD f 1 0) (rowRules f)) ≡ true
+      → distinctNames (map (λ (r : Rule). r .name) (take (getD f 1 0) (rowRules f)))
+      ≡ distinctNames (recordsFrom (nameNumbers f) ruleNumbers 3 (getD f 1 0))
+  unfolding rowRules
+  names-judged h v =
+      let e = records-take (rowRule f) ruleNumbers (getD f 1 0) maxRules 3 h in
+      ap (λ (l : List Rule). distinctNames (map (λ (r : Rule). r .name) l)) e
+      ∙ ap distinctNames (names-read f ruleNumbers (getD f 1 0) 3 (rw e at v))
+
+-- a last test needs to agree only where all others pass
+and-last : (a b x y : Bool) → a ≡ b → (a ≡ true → x ≡ y) → (a && x) ≡ (b && y)
+and-last a b x y e f = by-test a (λ t. λ i. e i && f t i) (λ t. rw (sym e, t))
 
 pub judged-whole : (f : List ℕ) → validGrammar (grammarIn f) ≡ validRow f
 unfolding validGrammar grammarIn rowRules validRow
 judged-whole f =
-    within (leb (byteIn (getD f 0 0)) 31) (leb (getD f 0 0) 31) _ _ (getD f 1 0) maxRules (byte-limit (getD f 0 0))
-    (records-judged validRule (rowRule f) (validRuleAt f) (rule-judged f) ruleNumbers 3 (getD f 1 0) maxRules)
+    and-last _ _ _ _
+    (within (leb (byteIn (getD f 0 0)) 31) (leb (getD f 0 0) 31) _ _ (getD f 1 0) maxRules (byte-limit (getD f 0 0))
+    (records-judged validRule (rowRule f) (validRuleAt f) (rule-judged f) ruleNumbers 3 (getD f 1 0) maxRules))
+    (λ v. let rules = all validRule (take (getD f 1 0) (rowRules f)) in
+    let p = and-parts₃ (leb (byteIn (getD f 0 0)) 31) (leb (getD f 1 0) maxRules) rules v in
+    names-judged f (leb-true (getD f 1 0) maxRules (p .1)) (p .2))
 
 -- ---- a grammar that is written
 
@@ -128,8 +150,12 @@ counts-kept a n m x h = dite (decLe n 65535) small large
 rule-kept-valid : (ρ : Rule) → validRule (keptRule ρ) ≡ validRule ρ
 unfolding validRule
 rule-kept-valid ρ =
-    ap (λ (x : Bool). x && leb (ρ .first) (ρ .last))
+    ap (λ (x : Bool). x && leb (ρ .first) (ρ .last) && allowedName (ρ .name))
     (counts-kept (leb (ρ .left) 31) (ρ .count) 8 (λ n. all validPlace (take n (ρ .places))) (omega arith))
+
+-- what check 8 says of n rules and of their names together
+abbrev validRules : ℕ → List Rule → Bool
+validRules n l = all validRule (take n l) && distinctNames (map (λ (r : Rule). r .name) (take n l))
 
 rules-kept-valid : (n : ℕ) (l : List Rule) → all validRule (take n (map keptRule l)) ≡ all validRule (take n l)
 unfolding all
@@ -137,10 +163,22 @@ rules-kept-valid zero l = refl
 rules-kept-valid (suc n) [] = refl
 rules-kept-valid (suc n) (ρ ∷ l) = λ i. rule-kept-valid ρ i && rules-kept-valid n l i
 
+names-kept : (n : ℕ) (l : List Rule)
+    → map (λ (r : Rule). r .name) (take n (map keptRule l)) ≡ map (λ (r : Rule). r .name) (take n l)
+names-kept zero l = refl
+names-kept (suc n) [] = refl
+names-kept (suc n) (ρ ∷ l) = ap (λ (x : List (List ℕ)). ρ .name ∷ x) (names-kept n l)
+
+-- the last two tests of check 8 taken together
+grammar-tests : (g : Grammar) → validGrammar g ≡ (leb (g .start) 31 && leb (g .count) maxRules && validRules (g .count) (g .rules))
+unfolding validGrammar
+grammar-tests g = and-assoc (leb (g .start) 31 && leb (g .count) maxRules) _ _
+
 -- check 8 accepts what is written exactly if it accepts the grammar
 pub write-judged : (g : Grammar) → DeclaredGrammar g → validGrammar (grammarIn (flatOf g)) ≡ validGrammar g
-unfolding validGrammar
 write-judged g d =
-    ap validGrammar (read-kept g d)
-    ∙ counts-kept (leb (g .start) 31) (g .count) maxRules (λ n. all validRule (take n (map keptRule (g .rules)))) (omega arith)
-    ∙ λ i. leb (g .start) 31 && leb (g .count) maxRules && rules-kept-valid (g .count) (g .rules) i
+    ap validGrammar (read-kept g d) ∙ grammar-tests (kept g)
+    ∙ counts-kept (leb (g .start) 31) (g .count) maxRules (λ n. validRules n (map keptRule (g .rules))) (omega arith)
+    ∙ ap (λ (x : Bool). leb (g .start) 31 && leb (g .count) maxRules && x)
+    (ap₂ _&&_ (rules-kept-valid (g .count) (g .rules)) (ap distinctNames (names-kept (g .count) (g .rules))))
+    ∙ sym (grammar-tests g)

@@ -3,5 +3,6 @@ pub mod Records
 pub mod Parts
 pub mod Whole
 pub mod Round
+pub mod Named
 pub mod Judged
 pub mod Written

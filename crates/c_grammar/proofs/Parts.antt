@@ -16,7 +16,7 @@ use Rattle.grammar.specs.declared.Place.{Place}
 use Rattle.grammar.specs.Setters.{ruleWith}
 use Rattle.grammar.proofs.Setters.{rule-same}
 use Rattle.numbers.specs.Numbers.{byteIn, signedIn}
-use Rattle.c_grammar.specs.Flat.{yearsAt, lowEnd, highEnd, rowSymbol, rowPlace, rowPlaces, rowRule}
+use Rattle.c_grammar.specs.Flat.{yearsAt, nameAt, lowEnd, highEnd, rowSymbol, rowPlace, rowPlaces, rowName, rowRule}
 
 module _ (tag value v : ℕ) (e : v ≡ byteIn value) where
   pub symbol-nonterminal : tag ≡ 0 → Nonterminal v ≡ rowSymbol tag value
@@ -49,10 +49,10 @@ unfolding rowPlace
 read-place-of f at s e = λ i. record { symbol = e i }
 
 -- the code keeps the length in a local of 16 bits
-pub read-rule-of : (f : List ℕ) (at l k : ℕ) (z : ℤ) (p : List Place) → l ≡ byteIn (getD f at 0) → z ≡ signedIn (getD f (at + 1) 0)
-    → SFits w16 z → k ≡ getD f (at + 2) 0 → p ≡ rowPlaces f (at + 3)
-    → ruleWith l (toZ w16 (ofZ w16 z)) k p (getD f (at + yearsAt) 0) (getD f (at + yearsAt + 1) 0) ≡ rowRule f at
+pub read-rule-of : (f : List ℕ) (at l k : ℕ) (z : ℤ) (p : List Place) (name : List ℕ) → l ≡ byteIn (getD f at 0)
+    → z ≡ signedIn (getD f (at + 1) 0) → SFits w16 z → k ≡ getD f (at + 2) 0 → p ≡ rowPlaces f (at + 3) → name ≡ rowName f (at + nameAt)
+    → ruleWith l (toZ w16 (ofZ w16 z)) k p (getD f (at + yearsAt) 0) (getD f (at + yearsAt + 1) 0) name ≡ rowRule f at
 unfolding rowRule
-read-rule-of f at l k z p el ez s ek ep =
-    rule-same (ruleWith l (toZ w16 (ofZ w16 z)) k p (getD f (at + yearsAt) 0) (getD f (at + yearsAt + 1) 0)) (rowRule f at)
-    el (toZ-ofZ s ∙ ez) ek ep refl refl
+read-rule-of f at l k z p name el ez s ek ep en =
+    rule-same (ruleWith l (toZ w16 (ofZ w16 z)) k p (getD f (at + yearsAt) 0) (getD f (at + yearsAt + 1) 0) name) (rowRule f at)
+    el (toZ-ofZ s ∙ ez) ek ep refl refl en

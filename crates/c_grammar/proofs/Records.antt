@@ -85,3 +85,14 @@ module _ {A : Type 0} (flat : A → List ℕ) where
   flat-step l d q x y z h e f =
       f ∙ ap (λ (v : List ℕ). v ++ flat (getD l q d)) e ∙ append-assoc x (flatMap flat (take q l)) (flat (getD l q d))
       ∙ ap (λ (v : List ℕ). x ++ v) (sym (flat-more l d q h) ∙ ap (λ (k : ℕ). flatMap flat (take k l)) (sym (add-one q)))
+
+-- ---- bytes
+
+-- a byte is one number
+abbrev pub flatByte : ℕ → List ℕ
+flatByte b = b ∷ []
+
+pub flat-bytes : (l : List ℕ) → flatMap flatByte l ≡ l
+unfolding flatMap
+flat-bytes [] = refl
+flat-bytes (b ∷ l) = ap (λ (x : List ℕ). b ∷ x) (flat-bytes l)

@@ -8,6 +8,7 @@ use lib.ListN.{length, getD, drop, length-append}
 use lib.Seq.{getD-drop, drop-drop, drop-at}
 use borrow.Author.Tests.{le-leb}
 use Rattle.sizes.specs.Sizes.{maxPlaces, maxRules}
+use Rattle.theory_words.specs.Name.{nameSize}
 use Rattle.grammar.specs.declared.Symbol.{Symbol}
 use Rattle.grammar.specs.declared.Symbol.the-variants.{Nonterminal, Terminal, Range}
 use Rattle.grammar.specs.declared.Place.{Place}
@@ -19,9 +20,10 @@ use Rattle.grammar.specs.Zero.{zeroPlace, noRule}
 use Rattle.grammar.proofs.Setters.{rule-same, grammar-same}
 use Rattle.numbers.specs.Numbers.{byteIn, saturated, signedIn, unsignedOf}
 use Rattle.numbers.proofs.Complement.{signed-round}
-use Rattle.c_grammar.specs.Flat.{lowEnd, highEnd, rowSymbol, recordsFrom, rowPlace, rowPlaces, rowRule, rowRules, grammarIn}
-use Rattle.c_grammar.specs.Flat.{yearsAt, ruleNumbers, flatPlace, flatRule, flatOf}
+use Rattle.c_grammar.specs.Flat.{lowEnd, highEnd, rowSymbol, recordsFrom, rowPlace, rowPlaces, rowByte, rowName, rowRule, rowRules}
+use Rattle.c_grammar.specs.Flat.{grammarIn, yearsAt, nameAt, ruleNumbers, flatPlace, flatRule, flatOf}
 use Rattle.c_grammar.specs.Fits.{SymbolBytes, DeclaredRule, DeclaredGrammar, Fits16}
+use Rattle.c_grammar.proofs.Records.{flatByte, flat-bytes}
 
 -- ---- one place
 
@@ -89,8 +91,8 @@ places-size (p ∷ l) = omega (arith, places-size l)
 rule-size : (ρ : Rule) → DeclaredRule ρ → length (flatRule ρ) ≡ ruleNumbers
 unfolding flatRule
 rule-size ρ d =
-    let n = length-append (flatMap flatPlace (ρ .places)) (ρ .first ∷ ρ .last ∷ []) in
-    omega (arith, n, places-size (ρ .places), d .places)
+    let n = length-append (flatMap flatPlace (ρ .places)) (ρ .first ∷ ρ .last ∷ ρ .name) in
+    omega (arith, n, places-size (ρ .places), d .places, d .name)
 
 module _ (f : List ℕ) where
   place-back : (p : Place) (at : ℕ) (rest : List ℕ) → SymbolBytes (p .symbol) → drop at f ≡ flatPlace p ++ rest → rowPlace f at ≡ p
@@ -110,6 +112,17 @@ module _ (f : List ℕ) where
       rest n v h
       ∙ map-id l
 
+  byte-back : (b at : ℕ) (rest : List ℕ) → b < 256 → drop at f ≡ flatByte b ++ rest → rowByte f at ≡ b
+  byte-back b at rest v h = omega (arith, at-index f (b ∷ rest) at 0 at (omega arith) h)
+
+  name-back : (l : List ℕ) (at : ℕ) (rest : List ℕ) → length l ≡ nameSize → ((k : ℕ) → k < nameSize → getD l k 0 < 256)
+      → drop at f ≡ l ++ rest → rowName f at ≡ l
+  unfolding rowName
+  name-back l at rest n v h =
+      records-back 0 flatByte (λ b. b) (rowByte f) 1 f (λ b. b < 256) (λ b _. refl) byte-back l at nameSize rest n v
+      (h ∙ ap (λ (x : List ℕ). x ++ rest) (sym (flat-bytes l)))
+      ∙ map-id l
+
   rule-back : (ρ : Rule) (at : ℕ) (rest : List ℕ) → DeclaredRule ρ → drop at f ≡ flatRule ρ ++ rest → rowRule f at ≡ keptRule ρ
   unfolding rowRule flatRule
   rule-back ρ at rest d h =
@@ -120,16 +133,19 @@ module _ (f : List ℕ) where
       let a : byteIn (getD f at 0) ≡ ρ .left = omega (arith, d .left) in
       let b : signedIn (getD f (at + 1) 0) ≡ ρ .length = ap signedIn m ∙ signed-round (ρ .length) (d .magnitude) in
       let c : getD f (at + 2) 0 ≡ saturated (ρ .count) = at-index f (flatRule ρ ++ rest) at 2 (at + 2) refl h in
-      let p : drop (at + 3) f ≡ places ++ (years ++ rest) =
-      further f (ρ .left ∷ unsignedOf (ρ .length) ∷ saturated (ρ .count) ∷ []) ((places ++ years) ++ rest) at 3 refl h
-      ∙ append-assoc places years rest
+      let p : drop (at + 3) f ≡ places ++ (years ++ (ρ .name ++ rest)) =
+      further f (ρ .left ∷ unsignedOf (ρ .length) ∷ saturated (ρ .count) ∷ []) ((places ++ (years ++ ρ .name)) ++ rest) at 3 refl h
+      ∙ append-assoc places (years ++ ρ .name) rest
       in
-      let e = places-back (ρ .places) (at + 3) (years ++ rest) (d .places) (d .symbols) p in
+      let e = places-back (ρ .places) (at + 3) (years ++ (ρ .name ++ rest)) (d .places) (d .symbols) p in
       let n : length places ≡ 2 * maxPlaces = omega (arith, places-size (ρ .places), d .places) in
-      let y = further f places (years ++ rest) (at + 3) (2 * maxPlaces) n p in
+      let y = further f places (years ++ (ρ .name ++ rest)) (at + 3) (2 * maxPlaces) n p in
+      let j : at + 3 + 2 * maxPlaces + 2 ≡ at + nameAt = omega arith in
+      let x = further f years (ρ .name ++ rest) (at + 3 + 2 * maxPlaces) 2 refl y in
       rule-same (rowRule f at) (keptRule ρ) a b c e
-      (at-index f (years ++ rest) (at + 3 + 2 * maxPlaces) 0 (at + yearsAt) (omega arith) y)
-      (at-index f (years ++ rest) (at + 3 + 2 * maxPlaces) 1 (at + yearsAt + 1) (omega arith) y)
+      (at-index f (years ++ (ρ .name ++ rest)) (at + 3 + 2 * maxPlaces) 0 (at + yearsAt) (omega arith) y)
+      (at-index f (years ++ (ρ .name ++ rest)) (at + 3 + 2 * maxPlaces) 1 (at + yearsAt + 1) (omega arith) y)
+      (name-back (ρ .name) (at + nameAt) rest (d .name) (d .bytes) (ap (λ (i : ℕ). drop i f) (sym j) ∙ x))
 
 module _ (g : Grammar) (d : DeclaredGrammar g) where
   rules-back : rowRules (flatOf g) ≡ map keptRule (g .rules)

@@ -3,19 +3,20 @@ use Prim.Native.Nat.{ℕ, _+_, _*_, _≤_, _<_}
 use native.Mathlib.Omega.{arith}
 use mathlib.Core.List.{List, [], _∷_, _++_, flatMap, append-assoc, append-nil}
 use mathlib.Core.Path.{_≡_, refl, sym, ap, _∙_}
-use lib.ListN.{length, getD, take, set}
+use lib.ListN.{length, getD, take, set, length-set}
 use lib.Seq.{take-all}
 use mir.Syntax.{w16}
 use mir.Val.{SFits, toZ, ofZ}
 use mir.Facts.{toZ-ofZ}
 use Rattle.sizes.specs.Sizes.{maxRules, maxPlaces}
+use Rattle.theory_words.specs.Name.{nameSize}
 use Rattle.grammar.specs.declared.Place.{Place}
 use Rattle.grammar.specs.declared.Rule.{Rule}
 use Rattle.grammar.specs.declared.Grammar.{Grammar}
 use Rattle.grammar.specs.Tagged.{tagOf, valueOf, highOf}
 use Rattle.numbers.specs.Numbers.{saturated, unsignedOf}
 use Rattle.c_grammar.specs.Flat.{flatPlace, flatRule, flatOf, flatSize, yearsAt, ruleNumbers}
-use Rattle.c_grammar.proofs.Records.{put-two, put-three, flat-step}
+use Rattle.c_grammar.proofs.Records.{put-one, put-two, put-three, flat-step, flatByte, flat-bytes}
 
 -- in f, the numbers before b are those of f₀, and the first q of the m elements of l follow, w numbers each
 pub record Written {A : Type 0} (flat : A → List ℕ) (w b : ℕ) (l : List A) (m : ℕ) (f₀ : List ℕ) (q : ℕ) (f : List ℕ) : Type 0 where
@@ -59,26 +60,59 @@ unfolding flatPlace
 place-done p at f t v u h n et ev eu =
     put-two f at (at + 1) (at + 2) t (v + 256 * u) refl refl (omega arith) ∙ λ i. take at f ++ (et i ∷ (ev i + 256 * eu i) ∷ [])
 
+-- ---- the places and the name of a rule
+
+pub places-done : (l : List Place) (at : ℕ) (f₀ f : List ℕ) (q : ℕ) → maxPlaces ≤ q → Written flatPlace 2 at l maxPlaces f₀ q f
+    → take (at + 2 * maxPlaces) f ≡ take at f₀ ++ flatMap flatPlace l
+places-done l at f₀ f q h r = written-all flatPlace 2 at l maxPlaces q (at + 2 * maxPlaces) f₀ f h (omega arith) r
+
+-- one byte more of a name
+pub name-step : (l : List ℕ) (at k : ℕ) (f₀ f : List ℕ) → Written flatByte 1 at l nameSize f₀ k f → k < nameSize → at + nameSize ≤ flatSize
+    → Written flatByte 1 at l nameSize f₀ (k + 1) (set f (at + k) (getD l k 0))
+name-step l at k f₀ f r h room =
+    let e : at + 1 * k ≡ at + k = omega arith in
+    written-step flatByte 1 at l nameSize 0 k f₀ f (set f (at + k) (getD l k 0)) r (length-set f (at + k) (getD l k 0) ∙ r .long)
+    (put-one f (at + k) (at + 1 * k + 1) (getD l k 0) (omega arith) (omega (arith, r .long)) ∙ rw e) h
+
+pub name-done : (l : List ℕ) (at : ℕ) (f₀ f : List ℕ) (k : ℕ) → nameSize ≤ k → Written flatByte 1 at l nameSize f₀ k f
+    → take (at + nameSize) f ≡ take at f₀ ++ l
+name-done l at f₀ f k h r =
+    written-all flatByte 1 at l nameSize k (at + nameSize) f₀ f h (omega (arith, r .low)) r
+    ∙ ap (λ (x : List ℕ). take at f₀ ++ x) (flat-bytes l)
+
+-- the years before the name
+pub rest-done : (ρ : Rule) (at : ℕ) (f₀ f : List ℕ) → at + 2 + nameSize ≤ flatSize → length f₀ ≡ flatSize
+    → take (at + 2 + nameSize) f ≡ take (at + 2) (set (set f₀ at (ρ .first)) (at + 1) (ρ .last)) ++ ρ .name
+    → take (at + 2 + nameSize) f ≡ take at f₀ ++ (ρ .first ∷ ρ .last ∷ ρ .name)
+rest-done ρ at f₀ f low n e =
+    e ∙ ap (λ (x : List ℕ). x ++ ρ .name) (put-two f₀ at (at + 1) (at + 2) (ρ .first) (ρ .last) refl refl (omega arith))
+    ∙ append-assoc (take at f₀) (ρ .first ∷ ρ .last ∷ []) (ρ .name)
+
 -- ---- a rule
 
-pub rule-done : (ρ : Rule) (at : ℕ) (f₀ f : List ℕ) (u k q : ℕ) → at + ruleNumbers ≤ flatSize → length f₀ ≡ flatSize
-    → SFits w16 (ρ .length) → maxPlaces ≤ q → u ≡ unsignedOf (toZ w16 (ofZ w16 (ρ .length))) → k ≡ saturated (ρ .count)
-    → Written flatPlace 2 (at + 3) (ρ .places) maxPlaces (set (set (set f₀ at (ρ .left)) (at + 1) u) (at + 2) k) q f
-    → take (at + ruleNumbers) (set (set f (at + yearsAt) (ρ .first)) (at + yearsAt + 1) (ρ .last)) ≡ take at f₀ ++ flatRule ρ
+-- f₁ has the places of the rule, and f₂ the whole rule
+pub rule-done : (ρ : Rule) (at : ℕ) (f₀ f₁ f₂ : List ℕ) (u k : ℕ) → at + ruleNumbers ≤ flatSize → length f₀ ≡ flatSize
+    → SFits w16 (ρ .length) → u ≡ unsignedOf (toZ w16 (ofZ w16 (ρ .length))) → k ≡ saturated (ρ .count)
+    → take (at + 3 + 2 * maxPlaces) f₁
+    ≡ take (at + 3) (set (set (set f₀ at (ρ .left)) (at + 1) u) (at + 2) k) ++ flatMap flatPlace (ρ .places)
+    → take (at + yearsAt + 2 + nameSize) f₂ ≡ take (at + yearsAt) f₁ ++ (ρ .first ∷ ρ .last ∷ ρ .name)
+    → take (at + ruleNumbers) f₂ ≡ take at f₀ ++ flatRule ρ
 unfolding flatRule
-rule-done ρ at f₀ f u k q low n s h eu ek r =
+rule-done ρ at f₀ f₁ f₂ u k low n s eu ek places-in rest-in =
     let e : u ≡ unsignedOf (ρ .length) = eu ∙ ap unsignedOf (toZ-ofZ s) in
+    let a : at + ruleNumbers ≡ at + yearsAt + 2 + nameSize = omega arith in
+    let b : at + yearsAt ≡ at + 3 + 2 * maxPlaces = omega arith in
     let places = flatMap flatPlace (ρ .places) in
-    let years = ρ .first ∷ ρ .last ∷ [] in
+    let rest = ρ .first ∷ ρ .last ∷ ρ .name in
     let front = ρ .left ∷ unsignedOf (ρ .length) ∷ saturated (ρ .count) ∷ [] in
-    put-two f (at + yearsAt) (at + yearsAt + 1) (at + ruleNumbers) (ρ .first) (ρ .last) refl (omega arith) (omega (arith, r .long))
-    ∙ ap (λ (x : List ℕ). x ++ years)
-    (written-all flatPlace 2 (at + 3) (ρ .places) maxPlaces q (at + yearsAt) _ f h (omega arith) r
+    ap (λ (j : ℕ). take j f₂) a ∙ rest-in
+    ∙ ap (λ (x : List ℕ). x ++ rest)
+    (ap (λ (j : ℕ). take j f₁) b ∙ places-in
     ∙ ap (λ (x : List ℕ). x ++ places)
     (put-three f₀ at (at + 1) (at + 2) (at + 3) (ρ .left) u k (omega arith) (omega arith) (omega arith) (omega arith)
-    ∙ λ i. take at f₀ ++ (ρ .left ∷ e i ∷ ek i ∷ []))
-    ∙ append-assoc (take at f₀) front places)
-    ∙ append-assoc (take at f₀) (front ++ places) years
+    ∙ λ i. take at f₀ ++ (ρ .left ∷ e i ∷ ek i ∷ [])))
+    ∙ append-assoc (take at f₀ ++ front) places rest
+    ∙ append-assoc (take at f₀) front (places ++ rest)
 
 -- ---- a grammar
 

@@ -1,11 +1,12 @@
--- What the declared types say of a grammar: it has 128 rules of 8 places, and each field but the counts fits the bits that a flat row has
--- for it. The counts may be any numbers. If they fit 16 bits too, a flat row holds the whole grammar. The years are numbers of 16 bits as
--- they are, so nothing has to be said of them. Assumes nothing.
+-- What the declared types say of a grammar: it has 128 rules of 8 places and a name of 8 bytes, and each field but the counts fits the
+-- bits that a flat row has for it. The counts may be any numbers. If they fit 16 bits too, a flat row holds the whole grammar. The years
+-- are numbers of 16 bits as they are, so nothing has to be said of them. Assumes nothing.
 use Prim.Native.Nat.{ℕ, _<_}
 use mathlib.Core.Path.{_≡_}
 use lib.ListN.{length, getD}
 use lib.Signed.{mag}
 use Rattle.sizes.specs.Sizes.{maxRules, maxPlaces}
+use Rattle.theory_words.specs.Name.{nameSize}
 use Rattle.grammar.specs.declared.Symbol.{Symbol}
 use Rattle.grammar.specs.declared.Rule.{Rule}
 use Rattle.grammar.specs.declared.Grammar.{Grammar}
@@ -22,6 +23,8 @@ pub record DeclaredRule (ρ : Rule) : Type 0 where
   pub magnitude : mag (ρ .length) < 32768
   pub places : length (ρ .places) ≡ maxPlaces
   pub symbols : (q : ℕ) → q < maxPlaces → SymbolBytes (getD (ρ .places) q zeroPlace .symbol)
+  pub name : length (ρ .name) ≡ nameSize
+  pub bytes : (k : ℕ) → k < nameSize → getD (ρ .name) k 0 < 256
 
 pub record DeclaredGrammar (g : Grammar) : Type 0 where
   pub start : g .start < 256

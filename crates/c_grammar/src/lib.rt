@@ -11,8 +11,11 @@ ghost use Rattle.c_grammar.specs.Flat.{flatSize};
 // At which of a rule's numbers its years are: after its left side, its length, its count, and two for each place.
 pub const YEARS_AT: usize = 3 + 2 * sizes::MAX_PLACES;
 
-// How many numbers a rule has, with its two years.
-pub const RULE_NUMBERS: usize = YEARS_AT + 2;
+// At which of them its name is: after its two years.
+pub const NAME_AT: usize = YEARS_AT + 2;
+
+// How many numbers a rule has, with its name.
+pub const RULE_NUMBERS: usize = NAME_AT + names::NAME;
 
 // How many numbers a row has: the start symbol, the count, the nullable depth, and those of each rule.
 pub const FLAT_SIZE: usize = 3 + sizes::MAX_RULES * RULE_NUMBERS;

@@ -1,5 +1,6 @@
 // Reads a grammar from its row.
 use super::Flat;
+use super::NAME_AT;
 use super::RULE_NUMBERS;
 use super::YEARS_AT;
 use super::symbol::symbol;
@@ -9,7 +10,8 @@ use grammar::Rule;
 ghost use mathlib.Core.Path.{_≡_};
 ghost use Prim.Native.Nat.{_+_, _*_, _≤_};
 ghost use Rattle.sizes.specs.Sizes.{maxPlaces};
-ghost use Rattle.c_grammar.specs.Flat.{rowPlace, rowPlaces, rowRule, flatSize, ruleNumbers, grammarIn};
+ghost use Rattle.theory_words.specs.Name.{nameSize};
+ghost use Rattle.c_grammar.specs.Flat.{rowPlace, rowPlaces, rowName, rowRule, flatSize, ruleNumbers, grammarIn};
 
 fn read_place(f: &Flat, at: usize) -> Place
     requires { ⌜ at + 2 ≤ flatSize ⌝ }
@@ -33,6 +35,20 @@ fn read_places(f: &Flat, at: usize) -> [Place; sizes::MAX_PLACES]
     places
 }
 
+// The bytes of a name. A number that is no byte is read as 255, which is in no valid name.
+fn read_name(f: &Flat, at: usize) -> [u8; names::NAME]
+    requires { ⌜ at + nameSize ≤ flatSize ⌝ }
+    ensures { λ l. ⌜ l ≡ rowName (now (f .entry)) at ⌝ }
+{
+    let mut name = [0u8; names::NAME];
+    let mut k = 0;
+    while k < names::NAME {
+        name[k] = numbers::byte(f[at + k]);
+        k += 1;
+    }
+    name
+}
+
 fn read_rule(f: &Flat, at: usize) -> Rule
     requires { ⌜ at + ruleNumbers ≤ flatSize ⌝ }
     ensures { λ r. ⌜ r ≡ rowRule (now (f .entry)) at ⌝ }
@@ -41,6 +57,7 @@ fn read_rule(f: &Flat, at: usize) -> Rule
     let length = numbers::signed(f[at + 1]);
     let count = numbers::wide(f[at + 2]);
     let places = read_places(f, at + 3);
+    let name = read_name(f, at + NAME_AT);
     Rule {
         left: left,
         length: length,
@@ -48,6 +65,7 @@ fn read_rule(f: &Flat, at: usize) -> Rule
         places: places,
         first: f[at + YEARS_AT],
         last: f[at + YEARS_AT + 1],
+        name: name,
     }
 }
 

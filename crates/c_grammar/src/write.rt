@@ -7,10 +7,12 @@ use grammar::Grammar;
 use grammar::Place;
 use grammar::Rule;
 use grammar::tagged;
-ghost use mathlib.Core.List.{_++_};
+ghost use mathlib.Core.List.{_∷_, _++_, flatMap};
 ghost use mathlib.Core.Path.{_≡_};
-ghost use Prim.Native.Nat.{_+_, _≤_};
+ghost use Prim.Native.Nat.{_+_, _*_, _≤_};
 ghost use lib.ListN.{length, take};
+ghost use Rattle.sizes.specs.Sizes.{maxPlaces};
+ghost use Rattle.theory_words.specs.Name.{nameSize};
 ghost use Rattle.c_grammar.specs.Flat.{flatPlace, flatRule, flatOf, flatSize, ruleNumbers};
 
 // Writes the two numbers of a place from index `at` on. The numbers before them stay as found.
@@ -24,6 +26,45 @@ pub fn write_place(place: Place, at: usize, f: &mut Flat)
     f[at + 1] = (tagged::value_of(s) as u16) + 256 * (tagged::high_of(s) as u16);
 }
 
+// Writes the numbers of the places of a rule from index `at` on. The numbers before them stay as found.
+fn write_places(rule: Rule, at: usize, f: &mut Flat)
+    requires { ⌜ (at + 2 * maxPlaces ≤ flatSize) × (length (now f) ≡ flatSize) ⌝ }
+    ensures { λ _. ⌜ take (at + 2 * maxPlaces) (now (f .exit)) ≡ take at (now (f .entry)) ++ flatMap flatPlace (rule .places) ⌝ }
+    ensures { λ _. ⌜ length (now (f .exit)) ≡ flatSize ⌝ }
+{
+    let mut q = 0;
+    while q < sizes::MAX_PLACES {
+        let place = rule.places[q];
+        write_place(place, at + 2 * q, f);
+        q += 1;
+    }
+}
+
+// Writes the bytes of a name from index `at` on. The numbers before them stay as found.
+fn write_name(name: [u8; names::NAME], at: usize, f: &mut Flat)
+    requires { ⌜ (at + nameSize ≤ flatSize) × (length (now f) ≡ flatSize) ⌝ }
+    ensures { λ _. ⌜ take (at + nameSize) (now (f .exit)) ≡ take at (now (f .entry)) ++ name ⌝ }
+    ensures { λ _. ⌜ length (now (f .exit)) ≡ flatSize ⌝ }
+{
+    let mut k = 0;
+    while k < names::NAME {
+        f[at + k] = name[k] as u16;
+        k += 1;
+    }
+}
+
+// Writes the years and the name of a rule from index `at` on. The numbers before them stay as found.
+fn write_rest(rule: Rule, at: usize, f: &mut Flat)
+    requires { ⌜ (at + 2 + nameSize ≤ flatSize) × (length (now f) ≡ flatSize) ⌝ }
+    ensures { λ _. ⌜ take (at + 2 + nameSize) (now (f .exit)) ≡ take at (now (f .entry)) ++ (rule .first ∷ rule .last ∷ rule .name) ⌝ }
+    ensures { λ _. ⌜ length (now (f .exit)) ≡ flatSize ⌝ }
+{
+    f[at] = rule.first;
+    f[at + 1] = rule.last;
+    let name = rule.name;
+    write_name(name, at + 2, f);
+}
+
 // Writes the numbers of a rule from index `at` on. The numbers before them stay as found.
 pub fn write_rule(rule: Rule, at: usize, f: &mut Flat)
     requires { ⌜ (at + ruleNumbers ≤ flatSize) × (length (now f) ≡ flatSize) ⌝ }
@@ -34,14 +75,8 @@ pub fn write_rule(rule: Rule, at: usize, f: &mut Flat)
     let z = rule.length;
     f[at + 1] = numbers::unsigned(z);
     f[at + 2] = numbers::saturate(rule.count);
-    let mut q = 0;
-    while q < sizes::MAX_PLACES {
-        let place = rule.places[q];
-        write_place(place, at + 3 + 2 * q, f);
-        q += 1;
-    }
-    f[at + YEARS_AT] = rule.first;
-    f[at + YEARS_AT + 1] = rule.last;
+    write_places(rule, at + 3, f);
+    write_rest(rule, at + YEARS_AT, f);
 }
 
 // Writes the row of the grammar. The row is cleared first, so that its length is known whatever it held.

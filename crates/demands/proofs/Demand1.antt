@@ -7,11 +7,13 @@ use Rattle.results.specs.Recognize.{State, openOf, takeOf}
 use Rattle.results.specs.Check.{checkOf}
 use Rattle.results.specs.Measure.{lengthOf, sameBuildOf}
 use Rattle.results.specs.Enumerate.{firstOf, nextOf, countOf}
-use Rattle.demands.specs.Demand1.{OpenDemand, TakeDemand, InputDemand, OutputDemand}
+use Rattle.results.specs.Words.{wordsOf}
+use Rattle.demands.specs.Demand1.{OpenDemand, TakeDemand, InputDemand, OutputDemand, WordsDemand}
 use Rattle.demands.proofs.Kept as Kept
 use Rattle.demands.proofs.Order as Order
 use Rattle.demands.proofs.Untouched as Untouched
 use Rattle.demands.proofs.Filled as Filled
+use Rattle.demands.proofs.Words as Words
 
 pub open-demand : (g : Dated) (chart : List ℕ) → OpenDemand g chart (openOf g chart)
 open-demand g chart = record {
@@ -76,4 +78,13 @@ next-demand g w e chart out = record {
   order = Order.next-order g w chart out e;
   untouched = λ n l. Untouched.next-untouched g w chart out n l e;
   chart-filled = λ r. Filled.next-filled g w chart out r e;
+}
+
+pub words-demand : (g : Dated) (w e chart buffer : List ℕ) → WordsDemand g w e chart buffer (wordsOf g w e chart buffer)
+words-demand g w e chart buffer = record {
+  kept = Words.words-kept g w e chart buffer .0;
+  output = Words.words-kept g w e chart buffer .1;
+  order = Words.words-order g w e chart buffer;
+  untouched = Words.words-untouched g w e chart buffer;
+  chart-filled = Words.words-filled g w e chart buffer;
 }

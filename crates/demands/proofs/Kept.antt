@@ -32,10 +32,10 @@ use Rattle.results.proofs.Demand3.Listed.{reading-even, reading-short}
 
 -- ---- the chart
 
-chart-same : (chart : List ℕ) → ChartKept chart chart
+pub chart-same : (chart : List ℕ) → ChartKept chart chart
 chart-same chart = record { same-length = refl; behind = refl }
 
-filled-kept : (g : Dated) (w chart : List ℕ) → Ready g w chart → ChartKept chart (filled (grammarOf g) w chart)
+pub filled-kept : (g : Dated) (w chart : List ℕ) → Ready g w chart → ChartKept chart (filled (grammarOf g) w chart)
 filled-kept g w chart r = record {
   same-length = filled-length (grammarOf g) w chart (r .room);
   behind = filled-behind (grammarOf g) w chart (r .short);
@@ -92,7 +92,7 @@ module _ (g : Dated) (w chart : List ℕ) where
 
 -- ---- the output
 
-output-same : (n : ℕ) (out : List ℕ) → OutputKept n out out
+pub output-same : (n : ℕ) (out : List ℕ) → OutputKept n out out
 output-same n out = record { same-length = refl; rest = refl }
 
 module _ (e out : List ℕ) (even : 2 * (length e / 2) ≡ length e) (fits : length e ≤ length out) where

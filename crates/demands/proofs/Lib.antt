@@ -10,10 +10,12 @@ pub mod LoadOrder
 pub mod LoadFault
 pub mod LoadUnused
 pub mod LoadDemand
+pub mod NamePart
 pub mod Listed
 pub mod OrderOffered
 pub mod OrderTrees
 pub mod Check
+pub mod Words
 pub mod Demand1
 pub mod Recognized
 pub mod Taken

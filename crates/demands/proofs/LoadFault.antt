@@ -24,7 +24,7 @@ module _ (bytes : List ℕ) (at : ℕ) where
   unfolding step commandChecks operandChecks carriedOut
   step-stops g =
       decide-cases stop _ Stops _
-      (omega arith, (omega arith, (omega arith, (omega arith, (omega arith, (omega arith, (omega arith, omega arith)))))))
+      (omega arith, (omega arith, (omega arith, (omega arith, (omega arith, (omega arith, (omega arith, (omega arith, omega arith))))))))
       (λ p. either (eqb (getD bytes at 0) 0x50) _ _)
     where
       either : (b : Bool) (m : ℕ) (h : Grammar) → Stops (cond b (done g) (next m h))

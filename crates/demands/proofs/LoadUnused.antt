@@ -11,12 +11,12 @@ use Rattle.sizes.specs.Sizes.{maxRules}
 use Rattle.grammar.specs.declared.Symbol.{Symbol}
 use Rattle.grammar.specs.declared.Rule.{Rule}
 use Rattle.grammar.specs.declared.Grammar.{Grammar}
-use Rattle.grammar.specs.Setters.{openedRule, placedRule}
+use Rattle.grammar.specs.Setters.{openedRule, placedRule, setName}
 use Rattle.grammar.specs.Valid.{validGrammar}
 use Rattle.grammar.specs.Zero.{zeroPlace, zeroRule, zeroGrammar, noRule}
 use Rattle.grammar.proofs.Bounds.{valid-count}
 use Rattle.grammar.proofs.Setters.{set-rule-size}
-use Rattle.results.specs.Load.{operand, openRule, withStart, withRule, withPlace}
+use Rattle.results.specs.Load.{operand, givenName, openRule, withStart, withRule, withPlace, withName}
 use Rattle.results.proofs.Loading.Lists.{set-each, replicate-each, drop-next}
 use Rattle.results.proofs.Loading.Commands.{Invariant}
 use Rattle.results.proofs.Loading.Valid.{valid-invariant}
@@ -60,6 +60,15 @@ module _ (g : Grammar) (Z : ZeroBehind g) where
         (placed-zero (getD (g .rules) (g .count - 1) noRule) s (Z .places (g .count - 1) (omega arith)));
   }
 
+  name-zero : (name : List ℕ) → 0 < g .count → g .count ≤ maxRules → ZeroBehind (withName g name)
+  unfolding withName openRule
+  name-zero name m h = record {
+    size = set-rule-size g (g .count - 1) (setName (openRule g) name) ∙ Z .size;
+    unused = drop-set-lt (g .count) (g .rules) (g .count - 1) _ (omega arith) ∙ Z .unused;
+    places = let P = Z .places (g .count - 1) (omega arith) in
+        set-each ZeroPlaces noRule maxRules (g .rules) (g .count - 1) _ (Z .places) (record { size = P .size; unused = P .unused });
+  }
+
 -- a grammar that check 8 lets through and in which what is unused is zero
 pub record Tidy (g : Grammar) : Type 0 where
   pub valid : validGrammar g ≡ true
@@ -77,5 +86,9 @@ tidy-invariant bytes = let kept = valid-invariant bytes in record {
   place = λ at g T s e u m h. record {
     valid = kept .place at g (T .valid) s e u m h;
     behind = place-zero g (T .behind) s m (valid-count g (T .valid));
+  };
+  name = λ at g T m o r. record {
+    valid = kept .name at g (T .valid) m o r;
+    behind = name-zero g (T .behind) (givenName (operand bytes at)) m (valid-count g (T .valid));
   };
 }

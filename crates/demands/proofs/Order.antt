@@ -25,16 +25,16 @@ use Rattle.demands.proofs.Later.{length-later, same-build-later, count-
 
 -- ---- each check tells its cause
 
-less : (a b n : ℕ) → Tells (check (ltb a b) n) (cause (a < b) n)
+pub less : (a b n : ℕ) → Tells (check (ltb a b) n) (cause (a < b) n)
 less a b n = record { exact = (ltb-true a b, lt-ltb a b); same = refl }
 
 equal : (a b n : ℕ) → Tells (check (eqb a b) n) (cause (a ≡ b) n)
 equal a b n = record { exact = (eqb-true a b, eq-eqb a b); same = refl }
 
-tells8 : (g : Grammar) → Tells (grammarCheck g) (cause8 g)
+pub tells8 : (g : Grammar) → Tells (grammarCheck g) (cause8 g)
 tells8 g = record { exact = (not-true (validGrammar g), ap not); same = refl }
 
-tells9 : (w : List ℕ) → Tells (inputCheck w) (cause9 w)
+pub tells9 : (w : List ℕ) → Tells (inputCheck w) (cause9 w)
 tells9 w = less maxInput (length w) 9
 
 -- ---- opening and taking

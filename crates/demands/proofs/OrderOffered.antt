@@ -13,8 +13,8 @@ use Rattle.results.specs.Check.{Checking, onInput}
 use Rattle.results.specs.Measure.{unlisted, lengthIn, lengthOf, sameBuildIn, sameBuildOf}
 use Rattle.results.specs.Enumerate.{Enumeration, nextIn, nextOf}
 use Rattle.results.specs.Ready.{Ready, ReadyOut}
-use Rattle.demands.specs.Cause.{Cause, cause, Decided}
-use Rattle.demands.specs.Order.{NoRefusal}
+use Rattle.demands.specs.Cause.{Decided}
+use Rattle.demands.specs.Order.{cause12, NoRefusal}
 use Rattle.demands.specs.OrderAfter.{OfferedOrder}
 use Rattle.results.proofs.Answers.{answered-apart}
 use Rattle.results.proofs.Goes.{onInput-passed, next-passed}
@@ -31,11 +31,7 @@ module _ (g : Dated) (w : List ℕ) where
   offered-or : (e : List ℕ) → (unlisted (grammarOf g) w e ≡ true) ⊎ Offered e
   offered-or e = by-test (unlisted (grammarOf g) w e) (λ p. inl p) (λ p. inr (offered→derivation g w e p))
 
-  -- what is offered is no derivation
-  abbrev cause12 : Type 0 → Cause ℕ
-  cause12 offered = cause (offered → ⊥) 12
-
-  tells12 : (e : List ℕ) → Tells (check (unlisted (grammarOf g) w e) 12) (cause12 (Offered e))
+  pub tells12 : (e : List ℕ) → Tells (check (unlisted (grammarOf g) w e) 12) (cause12 (Offered e))
   tells12 e = record {
     exact = (λ p d. true-false p (derivation→offered g w e d), λ f. ⊎-elim (λ p. p) (λ d. absurd (f d)) (offered-or e));
     same = refl;

@@ -13,9 +13,10 @@ use Rattle.results.specs.Answer.{refused}
 use Rattle.results.specs.Recognize.{State, stateOf, Recognition}
 use Rattle.results.specs.Check.{Checking}
 use Rattle.results.specs.Enumerate.{Enumeration}
-use Rattle.demands.specs.Kept.{ChartKept, writes, OutputKept}
+use Rattle.results.specs.Words.{Writing}
+use Rattle.demands.specs.Kept.{ChartKept, writes, bytesWritten, OutputKept}
 use Rattle.results.specs.Ready.{Ready, ReadyOut}
-use Rattle.demands.specs.Order.{OpenOrder, TakeOrder, InputOrder, OutputOrder}
+use Rattle.demands.specs.Order.{OpenOrder, TakeOrder, InputOrder, OutputOrder, WordsOrder}
 
 -- opening
 pub record OpenDemand (g : Dated) (chart : List ℕ) (r : Recognition) : Type 0 where
@@ -51,3 +52,14 @@ pub record OutputDemand (g : Dated) (w chart out : List ℕ) (r : Enumeration) :
   pub untouched : (n : ℕ) → n < 12 → r .answer ≡ refused n → (r .chart ≡ chart) × (r .output ≡ out)
   -- once these checks are passed, the chart is filled for the input, whatever the answer
   pub chart-filled : ReadyOut g w chart out → r .chart ≡ filled (grammarOf g) w chart
+
+-- words
+pub record WordsDemand (g : Dated) (w e chart buffer : List ℕ) (r : Writing) : Type 0 where
+  pub kept : ChartKept chart (r .chart)
+  -- the buffer counts as an output, so a refused call leaves all of it as found
+  pub output : OutputKept (bytesWritten (r .answer)) buffer (r .buffer)
+  pub order : WordsOrder g w e chart buffer (r .answer)
+  -- refusals 8 to 10 leave chart and buffer as found
+  pub untouched : (n : ℕ) → n < 12 → r .answer ≡ refused n → (r .chart ≡ chart) × (r .buffer ≡ buffer)
+  -- once these checks are passed, the chart is filled for the input, whatever the answer
+  pub chart-filled : Ready g w chart → r .chart ≡ filled (grammarOf g) w chart

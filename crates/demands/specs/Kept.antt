@@ -19,7 +19,12 @@ writes (refused n) = 0
 writes (answered (handed n)) = 2 * n
 writes (answered nothing) = 0
 
--- an output before and after a call that writes n numbers to its front
+-- how many bytes words writes to the front of the buffer: those of the text, and none if it is refused
+abbrev pub bytesWritten : Answer ℕ → ℕ
+bytesWritten (refused n) = 0
+bytesWritten (answered n) = n
+
+-- an output, or a buffer, before and after a call that writes n numbers to its front
 pub record OutputKept (n : ℕ) (before after : List ℕ) : Type 0 where
   -- the output is as long as found
   pub same-length : length after ≡ length before

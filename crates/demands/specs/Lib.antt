@@ -4,6 +4,7 @@ pub mod Cause
 pub mod Order
 pub mod LoadOrder
 pub mod LoadDemand
+pub mod NamePart
 pub mod OrderAfter
 pub mod Demand1
 pub mod Recognized

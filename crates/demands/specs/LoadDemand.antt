@@ -25,12 +25,13 @@ pub data Reached (bytes : List ℕ) : ℕ → Grammar → Type 0 where
 -- a fault of the command at this offset, or of a book that ends there: its number, and the offset that is given for it
 pub record FaultAt (bytes : List ℕ) (at number offset : ℕ) : Type 0 where
   pub low : 1 ≤ number
-  pub high : 7 < number → (number ≡ 16 → ⊥) → number ≡ 21
+  pub high : 7 < number → (number ≡ 16 → ⊥) → (number ≡ 21 → ⊥) → number ≡ 17
   -- the offset for 1: the book's length
   pub one : number ≡ 1 → offset ≡ length bytes
   -- for 2 to 6: the offset of the command
   pub two-to-six : 2 ≤ number → number ≤ 6 → offset ≡ at
   pub sixteen : number ≡ 16 → offset ≡ at
+  pub seventeen : number ≡ 17 → offset ≡ at
   pub twenty-one : number ≡ 21 → offset ≡ at
   -- for 7: the offset of the byte after 50
   pub seven : number ≡ 7 → offset ≡ at + 1

@@ -1,5 +1,5 @@
 -- Loading, at one command: the refusal given is the first that applies, in the documents' order: 1 if the book has ended, then 2, 3, 1, 4,
--- 16 or 21, then 5 or 6, and 7 after 50. Assumes nothing.
+-- 16, 17 or 21, then 5 or 6, and 7 after 50. Assumes nothing.
 use Prim.Native.Nat.{ℕ, _+_}
 use mathlib.Core.Bool.{Bool, true, _&&_, _||_, not}
 use mathlib.Core.List.{List, [], _∷_}
@@ -7,8 +7,8 @@ use mathlib.Core.Path.{_≡_}
 use lib.Dec.{eqb, ltb}
 use lib.ListN.{length}
 use Rattle.grammar.specs.declared.Grammar.{Grammar}
-use Rattle.results.specs.Load.{operands, operand, fromYear, toYear, openRule, unknown, opensRule, addsPlace, outOfTurn, Fault}
-use Rattle.results.specs.Load.{Step, stop}
+use Rattle.results.specs.Load.{operands, operand, fromYear, toYear, givenName, openRule, unknown, opensRule, addsPlace, outOfTurn}
+use Rattle.results.specs.Load.{refusedName, Fault, Step, stop}
 use Rattle.demands.specs.Cause.{Cause, cause, Decided}
 
 -- 1: the book has ended where a command or 50 is due
@@ -26,6 +26,10 @@ nonterminalOver bytes at c = (eqb c 0x10 || opensRule c || eqb c 0x30) && ltb 31
 -- 16: the low end of a range is above its high end
 abbrev pub rangeReversed : List ℕ → ℕ → ℕ → Bool
 rangeReversed bytes at c = eqb c 0x41 && ltb (operand bytes at 1) (operand bytes at 0)
+
+-- 17: the name is empty, has another byte or a blank before a letter or digit, or equals an earlier name
+abbrev pub nameRefused : List ℕ → ℕ → ℕ → Grammar → Bool
+nameRefused bytes at c g = eqb c 0x60 && refusedName g (givenName (operand bytes at))
 
 -- 21: the first year of a rule is above its last
 abbrev pub yearsReversed : List ℕ → ℕ → ℕ → Bool
@@ -60,6 +64,7 @@ commandCauses bytes at c g =
     ∷ stops (endsInside bytes at c) 1 (length bytes)
     ∷ stops (nonterminalOver bytes at c) 4 at
     ∷ stops (rangeReversed bytes at c) 16 at
+    ∷ stops (nameRefused bytes at c g) 17 at
     ∷ stops (yearsReversed bytes at c) 21 at
     ∷ stops (rulesOver c g) 5 at
     ∷ stops (placesOver c g) 6 at

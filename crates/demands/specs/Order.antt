@@ -6,11 +6,13 @@ use mathlib.Core.List.{List, [], _∷_}
 use mathlib.Core.Path.{_≡_}
 use lib.ListN.{length}
 use Rattle.sizes.specs.Sizes.{cells, maxInput, outputSize}
+use Rattle.cfg.specs.Derivation.{Derivation, limit}
 use Rattle.grammar.specs.declared.Grammar.{Grammar}
 use Rattle.grammar.specs.Valid.{validGrammar}
-use Rattle.grammar.specs.View.{Dated}
+use Rattle.grammar.specs.View.{Dated, grammarOf}
 use Rattle.results.specs.Answer.{Answer, refused, Handing}
 use Rattle.results.specs.Recognize.{State}
+use Rattle.results.specs.Words.{wordsText}
 use Rattle.demands.specs.Cause.{Cause, cause, Decided}
 
 -- the grammar is not valid
@@ -29,6 +31,10 @@ cause10 chart = cause (length chart < cells) 10
 abbrev pub cause11 : List ℕ → Cause ℕ
 cause11 out = cause (length out < outputSize) 11
 
+-- what is offered is no derivation; `offered` says that it is one
+abbrev pub cause12 : Type 0 → Cause ℕ
+cause12 offered = cause (offered → ⊥) 12
+
 -- the state has a count over 64
 abbrev pub cause14 : State → Cause ℕ
 cause14 h = cause (maxInput < h .count) 14
@@ -36,6 +42,10 @@ cause14 h = cause (maxInput < h .count) 14
 -- the state has taken 64 bytes
 abbrev pub cause15 : State → Cause ℕ
 cause15 h = cause (h .count ≡ maxInput) 15
+
+-- the text is longer than the buffer
+abbrev pub cause18 : List ℕ → List ℕ → Cause ℕ
+cause18 text buffer = cause (length buffer < length text) 18
 
 -- nothing is refused
 abbrev pub NoRefusal : {A : Type 0} → Answer A → Type 0
@@ -60,3 +70,10 @@ InputOrder g w chart = Decided (cause8 (g .grammar) ∷ cause9 w ∷ cause10 cha
 -- first and next
 abbrev pub OutputOrder : Dated → List ℕ → List ℕ → List ℕ → Answer Handing → Type 0
 OutputOrder g w chart out = Decided (cause8 (g .grammar) ∷ cause9 w ∷ cause10 chart ∷ cause11 out ∷ []) refused OnlyLater
+
+-- words
+abbrev pub WordsOrder : Dated → List ℕ → List ℕ → List ℕ → List ℕ → Answer ℕ → Type 0
+WordsOrder g w e chart buffer =
+    Decided
+    (cause8 (g .grammar) ∷ cause9 w ∷ cause10 chart ∷ cause12 (Derivation (grammarOf g) limit w e) ∷ cause18 (wordsText g w e) buffer ∷ [])
+    refused NoRefusal

@@ -1,5 +1,5 @@
 -- A loaded grammar fits a flat row, so it is read back from its row as it was written. Assumes nothing.
-use Prim.Native.Nat.{ℕ, suc, _+_, _*_, _-_, _≤_, _<_}
+use Prim.Native.Nat.{ℕ, zero, suc, _+_, _*_, _-_, _≤_, _<_}
 use native.Mathlib.Omega.{arith}
 use mathlib.Core.Bool.{Bool, true, false, cond}
 use mathlib.Core.List.{List}
@@ -10,6 +10,7 @@ use lib.ListN.{length, getD, length-set}
 use lib.Signed.{mag}
 use borrow.Author.Tests.{ltb-true, ltb-false}
 use Rattle.sizes.specs.Sizes.{maxRules, maxPlaces}
+use Rattle.theory_words.specs.Name.{nameSize}
 use Rattle.theory_shrinking.proofs.Depth.{depth-small}
 use Rattle.c_grammar.specs.Fits.{SymbolBytes, DeclaredRule, Fits16}
 use Rattle.grammar.specs.declared.Symbol.{Symbol}
@@ -17,11 +18,11 @@ use Rattle.grammar.specs.declared.Symbol.the-variants.{Nonterminal, Terminal, R
 use Rattle.grammar.specs.declared.Place.{Place}
 use Rattle.grammar.specs.declared.Rule.{Rule}
 use Rattle.grammar.specs.declared.Grammar.{Grammar}
-use Rattle.grammar.specs.Setters.{openedRule, placedRule, setDepth}
+use Rattle.grammar.specs.Setters.{setName, openedRule, placedRule, setDepth}
 use Rattle.grammar.specs.View.{wholeOf}
 use Rattle.grammar.specs.Zero.{zeroPlace, zeroRule, zeroGrammar, noRule}
 use Rattle.grammar.proofs.Setters.{set-rule-size}
-use Rattle.results.specs.Load.{operand, signed, openRule, withStart, withRule, withPlace, acceptedLoad, loadOf}
+use Rattle.results.specs.Load.{operand, signed, givenName, openRule, withStart, withRule, withPlace, withName, acceptedLoad, loadOf}
 use Rattle.results.proofs.Loading.Commands.{HeldIn, Invariant, run-kept}
 use Rattle.results.proofs.Loading.Lists.{set-each, replicate-each}
 
@@ -52,8 +53,25 @@ opened-small k z first last h m = record {
     magnitude = m;
     places = refl;
     symbols = replicate-each (λ p. SymbolBytes (p .symbol)) zeroPlace zeroPlace 8 (omega arith, omega arith);
+    name = refl;
+    bytes = replicate-each (λ b. b < 256) 0 0 nameSize (omega arith);
   };
   count = omega arith;
+}
+
+-- a rule with another name of eight bytes
+named-small : (ρ : Rule) (name : List ℕ) → SmallRule ρ → length name ≡ nameSize → ((k : ℕ) → k < nameSize → getD name k 0 < 256)
+    → SmallRule (setName ρ name)
+named-small ρ name R n h = record {
+  declared = record {
+    left = R .declared .left;
+    magnitude = R .declared .magnitude;
+    places = R .declared .places;
+    symbols = R .declared .symbols;
+    name = n;
+    bytes = h;
+  };
+  count = R .count;
 }
 
 zero-small : Small zeroGrammar
@@ -112,9 +130,21 @@ module _ (g : Grammar) (S : Small g) where
           symbols =
               set-each (λ (p : Place). SymbolBytes (p .symbol)) zeroPlace 8 (ρ .places) (ρ .count)
               (record { symbol = s }) (R .declared .symbols) h;
+          name = R .declared .name;
+          bytes = R .declared .bytes;
         };
         count = omega arith;
       }
+
+  name-small : (name : List ℕ) → length name ≡ nameSize → ((k : ℕ) → k < nameSize → getD name k 0 < 256) → Small (withName g name)
+  unfolding withName openRule
+  name-small name n h = record {
+    start = S .start;
+    count = S .count;
+    rules = set-rule-size g (g .count - 1) (setName (openRule g) name) ∙ S .rules;
+    each = set-each SmallRule noRule maxRules (g .rules) (g .count - 1) _ (S .each)
+        (named-small _ name (S .each (g .count - 1) (omega (arith, S .count))) n h);
+  }
 
 -- ---- loading
 
@@ -128,6 +158,17 @@ module _ (bytes : List ℕ) (small : (i : ℕ) → getD bytes i 0 < 256) where
   held-small at (Terminal m) e = (omega (arith, operand-small at 0), omega arith)
   held-small at (Range low high) e = (omega (arith, e .0, operand-small at 0), omega (arith, e .1, operand-small at 1))
 
+  given-small : (at k : ℕ) → k < nameSize → getD (givenName (operand bytes at)) k 0 < 256
+  given-small at zero h = operand-small at 0
+  given-small at (suc zero) h = operand-small at 1
+  given-small at (suc (suc zero)) h = operand-small at 2
+  given-small at (suc (suc (suc zero))) h = operand-small at 3
+  given-small at (suc (suc (suc (suc zero)))) h = operand-small at 4
+  given-small at (suc (suc (suc (suc (suc zero))))) h = operand-small at 5
+  given-small at (suc (suc (suc (suc (suc (suc zero)))))) h = operand-small at 6
+  given-small at (suc (suc (suc (suc (suc (suc (suc zero))))))) h = operand-small at 7
+  given-small at (suc (suc (suc (suc (suc (suc (suc (suc k)))))))) h = absurd (omega arith)
+
   small-invariant : Invariant bytes (λ at g. Small g)
   small-invariant = record {
     zero = zero-small;
@@ -137,6 +178,7 @@ module _ (bytes : List ℕ) (small : (i : ℕ) → getD bytes i 0 < 256) where
     years = λ at g S h y m. rule-small g S (operand bytes at 0) _ _ _ (operand-small at 0)
         (signed-small (operand bytes at 1) (operand bytes at 2) (operand-small at 1) (operand-small at 2)) (omega arith);
     place = λ at g S s e u m h. place-small g S s (held-small at s e) (omega arith);
+    name = λ at g S m o r. name-small g S (givenName (operand bytes at)) refl (given-small at);
   }
 
   pub load-fits : Fits16 (loadOf bytes .grammar)

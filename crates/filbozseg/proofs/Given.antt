@@ -5,6 +5,7 @@ use mathlib.Core.List.{List}
 use mathlib.Core.Path.{_≡_, refl, sym, ap, _∙_, subst}
 use lib.IntN.{ℤ}
 use lib.ListN.{getD}
+use borrow.Author.Tests.{eq-eqb, ne-eqb}
 use Rattle.c_grammar.specs.Fits.{Fits16}
 use Rattle.c_grammar.specs.Flat.{grammarIn, flatOf}
 use Rattle.c_grammar.proofs.Round.{read-write}
@@ -14,15 +15,19 @@ use Rattle.answers.specs.Answers.{outcomeOf}
 use Rattle.c_hand.specs.Hand.{rowOf, stateOfRow}
 use Rattle.load.specs.declared.Loaded.{Loaded}
 use Rattle.load.specs.Answer.{loadingOf}
+use Rattle.lookup.specs.declared.Part as Lookup
+use Rattle.lookup.specs.Found.{partOf}
 use Rattle.results.specs.Answer.{Answer, Handing, Figure}
 use Rattle.results.specs.Check.{Checking, checkOf}
 use Rattle.results.specs.Enumerate.{Enumeration, firstOf, nextOf, countOf}
 use Rattle.results.specs.Load.{Loading, loadOf}
+use Rattle.results.specs.Name.{Part}
 use Rattle.results.specs.Measure.{lengthOf, sameBuildOf}
 use Rattle.results.specs.Recognize.{State, Recognition, openOf, takeOf}
+use Rattle.results.specs.Words.{Writing, wordsOf}
 use Rattle.c_answer.specs.Code.{codeOf, leftOf, verdictCode, rowLeft, lengthCode, tenthsLeft, handingCode, nodesLeft}
-use Rattle.c_answer.specs.Code.{figureCode, figureLeft, loadCode, offsetLeft}
-use Rattle.filbozseg.specs.Calls.{Loads, Opens, Takes, Checks, Measures, Hands, Counts}
+use Rattle.c_answer.specs.Code.{wordsCode, bytesLeft, figureCode, figureLeft, loadCode, offsetLeft}
+use Rattle.filbozseg.specs.Calls.{Loads, Opens, Takes, Checks, Measures, Writes, Hands, Counts, Finds}
 use Rattle.filbozseg.proofs.Fits.{load-fits}
 
 -- ---- loading
@@ -47,6 +52,15 @@ module _ (book : List ℕ) (small : (i : ℕ) → getD book i 0 < 256) (l : Load
       → offset ≡ offsetLeft (outcomeOf (l .outcome)) found → Loads book found code row offset
   loads-of found code offset row e f k = rw (e, f, k) (row-loads found)
 
+-- ---- the name lookup
+
+module _ (l : Lookup.Part) (p : Part) (is : partOf l ≡ p) (offset size : ℕ) where
+  pub finds-none : l .length ≡ 0 → Finds p offset size 0 offset size
+  finds-none e = let f = eq-eqb (l .length) 0 e in rw (← is) (record { returned = rw f; at = rw f; long = rw f })
+
+  pub finds-part : (l .length ≡ 0 → ⊥) → Finds p offset size 1 (l .offset) (l .length)
+  finds-part n = let f = ne-eqb (l .length) 0 n in rw (← is) (record { returned = rw f; at = rw f; long = rw f })
+
 -- ---- the other calls, on the grammar g that was read from the row f
 
 abbrev checked : {A : Type 0} → Answer A → List ℕ → Checking A
@@ -57,6 +71,9 @@ recognized a s chart = record { answer = a; state = s; chart = chart }
 
 abbrev enumerated : Answer Handing → List ℕ → List ℕ → Enumeration
 enumerated a chart out = record { answer = a; chart = chart; output = out }
+
+abbrev texted : Answer ℕ → List ℕ → List ℕ → Writing
+texted a chart buffer = record { answer = a; chart = chart; buffer = buffer }
 
 module _ (f : List ℕ) (g : Grammar) (read : g ≡ grammarIn f) (chart₀ chart : List ℕ) (code : ℕ) where
   module _ (a : Answer Bool) (returned : code ≡ codeOf verdictCode a) where
@@ -87,6 +104,12 @@ module _ (f : List ℕ) (g : Grammar) (read : g ≡ grammarIn f) (chart₀ chart
       → code ≡ codeOf figureCode a
       → figure ≡ leftOf figureLeft a found → Counts (countOf (dated (grammarIn f) y) w chart₀) found code chart figure
   counts-of a y w found figure e c t = rw (← read, ← e) (record { returned = c; left = refl; counted = t })
+
+  pub writes-of : (a : Answer ℕ) (y : ℕ) (w d buffer₀ buffer : List ℕ) (found bytes : ℕ)
+      → texted a chart buffer ≡ wordsOf (dated g y) w d chart₀ buffer₀ → code ≡ codeOf wordsCode a → bytes ≡ leftOf bytesLeft a found
+      → Writes (wordsOf (dated (grammarIn f) y) w d chart₀ buffer₀) found code chart buffer bytes
+  writes-of a y w d buffer₀ buffer found bytes e c t =
+      rw (← read, ← e) (record { returned = c; left = refl; written = refl; counted = t })
 
   module _ (a : Answer Handing) (returned : code ≡ codeOf handingCode a) (found nodes : ℕ) (counted : nodes ≡ leftOf nodesLeft a found)
       (y : ℕ) (w out₀ out : List ℕ) where

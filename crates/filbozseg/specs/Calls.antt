@@ -1,9 +1,10 @@
 -- What each exported function returns and leaves, in terms of the results of document 01. A grammar is a flat row (crate c_grammar), and a
 -- state of the recognizer is a row too (crate c_hand). In each record `found` is what the lent place had before. Assumes nothing.
 use Prim.Native.Nat.{ℕ}
-use mathlib.Core.Bool.{Bool}
+use mathlib.Core.Bool.{Bool, cond}
 use mathlib.Core.List.{List}
 use mathlib.Core.Path.{_≡_}
+use lib.Dec.{eqb}
 use lib.IntN.{ℤ}
 use Rattle.c_grammar.specs.Flat.{grammarIn, flatOf}
 use Rattle.c_hand.specs.Hand.{rowOf}
@@ -11,9 +12,11 @@ use Rattle.results.specs.Answer.{Figure}
 use Rattle.results.specs.Check.{Checking}
 use Rattle.results.specs.Enumerate.{Enumeration}
 use Rattle.results.specs.Load.{loadOf}
+use Rattle.results.specs.Name.{Part}
 use Rattle.results.specs.Recognize.{Recognition}
+use Rattle.results.specs.Words.{Writing}
 use Rattle.c_answer.specs.Code.{codeOf, leftOf, verdictCode, rowLeft, lengthCode, tenthsLeft, handingCode, nodesLeft}
-use Rattle.c_answer.specs.Code.{figureCode, figureLeft, loadCode, offsetLeft}
+use Rattle.c_answer.specs.Code.{wordsCode, bytesLeft, figureCode, figureLeft, loadCode, offsetLeft}
 
 -- loading a book: what is returned, the row left, the offset left, and that the row is read back as the grammar that was loaded
 pub record Loads (book : List ℕ) (found : ℕ) (code : ℕ) (row : List ℕ) (offset : ℕ) : Type 0 where
@@ -45,6 +48,13 @@ pub record Measures (k : Checking ℤ) (found : ℤ) (code : ℕ) (chart : List 
   pub left : chart ≡ k .chart
   pub measured : tenths ≡ leftOf tenthsLeft (k .answer) found
 
+-- words: what is returned, the chart and the buffer left, and the number left
+pub record Writes (x : Writing) (found : ℕ) (code : ℕ) (chart buffer : List ℕ) (bytes : ℕ) : Type 0 where
+  pub returned : code ≡ codeOf wordsCode (x .answer)
+  pub left : chart ≡ x .chart
+  pub written : buffer ≡ x .buffer
+  pub counted : bytes ≡ leftOf bytesLeft (x .answer) found
+
 -- first and next: what is returned, the chart and the output left, and the number left
 pub record Hands (x : Enumeration) (found : ℕ) (code : ℕ) (chart output : List ℕ) (nodes : ℕ) : Type 0 where
   pub returned : code ≡ codeOf handingCode (x .answer)
@@ -57,3 +67,9 @@ pub record Counts (k : Checking Figure) (found : ℕ) (code : ℕ) (chart : List
   pub returned : code ≡ codeOf figureCode (k .answer)
   pub left : chart ≡ k .chart
   pub counted : figure ≡ leftOf figureLeft (k .answer) found
+
+-- the name lookup: 1 for a part and 0 for the empty one, and the offset and the length left
+pub record Finds (p : Part) (foundOffset foundLength : ℕ) (code : ℕ) (offset size : ℕ) : Type 0 where
+  pub returned : code ≡ cond (eqb (p .length) 0) 0 1
+  pub at : offset ≡ cond (eqb (p .length) 0) foundOffset (p .offset)
+  pub long : size ≡ cond (eqb (p .length) 0) foundLength (p .length)

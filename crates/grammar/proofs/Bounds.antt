@@ -12,6 +12,7 @@ use lib.ListN.{take, getD, getElem?}
 use borrow.Author.Tests.{leb-true}
 use Rattle.sizes.specs.Sizes.{maxRules, maxPlaces}
 use Rattle.laws.proofs.Bools.{and-parts, and-parts₃, clash}
+use Rattle.theory_words.specs.Name.{allowedName}
 use Rattle.cfg.specs.Grammar as Abstract
 use Rattle.cfg.specs.Grammar.{joined, Of}
 use Rattle.grammar.specs.declared.Symbol.{Symbol}
@@ -19,7 +20,7 @@ use Rattle.grammar.specs.declared.Symbol.the-variants.{Nonterminal, Term
 use Rattle.grammar.specs.declared.Place.{Place}
 use Rattle.grammar.specs.declared.Rule.{Rule}
 use Rattle.grammar.specs.declared.Grammar.{Grammar}
-use Rattle.grammar.specs.Valid.{all, validSymbol, validPlace, validRule, validGrammar}
+use Rattle.grammar.specs.Valid.{all, validSymbol, validPlace, validRule, namesOf, distinctNames, validGrammar}
 use Rattle.grammar.specs.View.{symbolOf, placeOf, ruleOf, viewedBy, wholeOf, inForce, ruleInYear, Dated, grammarOf}
 use Rattle.grammar.specs.Zero.{noRule}
 use Rattle.grammar.proofs.All.{all-at}
@@ -29,19 +30,23 @@ use Rattle.grammar.proofs.Laws.{noRule-valid}
 
 pub rule-parts : (ρ : Rule) → validRule ρ ≡ true
     → (ρ .left ≤ 31) × (ρ .count ≤ maxPlaces) × (all validPlace (take (ρ .count) (ρ .places)) ≡ true) × (ρ .first ≤ ρ .last)
+    × (allowedName (ρ .name) ≡ true)
 unfolding validRule
 rule-parts ρ v =
     let places = all validPlace (take (ρ .count) (ρ .places)) in
-    let years = and-parts (leb (ρ .left) 31 && leb (ρ .count) 8 && places) (leb (ρ .first) (ρ .last)) v in
+    let front = leb (ρ .left) 31 && leb (ρ .count) 8 && places in
+    let years = and-parts₃ front (leb (ρ .first) (ρ .last)) (allowedName (ρ .name)) v in
     let p = and-parts₃ (leb (ρ .left) 31) (leb (ρ .count) 8) places (years .0) in
-    (leb-true (ρ .left) 31 (p .0), leb-true (ρ .count) 8 (p .1), p .2, leb-true (ρ .first) (ρ .last) (years .1))
+    (leb-true (ρ .left) 31 (p .0), leb-true (ρ .count) 8 (p .1), p .2, leb-true (ρ .first) (ρ .last) (years .1), years .2)
 
 pub grammar-parts : (g : Grammar) → validGrammar g ≡ true
-    → (g .start ≤ 31) × (g .count ≤ maxRules) × (all validRule (take (g .count) (g .rules)) ≡ true)
+    → (g .start ≤ 31) × (g .count ≤ maxRules) × (all validRule (take (g .count) (g .rules)) ≡ true) × (distinctNames (namesOf g) ≡ true)
 unfolding validGrammar
 grammar-parts g v =
-    let p = and-parts₃ (leb (g .start) 31) (leb (g .count) maxRules) (all validRule (take (g .count) (g .rules))) v in
-    (leb-true (g .start) 31 (p .0), leb-true (g .count) maxRules (p .1), p .2)
+    let rules = all validRule (take (g .count) (g .rules)) in
+    let names = and-parts (leb (g .start) 31 && leb (g .count) maxRules && rules) (distinctNames (namesOf g)) v in
+    let p = and-parts₃ (leb (g .start) 31) (leb (g .count) maxRules) rules (names .0) in
+    (leb-true (g .start) 31 (p .0), leb-true (g .count) maxRules (p .1), p .2, names .1)
 
 module _ (g : Grammar) (valid : validGrammar g ≡ true) where
   pub valid-start : g .start < 32

@@ -13,35 +13,39 @@ use Rattle.grammar.specs.Zero.{zeroRule}
 -- ---- a rule
 
 -- the rule of these fields, as a row of numbers gives them
-abbrev pub ruleWith : ℕ → ℤ → ℕ → List Place → ℕ → ℕ → Rule
-ruleWith k hundredths n places first last =
-    record { left = k; length = hundredths; count = n; places = places; first = first; last = last }
+abbrev pub ruleWith : ℕ → ℤ → ℕ → List Place → ℕ → ℕ → List ℕ → Rule
+ruleWith k hundredths n places first last name =
+    record { left = k; length = hundredths; count = n; places = places; first = first; last = last; name = name }
 
 -- the rule with another left side, length, number of places, list of places, or place q
 abbrev pub setLeft : Rule → ℕ → Rule
-setLeft r k = ruleWith k (r .length) (r .count) (r .places) (r .first) (r .last)
+setLeft r k = ruleWith k (r .length) (r .count) (r .places) (r .first) (r .last) (r .name)
 
 abbrev pub setLength : Rule → ℤ → Rule
-setLength r hundredths = ruleWith (r .left) hundredths (r .count) (r .places) (r .first) (r .last)
+setLength r hundredths = ruleWith (r .left) hundredths (r .count) (r .places) (r .first) (r .last) (r .name)
 
 abbrev pub setPlaceCount : Rule → ℕ → Rule
-setPlaceCount r n = ruleWith (r .left) (r .length) n (r .places) (r .first) (r .last)
+setPlaceCount r n = ruleWith (r .left) (r .length) n (r .places) (r .first) (r .last) (r .name)
 
 abbrev pub setPlaces : Rule → List Place → Rule
-setPlaces r places = ruleWith (r .left) (r .length) (r .count) places (r .first) (r .last)
+setPlaces r places = ruleWith (r .left) (r .length) (r .count) places (r .first) (r .last) (r .name)
 
 abbrev pub setPlace : Rule → ℕ → Place → Rule
 setPlace r q p = setPlaces r (set (r .places) q p)
 
 -- the rule with another first and last year
 abbrev pub setYears : Rule → ℕ → ℕ → Rule
-setYears r first last = ruleWith (r .left) (r .length) (r .count) (r .places) first last
+setYears r first last = ruleWith (r .left) (r .length) (r .count) (r .places) first last (r .name)
+
+-- the rule with another name
+abbrev pub setName : Rule → List ℕ → Rule
+setName r name = ruleWith (r .left) (r .length) (r .count) (r .places) (r .first) (r .last) name
 
 -- the last year there is; a rule that is opened without years holds from year 0 to it
 abbrev pub lastYear : ℕ
 lastYear = 65535
 
--- a rule of this left side, length, first and last year, with no place yet
+-- a rule of this left side, length, first and last year, with no place and no name yet
 abbrev pub openedRule : ℕ → ℤ → ℕ → ℕ → Rule
 openedRule k hundredths first last = setYears (setLength (setLeft zeroRule k) hundredths) first last
 

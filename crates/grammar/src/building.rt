@@ -20,8 +20,8 @@ pub fn tied_last_year() -> u16
     LAST_YEAR
 }
 
-// A rule of these years, with no places yet; its length is the signed number of a low and a high byte. It is written out whole: a copy of
-// the zero rule with fields set costs 6 ns more a rule.
+// A rule of these years, with no places and no name yet; its length is the signed number of a low and a high byte. It is written out
+// whole: a copy of the zero rule with fields set costs 6 ns more a rule.
 pub fn opened(left: u8, low: u8, high: u8, first: u16, last: u16) -> Rule
     ensures { λ r. ⌜ r ≡ openedRule left (signedIn (low + 256 * high)) first last ⌝ }
 {
@@ -33,6 +33,7 @@ pub fn opened(left: u8, low: u8, high: u8, first: u16, last: u16) -> Rule
         places: [zero_place(); sizes::MAX_PLACES],
         first: first,
         last: last,
+        name: [0u8; names::NAME],
     }
 }
 

@@ -20,8 +20,8 @@ pub struct Place {
     pub symbol: Symbol,
 }
 
-// A rule record: its left side, its length in hundredths of a millimetre, how many of its places are used, and the first and the last year
-// in which it holds.
+// A rule record: its left side, its length in hundredths of a millimetre, how many of its places are used, the first and the last year in
+// which it holds, and its name, which is zeros if it has none.
 pub struct Rule {
     pub left: u8,
     pub length: i16,
@@ -29,6 +29,7 @@ pub struct Rule {
     pub places: [Place; sizes::MAX_PLACES],
     pub first: u16,
     pub last: u16,
+    pub name: [u8; names::NAME],
 }
 
 // A loaded grammar (book): its start symbol, how many of its rules are used, and its nullable depth (blank depth).
@@ -58,6 +59,7 @@ pub fn zero_rule() -> Rule
         places: [zero_place(); sizes::MAX_PLACES],
         first: 0,
         last: 0,
+        name: [0u8; names::NAME],
     }
 }
 
@@ -72,7 +74,9 @@ pub fn zero_grammar() -> Grammar
     }
 }
 
-// Check 8, for any struct. It looks only at what is used, as the counts say.
+// Check 8, for any struct. It looks only at what is used, as the counts say. Each name becomes a word once and is compared with the words
+// before it; a rule without a name has the word 0, which is compared with none. One loop does it all: a function for the names alone would
+// copy the grammar.
 pub fn valid(g: Grammar) -> bool
     ensures { λ r. ⌜ r ≡ validGrammar g ⌝ }
 {
@@ -80,12 +84,19 @@ pub fn valid(g: Grammar) -> bool
     if g.start > 31 || n > sizes::MAX_RULES {
         return false;
     }
+    let mut words = [0u64; sizes::MAX_RULES];
     let mut i = 0;
     while i < n {
         let rule = g.rules[i];
         if !valid_rule(rule) {
             return false;
         }
+        let name = rule.name;
+        let w = names::word(name);
+        if w != 0 && names::earlier(&words, i, w) {
+            return false;
+        }
+        words[i] = w;
         i += 1;
     }
     true

@@ -17,7 +17,7 @@ pub fn valid_place(p: Place) -> bool
     }
 }
 
-// Check 8 for one rule record. Its years come last.
+// Check 8 for one rule record. Its years and its name come last.
 pub fn valid_rule(rule: Rule) -> bool
     ensures { λ r. ⌜ r ≡ validRule rule ⌝ }
 {
@@ -33,5 +33,6 @@ pub fn valid_rule(rule: Rule) -> bool
         }
         q += 1;
     }
-    rule.first <= rule.last
+    let name = rule.name;
+    rule.first <= rule.last && names::allowed(name)
 }

@@ -4,7 +4,7 @@ use answers::Refusal;
 use grammar::Grammar;
 use grammar::building;
 use load_commands::opcode::Command;
-use load_commands::opcode::Turn;
+use load_commands::scan;
 ghost use mathlib.Core.Bool.{true};
 ghost use mathlib.Core.Path.{_≡_};
 ghost use Rattle.grammar.specs.Valid.{validGrammar};
@@ -42,43 +42,44 @@ fn accepted(g: Grammar) -> Loaded
     }
 }
 
-// Loads a book. Each turn of the loop reads one command and adds it to the grammar in place.
+// Loads a book. Each turn of the loop reads one command and adds it to the grammar in place. Names are compared as words, which are kept
+// beside the grammar.
 pub fn load(bytes: &[u8]) -> Loaded
     ensures { λ r. ⌜ loadingOf r ≡ loadOf (now (bytes .entry)) ⌝ }
 {
     let mut g = grammar::zero_grammar();
-    let mut turn = Turn {
-        started: false,
-        opened: false,
-    };
+    let mut words = [0u64; sizes::MAX_RULES];
     let mut at = 0;
     loop {
         let n = g.count;
         let q = building::last_of(n);
         let open = g.rules[q];
-        let command = load_commands::scan::command_at(bytes, at, turn, n, open.count);
+        let command = scan::command_at(bytes, at, n, open.count, words[q]);
         match command {
             Command::Start(k) => {
                 g.start = k;
-                turn.started = true;
                 at += 2;
             }
             Command::Rule(h, bytes) => {
                 g.rules[n] = building::opened(h.left, h.low, h.high, h.first, h.last);
                 g.count = n + 1;
-                turn.opened = true;
+                words[n] = 0;
                 at += bytes;
             }
             Command::Place(s, bytes) => {
                 g.rules[q] = building::placed(open, s);
                 at += bytes;
             }
-            Command::End => {
-                return accepted(g);
+            Command::Name(first, word) => {
+                if names::earlier(&words, n, word) {
+                    return refused(Refusal::InvalidName, at);
+                }
+                g.rules[q] = scan::named_at(bytes, first, open);
+                words[q] = word;
+                at += 9;
             }
-            Command::Fault(r, o) => {
-                return refused(r, o);
-            }
+            Command::End => return accepted(g),
+            Command::Fault(r, o) => return refused(r, o),
         }
     }
 }

@@ -1,19 +1,19 @@
 -- The parts of a step of loading, by the tests in the code. Assumes nothing.
 use Prim.Native.Nat.{ℕ, _≤_, _<_}
 use native.Mathlib.Omega.{arith}
-use mathlib.Core.Bool.{true, false, not, _||_, or-false}
+use mathlib.Core.Bool.{Bool, true, false, not, _||_, or-false}
 use mathlib.Core.Path.{_≡_, refl}
-use borrow.Author.Tests.{lt-ltb, le-ltb}
+use borrow.Author.Tests.{lt-ltb, le-ltb, not-true, not-false}
 use Rattle.sizes.specs.Sizes.{maxRules, maxPlaces}
 use Rattle.grammar.specs.declared.Symbol.{Symbol}
 use Rattle.grammar.specs.declared.Symbol.the-variants.{Range}
 use Rattle.answers.specs.declared.Refusal.the-variants as R
 use Rattle.results.specs.Load.{unknown}
 use Rattle.load_commands.specs.Class.{byteOf}
-use Rattle.load_commands.specs.Command.{headerWith, ruleCommand, yearsCommand, placeCommand, rangeCommand, endCommand}
+use Rattle.load_commands.specs.Command.{headerWith, ruleCommand, yearsCommand, placeCommand, rangeCommand, nameCommand, endCommand}
 use Rattle.load_commands.specs.Turn.{late}
 use Rattle.load_commands.specs.declared.opcode.Command.{Command}
-use Rattle.load_commands.specs.declared.opcode.Command.the-variants.{Rule, Place, End, Fault}
+use Rattle.load_commands.specs.declared.opcode.Command.the-variants.{Rule, Place, Name, End, Fault}
 use Rattle.load_commands.specs.declared.opcode.Header.{Header}
 use Rattle.load_commands.specs.declared.opcode.Opcode.{Opcode}
 use Rattle.load_commands.specs.declared.opcode.Opcode.the-variants as O
@@ -29,6 +29,7 @@ byte-known O.RuleWithYears = refl
 byte-known O.Nonterminal = refl
 byte-known O.Terminal = refl
 byte-known O.Range = refl
+byte-known O.Name = refl
 byte-known O.End = refl
 
 -- ---- the turn of each opcode
@@ -62,6 +63,17 @@ module _ (k : Opcode) (t : Turn) where
 
     pub late-closed : not (t .started) ≡ false → not (t .opened) ≡ late (byteOf k) t
     late-closed n = rw (p, n)
+
+  -- a name: where no start has been read, where the rule has a name, and where it has none
+  module _ (e : k ≡ O.Name) where
+    pub name-first : not (t .started) ≡ true → not (t .started) ≡ late (byteOf k) t
+    name-first n = rw (e, n)
+
+    pub name-second : not (t .started) ≡ false → t .named ≡ true → t .named ≡ late (byteOf k) t
+    name-second n m = rw (e, n, m)
+
+    pub name-closed : not (t .started) ≡ false → t .named ≡ false → not (t .opened) ≡ late (byteOf k) t
+    name-closed n m = rw (e, n, m)
 
 -- ---- what a rule is opened with, from the bytes of its length
 
@@ -97,6 +109,13 @@ module _ (at : ℕ) where
 
     pub range-read : low ≤ high → (m : Command) → m ≡ placeCommand at places (Range low high) 3 → m ≡ rangeCommand at places low high
     range-read h m e = rw (e, le-ltb high low h)
+
+  module _ (first word : ℕ) (valid : Bool) where
+    pub name-invalid : not valid ≡ true → Fault R.InvalidName at ≡ nameCommand at first word valid
+    name-invalid h = rw (not-true valid h)
+
+    pub name-read : not valid ≡ false → Name first word ≡ nameCommand at first word valid
+    name-read h = rw (not-false valid h)
 
   pub end-more : (len : ℕ) → at < len → Fault R.FurtherByte at ≡ endCommand at len
   end-more len h = rw (lt-ltb at len h)

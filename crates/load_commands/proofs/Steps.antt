@@ -1,29 +1,32 @@
 -- One step of loading, by the opcode and the tests in the code. The tests come in the reverse order, the limits first. Assumes nothing.
 use Prim.Native.Nat.{ℕ, zero, suc, _+_, _-_, _≤_, _<_}
 use native.Mathlib.Omega.{arith}
-use mathlib.Core.Bool.{Bool, true, false, cond, not, _&&_, _||_}
+use mathlib.Core.Bool.{Bool, true, false, cond, not}
 use mathlib.Core.List.{List, [], _∷_}
-use mathlib.Core.Path.{_≡_, refl, sym, _∙_}
+use mathlib.Core.Path.{_≡_, refl, sym, ap, _∙_}
 use lib.Dec.{eqb, ltb}
 use lib.ListN.{length, getD}
 use borrow.Author.Tests.{lt-ltb, le-ltb, ltb-false, ne-eqb}
-use Rattle.laws.proofs.Bools.{clash}
+use Rattle.theory_words.specs.Name.{validName, hasName}
+use Rattle.names.specs.Word.{wordOf}
 use Rattle.grammar.specs.declared.Grammar.{Grammar}
 use Rattle.grammar.specs.declared.Symbol.{Symbol}
 use Rattle.grammar.specs.declared.Symbol.the-variants.{Nonterminal, Terminal, Range}
 use Rattle.grammar.specs.Setters.{lastYear}
+use Rattle.grammar.specs.Valid.{namesOf}
 use Rattle.answers.specs.declared.Refusal.the-variants as R
 use Rattle.results.specs.Answer.{decide}
 use Rattle.results.specs.Load.{fault, stop, next, step, operandChecks, commandChecks, carriedOut, unknown}
-use Rattle.results.specs.Load.{addsPlace, outOfTurn, operands, operand, word, signed, after, openRule, withRule, withPlace}
+use Rattle.results.specs.Load.{openNamed, outOfTurn, refusedName, operands, operand, word, signed, after, openRule}
+use Rattle.results.specs.Load.{withRule, withPlace, withName}
 use Rattle.load_commands.specs.Class.{byteOf, Classified}
-use Rattle.load_commands.specs.Command.{tooLarge, headerWith, ruleCommand, yearsCommand, placeCommand, rangeCommand, endCommand}
-use Rattle.load_commands.specs.Command.{stepPast, stepAfter, Bounded, Begun, ChecksPassed, CommandRead}
-use Rattle.load_commands.specs.Turn.{late, TurnAt}
+use Rattle.load_commands.specs.Command.{tooLarge, headerWith, ruleCommand, yearsCommand, placeCommand, rangeCommand, nameFrom}
+use Rattle.load_commands.specs.Command.{nameCommand, endCommand, stepOf, stepPast, ChecksPassed, CommandRead}
+use Rattle.load_commands.specs.Turn.{turnWith, late}
 use Rattle.load_commands.specs.declared.opcode.Class.{Class}
 use Rattle.load_commands.specs.declared.opcode.Class.the-variants.{Known, Unknown}
 use Rattle.load_commands.specs.declared.opcode.Command.{Command}
-use Rattle.load_commands.specs.declared.opcode.Command.the-variants.{Start, Rule, Place, End, Fault}
+use Rattle.load_commands.specs.declared.opcode.Command.the-variants.{Start, Rule, Place, Name, End, Fault}
 use Rattle.load_commands.specs.declared.opcode.Header.{Header}
 use Rattle.load_commands.specs.declared.opcode.Opcode.{Opcode}
 use Rattle.load_commands.specs.declared.opcode.Opcode.the-variants as O
@@ -47,22 +50,25 @@ module _ (bytes : List ℕ) (at : ℕ) (k : Opcode) (a rules places : ℕ) (room
   eight : at + 1 + 7 ≡ at + 8
   eight = omega arith
 
+  nine : at + 1 + 8 ≡ at + 9
+  nine = omega arith
+
   pub start-passed : k ≡ O.Start → ChecksPassed 2 bytes at (byteOf k) rules places (Start a)
   unfolding decide operandChecks carriedOut operands after
   start-passed e = let r = rw e at room in rw (e, first) (record { means = λ g p q. rw two; bounded = omega arith })
 
   -- a command c of so many bytes whose only limit is check 5, and what it opens a rule with
-  opened-passed : (c : ℕ) (o : Header) (size : ℕ) → 0 < size → at + size ≤ length bytes → eqb c 0x10 ≡ false
+  opened-passed : (c : ℕ) (o : Header) (size : ℕ) → 0 < size → at + size ≤ length bytes
       → ((g : Grammar) → stepPast 2 bytes at c g
       ≡ decide (fault (ltb 127 (g .count)) 5 at ∷ []) stop (λ _. next (at + size)
       (withRule g (o .left) (signed (o .low) (o .high)) (o .first) (o .last))))
       → ChecksPassed 2 bytes at c rules places (ruleCommand at rules o size)
   unfolding decide
-  opened-passed c o size z r y h = go (ltb 127 rules) refl
+  opened-passed c o size z r h = go (ltb 127 rules) refl
     where
       go : (b : Bool) → ltb 127 rules ≡ b → ChecksPassed 2 bytes at c rules places (cond b (Fault R.TooManyRules at) (Rule o size))
       go true f = record { means = λ g p q. rw (h g, p, f); bounded = tt }
-      go false f = record { means = λ g p q. rw (h g, p, f); bounded = (z, r, omega (arith, ltb-false 127 rules f), y) }
+      go false f = record { means = λ g p q. rw (h g, p, f); bounded = (z, r, omega (arith, ltb-false 127 rules f)) }
 
   pub rule-passed : k ≡ O.Rule → (m : Command) (o : Header) → o ≡ headerWith a (operand bytes at 1) (operand bytes at 2) 0 lastYear
       → m ≡ ruleCommand at rules o 4 → ChecksPassed 2 bytes at (byteOf k) rules places m
@@ -70,7 +76,7 @@ module _ (bytes : List ℕ) (at : ℕ) (k : Opcode) (a rules places : ℕ) (room
   rule-passed e m o h i =
       let r = rw e at room in
       let here = headerWith a (operand bytes at 1) (operand bytes at 2) 0 lastYear in
-      rw (e, i, h) (opened-passed 0x20 here 4 (omega arith) (omega arith) refl (λ g. rw (four, first)))
+      rw (e, i, h) (opened-passed 0x20 here 4 (omega arith) (omega arith) (λ g. rw (four, first)))
 
   -- 21: check 21 before check 5
   pub years-passed : k ≡ O.RuleWithYears → (m : Command) (o : Header) (y z : ℕ) → y ≡ word (operand bytes at 3) (operand bytes at 4)
@@ -88,33 +94,33 @@ module _ (bytes : List ℕ) (at : ℕ) (k : Opcode) (a rules places : ℕ) (room
       go : at + 1 + 7 ≤ length bytes → (b : Bool) → ltb (here .last) (here .first) ≡ b → ChecksPassed 2 bytes at 0x21 rules places
           (cond b (Fault R.YearsReversed at) (ruleCommand at rules here 8))
       go r true f = record { means = λ g p q. rw f; bounded = tt }
-      go r false f = opened-passed 0x21 here 8 (omega arith) (omega arith) refl (λ g. rw (f, eight))
+      go r false f = opened-passed 0x21 here 8 (omega arith) (omega arith) (λ g. rw (f, eight))
 
   -- a command c of so many bytes whose only limit is check 6, and its symbol s
-  place-passed : (c : ℕ) (s : Symbol) (size : ℕ) → 0 < size → at + size ≤ length bytes → eqb c 0x10 ≡ false
+  place-passed : (c : ℕ) (s : Symbol) (size : ℕ) → 0 < size → at + size ≤ length bytes
       → ((g : Grammar) → stepPast 2 bytes at c g
       ≡ decide (fault (ltb 7 (openRule g .count)) 6 at ∷ []) stop (λ _. next (at + size) (withPlace g s)))
       → ChecksPassed 2 bytes at c rules places (placeCommand at places s size)
   unfolding decide
-  place-passed c s size z r y h = go (ltb 7 places) refl
+  place-passed c s size z r h = go (ltb 7 places) refl
     where
       go : (b : Bool) → ltb 7 places ≡ b → ChecksPassed 2 bytes at c rules places (cond b (Fault R.TooManyPlaces at) (Place s size))
       go true f = record { means = λ g p q. rw (h g, q, f); bounded = tt }
-      go false f = record { means = λ g p q. rw (h g, q, f); bounded = (z, r, omega (arith, ltb-false 7 places f), y) }
+      go false f = record { means = λ g p q. rw (h g, q, f); bounded = (z, r, omega (arith, ltb-false 7 places f)) }
 
   pub nonterminal-passed : k ≡ O.Nonterminal → (m : Command) → m ≡ placeCommand at places (Nonterminal a) 2
       → ChecksPassed 2 bytes at (byteOf k) rules places m
   unfolding decide operandChecks carriedOut operands after
   nonterminal-passed e m i =
       let r = rw e at room in
-      rw (e, i) (place-passed 0x30 (Nonterminal a) 2 (omega arith) (omega arith) refl (λ g. rw (two, first)))
+      rw (e, i) (place-passed 0x30 (Nonterminal a) 2 (omega arith) (omega arith) (λ g. rw (two, first)))
 
   pub terminal-passed : k ≡ O.Terminal → (m : Command) → m ≡ placeCommand at places (Terminal a) 2
       → ChecksPassed 2 bytes at (byteOf k) rules places m
   unfolding decide operandChecks carriedOut operands after
   terminal-passed e m i =
       let r = rw e at room in
-      rw (e, i) (place-passed 0x40 (Terminal a) 2 (omega arith) (omega arith) refl (λ g. rw (two, first)))
+      rw (e, i) (place-passed 0x40 (Terminal a) 2 (omega arith) (omega arith) (λ g. rw (two, first)))
 
   -- 41: check 16 before check 6
   pub range-passed : k ≡ O.Range → (m : Command) (high : ℕ) → high ≡ operand bytes at 1 → m ≡ rangeCommand at places a high
@@ -126,8 +132,29 @@ module _ (bytes : List ℕ) (at : ℕ) (k : Opcode) (a rules places : ℕ) (room
           → ChecksPassed 2 bytes at 0x41 rules places
           (cond b (Fault R.RangeReversed at) (placeCommand at places (Range (operand bytes at 0) (operand bytes at 1)) 3))
       go r true f = record { means = λ g p q. rw f; bounded = tt }
-      go r false f = place-passed 0x41 (Range (operand bytes at 0) (operand bytes at 1)) 3 (omega arith) (omega arith) refl
+      go r false f = place-passed 0x41 (Range (operand bytes at 0) (operand bytes at 1)) 3 (omega arith) (omega arith)
           (λ g. rw (f, three))
+
+  pub name-room : k ≡ O.Name → at + 1 + 8 ≤ length bytes
+  unfolding operands
+  name-room e = rw e at room
+
+  -- 60: check 17, of which the comparison with earlier names is left to the step
+  pub name-passed : k ≡ O.Name → (m : Command) (name : List ℕ) (w : ℕ) (valid : Bool) → name ≡ nameFrom bytes (at + 1) → w ≡ wordOf name
+      → valid ≡ validName name → m ≡ nameCommand at (at + 1) w valid → ChecksPassed 2 bytes at (byteOf k) rules places m
+  unfolding decide operandChecks carriedOut operands operand after refusedName
+  name-passed e m name w valid n u v i = rw (e, i) (go (name-room e) valid (sym (v ∙ ap validName n)))
+    where
+      compared : (g : Grammar) (b : Bool) → hasName (nameFrom bytes (at + 1)) (namesOf g) ≡ b → stepOf bytes (Name (at + 1) w) at g
+          ≡ decide (fault (hasName (nameFrom bytes (at + 1)) (namesOf g)) 17 at ∷ []) stop
+          (λ _. next (at + 1 + 8) (withName g (nameFrom bytes (at + 1))))
+      compared g true h = rw h
+      compared g false h = rw (h, nine)
+
+      go : at + 1 + 8 ≤ length bytes → (b : Bool) → validName (nameFrom bytes (at + 1)) ≡ b
+          → ChecksPassed 2 bytes at 0x60 rules places (nameCommand at (at + 1) w b)
+      go r true f = record { means = λ g p q. rw f (compared g _ refl); bounded = (refl, omega arith, f, u ∙ ap wordOf n) }
+      go r false f = record { means = λ g p q. rw f; bounded = tt }
 
   pub end-passed : k ≡ O.End → (m : Command) → m ≡ endCommand (at + 1) (length bytes) → ChecksPassed 2 bytes at (byteOf k) rules places m
   unfolding decide operandChecks carriedOut operands after
@@ -170,64 +197,40 @@ not-pos : (n : ℕ) → not (ltb 0 n) ≡ eqb n 0
 not-pos zero = refl
 not-pos (suc n) = rw (lt-ltb 0 (suc n) (omega arith), ne-eqb (suc n) 0 (λ e. omega arith))
 
--- the turn judged by what has been read is the turn judged by the offset and the rules
-pub turn-law : (c at : ℕ) (g : Grammar) (t : Turn) → TurnAt at g t → late c t ≡ outOfTurn c at g
-unfolding outOfTurn
-turn-law c at g t T = rw (T .started, T .opened, not-pos at, not-pos (g .count))
-
--- so a step by what has been read is a step of loading
-pub turn-step : (bytes : List ℕ) (at : ℕ) (g : Grammar) (t : Turn) → TurnAt at g t → stepAfter t bytes at g ≡ step bytes at g
-unfolding step decide commandChecks
-turn-step bytes at g t T = rw (turn-law (getD bytes at 0) at g t T)
-
--- a command in turn that is not 10 has a start before it
-begun : (c : ℕ) (t : Turn) → late c t ≡ false → eqb c 0x10 ≡ false → t .started ≡ true
-begun c t f e = go (t .started) (rw e at f)
-  where
-    go : (b : Bool) → (not b || (addsPlace c && not (t .opened))) ≡ false → b ≡ true
-    go true f = refl
-    go false f = clash cc
-
-begun-all : (c : ℕ) (t : Turn) → late c t ≡ false → (len at rules places : ℕ) (m : Command) → Bounded len at c rules places m → Begun t m
-begun-all c t f len at rules places (Start k) B = tt
-begun-all c t f len at rules places (Rule o bytes) B = begun c t f (B .3)
-begun-all c t f len at rules places (Place s bytes) B = begun c t f (B .3)
-begun-all c t f len at rules places End B = tt
-begun-all c t f len at rules places (Fault r o) B = tt
-
-module _ (bytes : List ℕ) (at : ℕ) (t : Turn) (rules places : ℕ) where
-  pub reads-ended : length bytes ≤ at → CommandRead bytes at t rules places (Fault R.UnexpectedEnd (length bytes))
-  unfolding decide
-  reads-ended h = record { means = λ g p q. rw (le-ltb at (length bytes) h); bounded = tt; begun = tt }
+module _ (bytes : List ℕ) (at rules places word : ℕ) where
+  pub reads-ended : length bytes ≤ at → CommandRead bytes at rules places word (Fault R.UnexpectedEnd (length bytes))
+  unfolding decide step
+  reads-ended h = record { means = λ g p q n. rw (le-ltb at (length bytes) h); bounded = tt }
 
   module _ (l : at < length bytes) (r : Class) (C : Classified (getD bytes at 0) r) where
-    pub reads-unknown : r ≡ Unknown → CommandRead bytes at t rules places (Fault R.UnknownCommand at)
-    unfolding decide
+    pub reads-unknown : r ≡ Unknown → CommandRead bytes at rules places word (Fault R.UnknownCommand at)
+    unfolding decide step commandChecks
     reads-unknown e =
         let u : unknown (getD bytes at 0) ≡ true = rw e at C in
-        record { means = λ g p q. rw (lt-ltb at (length bytes) l, u); bounded = tt; begun = tt }
+        record { means = λ g p q n. rw (lt-ltb at (length bytes) l, u); bounded = tt }
 
-    module _ (k : Opcode) (e : r ≡ Known k) where
+    module _ (k : Opcode) (e : r ≡ Known k) (t : Turn) (T : t ≡ turnWith at rules word) (b : Bool) (i : b ≡ late (byteOf k) t) where
       byte-here : byteOf k ≡ getD bytes at 0
       byte-here = rw e at C
 
       known-here : unknown (getD bytes at 0) ≡ false
       known-here = rw (← byte-here) (byte-known k)
 
-      pub reads-late : (b : Bool) → b ≡ late (byteOf k) t → b ≡ true → CommandRead bytes at t rules places (Fault R.OutOfTurn at)
-      unfolding decide
-      reads-late b i f =
-          let late-here : late (getD bytes at 0) t ≡ true = rw byte-here at (sym i ∙ f) in
-          record { means = λ g p q. rw (lt-ltb at (length bytes) l, known-here, late-here); bounded = tt; begun = tt }
+      -- the turn judged by what has been read is the turn judged by the offset and the grammar
+      turn-law : (g : Grammar) → g .count ≡ rules → openNamed g ≡ not (eqb word 0) → outOfTurn (getD bytes at 0) at g ≡ b
+      unfolding outOfTurn
+      turn-law g p n = rw (i, T, byte-here, n, p, not-pos at, not-pos rules)
 
-      pub reads-rest : (b : Bool) → b ≡ late (byteOf k) t → b ≡ false → (m : Command)
-          → ChecksPassed 0 bytes at (byteOf k) rules places m → CommandRead bytes at t rules places m
-      unfolding decide
-      reads-rest b i f m P =
-          let in-turn : late (getD bytes at 0) t ≡ false = rw byte-here at (sym i ∙ f) in
+      pub reads-late : b ≡ true → CommandRead bytes at rules places word (Fault R.OutOfTurn at)
+      unfolding decide step commandChecks
+      reads-late f = record { means = λ g p q n. rw (lt-ltb at (length bytes) l, known-here, turn-law g p n, f); bounded = tt }
+
+      pub reads-rest : b ≡ false → (m : Command) → ChecksPassed 0 bytes at (byteOf k) rules places m
+          → CommandRead bytes at rules places word m
+      unfolding decide step commandChecks
+      reads-rest f m P =
           let P′ : ChecksPassed 0 bytes at (getD bytes at 0) rules places m = rw byte-here at P in
           record {
-            means = λ g p q. rw (lt-ltb at (length bytes) l, known-here, in-turn) (P′ .means g p q);
+            means = λ g p q n. rw (lt-ltb at (length bytes) l, known-here, turn-law g p n, f) (P′ .means g p q);
             bounded = P′ .bounded;
-            begun = begun-all (getD bytes at 0) t in-turn (length bytes) at rules places m (P′ .bounded);
           }

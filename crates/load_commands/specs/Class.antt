@@ -4,7 +4,8 @@ use mathlib.Core.Bool.{true}
 use mathlib.Core.Path.{_≡_}
 use Rattle.results.specs.Load.{unknown}
 use Rattle.load_commands.specs.declared.opcode.Opcode.{Opcode}
-use Rattle.load_commands.specs.declared.opcode.Opcode.the-variants.{Start, Rule, RuleWithYears, Nonterminal, Terminal, Range, End}
+use Rattle.load_commands.specs.declared.opcode.Opcode.the-variants.{Start, Rule, RuleWithYears, Nonterminal, Terminal, Range}
+use Rattle.load_commands.specs.declared.opcode.Opcode.the-variants.{Name, End}
 use Rattle.load_commands.specs.declared.opcode.Class.{Class}
 use Rattle.load_commands.specs.declared.opcode.Class.the-variants.{Known, Unknown}
 
@@ -16,6 +17,7 @@ byteOf RuleWithYears = 0x21
 byteOf Nonterminal = 0x30
 byteOf Terminal = 0x40
 byteOf Range = 0x41
+byteOf Name = 0x60
 byteOf End = 0x50
 
 -- the class is that of the byte c: the command that has this byte, or none where c is unknown

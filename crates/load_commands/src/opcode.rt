@@ -5,8 +5,9 @@ use grammar::Symbol;
 ghost use mathlib.Core.Path.{_≡_};
 ghost use Rattle.results.specs.Load.{operands};
 ghost use Rattle.load_commands.specs.Class.{byteOf, Classified};
-ghost use Rattle.load_commands.specs.Command.{tooLarge, ruleCommand, yearsCommand, placeCommand, rangeCommand, endCommand};
-ghost use Rattle.load_commands.specs.Turn.{late};
+ghost use Rattle.load_commands.specs.Command.{tooLarge, ruleCommand, yearsCommand, placeCommand, rangeCommand};
+ghost use Rattle.load_commands.specs.Command.{nameCommand, endCommand};
+ghost use Rattle.load_commands.specs.Turn.{turnWith, late};
 
 // A book has at most this many rules, and a rule this many places.
 const RULES: usize = sizes::MAX_RULES;
@@ -24,6 +25,7 @@ pub enum Opcode {
     Nonterminal,
     Terminal,
     Range,
+    Name,
     End,
 }
 
@@ -43,19 +45,32 @@ pub struct Header {
 }
 
 // A command with its operands, or the refusal of the command and the offset that the refusal names. A rule and a place have the number of
-// the command's bytes.
+// the command's bytes, and a name the offset of its first byte and its word: a variant holds no array.
 pub enum Command {
     Start(u8),
     Rule(Header, usize),
     Place(Symbol, usize),
+    Name(usize, u64),
     End,
     Fault(Refusal, usize),
 }
 
-// What has been read before a command: whether a start, and whether a rule, to which places can be added.
+// What has been read before a command: whether a start, whether a rule, to which places can be added, and whether a name for that rule.
 pub struct Turn {
     pub started: bool,
     pub opened: bool,
+    pub named: bool,
+}
+
+// What has been read before an offset: this many rules, and for the last one a name of this word, which is 0 if it has none.
+pub fn turn_at(at: usize, rules: usize, word: u64) -> Turn
+    ensures { λ t. ⌜ t ≡ turnWith at rules word ⌝ }
+{
+    Turn {
+        started: at > 0,
+        opened: rules > 0,
+        named: word != 0,
+    }
 }
 
 // The only function that looks at the value of a command byte.
@@ -70,6 +85,7 @@ pub fn classify(c: u8) -> Class
         0x40 => Class::Known(Opcode::Terminal),
         0x41 => Class::Known(Opcode::Range),
         0x50 => Class::Known(Opcode::End),
+        0x60 => Class::Known(Opcode::Name),
         _ => Class::Unknown,
     }
 }
@@ -85,11 +101,12 @@ pub fn operand_count(k: Opcode) -> usize
         Opcode::Nonterminal => 1,
         Opcode::Terminal => 1,
         Opcode::Range => 2,
+        Opcode::Name => 8,
         Opcode::End => 0,
     }
 }
 
-// Check 3 refuses a start that is not first, another command that is, and a place before any rule.
+// Check 3 refuses a start that is not first, another command that is, a second name for a rule, and a place or a name before any rule.
 pub fn out_of_turn(k: Opcode, turn: Turn) -> bool
     ensures { λ r. ⌜ r ≡ late (byteOf k) turn ⌝ }
 {
@@ -100,6 +117,7 @@ pub fn out_of_turn(k: Opcode, turn: Turn) -> bool
         Opcode::Nonterminal => !turn.started || !turn.opened,
         Opcode::Terminal => !turn.started || !turn.opened,
         Opcode::Range => !turn.started || !turn.opened,
+        Opcode::Name => !turn.started || (turn.named || !turn.opened),
         Opcode::End => !turn.started,
     }
 }
@@ -115,6 +133,7 @@ pub fn too_large(k: Opcode, a: u8) -> bool
         Opcode::Nonterminal => a >= NONTERMINALS,
         Opcode::Terminal => false,
         Opcode::Range => false,
+        Opcode::Name => false,
         Opcode::End => false,
     }
 }
@@ -157,6 +176,16 @@ pub fn range(at: usize, places: usize, low: u8, high: u8) -> Command
         return Command::Fault(Refusal::RangeReversed, at);
     }
     place(at, places, Symbol::Range(low, high), 3)
+}
+
+// Check 17 but for earlier names: command 60, whose name begins at the offset first, has this word, and is valid or not.
+pub fn name(at: usize, first: usize, word: u64, valid: bool) -> Command
+    ensures { λ r. ⌜ r ≡ nameCommand at first word valid ⌝ }
+{
+    if !valid {
+        return Command::Fault(Refusal::InvalidName, at);
+    }
+    Command::Name(first, word)
 }
 
 // Check 7: command 50 in a book of this many bytes. The offset after the command is next.

@@ -1,20 +1,22 @@
 // The commands of a book: the command at an offset, or the fault for which it is refused. The checks of a command come in the order 2, 3,
-// 1, 4, and then 5 for a rule, 6 for a place or 7 for the end. For a rule with years 21 comes before 5, for a range 16 before 6.
+// 1, 4, and then 5 for a rule, 6 for a place, 17 for a name or 7 for the end. For a rule with years 21 comes before 5, for a range 16
+// before 6. Whether a name equals an earlier one is not checked here: that needs the names read so far.
 use super::opcode;
 use super::opcode::Class;
 use super::opcode::Command;
 use super::opcode::Header;
 use super::opcode::Opcode;
-use super::opcode::Turn;
 use answers::Refusal;
+use grammar::Rule;
 use grammar::Symbol;
 use grammar::building;
 ghost use Prim.Native.Nat.{_+_, _≤_, _<_};
 ghost use mathlib.Core.Path.{_≡_};
 ghost use lib.ListN.{length};
+ghost use Rattle.grammar.specs.Setters.{setName};
 ghost use Rattle.results.specs.Load.{operands, operand, word};
 ghost use Rattle.load_commands.specs.Class.{byteOf};
-ghost use Rattle.load_commands.specs.Command.{headerWith, ChecksPassed, CommandRead};
+ghost use Rattle.load_commands.specs.Command.{headerWith, nameFrom, ChecksPassed, CommandRead};
 
 // Operand i, counted from 0, of the command at an offset, or 0 past the end of the book.
 pub fn operand_at(bytes: &[u8], at: usize, i: usize) -> u8
@@ -53,7 +55,35 @@ pub fn header_at(bytes: &[u8], at: usize, left: u8, first: u16, last: u16) -> He
     }
 }
 
-// Check 5, 6 or 7 of the command k at an offset, with 21 before 5 and 16 before 6. All its operands are there, and the first is a.
+// The eight bytes of a name from an offset on.
+pub fn name_at(bytes: &[u8], first: usize) -> [u8; names::NAME]
+    requires { ⌜ first + 8 ≤ length (now bytes) ⌝ }
+    ensures { λ r. ⌜ r ≡ nameFrom (now (bytes .entry)) first ⌝ }
+{
+    [
+        bytes[first],
+        bytes[first + 1],
+        bytes[first + 2],
+        bytes[first + 3],
+        bytes[first + 4],
+        bytes[first + 5],
+        bytes[first + 6],
+        bytes[first + 7],
+    ]
+}
+
+// The rule with the name of eight bytes from an offset on.
+pub fn named_at(bytes: &[u8], first: usize, rule: Rule) -> Rule
+    requires { ⌜ first + 8 ≤ length (now bytes) ⌝ }
+    ensures { λ r. ⌜ r ≡ setName rule (nameFrom (now (bytes .entry)) first) ⌝ }
+{
+    let name = name_at(bytes, first);
+    let mut r = rule;
+    r.name = name;
+    r
+}
+
+// Check 5, 6, 17 or 7 of the command k at an offset, with 21 before 5 and 16 before 6. All its operands are there, and the first is a.
 pub fn limits_at(bytes: &[u8], at: usize, k: Opcode, a: u8, rules: usize, places: usize) -> Command
     requires { ⌜ at + 1 + operands (byteOf k) ≤ length (now bytes) ⌝ }
     requires { ⌜ a ≡ operand (now bytes) at 0 ⌝ }
@@ -76,6 +106,12 @@ pub fn limits_at(bytes: &[u8], at: usize, k: Opcode, a: u8, rules: usize, places
         Opcode::Range => {
             let high = operand_at(bytes, at, 1);
             opcode::range(at, places, a, high)
+        }
+        Opcode::Name => {
+            let name = name_at(bytes, at + 1);
+            let word = names::word(name);
+            let valid = names::valid_name(name);
+            opcode::name(at, at + 1, word, valid)
         }
         Opcode::End => opcode::end(at + 1, bytes.len()),
     }
@@ -100,9 +136,10 @@ pub fn operands_at(bytes: &[u8], at: usize, k: Opcode, rules: usize, places: usi
     limits_at(bytes, at, k, a, rules, places)
 }
 
-// The command at an offset. What has been read before it: turn, and a grammar of this many rules, the last with this many places.
-pub fn command_at(bytes: &[u8], at: usize, turn: Turn, rules: usize, places: usize) -> Command
-    ensures { λ r. ⌜ CommandRead (now (bytes .entry)) at turn rules places r ⌝ }
+// The command at an offset. What has been read before it is a grammar of this many rules, the last with this many places and a name of
+// this word, which is 0 if it has none.
+pub fn command_at(bytes: &[u8], at: usize, rules: usize, places: usize, word: u64) -> Command
+    ensures { λ r. ⌜ CommandRead (now (bytes .entry)) at rules places word r ⌝ }
 {
     let len = bytes.len();
     if at >= len {
@@ -112,6 +149,7 @@ pub fn command_at(bytes: &[u8], at: usize, turn: Turn, rules: usize, places: usi
     let Class::Known(k) = opcode::classify(c) else {
         return Command::Fault(Refusal::UnknownCommand, at);
     };
+    let turn = opcode::turn_at(at, rules, word);
     if opcode::out_of_turn(k, turn) {
         return Command::Fault(Refusal::OutOfTurn, at);
     }

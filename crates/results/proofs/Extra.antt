@@ -1,7 +1,7 @@
 -- Rows beyond document 01's own plates. Assumes nothing.
 use Prim.Native.Nat.{ℕ, _-_}
 use mathlib.Core.Bool.{Bool, true, false}
-use mathlib.Core.List.{List, [], _∷_}
+use mathlib.Core.List.{List, [], _∷_, _++_}
 use mathlib.Core.Path.{_≡_, refl}
 use lib.IntN.{pos, negℤ}
 use lib.ListN.{replicate}
@@ -9,7 +9,7 @@ use Rattle.sizes.specs.Sizes.{cells}
 use Rattle.grammar.specs.declared.Symbol.the-variants.{Nonterminal, Terminal}
 use Rattle.grammar.specs.declared.Place.{Place}
 use Rattle.grammar.specs.declared.Rule.{Rule}
-use Rattle.grammar.specs.Setters.{lastYear, openedRule, setPlaceCount, setPlaces, setCount, setDepth, setRules, setRule}
+use Rattle.grammar.specs.Setters.{lastYear, openedRule, setPlaceCount, setPlaces, setName, setCount, setDepth, setRules, setRule}
 use Rattle.grammar.specs.View.{dated}
 use Rattle.grammar.specs.Zero.{zeroPlace, zeroRule, zeroGrammar}
 use Rattle.results.specs.Answer.{Answer, answered}
@@ -17,7 +17,8 @@ use Rattle.results.specs.Load.{acceptedLoad, loadOf}
 use Rattle.results.specs.Recognize.{State, stateWith, openOf, takeOf}
 use Rattle.results.specs.Measure.{sameBuildOf}
 use Rattle.results.specs.Check.{checkOf}
-use Rattle.results.specs.Drawer.{T, start, newRule, nonterminalPlace, A, close, As}
+use Rattle.results.specs.Drawer.{T, start, newRule, nameRule, nonterminalPlace, A, close, As}
+use Rattle.results.specs.NameLines.{bodyName}
 use Rattle.results.specs.Starred.{grammarFrom, datedFrom, outcome}
 use Rattle.results.proofs.Computing.{computing}
 
@@ -80,6 +81,20 @@ decadeRule = setPlaceCount (setPlaces (openedRule 0 (pos 100) 1998 2007) (record
 pub loaded-decade : loadOf decade .grammar ≡ setCount (setRules zeroGrammar (decadeRule ∷ replicate 127 zeroRule)) 1
 unfolding computing
 loaded-decade = refl
+
+-- 0 → A A, named `BODY` between its places, and 0 → A, without a name
+abbrev pub between : List ℕ
+between = start 0 (newRule 0 (A (nameRule bodyName (A (newRule 0 (A close))))))
+
+abbrev pub As-of : ℕ → Rule
+As-of n = setPlaceCount
+    (setPlaces (openedRule 0 (pos 0) 0 lastYear) (replicate n (record { symbol = Terminal 65 }) ++ replicate (8 - n) zeroPlace)) n
+
+-- 60: the name goes into the open rule, and places are added after it as before
+pub loaded-between : loadOf between .grammar
+    ≡ setCount (setRules zeroGrammar (setName (As-of 2) bodyName ∷ As-of 1 ∷ replicate 126 zeroRule)) 2
+unfolding computing
+loaded-between = refl
 
 -- 0 → nothing, in force from year 5 to 6: the nullable depth is that of the whole book
 pub depth-whole : acceptedLoad (setCount (setRule zeroGrammar 0 (openedRule 0 (pos 0) 5 6)) 1) .grammar .depth ≡ 1

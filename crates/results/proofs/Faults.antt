@@ -1,12 +1,14 @@
--- Faulty books with the number and the offset of their refusal: one for each refusal 1 to 7, 16 and 21, and one for each order between
+-- Faulty books with the number and the offset of their refusal: one for each refusal 1 to 7, 16, 17 and 21, and one for each order between
 -- them. Assumes nothing.
 use Prim.Native.Nat.{ℕ}
 use mathlib.Core.List.{List, [], _∷_, map}
 use mathlib.Core.Path.{_≡_, refl}
-use Rattle.grammar.specs.Zero.{zeroGrammar}
+use lib.ListN.{replicate}
+use Rattle.grammar.specs.Zero.{noName, zeroGrammar}
 use Rattle.results.specs.Answer.{refusedAt}
 use Rattle.results.specs.Load.{Loading, loadOf}
-use Rattle.results.specs.Drawer.{start, newRule, newRuleIn, A, rangePlace, close, many}
+use Rattle.results.specs.Drawer.{start, newRule, newRuleIn, nameRule, padded, A, rangePlace, close, many}
+use Rattle.results.specs.NameLines.{bodyName}
 use Rattle.results.proofs.Computing.{computing}
 
 -- a faulty book: its bytes, and the number and the offset of its refusal
@@ -34,9 +36,10 @@ faults =
     ∷ faulty (0x10 ∷ 0x00 ∷ 0x20 ∷ 0x00 ∷ 0x00 ∷ []) 1 5
     ∷ faulty (0x10 ∷ 0x00 ∷ 0x21 ∷ 0x00 ∷ []) 1 4
     -- 2: an unknown byte, also where another command was due
-    ∷ faulty (0x60 ∷ []) 2 0
+    ∷ faulty (0x70 ∷ []) 2 0
+    ∷ faulty (0x10 ∷ 0x00 ∷ 0x70 ∷ 0x00 ∷ []) 2 2
     ∷ faulty (0x10 ∷ 0x00 ∷ 0x22 ∷ 0x00 ∷ []) 2 2
-    -- 3: 10 again, another command first, 30, 40 and 41 before any 20 or 21; before 1, 4, 7 and 21
+    -- 3: 10 again, another command first, 30, 40, 41 and 60 before any 20 or 21; before 1, 4, 7, 17 and 21
     ∷ faulty (0x10 ∷ 0x00 ∷ 0x10 ∷ []) 3 2
     ∷ faulty (0x50 ∷ []) 3 0
     ∷ faulty (0x50 ∷ 0x00 ∷ []) 3 0
@@ -48,6 +51,15 @@ faults =
     ∷ faulty (0x41 ∷ []) 3 0
     ∷ faulty (0x21 ∷ []) 3 0
     ∷ faulty (newRuleIn 0 9 8 []) 3 0
+    ∷ faulty (0x60 ∷ []) 3 0
+    ∷ faulty (nameRule bodyName close) 3 0
+    ∷ faulty (0x10 ∷ 0x00 ∷ 0x60 ∷ []) 3 2
+    ∷ faulty (start 0 (nameRule noName close)) 3 2
+    -- 3: a second name for a rule, the same or another one, also after a place; before 1 and 17
+    ∷ faulty (start 0 (newRule 0 (nameRule bodyName (nameRule bodyName close)))) 3 15
+    ∷ faulty (start 0 (newRule 0 (nameRule bodyName (A (nameRule (replicate 8 0x41) close))))) 3 17
+    ∷ faulty (start 0 (newRule 0 (nameRule bodyName (nameRule noName close)))) 3 15
+    ∷ faulty (start 0 (newRule 0 (nameRule bodyName (0x60 ∷ [])))) 3 15
     -- 4: a nonterminal over 31; after 1
     ∷ faulty (0x10 ∷ 0x20 ∷ []) 4 0
     ∷ faulty (0x10 ∷ 0x00 ∷ 0x20 ∷ 0xFF ∷ []) 1 4
@@ -74,6 +86,17 @@ faults =
     ∷ faulty (start 0 (newRule 0 (0x41 ∷ 0xFF ∷ []))) 1 8
     ∷ faulty (wide (rangePlace 0x39 0x30 [])) 16 22
     ∷ faulty (wide (0x41 ∷ 0x39 ∷ [])) 1 24
+    -- 17: a name that is not valid; after 1
+    ∷ faulty (start 0 (newRule 0 (nameRule (padded []) []))) 17 6
+    ∷ faulty (start 0 (newRule 0 (nameRule noName []))) 17 6
+    ∷ faulty (start 0 (newRule 0 (A (nameRule (padded (0x61 ∷ [])) [])))) 17 8
+    ∷ faulty (start 0 (newRule 0 (0x60 ∷ []))) 1 7
+    ∷ faulty (start 0 (newRule 0 (0x60 ∷ replicate 7 0x00))) 1 14
+    -- 17: an earlier name: that of the rule before, and of one before a rule with another name or none; after 1
+    ∷ faulty (start 0 (newRule 0 (nameRule bodyName (newRule 0 (nameRule bodyName []))))) 17 19
+    ∷ faulty (start 0 (newRule 0 (nameRule bodyName (newRule 0 (nameRule (padded (0x41 ∷ [])) (newRule 0 (nameRule bodyName []))))))) 17 32
+    ∷ faulty (start 0 (newRule 0 (nameRule bodyName (newRule 0 (newRule 0 (nameRule bodyName [])))))) 17 23
+    ∷ faulty (start 0 (newRule 0 (nameRule (replicate 8 0x41) (newRule 0 (0x60 ∷ replicate 7 0x41))))) 1 27
     -- 7: a byte after 50, whatever it is
     ∷ faulty (0x10 ∷ 0x00 ∷ 0x50 ∷ 0x00 ∷ []) 7 3
     ∷ faulty (0x10 ∷ 0x00 ∷ 0x50 ∷ 0x60 ∷ []) 7 3

@@ -1,7 +1,8 @@
 -- The books of document 01's drawer, as bytes, and inputs of `A`, which is the byte 0x41. Assumes nothing.
-use Prim.Native.Nat.{ℕ, zero, suc, _/_, _%_}
-use mathlib.Core.List.{List, [], _∷_}
-use lib.ListN.{replicate}
+use Prim.Native.Nat.{ℕ, zero, suc, _-_, _/_, _%_}
+use mathlib.Core.List.{List, [], _∷_, _++_}
+use lib.ListN.{length, replicate}
+use Rattle.theory_words.specs.Name.{nameSize, blank}
 
 -- commands of a book, each before the rest of the bytes; a rule is opened with length 0
 abbrev pub start : ℕ → List ℕ → List ℕ
@@ -24,6 +25,13 @@ A rest = 0x40 ∷ 0x41 ∷ rest
 -- a place with the range from low to high
 abbrev pub rangePlace : ℕ → ℕ → List ℕ → List ℕ
 rangePlace low high rest = 0x41 ∷ low ∷ high ∷ rest
+
+-- a name for the open rule; `padded` fills letters and digits up to eight bytes
+abbrev pub nameRule : List ℕ → List ℕ → List ℕ
+nameRule name rest = 0x60 ∷ (name ++ rest)
+
+abbrev pub padded : List ℕ → List ℕ
+padded name = name ++ replicate (nameSize - length name) blank
 
 abbrev pub close : List ℕ
 close = 0x50 ∷ []

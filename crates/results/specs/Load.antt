@@ -7,18 +7,20 @@ use lib.Dec.{eqb, ltb}
 use lib.IntN.{ℤ, pos, negℤ}
 use lib.ListN.{length, getD}
 use Rattle.cfg.specs.Nullable.{depthOf}
+use Rattle.theory_words.specs.Name.{validName, unnamed, hasName}
 use Rattle.grammar.specs.declared.Symbol.{Symbol}
 use Rattle.grammar.specs.declared.Symbol.the-variants.{Nonterminal, Terminal, Range}
 use Rattle.grammar.specs.declared.Rule.{Rule}
 use Rattle.grammar.specs.declared.Grammar.{Grammar}
-use Rattle.grammar.specs.Setters.{lastYear, openedRule, placedRule, setStart, setCount, setDepth, setRule}
+use Rattle.grammar.specs.Setters.{lastYear, openedRule, placedRule, setName, setStart, setCount, setDepth, setRule}
+use Rattle.grammar.specs.Valid.{namesOf}
 use Rattle.grammar.specs.View.{wholeOf}
 use Rattle.grammar.specs.Zero.{zeroGrammar, noRule}
 use Rattle.results.specs.Answer.{LoadAnswer, refusedAt, loaded, Check, check, decide}
 
 -- how many operand bytes follow a command byte
 unfoldable pub operands : ℕ → ℕ
-operands c = cond (eqb c 0x20) 3 (cond (eqb c 0x21) 7 (cond (eqb c 0x41) 2 (cond (eqb c 0x50) 0 1)))
+operands c = cond (eqb c 0x20) 3 (cond (eqb c 0x21) 7 (cond (eqb c 0x41) 2 (cond (eqb c 0x50) 0 (cond (eqb c 0x60) 8 1))))
 
 -- operand number i, from 0, of the command at an offset; past the end of the book it is 0
 unfoldable pub operand : List ℕ → ℕ → ℕ → ℕ
@@ -39,6 +41,10 @@ fromYear x = word (x 3) (x 4)
 abbrev pub toYear : (ℕ → ℕ) → ℕ
 toYear x = word (x 5) (x 6)
 
+-- 60: its name, by its operands
+abbrev pub givenName : (ℕ → ℕ) → List ℕ
+givenName x = x 0 ∷ x 1 ∷ x 2 ∷ x 3 ∷ x 4 ∷ x 5 ∷ x 6 ∷ x 7 ∷ []
+
 -- the open rule: the last one
 unfoldable pub openRule : Grammar → Rule
 openRule g = getD (g .rules) (g .count - 1) noRule
@@ -55,13 +61,17 @@ withRule g k hundredths first last = setCount (setRule g (g .count) (openedRule 
 unfoldable pub withPlace : Grammar → Symbol → Grammar
 withPlace g s = setRule g (g .count - 1) (placedRule (openRule g) s)
 
+-- 60: the grammar whose open rule has this name
+unfoldable pub withName : Grammar → List ℕ → Grammar
+withName g name = setRule g (g .count - 1) (setName (openRule g) name)
+
 -- the grammar after the command c with these operands
 unfoldable pub after : ℕ → (ℕ → ℕ) → Grammar → Grammar
 after c x g =
     cond (eqb c 0x10) (withStart g (x 0)) (cond (eqb c 0x20) (withRule g (x 0) (signed (x 1) (x 2)) 0 lastYear)
     (cond (eqb c 0x21) (withRule g (x 0) (signed (x 1) (x 2)) (fromYear x) (toYear x))
     (cond (eqb c 0x30) (withPlace g (Nonterminal (x 0))) (cond (eqb c 0x40) (withPlace g (Terminal (x 0)))
-    (cond (eqb c 0x41) (withPlace g (Range (x 0) (x 1))) g)))))
+    (cond (eqb c 0x41) (withPlace g (Range (x 0) (x 1))) (cond (eqb c 0x60) (withName g (givenName x)) g))))))
 
 -- the number of a refusal and its offset
 pub record Fault : Type 0 where
@@ -73,7 +83,7 @@ fault b n at = check b (record { number = n; offset = at })
 
 -- 2 unknown byte
 unfoldable pub unknown : ℕ → Bool
-unknown c = not (eqb c 0x10 || eqb c 0x20 || eqb c 0x21 || eqb c 0x30 || eqb c 0x40 || eqb c 0x41 || eqb c 0x50)
+unknown c = not (eqb c 0x10 || eqb c 0x20 || eqb c 0x21 || eqb c 0x30 || eqb c 0x40 || eqb c 0x41 || eqb c 0x50 || eqb c 0x60)
 
 -- a command that opens a rule
 abbrev pub opensRule : ℕ → Bool
@@ -83,9 +93,18 @@ opensRule c = eqb c 0x20 || eqb c 0x21
 abbrev pub addsPlace : ℕ → Bool
 addsPlace c = eqb c 0x30 || eqb c 0x40 || eqb c 0x41
 
--- 3 out of turn: 10 not first or again, another command first, a place before any 20 or 21
+-- the open rule has a name
+unfoldable pub openNamed : Grammar → Bool
+openNamed g = not (unnamed (openRule g .name))
+
+-- 3 out of turn: 10 not first or again, another command first, a second name for a rule, a place or a name before any 20 or 21
 unfoldable pub outOfTurn : ℕ → ℕ → Grammar → Bool
-outOfTurn c at g = cond (eqb c 0x10) (ltb 0 at) (eqb at 0 || (addsPlace c && eqb (g .count) 0))
+outOfTurn c at g =
+    cond (eqb c 0x10) (ltb 0 at) (eqb at 0 || cond (eqb c 0x60) (openNamed g || eqb (g .count) 0) (addsPlace c && eqb (g .count) 0))
+
+-- 17: a name is empty, has another byte, a blank before a letter or digit, or equals an earlier name
+unfoldable pub refusedName : Grammar → List ℕ → Bool
+refusedName g name = not (validName name) || hasName name (namesOf g)
 
 -- the checks of the command c at an offset that come after its turn is checked, in their order
 unfoldable pub operandChecks : List ℕ → ℕ → ℕ → Grammar → List (Check Fault)
@@ -93,6 +112,7 @@ operandChecks bytes at c g =
     fault (ltb (length bytes) (at + 1 + operands c)) 1 (length bytes)
     ∷ fault ((eqb c 0x10 || opensRule c || eqb c 0x30) && ltb 31 (operand bytes at 0)) 4 at
     ∷ fault (eqb c 0x41 && ltb (operand bytes at 1) (operand bytes at 0)) 16 at
+    ∷ fault (eqb c 0x60 && refusedName g (givenName (operand bytes at))) 17 at
     ∷ fault (eqb c 0x21 && ltb (toYear (operand bytes at)) (fromYear (operand bytes at))) 21 at
     ∷ fault (opensRule c && ltb 127 (g .count)) 5 at
     ∷ fault (addsPlace c && ltb 7 (openRule g .count)) 6 at

@@ -4,13 +4,18 @@ use Prim.Native.Nat.{ℕ, zero, suc}
 use mathlib.Core.List.{List, [], _∷_, map}
 use mathlib.Core.Path.{_≡_}
 use lib.IntN.{ℤ, pos, negℤ}
+use lib.ListN.{replicate}
 use Rattle.cfg.specs.Tree.{HasTree}
 use Rattle.grammar.specs.View.{dated, grammarOf}
+use Rattle.grammar.specs.Zero.{noName}
+use Rattle.results.specs.Answer.{loaded, refusedAt}
 use Rattle.results.specs.Measure.{rounded}
 use Rattle.results.specs.Drawer.{start, newRule, nonterminalPlace, A, rangePlace, close, T, bare, As}
 use Rattle.results.specs.Builds.{twoWays, rules11, rules12, rules21, rules22, movedB, AB, beside, inside, compared, Pair, builds}
 use Rattle.results.specs.Starred.{grammarFrom, datedFrom, Line, lineOutcome, found, absent, zeros}
+use Rattle.results.specs.NameLines.{bodyName, namedT, nameLines, namesFrom, answerNamed, goodNames, badNames}
 use Rattle.results.specs.YearLines.{seals, emptyInYears, startInYears, oneYear, yearLines}
+use Rattle.results.specs.Texts.{TextLine, textOutcome, textLines}
 
 -- U1: 0 → one digit
 abbrev pub oneDigit : List ℕ
@@ -140,6 +145,12 @@ pub record Requested : Type 0 where
   pub depth-T : depthFrom T ≡ 2
   -- U13: three nullable nonterminals of height 1; 32 of heights 1 to 32, in both orders of the rules; heights 1, 2 and 3; not reached
   pub depths : map depthFrom (threeEmpty ∷ chain ∷ reversedChain ∷ around ∷ unreached ∷ []) ≡ 1 ∷ 32 ∷ 32 ∷ 3 ∷ 2 ∷ []
+  -- U4: every line comes out as its table says, and the name is in the record of its rule
+  pub names : map lineOutcome nameLines ≡ map (λ (l : Line). l .gives) nameLines
+  pub names-loaded : namesFrom 4 namedT ≡ bodyName ∷ noName ∷ noName ∷ noName ∷ []
+  -- U4: these names load, and these are refused with 17 at the offset of their command
+  pub names-good : map answerNamed goodNames ≡ replicate 6 loaded
+  pub names-bad : map answerNamed badNames ≡ replicate 12 (refusedAt 17 6)
   -- U5: every sum comes out as its table says
   pub rounds : map (λ (s : ℤ × ℤ). rounded (s .0)) sums ≡ map (λ (s : ℤ × ℤ). s .1) sums
   -- U7: every pair comes out as its table says
@@ -152,3 +163,5 @@ pub record Requested : Type 0 where
   pub no-tree-start : HasTree (grammarOf (dated (grammarFrom startInYears) 4)) (As 1) → ⊥
   -- U9: the depth is that of the whole book, whatever the years
   pub depths-years : map depthFrom (seals ∷ emptyInYears ∷ startInYears ∷ oneYear ∷ []) ≡ 0 ∷ 1 ∷ 0 ∷ 1 ∷ []
+  -- U4: every line comes out as its table says
+  pub texts : map textOutcome textLines ≡ map (λ (l : TextLine). l .gives) textLines

@@ -15,7 +15,7 @@ use Rattle.grammar.specs.declared.Grammar.{Grammar}
 use Rattle.grammar.specs.View.{Dated, dated}
 use Rattle.grammar.specs.Zero.{zeroGrammar}
 use Rattle.results.specs.Answer.{LoadAnswer, refusedAt, loaded, Check, decide}
-use Rattle.results.specs.Load.{operands, operand, Fault, fault, operandChecks, commandChecks}
+use Rattle.results.specs.Load.{operands, operand, openNamed, Fault, fault, operandChecks, commandChecks}
 use Rattle.results.specs.Load.{Step, stop, next, done, carriedOut, step, Loading, run, loadOf}
 use Rattle.results.proofs.Decide.{Agree, agree-end, agree-same, agree-passed, decide-agree}
 use Rattle.results.proofs.Loading.Run.{run-stop, run-next, run-done, step-forward}
@@ -23,33 +23,34 @@ use Rattle.results.proofs.Loading.Commands.{after-same, step-kept}
 use Rattle.text.specs.Front.{bookFront, yearFront, plateFront}
 use Rattle.text.specs.Line.{refusedLine}
 use Rattle.text.specs.Text.{inputText, loadedText, yearIn, textOf}
-use Rattle.text.proofs.Near.{Near, near-invariant}
+use Rattle.text.proofs.Near.{Near, name-few, near-invariant}
 
-operands-few : (c : ℕ) → operands c ≤ 7
+operands-few : (c : ℕ) → operands c ≤ 8
 unfolding operands
-operands-few c = go (eqb c 0x20) (eqb c 0x21) (eqb c 0x41) (eqb c 0x50)
+operands-few c = go (eqb c 0x20) (eqb c 0x21) (eqb c 0x41) (eqb c 0x50) (eqb c 0x60)
   where
-    go : (s t u v : Bool) → cond s 3 (cond t 7 (cond u 2 (cond v 0 1))) ≤ 7
-    go true t u v = omega arith
-    go false true u v = omega arith
-    go false false true v = omega arith
-    go false false false true = omega arith
-    go false false false false = omega arith
+    go : (s t u v w : Bool) → cond s 3 (cond t 7 (cond u 2 (cond v 0 (cond w 8 1)))) ≤ 8
+    go true t u v w = omega arith
+    go false true u v w = omega arith
+    go false false true v w = omega arith
+    go false false false true w = omega arith
+    go false false false false true = omega arith
+    go false false false false false = omega arith
 
 -- ---- two long books with the same front
 
 -- no command starts at a greater offset
 abbrev farthest : ℕ
-farthest = 4124
+farthest = 5285
 
 near-bound : (at : ℕ) (g : Grammar) → Near at g → at ≤ farthest
-near-bound at g N = omega (arith, N .few, N .places, N .near)
+near-bound at g N = omega (arith, N .few, N .places, N .near, name-few (openNamed g))
 
 module _ (s t : List ℕ) (long-s : bookFront ≤ length s) (long-t : bookFront ≤ length t)
     (same : (i : ℕ) → i < bookFront → getD s i 0 ≡ getD t i 0) where
   -- a command c near the start, in each of the books
   module _ (at : ℕ) (g : Grammar) (h : at ≤ farthest) (c : ℕ) where
-    operand-same : (i : ℕ) → i < 7 → operand s at i ≡ operand t at i
+    operand-same : (i : ℕ) → i < 8 → operand s at i ≡ operand t at i
     unfolding operand
     operand-same i l = same (at + 1 + i) (omega arith)
 
@@ -75,15 +76,17 @@ module _ (s t : List ℕ) (long-s : bookFront ≤ length s) (long-t : bookFront 
     checks-agree = rw (
       operand-same 0 (omega arith),
       operand-same 1 (omega arith),
+      operand-same 2 (omega arith),
       operand-same 3 (omega arith),
       operand-same 4 (omega arith),
       operand-same 5 (omega arith),
       operand-same 6 (omega arith),
+      operand-same 7 (omega arith),
       further s long-s,
       further t long-t,
     ) (
         agree-passed (begins s long-s) (begins t long-t) (agree-same _ (agree-same _ (agree-passed (whole s long-s) (whole t long-t)
-        (agree-same _ (agree-same _ (agree-same _ (agree-same _ (agree-same _ (agree-same _ agree-end))))))))))
+        (agree-same _ (agree-same _ (agree-same _ (agree-same _ (agree-same _ (agree-same _ (agree-same _ agree-end)))))))))))
 
   step-same : (at : ℕ) (g : Grammar) → at ≤ farthest → step s at g ≡ step t at g
   unfolding step

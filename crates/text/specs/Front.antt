@@ -2,7 +2,7 @@
 use Prim.Native.Nat.{ℕ, _+_}
 use Rattle.sizes.specs.Sizes.{maxInput}
 
--- of a book: a start and 128 rules of 8 places each take fewer bytes
+-- of a book: a start and 128 rules of 8 places and a name each take fewer bytes
 abbrev pub bookFront : ℕ
 bookFront = 8192
 

@@ -16,10 +16,14 @@
 --   year-any, year-undated            where all rules hold in all years, all years have one grammar    document 02, U9
 --   tenths-nearest                    a length is the nearest tenth to its sum, the even one at a half document 02, U5
 --   builds-before, built-before       same build says yes only where it did before                     document 02, U7
+--   words-same                        texts are equal exactly if inputs and readings are               document 02, U4
+--   words-size                        no text has more than 5,888 bytes                                document 02, U4
+--   name-recorded, name-part          the lookup gives the record's name; when it is empty             document 02, U4
 --   list-exact, list-rising           L holds exactly the readings, each once, in rising order         Trees and readings; The walk
 --   load-demand, load-order           a book is loaded or refused at its first fault; what is left     demand 1; Refusals
 --   open-, take-, .., next-demand     what is written, the first refusal that applies, what it leaves  demand 1
 --   ..-twelve, ..-thirteen            refusals 12 and 13 exactly where they apply                      demand 1; Refusals
+--   words-demand, .., words-eighteen  the same for the call words, with refusals 12 and 18             demand 1; document 02, U4
 --   take-any                          one mark taken over any sheet and any hand                       Plate in hand and sheet
 --   demand-2                          complete after each mark exactly if the marks have a tree        demand 2, first sentence
 --   check-yes, check-no               an offered reading is accepted exactly if it is one              demand 2, second sentence
@@ -36,10 +40,12 @@
 -- That the code gives and leaves what these definitions say is each exported function's contract, an equality without a condition:
 --
 --   load/src/lib.rt        load         loadOf
+--   lookup/src/lib.rt      name         nameOf
 --   recognizer/src/lib.rt  open         openOf
 --   recognizer/src/lib.rt  take         takeOf
 --   checker/src/lib.rt     check        checkOf
 --   checker/src/lib.rt     length       lengthOf
+--   words/src/lib.rt       words        wordsOf
 --   checker/src/lib.rt     same_build   sameBuildOf
 --   first/src/lib.rt       first        firstOf
 --   next/src/lib.rt        next         nextOf
@@ -78,10 +84,12 @@ use Rattle.grammar.specs.View.{wholeOf, Dated, dated, grammarOf}
 use Rattle.grammar.specs.Years.{InForce, allYears}
 use Rattle.results.specs.Answer.{refused, answered, nothing, counted, more, loaded}
 use Rattle.results.specs.Load.{step, loadOf}
+use Rattle.results.specs.Name.{namePart, nameOf, recordedName}
 use Rattle.results.specs.Undated.{Undated}
 use Rattle.results.specs.Recognize.{State, openOf, takeOf, fed}
 use Rattle.results.specs.Check.{checkOf}
 use Rattle.results.specs.Measure.{sum, tenthsOf, NearestTenth, lengthOf, sameBuilt, sameBuildOf}
+use Rattle.results.specs.Words.{wordsText, wordsOf}
 use Rattle.results.specs.Before.{sameBagBuilt, sameBagBuildOf}
 use Rattle.results.specs.Enumerate.{firstOf, nextOf, countOf}
 use Rattle.results.specs.Walk.{hands, noneLeft, handedOut}
@@ -100,10 +108,11 @@ use Rattle.print_begin.specs.declared.Due.{Due}
 use Rattle.print_begin.specs.declared.Due.the-variants.{Nothing}
 use Rattle.print_begin.specs.Begun.{BookBegun}
 use Rattle.print_page.specs.Pages.{Pages}
-use Rattle.demands.specs.Demand1.{OpenDemand, TakeDemand, InputDemand, OutputDemand}
+use Rattle.demands.specs.Demand1.{OpenDemand, TakeDemand, InputDemand, OutputDemand, WordsDemand}
 use Rattle.results.specs.Ready.{Ready, ReadyOut}
 use Rattle.demands.specs.OrderAfter.{OfferedOrder, TreesOrder}
 use Rattle.demands.specs.LoadOrder.{CommandOrder}
+use Rattle.demands.specs.NamePart.{NamePart}
 use Rattle.demands.specs.LoadDemand.{LoadDemand}
 use Rattle.demands.specs.Taken.{Taken}
 use Rattle.demands.specs.Recognized.{Recognized}
@@ -115,6 +124,7 @@ use Rattle.theory_embedding.proofs.Derivations as Embedded
 use Rattle.theory_embedding.proofs.Listed as Inside
 use Rattle.grammar.proofs.Bounds.{whole-bounded}
 use Rattle.grammar.proofs.Years as Years
+use Rattle.results.proofs.Loading.Named as Named
 use Rattle.results.proofs.Loading.Undated as Undated
 use Rattle.results.proofs.Starred as Starred
 use Rattle.results.proofs.Requests as Requests
@@ -131,13 +141,16 @@ use Rattle.text.proofs.Front as Front
 use Rattle.print_page.proofs.Printed as Printed
 use Rattle.demands.proofs.Demand1 as Demand1
 use Rattle.demands.proofs.OrderOffered as Offered
+use Rattle.demands.proofs.Words as WordsOrder
 use Rattle.demands.proofs.OrderTrees as Trees
 use Rattle.demands.proofs.LoadOrder as LoadOrder
 use Rattle.demands.proofs.LoadDemand as Load
+use Rattle.demands.proofs.NamePart as NamePart
 use Rattle.demands.proofs.Check as Check
 use Rattle.demands.proofs.Taken as Take
 use Rattle.demands.proofs.Recognized as Fed
 use Rattle.theorems.proofs.EveryTree as EveryTree
+use Rattle.theorems.proofs.Words as Words
 
 -- THE STARRED TABLE
 pub starred-table : Starred
@@ -212,6 +225,27 @@ pub year-undated : (bytes : List ℕ) → Undated bytes → (y : ℕ) → y ≤ 
     → grammarOf (dated (loadOf bytes .grammar) y) ≡ wholeOf (loadOf bytes .grammar)
 year-undated bytes undated = year-any (loadOf bytes .grammar) (Undated.undated-always bytes undated)
 
+-- THE REQUEST U4, for every grammar that check 8 lets through and any two years: the texts of two derivations (readings) are equal exactly
+-- if their inputs and the derivations are
+pub words-same : (g : Grammar) → validGrammar g ≡ true → (y y' : ℕ) (w w' e e' : List ℕ)
+    → Derivation (grammarOf (dated g y)) limit w e → Derivation (grammarOf (dated g y')) limit w' e'
+    → (wordsText (dated g y) w e ≡ wordsText (dated g y') w' e') ↔ ((w ≡ w') × (e ≡ e'))
+words-same = Words.words-same
+
+-- a buffer of 5,888 bytes has room for every text
+pub words-size : (g : Grammar) → validGrammar g ≡ true → (y : ℕ) (w e : List ℕ) → length w ≤ maxInput
+    → Derivation (grammarOf (dated g y)) limit w e → length (wordsText (dated g y) w e) ≤ 5888
+words-size = Words.words-size
+
+-- the name lookup: for a book that loads, it gives back the name in the rule's record, without its filling
+pub name-recorded : (bytes : List ℕ) (r : ℕ) → loadOf bytes .answer ≡ loaded → nameOf bytes r ≡ recordedName (loadOf bytes .grammar) r
+name-recorded = Named.name-recorded
+
+-- for any bytes: the part is after the 60 at which loading named the rule. It is empty exactly if the bytes do not load, the number is not
+-- below the count, or the rule has no name
+pub name-part : (bytes : List ℕ) (r : ℕ) → NamePart bytes r (namePart bytes r)
+name-part = NamePart.name-part
+
 -- THE LIST L: a row is in it exactly if it is a derivation (reading) of the input, and it is strictly rising
 pub list-exact : (G : Cfg) (w e : List ℕ) → List·Memᴰ e (L G w) ↔ Derivation G limit w e
 list-exact G w e = (Exact.listed→derivation G limit w e, Exact.derivation→listed G limit w e)
@@ -243,6 +277,9 @@ check-demand = Demand1.check-demand
 pub length-demand : (g : Dated) (w e chart : List ℕ) → InputDemand g w chart (lengthOf g w e chart)
 length-demand = Demand1.length-demand
 
+pub words-demand : (g : Dated) (w e chart buffer : List ℕ) → WordsDemand g w e chart buffer (wordsOf g w e chart buffer)
+words-demand = Demand1.words-demand
+
 pub same-build-demand : (g : Dated) (w a b chart : List ℕ) → InputDemand g w chart (sameBuildOf g w a b chart)
 same-build-demand = Demand1.same-build-demand
 
@@ -259,6 +296,15 @@ next-demand = Demand1.next-demand
 pub length-twelve : (g : Dated) (w chart e : List ℕ)
     → OfferedOrder (Ready g w chart) (Derivation (grammarOf g) limit w e) (lengthOf g w e chart .answer)
 length-twelve = Offered.length-twelve
+
+pub words-twelve : (g : Dated) (w e chart buffer : List ℕ) → Ready g w chart
+    → (wordsOf g w e chart buffer .answer ≡ refused 12) ↔ (Derivation (grammarOf g) limit w e → ⊥)
+words-twelve = WordsOrder.words-twelve
+
+-- and 18 of words exactly if the text of a derivation is longer than the buffer
+pub words-eighteen : (g : Dated) (w e chart buffer : List ℕ) → Ready g w chart → Derivation (grammarOf g) limit w e
+    → (wordsOf g w e chart buffer .answer ≡ refused 18) ↔ (length buffer < length (wordsText g w e))
+words-eighteen = WordsOrder.words-eighteen
 
 pub same-build-twelve : (g : Dated) (w chart a b : List ℕ)
     → OfferedOrder (Ready g w chart) (Derivation (grammarOf g) limit w a × Derivation (grammarOf g) limit w b)

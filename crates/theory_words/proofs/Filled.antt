@@ -1,12 +1,12 @@
 -- Names with their filling: what is before the filling decides the name, and has no sign in it. Assumes nothing.
-use Prim.Native.Nat.{ℕ, zero, suc, _≤_}
+use Prim.Native.Nat.{ℕ, zero, suc, _≤_, _<_}
 use native.Mathlib.Omega.{arith}
 use mathlib.Core.Bool.{true, _&&_}
 use mathlib.Core.List.{List, [], _∷_, head-eq-of-cons-eq, tail-eq-of-cons-eq}
 use mathlib.Core.Logic.{_≢_}
 use mathlib.Core.Path.{_≡_, refl, sym, ap, ap₂, _∙_}
 use lib.Dec.{leb, eqb}
-use lib.ListN.{length, getD, replicate}
+use lib.ListN.{length, getD, take, replicate}
 use borrow.Author.Tests.{leb-true, eqb-true, ne-eqb}
 use Rattle.laws.proofs.Bools.{clash, by-test, and-parts, and-parts₃}
 use Rattle.theory_words.specs.Name.{nameSize, blank, nameByte, filling, filledUp, validName, unfilled}
@@ -111,3 +111,20 @@ unfilled-short [] = omega arith
 unfilled-short (b ∷ l) =
     let h = unfilled-short l in
     by-test (eqb b blank) (λ e. rw e (omega arith)) (λ e. rw e (omega arith))
+
+-- it is a front of the name
+pub unfilled-front : (l : List ℕ) → unfilled l ≡ take (length (unfilled l)) l
+unfolding unfilled
+unfilled-front [] = refl
+unfilled-front (b ∷ l) = by-test (eqb b blank) (λ e. rw e) (λ e. rw e (ap (λ x. b ∷ x) (unfilled-front l)))
+
+-- a valid name is not empty without its filling
+pub unfilled-some : (name : List ℕ) → validName name ≡ true → 0 < length (unfilled name)
+unfolding validName
+unfilled-some name e =
+    let p = and-parts₃ (eqb (length name) nameSize) (nameByte (getD name 0 0)) (filledUp name) e in
+    begins name (eqb-true (length name) nameSize (p .0)) (p .1)
+  where
+    begins : (l : List ℕ) → length l ≡ nameSize → nameByte (getD l 0 0) ≡ true → 0 < length (unfilled l)
+    begins [] n t = absurd (omega arith)
+    begins (b ∷ l) n t = rw (unfilled-more b l t) (omega arith)

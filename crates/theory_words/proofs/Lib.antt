@@ -3,6 +3,7 @@ pub mod Computed
 pub mod Rules
 pub mod Same
 pub mod Filled
+pub mod SameName
 pub mod Names
 pub mod Derived
 pub mod Size

@@ -1,6 +1,6 @@
 -- Names of rules and the text of a rule. A name is a list of eight bytes. Assumes nothing.
 use Prim.Native.Nat.{ℕ, _+_, _/_, _%_}
-use mathlib.Core.Bool.{Bool, true, cond, _&&_, _||_}
+use mathlib.Core.Bool.{Bool, true, false, cond, _&&_, _||_}
 use mathlib.Core.List.{List, [], _∷_}
 use lib.Dec.{leb, ltb, eqb}
 use lib.ListN.{length, getD}
@@ -35,6 +35,22 @@ validName name = eqb (length name) nameSize && nameByte (getD name 0 0) && fille
 unfoldable pub unnamed : List ℕ → Bool
 unnamed [] = true
 unnamed (b ∷ l) = eqb b 0 && unnamed l
+
+-- what a rule may have for a name: a valid one, or zeros
+abbrev pub allowedName : List ℕ → Bool
+allowedName name = unnamed name || validName name
+
+-- two names are the same, byte by byte
+unfoldable pub sameName : List ℕ → List ℕ → Bool
+sameName [] [] = true
+sameName [] (b ∷ m) = false
+sameName (a ∷ l) [] = false
+sameName (a ∷ l) (b ∷ m) = eqb a b && sameName l m
+
+-- a name is one of these
+unfoldable pub hasName : List ℕ → List (List ℕ) → Bool
+hasName name [] = false
+hasName name (other ∷ names) = sameName name other || hasName name names
 
 -- a name without its filling: what is before the first blank
 unfoldable pub unfilled : List ℕ → List ℕ

@@ -1,9 +1,9 @@
 -- The names in a row of bytes, and the texts of the rules. Assumes nothing.
 use Prim.Native.Nat.{ℕ, _+_, _*_, _-_, _≤_, _<_}
 use mathlib.Core.Bool.{Bool, true, false, _&&_}
-use mathlib.Core.List.{List, [], _∷_}
+use mathlib.Core.List.{List}
 use mathlib.Core.Logic.{_≢_}
-use mathlib.Core.Path.{_≡_, refl, sym, ap, _∙_}
+use mathlib.Core.Path.{_≡_, sym, ap, _∙_}
 use native.Mathlib.Numerals.{add-one}
 use native.Mathlib.Omega.{arith}
 use lib.Dec.{eqb}
@@ -11,8 +11,8 @@ use lib.ListN.{length, getD, take, drop, length-take, length-drop, drop-of-lengt
 use lib.Seq.{getD-take, getD-drop, drop-cons, take-take}
 use borrow.Author.Tests.{eq-eqb, ne-eqb}
 use Rattle.sizes.specs.Sizes.{maxRules}
-use Rattle.laws.proofs.Bools.{by-test}
 use Rattle.theory_words.specs.Name.{nameSize, blank, unnamed, unfilled, numberText, ruleText}
+use Rattle.theory_words.proofs.Filled.{unfilled-front}
 use Rattle.print_number.specs.Put.{Put}
 use Rattle.print_number.proofs.Writing.{put-same}
 use Rattle.words_text.specs.Names.{namesSize, nameIn, textIn}
@@ -32,12 +32,6 @@ module _ (l : List ℕ) (i : ℕ) (h : i < length l) where
 
 -- ---- up to the first blank
 
--- what is before the first blank is a front of the name
-pub unfilled-front : (l : List ℕ) → unfilled l ≡ take (length (unfilled l)) l
-unfolding unfilled
-unfilled-front [] = refl
-unfilled-front (b ∷ l) = by-test (eqb b blank) (λ e. rw e) (λ e. rw e (ap (λ x. b ∷ x) (unfilled-front l)))
-
 module _ (l : List ℕ) (i : ℕ) (h : i < length l) where
   unfilled-blank : getD l i 0 ≡ blank → length (unfilled (drop i l)) ≡ 0
   unfolding unfilled
@@ -46,6 +40,31 @@ module _ (l : List ℕ) (i : ℕ) (h : i < length l) where
   unfilled-other : getD l i 0 ≢ blank → length (unfilled (drop i l)) ≡ length (unfilled (drop (i + 1) l)) + 1
   unfolding unfilled
   unfilled-other e = rw (drop-cons l i 0 h, ne-eqb (getD l i 0) blank e, add-one i) (omega arith)
+
+-- the tests of `length_at`, at byte i of the name that begins at an offset
+module _ (bytes : List ℕ) (at : ℕ) (room : at + nameSize ≤ length bytes) where
+  abbrev here : List ℕ
+  here = take nameSize (drop at bytes)
+
+  here-long : length here ≡ nameSize
+  here-long = simp (length-take, length-drop) (omega arith)
+
+  here-at : (i : ℕ) → i < nameSize → getD here i 0 ≡ getD bytes (at + i) 0
+  here-at i h = rw (getD-take, getD-drop)
+
+  module _ (i : ℕ) (so-far : length (unfilled here) ≡ i + length (unfilled (drop i here))) where
+    pub filled-passed : i < nameSize → getD bytes (at + i) 0 ≢ blank
+        → length (unfilled here) ≡ i + 1 + length (unfilled (drop (i + 1) here))
+    filled-passed h e = omega (arith, unfilled-other here i (omega (arith, here-long)) (λ z. e (sym (here-at i h) ∙ z)))
+
+    pub filled-here : i < nameSize → getD bytes (at + i) 0 ≡ blank → i ≡ length (unfilled here)
+    filled-here h e = omega (arith, unfilled-blank here i (omega (arith, here-long)) (here-at i h ∙ e))
+
+    pub filled-none : nameSize ≤ i → i ≡ length (unfilled here)
+    unfolding unfilled
+    filled-none h =
+        let none : length (unfilled (drop i here)) ≡ 0 = rw (drop-of-length-le here {i = i} (omega (arith, here-long))) in
+        omega arith
 
 -- ---- the text of rule r, by the test of `is_unnamed`
 
@@ -98,7 +117,7 @@ module _ (names : List ℕ) (r : ℕ) (low : r < maxRules) (full : length names 
   unfolding nameIn
   name-at i h = rw (getD-take, getD-drop)
 
-  -- the tests of `is_unnamed` and `name_length`, at byte i of the name, which begins at `at`
+  -- the tests of `is_unnamed`, at byte i of the name, which begins at `at`
   module _ (at i : ℕ) (begins : at ≡ nameSize * r) where
     name-here : i < nameSize → getD (nameIn names r) i 0 ≡ getD names (at + i) 0
     name-here h = name-at i h ∙ ap (λ (k : ℕ). getD names (k + i) 0) (sym begins)
@@ -115,19 +134,6 @@ module _ (names : List ℕ) (r : ℕ) (low : r < maxRules) (full : length names 
       unfolding unnamed
       unnamed-yes h = sym (so-far ∙ rw (drop-of-length-le (nameIn names r) {i = i} (omega (arith, name-long))))
 
-    module _ (so-far : length (unfilled (nameIn names r)) ≡ i + length (unfilled (drop i (nameIn names r)))) where
-      pub filled-passed : i < nameSize → getD names (at + i) 0 ≢ blank
-          → length (unfilled (nameIn names r)) ≡ i + 1 + length (unfilled (drop (i + 1) (nameIn names r)))
-      filled-passed h e =
-          omega (arith, unfilled-other (nameIn names r) i (omega (arith, name-long)) (λ z. e (sym (name-here h) ∙ z)))
-
-      pub filled-here : i < nameSize → getD names (at + i) 0 ≡ blank → i ≡ length (unfilled (nameIn names r))
-      filled-here h e =
-          omega (arith, unfilled-blank (nameIn names r) i (omega (arith, name-long)) (name-here h ∙ e))
-
-      pub filled-none : nameSize ≤ i → i ≡ length (unfilled (nameIn names r))
-      unfolding unfilled
-      filled-none h =
-          let none : length (unfilled (drop i (nameIn names r))) ≡ 0 =
-          rw (drop-of-length-le (nameIn names r) {i = i} (omega (arith, name-long))) in
-          omega arith
+  -- the row has all of it
+  pub row-room : nameSize * r + nameSize ≤ length names
+  row-room = omega arith

@@ -4,7 +4,7 @@ use print_number::put_byte;
 use print_number::put_bytes;
 ghost use mathlib.Core.Path.{_≡_};
 ghost use Prim.Native.Nat.{_+_, _<_, _≤_};
-ghost use lib.ListN.{length};
+ghost use lib.ListN.{length, take, drop};
 ghost use Rattle.sizes.specs.Sizes.{maxRules};
 ghost use Rattle.theory_words.specs.Name.{nameSize, unnamed, unfilled, hexDigit, numberText};
 ghost use Rattle.theory_words.specs.Words.{leafText};
@@ -81,20 +81,28 @@ fn is_unnamed(names: &Names, r: usize) -> bool
     true
 }
 
-// How many bytes the name of rule r has without its filling.
-fn name_length(names: &Names, r: usize) -> usize
-    requires { ⌜ (r < maxRules) × (length (now names) ≡ namesSize) ⌝ }
-    ensures { λ n. ⌜ (n ≡ length (unfilled (nameIn (now (names .entry)) r))) × (n ≤ nameSize) ⌝ }
+// How many bytes the name at an offset has without its filling.
+pub fn length_at(bytes: &[u8], at: usize) -> usize
+    requires { ⌜ at + nameSize ≤ length (now bytes) ⌝ }
+    ensures { λ n. ⌜ (n ≡ length (unfilled (take nameSize (drop at (now (bytes .entry)))))) × (n ≤ nameSize) ⌝ }
 {
-    let at = NAME * r;
     let mut i = 0;
     while i < NAME {
-        if names[at + i] == BLANK {
+        if bytes[at + i] == BLANK {
             return i;
         }
         i += 1;
     }
     i
+}
+
+// How many bytes the name of rule r has without its filling.
+fn name_length(names: &Names, r: usize) -> usize
+    requires { ⌜ (r < maxRules) × (length (now names) ≡ namesSize) ⌝ }
+    ensures { λ n. ⌜ (n ≡ length (unfilled (nameIn (now (names .entry)) r))) × (n ≤ nameSize) ⌝ }
+{
+    let row = &names[..];
+    length_at(row, NAME * r)
 }
 
 // How many bytes the text of rule r has.

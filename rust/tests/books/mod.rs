@@ -9,6 +9,10 @@ pub const YEAR: u16 = 2008;
 /// Book T of document 01: 0 -> 1 1 (4,600), 1 -> nothing (0), 1 -> A (25).
 pub const T: &[u8] = b"\x10\x00\x20\x00\xf8\x11\x30\x01\x30\x01\x20\x01\x00\x00\x20\x01\x19\x00\x40A\x50";
 
+/// T with its rule 0 named BODY, after its places, and its rule 2 named PORT, before them.
+pub const NAMED: &[u8] = b"\x10\x00\x20\x00\xf8\x11\x30\x01\x30\x01\x60BODY    \x20\x01\x00\x00\
+    \x20\x01\x19\x00\x60PORT    \x40A\x50";
+
 /// 0 -> 0 0, 0 -> A.
 pub const PAIRS: &[u8] = b"\x10\x00\x20\x00\x00\x00\x30\x00\x30\x00\x20\x00\x00\x00\x40A\x50";
 

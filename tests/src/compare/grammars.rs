@@ -2,19 +2,20 @@
 
 use super::lent::number;
 use super::Comparison;
-use crate::books::Rng;
+use crate::books::{bad_name, filled, Rng};
 use crate::lister::grammar;
-use crate::reader::{record, FlatGrammar, PLACES, RULES, YEARS};
+use crate::reader::{record, FlatGrammar, NAME, NAME_WIDTH, PLACES, RULES, YEARS};
 
 /// What is checked in a row: a number, with its index, the largest allowed value and its name; the two numbers of a place
-/// that holds a range, with the index of its tag; or the two years of a rule, with the index of the first.
+/// that holds a range, with the index of its tag; the two years of a rule, with the index of the first; or the name of a rule.
 #[derive(Clone, Copy)]
 enum Judged {
     Number(usize, u16, &'static str),
     Range(usize),
     Years(usize),
+    Name(usize),
 }
-use Judged::{Number, Range, Years};
+use Judged::{Name, Number, Range, Years};
 
 impl Comparison<'_> {
     /// The same grammar with rubbish in unused records and places, and any depth.
@@ -27,6 +28,8 @@ impl Comparison<'_> {
             if rule >= usize::from(flat[1]) {
                 dirty[at..at + 3].iter_mut().for_each(|any| *any = number(rng));
                 dirty[at + YEARS..at + YEARS + 2].iter_mut().for_each(|any| *any = number(rng));
+                let name = unused_name(rng, flat);
+                dirty[at + NAME..at + NAME + NAME_WIDTH].copy_from_slice(&name);
             }
             for p in used..PLACES {
                 dirty[at + 3 + 2 * p] = if rng.one_in(2) { rng.below(3) as u16 } else { number(rng) };
@@ -61,6 +64,11 @@ impl Comparison<'_> {
                 assert!(grammar::from_flat(&bad).is_none());
                 return (bad, format!("reversed years, {how}"));
             }
+            Name(rule) => {
+                let how = spoil_name(&mut self.rng, &mut bad, rule);
+                assert!(grammar::from_flat(&bad).is_none());
+                return (bad, format!("a name, {how}"));
+            }
         };
         bad[at] = over(&mut self.rng, most, flat[at]);
         assert!(grammar::from_flat(&bad).is_none());
@@ -83,9 +91,12 @@ impl Comparison<'_> {
         if rules == 0 || rng.one_in(4) {
             return rng.pick(&head);
         }
-        let at = record(rng.below(rules));
-        if rng.one_in(12) {
-            return Years(at + YEARS);
+        let rule = rng.below(rules);
+        let at = record(rule);
+        match rng.below(12) {
+            0 => return Years(at + YEARS),
+            1 | 2 => return Name(rule),
+            _ => (),
         }
         let places = usize::from(flat[at + 2]);
         if places == 0 || rng.one_in(3) {
@@ -120,6 +131,55 @@ fn reverse_years(rng: &mut Rng, years: &mut [u16]) -> &'static str {
     match first - last {
         1 => "by one",
         _ => "by more",
+    }
+}
+
+/// Numbers for the name of an unused rule, which may be any: the name of a used rule, no name, or rubbish.
+fn unused_name(rng: &mut Rng, flat: &FlatGrammar) -> [u16; NAME_WIDTH] {
+    match rng.below(4) {
+        0 => {
+            let at = record(rng.below(usize::from(flat[1]).max(1))) + NAME;
+            flat[at..at + NAME_WIDTH].try_into().expect("eight numbers")
+        }
+        1 => bad_name(rng).0.map(u16::from),
+        2 => [0; NAME_WIDTH],
+        _ => std::array::from_fn(|_| number(rng)),
+    }
+}
+
+/// Makes the name of a used rule one that check 8 refuses, and says how. That of another rule may get the same name before.
+fn spoil_name(rng: &mut Rng, row: &mut FlatGrammar, rule: usize) -> &'static str {
+    let numbers = |rule: usize| record(rule) + NAME..record(rule) + NAME + NAME_WIDTH;
+    let rules = usize::from(row[1]);
+    let named = row[record(rule) + NAME] != 0;
+    match rng.below(4) {
+        0 if rules > 1 => {
+            let other = (rule + rng.within(1, rules - 1)) % rules;
+            if row[record(other) + NAME] == 0 {
+                let name = if named { row[numbers(rule)].to_vec() } else { filled("SAME").map(u16::from).to_vec() };
+                row[numbers(other)].copy_from_slice(&name);
+            }
+            row.copy_within(numbers(other), record(rule) + NAME);
+            if other.abs_diff(rule) == 1 {
+                "that of a neighbour"
+            } else {
+                "that of another rule"
+            }
+        }
+        1 => {
+            if !named {
+                row[numbers(rule)].copy_from_slice(&filled("LOWBYTE").map(u16::from));
+            }
+            row[record(rule) + NAME + rng.below(NAME_WIDTH)] += 256 * rng.within(1, 254) as u16;
+            "a number over 255, its low byte in range"
+        }
+        _ => loop {
+            let (name, why) = bad_name(rng);
+            if name != [0; 8] {
+                row[numbers(rule)].copy_from_slice(&name.map(u16::from));
+                return why;
+            }
+        },
     }
 }
 

@@ -19,7 +19,7 @@ impl Comparison<'_> {
                 bytes.truncate(self.rng.below(bytes.len() + 1));
                 for _ in 0..self.rng.below(4) {
                     bytes
-                        .push(self.rng.pick(&[0x10, 0x20, 0x30, 0x40, 0x50, 0x00, 0x1F, 0x20, 0x41, 0x41, 0x21, 0xFF]));
+                        .push(self.rng.pick(&[0x10, 0x20, 0x30, 0x40, 0x50, 0x60, 0x00, 0x1F, 0x41, 0x41, 0x21, 0xFF]));
                 }
             }
             self.load(&bytes, "other load").map_err(|what| format!("as {bytes:02X?}: {what}"))?;
@@ -49,10 +49,15 @@ impl Comparison<'_> {
         if let Answer::Refused(number) = answer {
             same("the lister's row and offset, refused", due == [0; FLAT] && due_at <= book.len(), true)?;
             self.counts.add(&format!("{name}: refused {number}"));
+            self.why_named(book, number, due_at);
+            self.lookups(book, None, name)?;
             return Ok(None);
         }
         same("the lister's offset, loaded", due_at, found_at)?;
-        self.loaded(&grammar::from_flat(&due).expect("a loaded grammar passes check 8"), due[2], name);
+        let grammar = grammar::from_flat(&due).expect("a loaded grammar passes check 8");
+        self.loaded(&grammar, due[2], name);
+        self.named_places(book, name);
+        self.lookups(book, Some(&grammar), name)?;
         Ok(Some(got))
     }
 

@@ -1,10 +1,10 @@
-//! The refusals 8 to 12, 14 and 15 (13 is in `firsts`): which one comes first, and what they leave.
+//! The refusals 8 to 12, 14, 15 and 18 (13 is in `firsts`): which one comes first, and what they leave.
 
 use super::hands::{opened, taken};
 use super::lent::{self, same, Lent};
 use super::Comparison;
 use crate::lister::trees::Row;
-use crate::lister::{grammar, hand, judged};
+use crate::lister::{grammar, hand, judged, names};
 use crate::reader::{Answer, FlatGrammar, Reader, INPUT, OUTPUT};
 
 impl Comparison<'_> {
@@ -35,6 +35,12 @@ impl Comparison<'_> {
                 if grammar::unused_years_reversed(&grammar) {
                     self.counts.add("passed 8: reversed years in an unused rule");
                 }
+                if names::unused_name_bad(&grammar) {
+                    self.counts.add("passed 8: a bad name in an unused rule");
+                }
+                if names::unused_name_equal(&grammar) {
+                    self.counts.add("passed 8: an equal name in an unused rule");
+                }
             }
 
             let (found, what) = self.hand(which);
@@ -51,6 +57,7 @@ impl Comparison<'_> {
 
             let input = self.input_of(which, inputs, &grammar, short);
             self.refused_rows(&grammar, &input, year, &chart)?;
+            self.refused_words(&grammar, &input, year, &chart)?;
             self.listing_refusals(&grammar, &input, year, &chart)?;
         }
         Ok(())
@@ -126,7 +133,7 @@ impl Comparison<'_> {
     }
 
     /// Counts which input a call was refused with. Refusal 9 is for more than 64 bytes only; this checks the lister.
-    fn seen_with(&mut self, input: &[u8], call: &str, answer: Answer) -> Result<(), String> {
+    pub(super) fn seen_with(&mut self, input: &[u8], call: &str, answer: Answer) -> Result<(), String> {
         let Answer::Refused(number) = answer else { return Ok(()) };
         same("refused 9: so many bytes", number != 9 || input.len() > INPUT, true)?;
         match input.len() {
@@ -140,10 +147,16 @@ impl Comparison<'_> {
 
     /// Counts a refusal and makes sure that it left the chart untouched. This checks the
     /// lister; the reader was compared with the lister before.
-    fn seen(&mut self, call: &str, answer: Answer, before: &Lent<u32>, after: &Lent<u32>) -> Result<(), String> {
+    pub(super) fn seen(
+        &mut self,
+        call: &str,
+        answer: Answer,
+        before: &Lent<u32>,
+        after: &Lent<u32>,
+    ) -> Result<(), String> {
         if let Answer::Refused(number) = answer {
             self.counts.add(&format!("{call}: refused {number}"));
-            if number != 12 {
+            if !matches!(number, 12 | 18) {
                 after.against(before, &format!("{call} refused {number}: the chart"))?;
             }
         }

@@ -1,9 +1,9 @@
-//! Rows offered to check, length and same build.
+//! Rows offered to check, length, same build and words.
 
 use super::firsts::First;
 use super::lent::{self, same, Lent};
 use super::{Comparison, Plate, WIDER};
-use crate::lister::grammar::{Grammar, Symbol};
+use crate::lister::grammar::{self, Grammar, Symbol};
 use crate::lister::listing::derivations;
 use crate::lister::trees::{self, Child, Node, Row, LIMIT};
 use crate::lister::walk::Walk;
@@ -43,8 +43,8 @@ fn compared(due: Answer, one: &[u16], other: &[u16]) -> &'static str {
 }
 
 impl Comparison<'_> {
-    /// Offers the derivations of an input, and rows that are none, to check, length and
-    /// same build; then calls first, next and count.
+    /// Offers the derivations of an input, and rows that are none, to check, length, words
+    /// and same build; then calls first, next and count.
     pub(super) fn rows(&mut self, flat: &FlatGrammar, grammar: &Grammar, plate: Plate<'_>) -> Result<(), String> {
         let input = plate.input;
         let (list, front) = self.listed(grammar, input);
@@ -79,6 +79,7 @@ impl Comparison<'_> {
             pairs = 2;
         }
         let mut forbidden = false;
+        let whole = grammar::from_flat(flat).expect("a loaded grammar passes check 8");
         for row in &offered {
             let yes = trees::is_derivation(grammar, input, row);
             if let Some(list) = &list {
@@ -93,8 +94,10 @@ impl Comparison<'_> {
                 self.ranges_read(grammar, input, row);
                 self.halves(trees::hundredths(grammar, row));
                 self.offered(flat, offer, "length", Answer::Yes, Some(trees::tenths(grammar, row)))?;
+                self.words(flat, &whole, grammar, plate, row)?;
             } else if self.rng.one_in(4) {
                 self.offered(flat, offer, "length", Answer::Refused(12), None)?;
+                self.no_words(flat, plate, row)?;
             }
         }
         if forbidden {

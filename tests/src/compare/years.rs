@@ -57,7 +57,7 @@ impl Comparison<'_> {
         self.side_by_side(flat, input, [year, others[0]]).map_err(said)
     }
 
-    /// Check of a reading of the whole book, if it has one, in this year.
+    /// Check and words of a reading of the whole book, if it has one, in this year.
     fn checked_in(
         &mut self,
         flat: &FlatGrammar,
@@ -75,7 +75,7 @@ impl Comparison<'_> {
             _ if offered.is_empty() => "check in another year: no reading of the book",
             _ => "check in another year: a rule out of force",
         });
-        Ok(())
+        self.words_in(flat, input, year, offered)
     }
 
     /// Opening, taking and first in this year; and, given all readings of the whole book, what is left of them.

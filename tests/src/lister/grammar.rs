@@ -1,6 +1,7 @@
 //! Books and grammars: loading, and check 8.
 
-use crate::reader::{record, FlatGrammar, FLAT, PLACES, RULES, YEARS};
+use super::names::{self, Name};
+use crate::reader::{record, FlatGrammar, FLAT, NAME, NAME_WIDTH, PLACES, RULES, YEARS};
 use crate::switches::{fault, low_byte, Fault};
 
 /// What a place holds: in document 01 a kind or a mark; since request U1 of document 02 also a range, which is any mark
@@ -29,7 +30,8 @@ impl Symbol {
     }
 }
 
-/// A rule. Its length is in hundredths of a millimetre. It is in force from its first year to its last.
+/// A rule. Its length is in hundredths of a millimetre. It is in force from its first year to its last. Its name, if it has
+/// one, has its filling.
 #[derive(Clone, PartialEq, Eq, Debug)]
 pub struct Rule {
     pub left: u8,
@@ -37,6 +39,7 @@ pub struct Rule {
     pub places: Vec<Symbol>,
     pub first: u16,
     pub last: u16,
+    pub name: Option<Name>,
 }
 
 impl Rule {
@@ -79,6 +82,29 @@ impl Grammar {
     }
 }
 
+/// How many operands a command has; None if its byte is unknown.
+pub fn operands(command: u8) -> Option<usize> {
+    match command {
+        0x10 | 0x30 | 0x40 => Some(1),
+        0x41 => Some(2),
+        0x20 => Some(3),
+        0x21 => Some(7),
+        0x60 => Some(NAME_WIDTH),
+        0x50 => Some(0),
+        _ => None,
+    }
+}
+
+/// The offsets of the commands of a book, read from the left as far as they are known. The last may be cut short.
+pub fn commands(book: &[u8]) -> Vec<usize> {
+    let (mut all, mut at) = (Vec::new(), 0);
+    while let Some(operands) = book.get(at).and_then(|command| operands(*command)) {
+        all.push(at);
+        at += 1 + operands;
+    }
+    all
+}
+
 /// Reads a book from the left. The first fault determines number and offset.
 pub fn load(book: &[u8]) -> Result<Grammar, (u8, usize)> {
     let mut grammar = Grammar { start: 0, rules: Vec::new() };
@@ -90,14 +116,7 @@ pub fn load(book: &[u8]) -> Result<Grammar, (u8, usize)> {
         }
         let command = book[at];
         // 2: an unknown byte.
-        let operands = match command {
-            0x10 | 0x30 | 0x40 => 1,
-            0x41 => 2,
-            0x20 => 3,
-            0x21 => 7,
-            0x50 => 0,
-            _ => return Err((2, at)),
-        };
+        let operands = operands(command).ok_or((2, at))?;
         let cut = book.len() < at + 1 + operands;
         let kind_over = |most: u8| {
             matches!(command, 0x10 | 0x20 | 0x21 | 0x30) && book.get(at + 1).is_some_and(|kind| *kind > most)
@@ -107,8 +126,11 @@ pub fn load(book: &[u8]) -> Result<Grammar, (u8, usize)> {
         }
         let reversed = || command == 0x41 && book[at + 1] > book.get(at + 2).copied().unwrap_or(0);
         // 3: out of turn. 10 is the first command and occurs only there; 30, 40 and 41 need an open rule, which 20 and 21
-        // open.
+        // open, and 60 needs one without a name.
+        let open = grammar.rules.last().and_then(Option::as_ref);
         let in_turn = match command {
+            0x60 if fault(Fault::CutSecondNameIsOne) && cut && open.is_some() => true,
+            0x60 => names::in_turn(open, at),
             0x10 => at == 0,
             0x50 if fault(Fault::EndAcceptedFirst) => true,
             0x41 if fault(Fault::RangeBeforeAnyRuleAccepted) => at > 0,
@@ -117,6 +139,7 @@ pub fn load(book: &[u8]) -> Result<Grammar, (u8, usize)> {
             _ if fault(Fault::OnlyTwentyOpensARule) => {
                 grammar.numbered().any(|(_, rule)| (rule.first, rule.last) == (0, u16::MAX))
             }
+            _ if fault(Fault::PlaceAfterANameRefused) => open.is_some_and(|rule| rule.name.is_none()),
             _ => at > 0 && !grammar.rules.is_empty(),
         };
         if !in_turn {
@@ -127,6 +150,9 @@ pub fn load(book: &[u8]) -> Result<Grammar, (u8, usize)> {
         }
         if fault(Fault::SixteenBeforeOne) && at + 1 < book.len() && reversed() {
             return Err((16, at));
+        }
+        if fault(Fault::SeventeenBeforeOne) && cut && command == 0x60 && names::other_byte(&book[at + 1..]) {
+            return Err((17, at));
         }
         // 1: the book ends inside the command.
         if cut {
@@ -149,8 +175,18 @@ pub fn load(book: &[u8]) -> Result<Grammar, (u8, usize)> {
         if reversed() && !fault(Fault::SixAskedBeforeSixteen) && !fault(Fault::ReversedRangeLoaded) {
             return Err((16, at + usize::from(fault(Fault::SixteenAtTheOperand))));
         }
+        // 17: no name, or that of a rule before.
+        if command == 0x60 && !names::may_be_given(&book[at + 1..at + 1 + NAME_WIDTH], &grammar) {
+            return Err((17, at + usize::from(fault(Fault::SeventeenAtTheOperand))));
+        }
         match command {
             0x10 => grammar.start = book[at + 1],
+            0x60 => {
+                // there is an open rule, except with a fault
+                if let Some(rule) = grammar.rules.last_mut().and_then(Option::as_mut) {
+                    rule.name = names::given(&book[at + 1..at + 1 + NAME_WIDTH]);
+                }
+            }
             0x20 | 0x21 => {
                 // 5: the 129th rule.
                 if grammar.rules.len() == RULES + usize::from(fault(Fault::Rule129Accepted)) {
@@ -161,7 +197,8 @@ pub fn load(book: &[u8]) -> Result<Grammar, (u8, usize)> {
                 }
                 let length = i32::from(i16::from_le_bytes([book[at + 2], book[at + 3]]));
                 let Years { first, last } = years;
-                grammar.rules.push(Some(Rule { left: book[at + 1], length, places: Vec::new(), first, last }));
+                let (left, places) = (book[at + 1], Vec::new());
+                grammar.rules.push(Some(Rule { left, length, places, first, last, name: None }));
             }
             0x41 if grammar.rules.is_empty() => (), // only with a fault
             0x30 | 0x40 | 0x41 => {
@@ -230,6 +267,11 @@ pub fn to_flat(grammar: &Grammar, depth: u16) -> FlatGrammar {
             flat[at + 4 + 2 * p] = value;
         }
         flat[at + YEARS..at + YEARS + 2].copy_from_slice(&[rule.first, rule.last]);
+        flat[at + NAME..at + NAME + NAME_WIDTH].copy_from_slice(&names::to_numbers(rule.name));
+    }
+    if fault(Fault::UnusedNamesOfBlanks) {
+        let unused = (grammar.rules.len()..RULES).map(|number| record(number) + NAME);
+        unused.for_each(|at| flat[at..at + NAME_WIDTH].fill(u16::from(b' ')));
     }
     if fault(Fault::UnusedRulesHoldInAllYears) {
         (grammar.rules.len()..RULES).for_each(|number| flat[record(number) + YEARS + 1] = u16::MAX);
@@ -238,9 +280,9 @@ pub fn to_flat(grammar: &Grammar, depth: u16) -> FlatGrammar {
 }
 
 /// Check 8 on any row. None if the start or a used kind is over 31, there are more than 128 rules, or a used rule has
-/// more than 8 places or its first year above its last. Also None if a used place holds no symbol: its tag is over 2,
-/// its mark is over 255, or its range has the low end above the high end. Unused records, unused places and the depth
-/// are ignored.
+/// more than 8 places, its first year above its last, something other than a name or eight zeros, or the name of another.
+/// Also None if a used place holds no symbol: its tag is over 2, its mark is over 255, or its range has the low end above
+/// the high end. Unused records, unused places and the depth are ignored.
 pub fn from_flat(flat: &FlatGrammar) -> Option<Grammar> {
     let start = low_byte(flat[0], Fault::StartByItsLowByte);
     let rules = usize::from(low_byte(flat[1], Fault::RulesByTheirLowByte));
@@ -248,7 +290,7 @@ pub fn from_flat(flat: &FlatGrammar) -> Option<Grammar> {
         return None;
     }
     let mut grammar = Grammar { start: start as u8, rules: Vec::new() };
-    for number in 0..rules {
+    for (number, name) in names::of_row(flat, rules)?.into_iter().enumerate() {
         let at = record(number);
         let (left, length) = (low_byte(flat[at], Fault::LeftSideByItsLowByte), flat[at + 1] as i16);
         let places = usize::from(low_byte(flat[at + 2], Fault::PlacesByTheirLowByte));
@@ -264,7 +306,7 @@ pub fn from_flat(flat: &FlatGrammar) -> Option<Grammar> {
         {
             return None;
         }
-        let mut rule = Rule { left: left as u8 & 31, length: i32::from(length), places: Vec::new(), first, last };
+        let mut rule = Rule { left: left as u8 & 31, length: i32::from(length), places: Vec::new(), first, last, name };
         if fault(Fault::UnsignedLength) {
             rule.length = i32::from(length as u16);
         }

@@ -11,6 +11,9 @@ const FOUND: u16 = 0xABCD;
 const FOUND_AT: usize = 0xABCD_ABCD;
 const FOUND_TENTHS: i32 = -0x0BCD_ABCD;
 
+/// No text is longer: 11 bytes for each node and 4 for each mark.
+pub const LONGEST: usize = 5888;
+
 /// The year of a call that names none: any, for books that hold in all years.
 pub const YEAR: u16 = 2008;
 
@@ -172,6 +175,58 @@ pub fn length_in(flat: &FlatGrammar, input: &[u8], year: u16, offered: &[u16]) -
         answer => {
             assert_eq!(answer, Answer::Yes);
             Ok(tenths)
+        }
+    }
+}
+
+/// The text of a row, or its refusal's number, with a buffer of this length. Only the front of the buffer is written, and with a
+/// refusal nothing; the chart is filled, except with 8, 9 and 10.
+pub fn words_in(flat: &FlatGrammar, input: &[u8], year: u16, offered: &[u16], length: usize) -> Result<String, u8> {
+    let (mut chart, mut bytes, mut rng) = (rubbish(&mut Rng::new(11), CELLS), FOUND_AT, Rng::new(12));
+    let mut buffer = Lent::filled(length, || rng.draw() as u8);
+    let mut due = buffer.clone();
+    let answer = reader_under_test().words(flat, input, year, offered, chart.part_mut(), buffer.part_mut(), &mut bytes);
+    let text = match answer {
+        Answer::Refused(number) => {
+            assert_eq!(bytes, FOUND_AT);
+            Err(number)
+        }
+        answer => {
+            assert_eq!(answer, Answer::Bytes(bytes));
+            due.part_mut()[..bytes].copy_from_slice(&buffer.part()[..bytes]);
+            Ok(String::from_utf8(buffer.part()[..bytes].to_vec()).expect("ASCII"))
+        }
+    };
+    assert!(buffer == due, "the buffer is not as found after the text");
+    let (mut filled, found) = (rubbish(&mut Rng::new(11), CELLS), rubbish(&mut Rng::new(11), CELLS));
+    match text {
+        Err(8..=10) => assert!(chart == found, "the chart is not as found"),
+        _ => {
+            reader_under_test().check(flat, input, year, offered, filled.part_mut());
+            assert!(chart == filled, "the chart is not filled");
+        }
+    }
+    text
+}
+
+/// The text of a row in a buffer that is long enough for any.
+pub fn words(flat: &FlatGrammar, input: &[u8], offered: &[u16]) -> Result<String, u8> {
+    words_in(flat, input, YEAR, offered, LONGEST)
+}
+
+/// The offset and the bytes of a rule's name in a book, without its filling; none for the empty part, which leaves both numbers as
+/// found.
+pub fn name(book: &[u8], rule: usize) -> Option<(usize, &[u8])> {
+    let (mut at, mut length) = (FOUND_AT, FOUND_AT);
+    match reader_under_test().name(book, rule, &mut at, &mut length) {
+        Answer::No => {
+            assert_eq!((at, length), (FOUND_AT, FOUND_AT));
+            None
+        }
+        answer => {
+            assert_eq!(answer, Answer::Yes);
+            assert_ne!(length, 0);
+            Some((at, &book[at..at + length]))
         }
     }
 }

@@ -21,6 +21,11 @@ pub enum Forgets {
     Output,
     Nodes,
     Count,
+    WordsChart,
+    Buffer,
+    Bytes,
+    NameOffset,
+    NameLength,
     Everything,
     /// Nothing: this is the lister itself.
     Nothing,
@@ -28,7 +33,7 @@ pub enum Forgets {
 
 impl Forgets {
     /// Every one that forgets something.
-    pub const ALL: [Forgets; 15] = [
+    pub const ALL: [Forgets; 20] = [
         Forgets::Row,
         Forgets::Offset,
         Forgets::OpenedHand,
@@ -43,6 +48,11 @@ impl Forgets {
         Forgets::Output,
         Forgets::Nodes,
         Forgets::Count,
+        Forgets::WordsChart,
+        Forgets::Buffer,
+        Forgets::Bytes,
+        Forgets::NameOffset,
+        Forgets::NameLength,
         Forgets::Everything,
     ];
 
@@ -147,6 +157,29 @@ impl Reader for Forgets {
     fn count(&self, grammar: &FlatGrammar, input: &[u8], year: u16, chart: &mut [u32], count: &mut usize) -> Answer {
         self.slice(Forgets::ListedChart, chart, |c| {
             self.place(Forgets::Count, count, |n| Lister.count(grammar, input, year, c, n))
+        })
+    }
+
+    fn words(
+        &self,
+        grammar: &FlatGrammar,
+        input: &[u8],
+        year: u16,
+        offered: &[u16],
+        chart: &mut [u32],
+        buffer: &mut [u8],
+        bytes: &mut usize,
+    ) -> Answer {
+        self.slice(Forgets::WordsChart, chart, |c| {
+            self.slice(Forgets::Buffer, buffer, |b| {
+                self.place(Forgets::Bytes, bytes, |n| Lister.words(grammar, input, year, offered, c, b, n))
+            })
+        })
+    }
+
+    fn name(&self, book: &[u8], rule: usize, offset: &mut usize, length: &mut usize) -> Answer {
+        self.place(Forgets::NameOffset, offset, |at| {
+            self.place(Forgets::NameLength, length, |n| Lister.name(book, rule, at, n))
         })
     }
 }

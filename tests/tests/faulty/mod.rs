@@ -83,6 +83,32 @@ fn refused_as_empty(which: Fault, flat: &FlatGrammar, input: &[u8]) -> bool {
     fault(which) && input.is_empty() && grammar::from_flat(flat).is_some()
 }
 
+/// No text is longer.
+const LONGEST: usize = 5888;
+
+/// Spoils the buffer and the number of bytes that words has left.
+fn spoil_words(answer: Answer, buffer: &mut [u8], bytes: &mut usize) {
+    let (zero_buffer, zero_bytes) = match answer {
+        Answer::Refused(12) => (Fault::BufferZeroWithTwelve, Fault::BytesZeroWithTwelve),
+        Answer::Refused(18) => (Fault::BufferZeroWithEighteen, Fault::BytesZeroWithEighteen),
+        Answer::Refused(_) => (Fault::BufferZeroWhenRefused, Fault::BytesZeroWhenRefused),
+        _ => (Fault::OneByteTooMany, Fault::BytesZeroWithAText),
+    };
+    let end = match answer {
+        Answer::Bytes(bytes) => bytes,
+        _ => 0,
+    };
+    if fault(zero_buffer) && end < buffer.len() {
+        buffer[end] = 0;
+    }
+    if fault(zero_bytes) {
+        *bytes = 0;
+    }
+    if fault(Fault::BufferClearedBehind) && end > 0 && end < buffer.len() {
+        buffer[end..].fill(0);
+    }
+}
+
 impl Reader for Faulty {
     fn inner(&self) -> &dyn Reader {
         &Lister
@@ -239,6 +265,48 @@ impl Reader for Faulty {
             _ => (),
         }
         self.left(answer, out, nodes)
+    }
+
+    fn words(
+        &self,
+        flat: &FlatGrammar,
+        input: &[u8],
+        year: u16,
+        offered: &[u16],
+        chart: &mut [u32],
+        buffer: &mut [u8],
+        bytes: &mut usize,
+    ) -> Answer {
+        if refused_as_empty(Fault::EmptyInputRefusedByWords, flat, input) {
+            return Answer::Refused(9);
+        }
+        if fault(Fault::ElevenAskedByWords)
+            && judged(flat, input, chart.len(), buffer.len()) == Err(Answer::Refused(11))
+        {
+            return Answer::Refused(11);
+        }
+        let found = chart.to_vec();
+        let answer = Lister.words(flat, input, by(Fault::WordsByYear0, year), offered, chart, buffer, bytes);
+        spoil_words(answer, buffer, bytes);
+        match answer {
+            Answer::Refused(12) if fault(Fault::TwelveOfWordsLeavesTheChart) => chart.copy_from_slice(&found),
+            Answer::Refused(18) if fault(Fault::EighteenLeavesTheChart) => chart.copy_from_slice(&found),
+            Answer::Refused(18) if fault(Fault::FrontWrittenWithEighteen) => {
+                let mut whole = [0; LONGEST];
+                Lister.words(flat, input, year, offered, chart, &mut whole, &mut 0);
+                buffer.copy_from_slice(&whole[..buffer.len()]);
+            }
+            _ => (),
+        }
+        answer
+    }
+
+    fn name(&self, book: &[u8], rule: usize, offset: &mut usize, length: &mut usize) -> Answer {
+        let answer = Lister.name(book, rule, offset, length);
+        if fault(Fault::EmptyPartWritesZeros) && answer == Answer::No {
+            (*offset, *length) = (0, 0);
+        }
+        answer
     }
 
     fn count(&self, flat: &FlatGrammar, input: &[u8], year: u16, chart: &mut [u32], count: &mut usize) -> Answer {

@@ -1,57 +1,51 @@
 -- The commands of a book: what their checks let through, what a step keeps of the offset and of the grammar read so far, and what is known
 -- of the last command. Assumes nothing.
-use Prim.Native.Nat.{ℕ, zero, suc, _+_, _-_, _≤_, _<_}
+use Prim.Native.Nat.{ℕ, zero, suc, _+_, _≤_, _<_}
 use native.Mathlib.Decide.{ℕ-discrete}
 use native.Mathlib.Omega.{arith}
-use mathlib.Core.Bool.{Bool, true, false, _&&_, _||_}
+use mathlib.Core.Bool.{Bool, true, false, not, _&&_, _||_}
 use mathlib.Core.List.{List}
 use mathlib.Core.Logic.{dite}
 use mathlib.Core.Path.{_≡_, refl, sym, subst}
 use lib.Dec.{eqb, ltb}
-use lib.IntN.{ℤ}
 use lib.ListN.{length, getD}
 use borrow.Author.Tests.{ltb-true, ltb-false, le-leb, eqb-false, ne-eqb, not-false}
 use Rattle.sizes.specs.Sizes.{maxRules, maxPlaces}
 use Rattle.laws.proofs.Bools.{true-false, or-neither}
+use Rattle.theory_words.specs.Name.{validName}
 use Rattle.grammar.specs.declared.Symbol.{Symbol}
 use Rattle.grammar.specs.declared.Symbol.the-variants.{Nonterminal, Terminal, Range}
 use Rattle.grammar.specs.declared.Grammar.{Grammar}
-use Rattle.grammar.specs.Setters.{lastYear, openedRule, placedRule, setStart, setCount, setRule}
+use Rattle.grammar.specs.Setters.{lastYear}
 use Rattle.grammar.specs.Valid.{validSymbol}
 use Rattle.grammar.specs.Zero.{zeroGrammar}
-use Rattle.results.specs.Load.{operands, operand, signed, fromYear, toYear, openRule, withStart, withRule, withPlace, after}
-use Rattle.results.specs.Load.{unknown, opensRule, addsPlace, outOfTurn, Fault, Step, stop, next, done, operandChecks, commandChecks}
-use Rattle.results.specs.Load.{carriedOut, step, refusedLoad, acceptedLoad, run}
+use Rattle.results.specs.Load.{operands, operand, signed, fromYear, toYear, givenName, openRule, withStart, withRule, withPlace}
+use Rattle.results.specs.Load.{withName, after, unknown, opensRule, addsPlace, openNamed, outOfTurn, refusedName, Fault}
+use Rattle.results.specs.Load.{Step, stop, next, done, operandChecks, commandChecks, carriedOut, step, refusedLoad}
+use Rattle.results.specs.Load.{acceptedLoad, run}
 use Rattle.results.proofs.Decide.{decide-either}
 use Rattle.results.proofs.Loading.Run.{run-stop, run-next, run-done}
-
--- ---- what a command changes
-
-module _ (g : Grammar) where
-  pub start-set : (k : ℕ) → setStart g k ≡ withStart g k
-  unfolding withStart
-  start-set k = refl
-
-  pub rule-set : (k : ℕ) (z : ℤ) (first last : ℕ)
-      → setCount (setRule g (g .count) (openedRule k z first last)) (g .count + 1) ≡ withRule g k z first last
-  unfolding withRule
-  rule-set k z first last = refl
-
-  pub place-set : (s : Symbol) → setRule g (g .count - 1) (placedRule (openRule g) s) ≡ withPlace g s
-  unfolding withPlace
-  place-set s = refl
 
 -- ---- which commands there are
 
 pub unknown-other : (c : ℕ) → (c ≡ 0x10 → ⊥) → (c ≡ 0x20 → ⊥) → (c ≡ 0x21 → ⊥) → (c ≡ 0x30 → ⊥) → (c ≡ 0x40 → ⊥) → (c ≡ 0x41 → ⊥)
-    → (c ≡ 0x50 → ⊥) → unknown c ≡ true
+    → (c ≡ 0x50 → ⊥) → (c ≡ 0x60 → ⊥) → unknown c ≡ true
 unfolding unknown
-unknown-other c n₁ n₂ n₃ n₄ n₅ n₆ n₇ = rw
-    (ne-eqb c 0x10 n₁, ne-eqb c 0x20 n₂, ne-eqb c 0x21 n₃, ne-eqb c 0x30 n₄, ne-eqb c 0x40 n₅, ne-eqb c 0x41 n₆, ne-eqb c 0x50 n₇)
+unknown-other c n₁ n₂ n₃ n₄ n₅ n₆ n₇ n₈ = rw (
+  ne-eqb c 0x10 n₁,
+  ne-eqb c 0x20 n₂,
+  ne-eqb c 0x21 n₃,
+  ne-eqb c 0x30 n₄,
+  ne-eqb c 0x40 n₅,
+  ne-eqb c 0x41 n₆,
+  ne-eqb c 0x50 n₇,
+  ne-eqb c 0x60 n₈,
+)
 
 -- what holds of each command holds of each byte that is not unknown
-pub each-command : (K : ℕ → Type 0) → K 0x10 → K 0x20 → K 0x21 → K 0x30 → K 0x40 → K 0x41 → K 0x50 → (c : ℕ) → unknown c ≡ false → K c
-each-command K start rule years nonterminal terminal range end c k =
+pub each-command : (K : ℕ → Type 0) → K 0x10 → K 0x20 → K 0x21 → K 0x30 → K 0x40 → K 0x41 → K 0x50 → K 0x60 → (c : ℕ)
+    → unknown c ≡ false → K c
+each-command K start rule years nonterminal terminal range end name c k =
     dite (ℕ-discrete c 0x10) (λ e. subst K (sym e) start) (λ n₁.
     dite (ℕ-discrete c 0x20) (λ e. subst K (sym e) rule) (λ n₂.
     dite (ℕ-discrete c 0x21) (λ e. subst K (sym e) years) (λ n₃.
@@ -59,7 +53,8 @@ each-command K start rule years nonterminal terminal range end c k =
     dite (ℕ-discrete c 0x40) (λ e. subst K (sym e) terminal) (λ n₅.
     dite (ℕ-discrete c 0x41) (λ e. subst K (sym e) range) (λ n₆.
     dite (ℕ-discrete c 0x50) (λ e. subst K (sym e) end) (λ n₇.
-    absurd (true-false (unknown-other c n₁ n₂ n₃ n₄ n₅ n₆ n₇) k))))))))
+    dite (ℕ-discrete c 0x60) (λ e. subst K (sym e) name) (λ n₈.
+    absurd (true-false (unknown-other c n₁ n₂ n₃ n₄ n₅ n₆ n₇ n₈) k)))))))))
 
 -- ---- what the checks let through
 
@@ -71,10 +66,16 @@ pub record LetThrough (bytes : List ℕ) (at c : ℕ) (g : Grammar) : Type 0 whe
   pub whole : at + 1 + operands c ≤ length bytes
   pub nonterminal : (eqb c 0x10 || opensRule c || eqb c 0x30) ≡ true → operand bytes at 0 ≤ 31
   pub rising : eqb c 0x41 ≡ true → operand bytes at 0 ≤ operand bytes at 1
+  pub name : (eqb c 0x60 && refusedName g (givenName (operand bytes at))) ≡ false
   pub years : eqb c 0x21 ≡ true → fromYear (operand bytes at) ≤ toYear (operand bytes at)
   pub rules : opensRule c ≡ true → g .count ≤ 127
   pub places : addsPlace c ≡ true → openRule g .count ≤ 7
   pub last : eqb c 0x50 ≡ true → length bytes ≤ at + 1
+
+-- a name that is not refused is valid
+pub unrefused-valid : (g : Grammar) (name : List ℕ) → refusedName g name ≡ false → validName name ≡ true
+unfolding refusedName
+unrefused-valid g name r = not-false (validName name) (or-neither (not (validName name)) _ r .0)
 
 -- a limit that applies is kept
 kept-to : (b : Bool) (m n : ℕ) → (b && ltb m n) ≡ false → b ≡ true → n ≤ m
@@ -86,18 +87,19 @@ module _ (bytes : List ℕ) (at : ℕ) (g : Grammar) where
   Case P c = getD bytes at 0 ≡ c → LetThrough bytes at c g → P (carriedOut bytes at c g)
 
   -- what holds of each fault, and of each command that its checks let through, holds of a step
-  step-cases : (P : Step → Type 0) → ((f : Fault) → P (stop f)) → Case P 0x10 → Case P 0x20 → Case P 0x21 → Case P 0x30 → Case P 0x40
-      → Case P 0x41 → Case P 0x50 → P (step bytes at g)
+  pub step-cases : (P : Step → Type 0) → ((f : Fault) → P (stop f)) → Case P 0x10 → Case P 0x20 → Case P 0x21 → Case P 0x30 → Case P 0x40
+      → Case P 0x41 → Case P 0x50 → Case P 0x60 → P (step bytes at g)
   unfolding step commandChecks operandChecks
-  step-cases P faulty start rule years nonterminal terminal range end = decide-either stop _ P _ faulty
-      (λ p. let (begins, (known, (turn, (whole, (small, (rising, (ordered, (rules, (places, (last, u)))))))))) = p in
-      each-command (Case P) start rule years nonterminal terminal range end (getD bytes at 0) known refl (record {
+  step-cases P faulty start rule years nonterminal terminal range end name = decide-either stop _ P _ faulty
+      (λ p. let (begins, (known, (turn, (whole, (small, (rising, (unrefused, (ordered, (rules, (places, (last, u))))))))))) = p in
+      each-command (Case P) start rule years nonterminal terminal range end name (getD bytes at 0) known refl (record {
         begins = ltb-true at (length bytes) (not-false (ltb at (length bytes)) begins);
         known = known;
         turn = turn;
         whole = ltb-false (length bytes) (at + 1 + operands (getD bytes at 0)) whole;
         nonterminal = kept-to _ 31 (operand bytes at 0) small;
         rising = kept-to _ (operand bytes at 1) (operand bytes at 0) rising;
+        name = unrefused;
         years = kept-to _ (toYear (operand bytes at)) (fromYear (operand bytes at)) ordered;
         rules = kept-to _ 127 (g .count) rules;
         places = kept-to _ 7 (openRule g .count) places;
@@ -105,7 +107,7 @@ module _ (bytes : List ℕ) (at : ℕ) (g : Grammar) where
       }))
 
 -- what a command does depends only on its operands
-pub after-same : (c : ℕ) (x y : ℕ → ℕ) (g : Grammar) → ((i : ℕ) → i < 7 → x i ≡ y i) → after c x g ≡ after c y g
+pub after-same : (c : ℕ) (x y : ℕ → ℕ) (g : Grammar) → ((i : ℕ) → i < 8 → x i ≡ y i) → after c x g ≡ after c y g
 unfolding after
 after-same c x y g same = rw (
   same 0 (omega arith),
@@ -115,6 +117,7 @@ after-same c x y g same = rw (
   same 4 (omega arith),
   same 5 (omega arith),
   same 6 (omega arith),
+  same 7 (omega arith),
 )
 
 -- ---- the last command
@@ -137,7 +140,7 @@ module _ (bytes : List ℕ) (at : ℕ) (g : Grammar) where
   step-ends : Ends (step bytes at g)
   unfolding carriedOut
   step-ends = step-cases bytes at g Ends (λ f. tt) (λ e L. tt) (λ e L. tt) (λ e L. tt) (λ e L. tt) (λ e L. tt) (λ e L. tt)
-      (λ e L. record { command = e; last = omega (arith, L .begins, L .last refl); same = refl })
+      (λ e L. record { command = e; last = omega (arith, L .begins, L .last refl); same = refl }) (λ e L. tt)
 
   pub step-done : (g′ : Grammar) → step bytes at g ≡ done g′ → Ended bytes at g g′
   step-done g′ e = subst Ends e step-ends
@@ -173,6 +176,8 @@ pub record Invariant (bytes : List ℕ) (P : ℕ → Grammar → Type 0) : Type 
       (toYear (operand bytes at)))
   pub place : (at : ℕ) (g : Grammar) → P at g → (s : Symbol) → HeldIn bytes at s → validSymbol s ≡ true → 0 < g .count
       → openRule g .count < maxPlaces → P (at + placeSize s) (withPlace g s)
+  pub name : (at : ℕ) (g : Grammar) → P at g → 0 < g .count → openNamed g ≡ false → refusedName g (givenName (operand bytes at)) ≡ false
+      → P (at + 9) (withName g (givenName (operand bytes at)))
 
 module _ {bytes : List ℕ} {P : ℕ → Grammar → Type 0} (I : Invariant bytes P) where
   module _ (at : ℕ) (g : Grammar) (H : P at g) where
@@ -197,6 +202,15 @@ module _ {bytes : List ℕ} {P : ℕ → Grammar → Type 0} (I : Invariant byte
         let m = eqb-false (g .count) 0 (or-neither (eqb at 0) (eqb (g .count) 0) o .1) in
         subst (λ (x : ℕ). P x (withPlace g s)) f (I .place at g H s e v (omega arith) (omega arith))
 
+    -- a rule is open, and it has no name
+    named : (eqb at 0 || (openNamed g || eqb (g .count) 0)) ≡ false → refusedName g (givenName (operand bytes at)) ≡ false
+        → P (at + 1 + 8) (withName g (givenName (operand bytes at)))
+    named o r =
+        let later = or-neither (eqb at 0) (openNamed g || eqb (g .count) 0) o .1 in
+        let m = eqb-false (g .count) 0 (or-neither (openNamed g) (eqb (g .count) 0) later .1) in
+        subst (λ (n : ℕ). P n (withName g (givenName (operand bytes at)))) (omega arith)
+        (I .name at g H (omega arith) (or-neither (openNamed g) (eqb (g .count) 0) later .0) r)
+
     step-holds : Kept (step bytes at g)
     unfolding carriedOut operands after outOfTurn
     step-holds = step-cases bytes at g Kept (λ f. tt)
@@ -209,6 +223,7 @@ module _ {bytes : List ℕ} {P : ℕ → Grammar → Type 0} (I : Invariant byte
         (λ e L. placed (Range (operand bytes at 0) (operand bytes at 1)) (refl, refl)
         (le-leb (operand bytes at 0) (operand bytes at 1) (L .rising refl)) (L .turn) (L .places refl) _ (omega arith))
         (λ e L. tt)
+        (λ e L. named (L .turn) (L .name))
 
     pub step-kept : (at′ : ℕ) (g′ : Grammar) → step bytes at g ≡ next at′ g′ → P at′ g′
     step-kept at′ g′ e = subst Kept e step-holds

@@ -4,7 +4,7 @@ use native.Mathlib.Numerals.{add-one}
 use native.Mathlib.Omega.{arith}
 use mathlib.Core.Bool.{Bool, true, false, cond}
 use mathlib.Core.List.{List}
-use mathlib.Core.Path.{_≡_, refl, sym, subst}
+use mathlib.Core.Path.{_≡_, refl, subst}
 use lib.Dec.{eqb}
 use lib.ListN.{length, take, getD, set}
 use borrow.Author.Tests.{ne-eqb}
@@ -12,12 +12,12 @@ use Rattle.laws.proofs.Bools.{clash}
 use Rattle.grammar.specs.declared.Symbol.{Symbol}
 use Rattle.grammar.specs.declared.Rule.{Rule}
 use Rattle.grammar.specs.declared.Grammar.{Grammar}
-use Rattle.grammar.specs.Setters.{openedRule, placedRule}
+use Rattle.grammar.specs.Setters.{placedRule, setName}
 use Rattle.grammar.specs.Valid.{all}
 use Rattle.grammar.specs.Years.{always, allYears}
 use Rattle.grammar.specs.Zero.{zeroGrammar, noRule}
 use Rattle.grammar.proofs.All.{all-set, all-changed}
-use Rattle.results.specs.Load.{operands, operand, openRule, withStart, withRule, withPlace, after}
+use Rattle.results.specs.Load.{operands, operand, givenName, openRule, withStart, withRule, withPlace, withName, after}
 use Rattle.results.specs.Load.{Step, stop, next, done, carriedOut, step, refusedLoad, acceptedLoad, run, loadOf}
 use Rattle.results.specs.Undated.{CommandAt, command-first, command-later, Undated}
 use Rattle.results.proofs.Decide.{decide-either}
@@ -26,14 +26,14 @@ use Rattle.results.proofs.Loading.Commands.{step-done}
 
 -- ---- one command
 
--- a place more in the last rule
-place-always : (l : List Rule) (n : ℕ) (s : Symbol) → all always (take n l) ≡ true
-    → all always (take n (set l (n - 1) (placedRule (getD l (n - 1) noRule) s))) ≡ true
+-- a last rule that is changed but for its years
+last-always : (l : List Rule) (n : ℕ) (f : Rule → Rule) → ((r : Rule) → always r ≡ true → always (f r) ≡ true)
+    → all always (take n l) ≡ true → all always (take n (set l (n - 1) (f (getD l (n - 1) noRule)))) ≡ true
 unfolding all
-place-always l zero s e = refl
-place-always l (suc q) s e =
+last-always l zero f k e = refl
+last-always l (suc q) f k e =
     let p : suc q - 1 ≡ q = omega arith in
-    rw p (all-changed always l q (λ r. placedRule r s) noRule (λ r t. t) e)
+    rw p (all-changed always l q f noRule k e)
 
 either : (b : Bool) (g h : Grammar) → allYears g ≡ true → allYears h ≡ true → allYears (cond b g h) ≡ true
 either true g h p q = p
@@ -41,13 +41,17 @@ either false g h p q = q
 
 -- each command but 21 opens no rule or one that holds in all years
 after-always : (c : ℕ) (x : ℕ → ℕ) (g : Grammar) → (c ≡ 0x21 → ⊥) → allYears g ≡ true → allYears (after c x g) ≡ true
-unfolding after withStart withRule withPlace openRule allYears
+unfolding after withStart withRule withPlace withName openRule allYears
 after-always c x g n e = rw (ne-eqb c 0x21 n)
     (either (eqb c 0x10) _ _ e (either (eqb c 0x20) _ _ (rw add-one (all-set always (g .rules) (g .count) _ e refl))
-    (either (eqb c 0x30) _ _ (placed _) (either (eqb c 0x40) _ _ (placed _) (either (eqb c 0x41) _ _ (placed _) e)))))
+    (either (eqb c 0x30) _ _ (placed _) (either (eqb c 0x40) _ _ (placed _) (either (eqb c 0x41) _ _ (placed _)
+    (either (eqb c 0x60) _ _ named e))))))
   where
     placed : (s : Symbol) → allYears (withPlace g s) ≡ true
-    placed s = place-always (g .rules) (g .count) s e
+    placed s = last-always (g .rules) (g .count) (λ r. placedRule r s) (λ r t. t) e
+
+    named : allYears (withName g (givenName x)) ≡ true
+    named = last-always (g .rules) (g .count) (λ r. setName r (givenName x)) (λ r t. t) e
 
 -- ---- a book
 

@@ -10,7 +10,7 @@ use native.Mathlib.Omega.{arith}
 use lib.ListN.{take}
 use Rattle.sizes.specs.Sizes.{maxPlaces}
 use Rattle.grammar.specs.Valid.{all, validPlace}
-use Rattle.grammar.proofs.Laws.{all-next, rule-left, rule-count, rule-place, rule-passes}
+use Rattle.grammar.proofs.Laws.{all-next, rule-left, rule-count, rule-place, rule-reversed, rule-passes}
 use Rattle.grammar.proofs.records.valid_rule.Statement.{statement}
 use Rattle.grammar.proofs.records.valid_rule.Tie as tie
 
@@ -28,4 +28,5 @@ pub valid-rule-spec : {M : Type 1} → statement M
 valid-rule-spec = tie.close (tie.spec
     Inv-loop μ-loop (λ c. ⊎-elim (λ w. search rule-left) (λ w. rule-count _ (omega (arith, ltb-true))) (c .if1 .came)) loop-holds
     (λ c. omega arith) (λ c. omega arith) (λ c κs. omega arith) (λ c. search rule-place) (λ c. omega arith) (λ c. omega arith)
-    (λ c. (omega arith, omega arith, omega arith, search all-next)) (λ c. search rule-passes))
+    (λ c. (omega arith, omega arith, omega arith, search all-next)) (λ c κs. search needs) (λ c. search rule-passes)
+    (λ c. search rule-reversed))

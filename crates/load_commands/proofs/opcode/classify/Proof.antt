@@ -7,4 +7,4 @@ use Rattle.load_commands.proofs.opcode.classify.Tie as tie
 pub classify-spec : {M : Type 1} → statement M
 classify-spec = tie.close (tie.spec
     (λ c. omega arith) (λ c. omega arith) (λ c. omega arith) (λ c. omega arith) (λ c. omega arith) (λ c. omega arith) (λ c. omega arith)
-    (λ c. search unknown-other))
+    (λ c. omega arith) (λ c. search unknown-other))

@@ -1,0 +1,3 @@
+-- The laws of the lookup.
+pub mod Walk
+pub mod Parts

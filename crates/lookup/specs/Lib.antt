@@ -1,0 +1,2 @@
+-- Where the lookup finds a name.
+pub mod Found

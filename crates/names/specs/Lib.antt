@@ -1,0 +1,2 @@
+-- Names as words of 64 bits.
+pub mod Word

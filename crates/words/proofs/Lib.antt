@@ -1,0 +1,4 @@
+-- The laws of `words`.
+pub mod NameRow
+pub mod Offered
+pub mod Calls

@@ -1,0 +1,2 @@
+-- What `words` answers and leaves once the chart is filled.
+pub mod Answer
