@@ -27,12 +27,12 @@ use Rattle.demands.proofs.Kept.{chart-same, filled-kept, output-same}
 use Rattle.demands.proofs.Order.{less, tells8, tells9}
 use Rattle.demands.proofs.OrderOffered.{tells12}
 
--- a text at the front of a buffer that it fits
-text-kept : (text buffer : List ℕ) → length text ≤ length buffer
-    → OutputKept (length text) buffer (text ++ drop (length text) buffer)
-text-kept text buffer fits = record {
+-- a text of n bytes at the front of a buffer that it fits
+text-kept : (n : ℕ) (text buffer : List ℕ) → length text ≡ n → length text ≤ length buffer
+    → OutputKept n buffer (text ++ drop (length text) buffer)
+text-kept n text buffer size fits = record {
   same-length = omega (arith, length-append text (drop (length text) buffer), length-drop (length text) buffer);
-  rest = drop-at text (drop (length text) buffer) (length text) refl;
+  rest = drop-at text (drop (length text) buffer) n size ∙ ap (λ (k : ℕ). drop k buffer) size;
 }
 
 module _ (g : Dated) (w e chart buffer : List ℕ) where
@@ -46,7 +46,7 @@ module _ (g : Dated) (w e chart buffer : List ℕ) where
       decide-either _ _ Both _ (λ n. (chart-same chart, output-same 0 buffer))
       (λ p. let kept = filled-kept g w chart (pass→ready g w chart p) in
       decide-either _ _ Both _ (λ n. (kept, output-same 0 buffer))
-      (λ q. (kept, text-kept (wordsText g w e) buffer (ltb-false (length buffer) (length (wordsText g w e)) (q .1 .0)))))
+      (λ q. (kept, text-kept _ (wordsText g w e) buffer (omega arith) (ltb-false (length buffer) (length (wordsText g w e)) (q .1 .0)))))
 
   -- the refusals after the checks 8 to 10
   abbrev Later : Answer ℕ → Type 0
