@@ -42,14 +42,36 @@ static void name_last(void)
         code = ~0u;
 }
 static void open_full(void) { code = filbozseg_open(full, YEAR, hand, chart, FILBOZSEG_CELLS); }
-static void take_full(void)
+/* A hand of this many marks, with each point at this count. */
+static void hold(uint16_t count, uint16_t at_count)
 {
     size_t at;
     for (at = 0; at < FILBOZSEG_BYTES; at++)
         hand[at] = 'A';
-    hand[FILBOZSEG_BYTES] = FILBOZSEG_BYTES - 1;
+    hand[FILBOZSEG_BYTES] = count;
     hand[FILBOZSEG_BYTES + 1] = YEAR;
+    for (at = 0; at < FILBOZSEG_POINTS; at++)
+        hand[FILBOZSEG_BYTES + 2 + at] = at_count + 1;
+}
+static void take_full(void)
+{
+    hold(FILBOZSEG_BYTES - 1, 0);
     code = filbozseg_take(full, hand, 'A', chart, FILBOZSEG_CELLS);
+}
+static void set_full(void)
+{
+    hold(FILBOZSEG_BYTES, 0);
+    code = filbozseg_set_point(full, hand, FILBOZSEG_POINTS - 1, chart, FILBOZSEG_CELLS);
+    if (hand[FILBOZSEG_HAND - 1] != FILBOZSEG_BYTES + 1)
+        code = ~0u;
+}
+/* All marks are given back, and all columns but the first are cleared. */
+static void return_full(void)
+{
+    hold(FILBOZSEG_BYTES, 0);
+    code = filbozseg_return_to(full, hand, FILBOZSEG_POINTS - 1, chart, FILBOZSEG_CELLS);
+    if (hand[FILBOZSEG_BYTES] != 0 || chart[FILBOZSEG_CELLS - 1] != 0)
+        code = ~0u;
 }
 static void check_deep(void) { code = filbozseg_check(deep, plate, 64, YEAR, nested, 1024, chart, FILBOZSEG_CELLS); }
 static void check_full(void) { code = filbozseg_check(full, plate, 64, YEAR, nested, 1024, chart, FILBOZSEG_CELLS); }
@@ -127,6 +149,8 @@ static const struct {
     {"name", name_last, 1, FILBOZSEG_NAME_STACK},
     {"open", open_full, 0, FILBOZSEG_OPEN_STACK},
     {"take", take_full, 0, FILBOZSEG_TAKE_STACK},
+    {"set point", set_full, 0, FILBOZSEG_SET_POINT_STACK},
+    {"return to", return_full, 0, FILBOZSEG_RETURN_TO_STACK},
     {"check deep", check_deep, 1, FILBOZSEG_CHECK_STACK},
     {"check full", check_full, 0, FILBOZSEG_CHECK_STACK},
     {"length", length_deep, 1, FILBOZSEG_LENGTH_STACK},

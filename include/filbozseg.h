@@ -11,7 +11,7 @@
  *     0          no; none
  *     1          yes; loaded; found; measured; written; handed out; counted
  *     2          more (only from filbozseg_count)
- *     256 + n    refusal n, 1 <= n <= 18 or n = 21: FILBOZSEG_REFUSED gives n, enum filbozseg_refusal has its name,
+ *     256 + n    refusal n, 1 <= n <= 19 or n = 21: FILBOZSEG_REFUSED gives n, enum filbozseg_refusal has its name,
  *                filbozseg_refusal_text says what it means, and docs/REFERENCE.md when a call is refused with it and what the call leaves
  * and no other code. No function allocates or keeps anything between calls. Of the C library they need only memcpy and memset. Several
  * threads may call them at once if what is lent for writing is lent to one call only.
@@ -27,11 +27,11 @@
  * name found, the tenths with a measured derivation, the bytes with a text written, the nodes with a derivation handed out, the count with
  * a counted input. With any other answer it is left as found. Each call says below what it leaves in a row, a hand, a chart, an output and
  * a buffer. Cells from 4225 on are never touched. What a lent place holds before a call has no effect, except for the hand and the chart
- * of filbozseg_take.
+ * of filbozseg_take, filbozseg_set_point and filbozseg_return_to.
  *
  * Years. Each rule has a first and a last year, and is in force from one to the other, both included. A call on an input goes by the year
- * that it is given, and filbozseg_take by the year that the hand was opened with: only rules in force in that year build trees, empty ones
- * included. Out of force, a rule keeps its number. Any year from 0 to 65535 may be given.
+ * that it is given, and a call on a hand by the year that the hand was opened with: only rules in force in that year build trees, empty
+ * ones included. Out of force, a rule keeps its number. Any year from 0 to 65535 may be given.
  *
  * Terms: a grammar is a loaded book, an input a plate, a hand a plate in hand, a mark one of its bytes, a chart a sheet, a derivation a
  * reading, a node a part.
@@ -52,7 +52,7 @@ extern "C" {
 
 /* The version of this header and of the library that it describes. */
 #define FILBOZSEG_VERSION_MAJOR 0
-#define FILBOZSEG_VERSION_MINOR 9
+#define FILBOZSEG_VERSION_MINOR 10
 #define FILBOZSEG_VERSION_PATCH 0
 
 /* The version as one number, which grows from version to version: 1000000 * major + 1000 * minor + patch. Like the other functions with a
@@ -71,12 +71,13 @@ static inline const char *filbozseg_version_text(void)
            FILBOZSEG_AS_TEXT(FILBOZSEG_VERSION_PATCH);
 }
 
-/* Sizes: the numbers in a grammar's row, the numbers in a hand's row, the used cells of a chart, the maximum number of bytes of an input,
-   the minimum length of an output, which has two numbers for each of at most 512 nodes of a derivation, the maximum number of bytes of a
-   derivation's text, for which a buffer of this size is always enough, and the maximum number of bytes of a book that loads: 128 rules
-   with years, a name and 8 ranges each, start and end. A longer book may be handed in too, and is refused. */
+/* Sizes: the numbers in a grammar's row, the numbers in a hand's row, the points of a hand, the used cells of a chart, the maximum number
+   of bytes of an input, the minimum length of an output, which has two numbers for each of at most 512 nodes of a derivation, the maximum
+   number of bytes of a derivation's text, for which a buffer of this size is always enough, and the maximum number of bytes of a book that
+   loads: 128 rules with years, a name and 8 ranges each, start and end. A longer book may be handed in too, and is refused. */
 #define FILBOZSEG_ROW 3715
-#define FILBOZSEG_HAND 66
+#define FILBOZSEG_HAND 74
+#define FILBOZSEG_POINTS 8
 #define FILBOZSEG_CELLS 4225
 #define FILBOZSEG_BYTES 64
 #define FILBOZSEG_OUTPUT 1024
@@ -91,6 +92,8 @@ static inline const char *filbozseg_version_text(void)
 #define FILBOZSEG_NAME_STACK (40 * 1024)
 #define FILBOZSEG_OPEN_STACK (48 * 1024)
 #define FILBOZSEG_TAKE_STACK (56 * 1024)
+#define FILBOZSEG_SET_POINT_STACK (24 * 1024)
+#define FILBOZSEG_RETURN_TO_STACK (24 * 1024)
 #define FILBOZSEG_CHECK_STACK (148 * 1024)
 #define FILBOZSEG_LENGTH_STACK (148 * 1024)
 #define FILBOZSEG_WORDS_STACK (152 * 1024)
@@ -120,6 +123,7 @@ enum filbozseg_refusal {
     FILBOZSEG_REFUSAL_RANGE_REVERSED = 16,
     FILBOZSEG_REFUSAL_INVALID_NAME = 17,
     FILBOZSEG_REFUSAL_TEXT_TOO_LONG = 18,
+    FILBOZSEG_REFUSAL_NO_POINT = 19,
     FILBOZSEG_REFUSAL_YEARS_REVERSED = 21
 };
 
@@ -164,7 +168,7 @@ static inline const char *filbozseg_refusal_text(uint32_t refusal)
     case FILBOZSEG_REFUSAL_ONLY_LARGER_TREES:
         return "the input has trees, but none of at most 512 nodes";
     case FILBOZSEG_REFUSAL_INVALID_RECOGNIZER:
-        return "the recognizer's count is over 64, or a byte that it has taken is over 255";
+        return "the recognizer's count is over 64, a byte taken is over 255, or a set point is past its count";
     case FILBOZSEG_REFUSAL_RECOGNIZER_FULL:
         return "the recognizer has taken 64 bytes and takes no more";
     case FILBOZSEG_REFUSAL_RANGE_REVERSED:
@@ -173,6 +177,8 @@ static inline const char *filbozseg_refusal_text(uint32_t refusal)
         return "a name of the book is empty, has a wrong byte, or is that of an earlier rule";
     case FILBOZSEG_REFUSAL_TEXT_TOO_LONG:
         return "the text of the reading is longer than the buffer";
+    case FILBOZSEG_REFUSAL_NO_POINT:
+        return "the name of the point is over 7, or the point to return to is not set";
     case FILBOZSEG_REFUSAL_YEARS_REVERSED:
         return "a rule of the book has its first year over its last";
     default:
@@ -196,9 +202,11 @@ static inline const char *filbozseg_refusal_text(uint32_t refusal)
  * its number is below the number of rules. A place is used if its number is below its rule's number of places. The depth, the lengths, and
  * all numbers of unused rules and unused places may have any value.
  *
- * The row of a hand has numbers of 16 bits: 64 marks, then the count, hand[FILBOZSEG_BYTES], and then the year that it was opened with,
- * hand[FILBOZSEG_BYTES + 1]. It may hold anything too, and all 16 bits of each number are checked. Refusal 14: a count over 64, or a used
- * mark over 255. A mark is used if its number is below the count; other marks and the year may have any value.
+ * The row of a hand has numbers of 16 bits: 64 marks, then the count, hand[FILBOZSEG_BYTES], then the year that it was opened with,
+ * hand[FILBOZSEG_BYTES + 1], and then 8 points, hand[FILBOZSEG_BYTES + 2 + name] with a name from 0 to 7. A point is 0 if it is not set,
+ * else 1 plus the count at which it was set. The row may hold anything too, and all 16 bits of each number are checked. Refusal 14: a count
+ * over 64, a used mark over 255, or a point over 1 plus the count, which is a set point past the count. A mark is used if its number is
+ * below the count; other marks and the year may have any value.
  */
 
 /*
@@ -230,22 +238,46 @@ uint32_t filbozseg_load(const uint8_t *book, size_t book_length, uint16_t gramma
 uint32_t filbozseg_name(const uint8_t *book, size_t book_length, size_t rule, size_t *offset, size_t *length);
 
 /*
- * Opens the recognizer in a year: writes the hand without marks, which is zeros and then the year, clears the first 4225 cells of the chart
- * and writes its first column. Returns whether the empty input is complete. Refusals, in this order: 8 the grammar; 10 a chart of fewer
- * than 4225 cells. If refused, it still writes a hand without marks, with year 0, and leaves the chart as found.
+ * Opens the recognizer in a year: writes the hand without marks and points, which is zeros but for the year, clears the first 4225 cells of
+ * the chart and writes its first column. Returns whether the empty input is complete. Refusals, in this order: 8 the grammar; 10 a chart of
+ * fewer than 4225 cells. If refused, it still writes a hand without marks and points, with year 0, and leaves the chart as found.
  * Stack: FILBOZSEG_OPEN_STACK.
  */
 uint32_t filbozseg_open(const uint16_t grammar[FILBOZSEG_ROW], uint16_t year, uint16_t hand[FILBOZSEG_HAND],
                         uint32_t *chart, size_t chart_length);
 
 /*
- * Takes a byte into the hand: writes the new mark, zeros after it, and a count of one more, keeps the year, and writes the mark's column of
- * the chart. Returns whether the input so far is complete in the hand's year. Refusals, in this order: 8 the grammar; 14 the hand; 10 a
- * chart of fewer than 4225 cells; 15 a hand of 64 marks. If refused, it leaves the hand, whatever it holds, and the chart as found.
+ * Takes a byte into the hand: writes the new mark, zeros after it, and a count of one more, keeps year and points, and writes the mark's
+ * column of the chart. Returns whether the input so far is complete in the hand's year. Refusals, in this order: 8 the grammar; 14 the
+ * hand; 10 a chart of fewer than 4225 cells; 15 a hand of 64 marks. If refused, it leaves the hand, whatever it holds, and the chart as
+ * found.
  * Stack: FILBOZSEG_TAKE_STACK.
  */
 uint32_t filbozseg_take(const uint16_t grammar[FILBOZSEG_ROW], uint16_t hand[FILBOZSEG_HAND], uint8_t byte,
                         uint32_t *chart, size_t chart_length);
+
+/*
+ * Sets the point of this name, 0 to 7, at the hand's count, wherever it was: writes the point and zeros into the unused marks, and keeps
+ * marks, count, year and the other points. It writes no cell. Returns whether the input so far is complete in the hand's year, as the chart
+ * has it. Refusals, in this order: 8 the grammar; 14 the hand; 10 a chart of fewer than 4225 cells; 19 a name over 7. If refused, it leaves
+ * the hand, whatever it holds, as found.
+ * Stack: FILBOZSEG_SET_POINT_STACK.
+ */
+uint32_t filbozseg_set_point(const uint16_t grammar[FILBOZSEG_ROW], uint16_t hand[FILBOZSEG_HAND], size_t name,
+                             const uint32_t *chart, size_t chart_length);
+
+/*
+ * Returns to the point of this name: writes the point's count and zeros into the marks from there on, and keeps the marks before and the
+ * year. Points beyond the count become 0; the others stay as they are, this one too. It writes 0 into the columns of the chart after the
+ * count, up to the last: into the cells 65 * i + j with i <= j and count < j <= 64, and into no other. Returns whether the input that
+ * remains is complete in the hand's year, as the chart has it. Marks, count and chart are then what opening and taking only the marks that
+ * remain would have left, if the hand was opened with this grammar on this chart and nothing but calls on the hand wrote to either.
+ * Refusals, in this order: 8 the grammar; 14 the hand; 10 a chart of fewer than 4225 cells; 19 a name over 7, or a point that is not set.
+ * If refused, it leaves the hand, whatever it holds, and the chart as found.
+ * Stack: FILBOZSEG_RETURN_TO_STACK.
+ */
+uint32_t filbozseg_return_to(const uint16_t grammar[FILBOZSEG_ROW], uint16_t hand[FILBOZSEG_HAND], size_t name,
+                             uint32_t *chart, size_t chart_length);
 
 /*
  * Returns whether the offered row is a derivation of the input in the year: for each node, in preorder, how many bytes it covers and the

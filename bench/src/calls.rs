@@ -6,6 +6,7 @@ use crate::plain::enumerator;
 use crate::plain::flat::{self, FLAT};
 pub use crate::plain::hand::Hand;
 use crate::plain::hand::{self, HAND};
+use crate::plain::recognizer::Recognizer;
 use crate::plain::{checker, loader, names, recognizer, words, Grammar, Refusal, CHART, INPUT};
 use filbozseg::sys;
 
@@ -19,6 +20,8 @@ pub trait Reader {
     fn name(book: &[u8], rule: usize, offset: &mut usize, length: &mut usize) -> u32;
     fn open(flat: &Flat, hand: &mut Hand, chart: &mut [u32]) -> u32;
     fn take(flat: &Flat, hand: &mut Hand, byte: u8, chart: &mut [u32]) -> u32;
+    fn set_point(flat: &Flat, hand: &mut Hand, name: usize, chart: &[u32]) -> u32;
+    fn return_to(flat: &Flat, hand: &mut Hand, name: usize, chart: &mut [u32]) -> u32;
     fn check(flat: &Flat, input: &[u8], offered: &[u16], chart: &mut [u32]) -> u32;
     fn length(flat: &Flat, input: &[u8], offered: &[u16], chart: &mut [u32], tenths: &mut i32) -> u32;
     fn words(flat: &Flat, input: &[u8], offered: &[u16], chart: &mut [u32], text: &mut [u8], bytes: &mut usize) -> u32;
@@ -57,6 +60,14 @@ impl Reader for Proved {
 
     fn take(flat: &Flat, hand: &mut Hand, byte: u8, chart: &mut [u32]) -> u32 {
         unsafe { sys::filbozseg_take(flat, hand, byte, chart.as_mut_ptr(), chart.len()) }
+    }
+
+    fn set_point(flat: &Flat, hand: &mut Hand, name: usize, chart: &[u32]) -> u32 {
+        unsafe { sys::filbozseg_set_point(flat, hand, name, chart.as_ptr(), chart.len()) }
+    }
+
+    fn return_to(flat: &Flat, hand: &mut Hand, name: usize, chart: &mut [u32]) -> u32 {
+        unsafe { sys::filbozseg_return_to(flat, hand, name, chart.as_mut_ptr(), chart.len()) }
     }
 
     fn check(flat: &Flat, input: &[u8], offered: &[u16], chart: &mut [u32]) -> u32 {
@@ -120,6 +131,16 @@ fn written(answer: Result<Option<usize>, Refusal>, none: u32, number: &mut usize
     }
 }
 
+/// A call on the hand of a row, which a refused call leaves as found.
+fn moved(hand: &mut Hand, call: impl FnOnce(&mut Recognizer) -> Result<bool, Refusal>) -> u32 {
+    let mut state = hand::read(hand);
+    let answer = call(&mut state);
+    if answer.is_ok() {
+        hand::write(&state, hand);
+    }
+    code(answer)
+}
+
 impl Reader for Plain {
     fn load(book: &[u8], flat: &mut Flat, offset: &mut usize) -> u32 {
         match loader::load(book) {
@@ -149,12 +170,15 @@ impl Reader for Plain {
     }
 
     fn take(flat: &Flat, hand: &mut Hand, byte: u8, chart: &mut [u32]) -> u32 {
-        let mut state = hand::read(hand);
-        let answer = state.take(&flat::read(flat), byte, chart);
-        if answer.is_ok() {
-            hand::write(&state, hand);
-        }
-        code(answer)
+        moved(hand, |state| state.take(&flat::read(flat), byte, chart))
+    }
+
+    fn set_point(flat: &Flat, hand: &mut Hand, name: usize, chart: &[u32]) -> u32 {
+        moved(hand, |state| state.set_point(&flat::read(flat), name, chart))
+    }
+
+    fn return_to(flat: &Flat, hand: &mut Hand, name: usize, chart: &mut [u32]) -> u32 {
+        moved(hand, |state| state.return_to(&flat::read(flat), name, chart))
     }
 
     fn check(flat: &Flat, input: &[u8], offered: &[u16], chart: &mut [u32]) -> u32 {

@@ -6,6 +6,7 @@ mod calls;
 mod firsts;
 mod named;
 mod nexts;
+mod points;
 mod program;
 mod spans;
 mod timing;
@@ -233,7 +234,7 @@ fn overheads(list: &[Case]) {
     );
     let empty = Case { name: "10 00 50", flat: loaded(&[0x10, 0, 0x50]), input: vec![] };
     for c in [&empty, &list[0], &list[2]] {
-        let mut h: Hand = [65; 66];
+        let mut h: Hand = [65; 74]; // each point is at the count
         h[64] = 64;
         let mut k = h;
         let (mut x, mut y) = (chart(), chart());
@@ -393,7 +394,7 @@ fn sweep(count: usize) {
 fn main() {
     let count = std::env::args()
         .nth(1)
-        .map_or(200, |n| n.parse().expect("usage: bench [BOOKS IN THE SWEEP [first|next|names|program|spans]]"));
+        .map_or(200, |n| n.parse().expect("usage: bench [BOOKS IN THE SWEEP [first|next|names|points|program|spans]]"));
     println!(
         "The proved library (C functions of libfilbozseg.a) compared with the same algorithms in plain Rust. Load average {}.",
         load_average()
@@ -410,6 +411,9 @@ fn main() {
     if only.as_deref() == Some("names") {
         return named::names();
     }
+    if only.as_deref() == Some("points") {
+        return points::points();
+    }
     if only.as_deref() == Some("program") {
         return program::program();
     }
@@ -425,6 +429,7 @@ fn main() {
     overheads(&list);
     checks();
     named::names();
+    points::points();
     firsts::firsts(count / 10);
     nexts::nexts(count);
     program::program();

@@ -10,6 +10,7 @@ pub mod listing;
 pub mod loader;
 pub mod names;
 pub mod packed;
+pub mod points;
 pub mod recognizer;
 pub mod spans;
 pub mod tables;

@@ -20,10 +20,11 @@
 //! # }
 //! ```
 //!
-//! Each of the functions [`load`], [`name`], [`open`], [`Recognizer::take`], [`check`], [`length`], [`words`], [`same_build`], [`first`],
-//! [`next`] and [`count`] calls one function of the static library, which is proved to meet its contract, and turns its code into a result.
-//! They use the memory that the caller lends and allocate nothing; only `load` allocates the grammar. [`Grammar::readings`] and
-//! [`Grammar::reading`] are built on them and allocate what they need. [`sys`] has the functions of the static library themselves.
+//! Each of the functions [`load`], [`name`], [`open`], [`Recognizer::take`], [`Recognizer::set_point`], [`Recognizer::return_to`],
+//! [`check`], [`length`], [`words`], [`same_build`], [`first`], [`next`] and [`count`] calls one function of the static library, which is
+//! proved to meet its contract, and turns its code into a result. They use the memory that the caller lends and allocate nothing; only
+//! `load` allocates the grammar. [`Grammar::readings`] and [`Grammar::reading`] are built on them and allocate what they need. [`sys`] has
+//! the functions of the static library themselves.
 //!
 //! # Years
 //!
@@ -35,6 +36,11 @@
 //!
 //! A rule may have a [name](Rule::name). [`words`] and [`Reading::words`] write a reading with the names of its rules, such as
 //! `BODY(#001(),PORT(=41))`, and [`name`] finds the name of a rule in the bytes of the book itself.
+//!
+//! # Points
+//!
+//! A recognizer keeps up to eight points, each with a name from 0 to 7. [`Recognizer::set_point`] sets one at the count, and
+//! [`Recognizer::return_to`] goes back there: what was taken after it is gone, as if it had not been taken.
 //!
 //! # Terms
 //!
@@ -102,8 +108,11 @@ pub const BOOK: usize = 5251;
 /// How many bytes of stack [`first`], [`next`] and [`count`] need at most, and so the iterator over readings.
 pub const STACK: usize = 1900 * 1024;
 
-/// How many numbers the row of a recognizer has: its bytes, then their count, and then its year.
-pub const HAND: usize = BYTES + 2;
+/// How many points a recognizer has. Their names are the numbers below this.
+pub const POINTS: usize = 8;
+
+/// How many numbers the row of a recognizer has: its bytes, then their count, then its year, and then its points.
+pub const HAND: usize = BYTES + 2 + POINTS;
 
 // What a row or a hand holds before the library writes it. A row or a hand of such numbers is refused (8, 14), so one that the library
 // fails to write is never mistaken for a result.

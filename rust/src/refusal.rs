@@ -40,7 +40,7 @@ pub enum Refusal {
     NotADerivation,
     /// The input has trees, but none of at most 512 nodes.
     OnlyLargerTrees,
-    /// The recognizer's count is over 64, or a byte that it has taken is over 255.
+    /// The recognizer's count is over 64, a byte taken is over 255, or a set point is past its count.
     InvalidRecognizer,
     /// The recognizer has taken 64 bytes.
     RecognizerFull,
@@ -50,6 +50,8 @@ pub enum Refusal {
     InvalidName,
     /// The text of the derivation is longer than the buffer.
     TextTooLong,
+    /// The name of the point is over 7, or the point to return to is not set.
+    NoPoint,
     /// A rule of the book has its first year over its last.
     YearsReversed,
     /// A refusal that this version of the crate does not know, with its number: the library that is linked is a later one. The crate never
@@ -67,7 +69,7 @@ use Refusal::*;
 const REFUSED: u32 = 256;
 
 impl Refusal {
-    /// All refusals that have a name, in the order of their numbers, which are 1 to 16, and 21.
+    /// All refusals that have a name, in the order of their numbers, which are 1 to 19, and 21.
     pub const ALL: &'static [Refusal] = &[
         UnexpectedEnd,
         UnknownCommand,
@@ -87,6 +89,7 @@ impl Refusal {
         RangeReversed,
         InvalidName,
         TextTooLong,
+        NoPoint,
         YearsReversed,
     ];
 
@@ -111,6 +114,7 @@ impl Refusal {
             RangeReversed => 16,
             InvalidName => 17,
             TextTooLong => 18,
+            NoPoint => 19,
             YearsReversed => 21,
             Unknown { number } => number,
         }
@@ -158,11 +162,14 @@ impl Refusal {
             OutputTooShort => "the output has fewer than 1,024 numbers",
             NotADerivation => "what is offered is no reading of the input",
             OnlyLargerTrees => "the input has trees, but none of at most 512 nodes",
-            InvalidRecognizer => "the recognizer's count is over 64, or a byte that it has taken is over 255",
+            InvalidRecognizer => {
+                "the recognizer's count is over 64, a byte taken is over 255, or a set point is past its count"
+            }
             RecognizerFull => "the recognizer has taken 64 bytes and takes no more",
             RangeReversed => "a range of the book has its low end over its high end",
             InvalidName => "a name of the book is empty, has a wrong byte, or is that of an earlier rule",
             TextTooLong => "the text of the reading is longer than the buffer",
+            NoPoint => "the name of the point is over 7, or the point to return to is not set",
             YearsReversed => "a rule of the book has its first year over its last",
             Unknown { .. } => "a refusal that this version does not know",
         }

@@ -39,6 +39,24 @@ extern "C" {
         chart_length: usize,
     ) -> u32;
 
+    /// Sets a point of the hand: see [`crate::Recognizer::set_point`].
+    pub fn filbozseg_set_point(
+        grammar: *const [u16; ROW],
+        hand: *mut [u16; HAND],
+        name: usize,
+        chart: *const u32,
+        chart_length: usize,
+    ) -> u32;
+
+    /// Returns to a point of the hand: see [`crate::Recognizer::return_to`].
+    pub fn filbozseg_return_to(
+        grammar: *const [u16; ROW],
+        hand: *mut [u16; HAND],
+        name: usize,
+        chart: *mut u32,
+        chart_length: usize,
+    ) -> u32;
+
     /// Whether the offered row is a derivation of the input: see [`crate::check`].
     pub fn filbozseg_check(
         grammar: *const [u16; ROW],

@@ -90,16 +90,17 @@ fn an_opening_leaves_no_bytes_also_where_it_is_refused() {
     assert_eq!(chart, self::chart());
     let (opened, complete) = open(&grammar, YEAR, &mut chart);
     assert_eq!((complete, opened.count(), opened.bytes(), opened.year()), (Ok(true), 0, &[][..], YEAR));
-    assert!(opened.row()[..HAND - 1].iter().all(|&number| number == 0));
+    assert!(opened.row().iter().enumerate().all(|(at, &number)| number == 0 || at == BYTES + 1));
     for ((r, answer), refusal) in refused {
         assert_eq!((r.row(), answer), (&[0; HAND], Err(refusal)));
     }
 }
 
-/// A recognizer whose bytes are all nine, with this count.
+/// A recognizer whose bytes are all nine, with this count and no point set.
 fn nines(count: u16) -> Recognizer {
     let mut row = [9; HAND];
     row[BYTES] = count;
+    row[BYTES + 2..].fill(0);
     Recognizer::from_row(&row)
 }
 
@@ -286,13 +287,13 @@ fn derivations_are_counted_up_to_4096() {
 
 #[test]
 fn refusals_numbers_and_codes_agree() {
-    for (number, &refusal) in (1..=18).chain([21]).zip(Refusal::ALL) {
+    for (number, &refusal) in (1..=19).chain([21]).zip(Refusal::ALL) {
         assert_eq!((refusal.number(), Refusal::of_number(number)), (number, Some(refusal)));
         let code = 256 + u32::from(number);
         assert_eq!((refusal.code(), Refusal::of_code(code)), (code, Some(refusal)));
     }
-    assert_eq!(Refusal::ALL.len(), 19);
-    assert!([0, 19, 20, 22, 255].iter().all(|&number| Refusal::of_number(number).is_none()));
+    assert_eq!(Refusal::ALL.len(), 20);
+    assert!([0, 20, 22, 255].iter().all(|&number| Refusal::of_number(number).is_none()));
     let codes = [0, 1, 2, 255, 256, 512, 513, u32::MAX];
     assert!(codes.iter().all(|&code| Refusal::of_code(code).is_none()));
 }

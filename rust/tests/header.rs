@@ -1,5 +1,5 @@
 //! The C header and the wrapper have the same version, sizes, refusals and functions.
-use filbozseg::{Refusal, BOOK, BYTES, CELLS, HAND, OUTPUT, ROW, STACK, TEXT};
+use filbozseg::{Refusal, BOOK, BYTES, CELLS, HAND, OUTPUT, POINTS, ROW, STACK, TEXT};
 
 const HEADER: &str = include_str!("../../include/filbozseg.h");
 
@@ -17,8 +17,8 @@ fn the_version_is_that_of_the_crate() {
 
 #[test]
 fn the_sizes_are_those_of_the_crate() {
-    let sizes = ["ROW", "HAND", "CELLS", "BYTES", "OUTPUT", "TEXT", "BOOK"].map(defined);
-    assert_eq!(sizes, [ROW, HAND, CELLS, BYTES, OUTPUT, TEXT, BOOK]);
+    let sizes = ["ROW", "HAND", "POINTS", "CELLS", "BYTES", "OUTPUT", "TEXT", "BOOK"].map(defined);
+    assert_eq!(sizes, [ROW, HAND, POINTS, CELLS, BYTES, OUTPUT, TEXT, BOOK]);
 }
 
 #[test]
@@ -87,7 +87,7 @@ fn in_rust(parameter: &str) -> String {
 fn the_functions_are_those_of_the_crate() {
     let header = functions(HEADER, "\nuint32_t filbozseg_");
     let wrapper = functions(include_str!("../src/sys.rs"), "pub fn filbozseg_");
-    assert_eq!(header.len(), 11);
+    assert_eq!(header.len(), 13);
     let header: Vec<_> = header
         .into_iter()
         .map(|(name, list)| (name, list.split(", ").map(in_rust).collect::<Vec<_>>().join(", ")))

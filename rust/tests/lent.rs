@@ -11,6 +11,8 @@ fn slices_of_no_length_are_judged_as_any() {
     assert_eq!(load(b"").map_err(|fault| (fault.refusal.number(), fault.offset)), Err((1, 0)));
     assert_eq!(open(&t, YEAR, &mut []).1, Err(Refusal::ChartTooShort));
     assert_eq!(open(&t, YEAR, &mut chart).0.take(&t, b'A', &mut []), Err(Refusal::ChartTooShort));
+    assert_eq!(open(&t, YEAR, &mut chart).0.set_point(&t, 8, &[]), Err(Refusal::ChartTooShort));
+    assert_eq!(open(&t, YEAR, &mut chart).0.return_to(&t, 8, &mut []), Err(Refusal::ChartTooShort));
     chart.fill(7);
     for input in [&b""[..], b"A"] {
         let refusal = Refusal::ChartTooShort;
@@ -61,8 +63,12 @@ fn said(grammar: &Grammar, input: &[u8]) -> String {
     let (mut chart, mut text) = (vec![0; CELLS], String::new());
     let (mut recognizer, complete) = open(grammar, YEAR, &mut chart);
     text += &format!("{complete:?}");
-    for &byte in input {
+    for (name, &byte) in input.iter().enumerate() {
+        text += &format!(" {:?}", recognizer.set_point(grammar, name, &chart));
         text += &format!(" {:?}", recognizer.take(grammar, byte, &mut chart));
+    }
+    for name in (0..=POINTS).rev() {
+        text += &format!(" {:?} {recognizer:?}", recognizer.return_to(grammar, name, &mut chart));
     }
     let mut last = Vec::new();
     for item in grammar.readings(input, YEAR).take(200) {

@@ -9,6 +9,7 @@ mod lent;
 mod loads;
 mod names;
 mod nexts;
+mod points;
 mod refusals;
 mod rows;
 mod searches;
@@ -21,6 +22,7 @@ mod years;
 pub use copies::compare_copies;
 pub use lent::{rubbish, Counts, Lent};
 pub use nexts::compare_boundary;
+pub use points::run_list;
 pub use searches::compare_searches;
 pub use walks::play_book;
 pub use years::{compare_year_files, YEAR_FILES};
@@ -75,7 +77,8 @@ impl Comparison<'_> {
             self.input(&flat, input, year).map_err(said)?;
             self.other_years(&flat, input, year, &book.years)?;
         }
-        self.searches(&flat)
+        self.searches(&flat)?;
+        self.points(&flat, &book.inputs, &book.years)
     }
 
     /// Counts what came up with an input. What comes up with the empty input is also counted by itself.

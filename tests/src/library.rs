@@ -123,6 +123,19 @@ impl Reader for Library {
         }))
     }
 
+    fn set_point(&self, grammar: &FlatGrammar, hand: &mut Hand, name: usize, chart: &mut [u32]) -> Answer {
+        // the pointer comes from one for writing, so that a write would show in the chart
+        said(lend(hand, |hand| unsafe {
+            sys::filbozseg_set_point(grammar, hand, name, chart.as_mut_ptr(), chart.len())
+        }))
+    }
+
+    fn return_to(&self, grammar: &FlatGrammar, hand: &mut Hand, name: usize, chart: &mut [u32]) -> Answer {
+        said(lend(hand, |hand| unsafe {
+            sys::filbozseg_return_to(grammar, hand, name, chart.as_mut_ptr(), chart.len())
+        }))
+    }
+
     fn check(&self, grammar: &FlatGrammar, input: &[u8], year: u16, offered: &[u16], chart: &mut [u32]) -> Answer {
         wrapped(filbozseg::check(&Grammar::from_row(grammar), input, year, offered, chart))
     }

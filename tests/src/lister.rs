@@ -1,4 +1,4 @@
-//! The simple reference, written from document 01 and requests U1 to U5, U9 and U13 of document 02 alone: explicit
+//! The simple reference, written from document 01 and requests U1 to U7, U9 and U13 of document 02 alone: explicit
 //! trees, the definitions word by word, no cleverness.
 //! As a `Reader` it can be the code under test. Read each `fault(..)` as "no": only tests/faults.rs compiles these
 //! files with faults that can be switched on.
@@ -10,6 +10,7 @@ pub mod hand;
 pub mod listing;
 pub mod names;
 pub mod parse;
+pub mod points;
 pub mod search;
 pub mod trees;
 pub mod walk;
@@ -169,9 +170,17 @@ impl Reader for Lister {
         }
         marks.push(terminal);
         let grammar = grammar.in_year(if fault(Fault::TakeByYear0) { 0 } else { hand[YEAR] });
-        *hand = hand::of(&marks, hand[YEAR]);
+        *hand = hand::keeping(&marks, hand);
         chart::fill_column(&grammar, &marks, chart);
         complete(&grammar, chart, marks.len())
+    }
+
+    fn set_point(&self, flat: &FlatGrammar, hand: &mut Hand, name: usize, chart: &mut [u32]) -> Answer {
+        points::set(flat, hand, name, chart)
+    }
+
+    fn return_to(&self, flat: &FlatGrammar, hand: &mut Hand, name: usize, chart: &mut [u32]) -> Answer {
+        points::return_to(flat, hand, name, chart)
     }
 
     fn check(&self, flat: &FlatGrammar, input: &[u8], year: u16, offered: &[u16], chart: &mut [u32]) -> Answer {

@@ -19,9 +19,12 @@ pub const CELLS: usize = 65 * 65;
 pub const OUTPUT: usize = 1024;
 /// The most terminals an input may have (document 01: marks of a plate).
 pub const INPUT: usize = 64;
-/// Numbers of a hand's row, and where the year is in it.
-pub const HAND: usize = INPUT + 2;
+/// Points of a hand: their names are the numbers below this.
+pub const POINTS: usize = 8;
+/// Numbers of a hand's row, where the year is in it, and where the points begin.
+pub const HAND: usize = INPUT + 2 + POINTS;
 pub const YEAR: usize = INPUT + 1;
+pub const FIRST_POINT: usize = YEAR + 1;
 
 /// A grammar (loaded book) as a flat row that can hold every value: start, rules
 /// used, nullable depth (blank depth), then for each of 128 rule records: left
@@ -37,7 +40,8 @@ pub fn record(rule: usize) -> usize {
 }
 
 /// A recognizer's state (document 01: plate in hand) as a row that can hold
-/// every value: 64 marks, then how many of them are used, then the year.
+/// every value: 64 marks, then how many of them are used, then the year, then 8
+/// points: each 0 if it is not set, else 1 plus the count at which it was set.
 pub type Hand = [u16; HAND];
 
 /// What a call answers.
@@ -63,7 +67,7 @@ pub enum Answer {
     Bytes(usize),
 }
 
-/// The code under test. Each call on an input is given the year in which it is read; take goes by the year of the hand.
+/// The code under test. Each call on an input is given the year in which it is read; one on a hand goes by the hand's.
 /// What is lent for writing may hold anything before a call. What it holds afterwards is a result too, like the answer.
 ///
 /// A reader over another one, its `inner`, has only the calls in which the two differ. All other calls go to the inner
@@ -84,7 +88,7 @@ pub trait Reader {
         self.inner().load(book, grammar, offset)
     }
 
-    /// Always writes the hand, which keeps the year.
+    /// Always writes the hand, which keeps the year and has no point set.
     fn open(&self, grammar: &FlatGrammar, year: u16, hand: &mut Hand, chart: &mut [u32]) -> Answer {
         self.inner().open(grammar, year, hand, chart)
     }
@@ -92,6 +96,16 @@ pub trait Reader {
     /// Leaves the hand as found with a refusal.
     fn take(&self, grammar: &FlatGrammar, hand: &mut Hand, terminal: u8, chart: &mut [u32]) -> Answer {
         self.inner().take(grammar, hand, terminal, chart)
+    }
+
+    /// Leaves the hand as found with a refusal, and the chart always. It is lent for writing so that a fault can show.
+    fn set_point(&self, grammar: &FlatGrammar, hand: &mut Hand, name: usize, chart: &mut [u32]) -> Answer {
+        self.inner().set_point(grammar, hand, name, chart)
+    }
+
+    /// Leaves hand and chart as found with a refusal.
+    fn return_to(&self, grammar: &FlatGrammar, hand: &mut Hand, name: usize, chart: &mut [u32]) -> Answer {
+        self.inner().return_to(grammar, hand, name, chart)
     }
 
     fn check(&self, grammar: &FlatGrammar, input: &[u8], year: u16, offered: &[u16], chart: &mut [u32]) -> Answer {

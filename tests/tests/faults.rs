@@ -15,7 +15,7 @@ use faulty::switches::{self, switch_on, Fault};
 use faulty::Faulty;
 use outside_tests::books::book;
 use outside_tests::compare::{
-    compare_book, compare_boundary, compare_copies, compare_searches, compare_year_files, play_book, Counts,
+    compare_book, compare_boundary, compare_copies, compare_searches, compare_year_files, play_book, run_list, Counts,
 };
 use outside_tests::reader::{self, Reader};
 use std::sync::atomic::{AtomicUsize, Ordering};
@@ -67,7 +67,7 @@ fn all_caught<T: Sync>(cases: &[(String, T)], try_one: impl Fn(&T) -> Option<(u6
 #[test]
 fn every_fault_is_caught() {
     let faults: Vec<(String, Fault)> = Fault::ALL.iter().map(|fault| (format!("{fault:?}"), *fault)).collect();
-    assert!(faults.len() >= 285);
+    assert!(faults.len() >= 345);
     all_caught(&faults, |fault| {
         switch_on(Some(*fault));
         caught(&Faulty::default())
@@ -133,6 +133,60 @@ fn the_walk_alone_catches_what_it_has_to() {
         let reader = Faulty::default();
         (0..WITHIN).find_map(|seed| {
             let difference = play_book(&reader, &book(seed), seed, 16, &mut Counts::default());
+            difference.err().map(|text| (seed, text))
+        })
+    });
+}
+
+/// The faults that a list of operations must show by itself: by opening again and taking what remains.
+#[test]
+fn the_lists_alone_catch_what_they_have_to() {
+    let faults = [
+        Fault::NameByItsLowByte,
+        Fault::NameByIts32Bits,
+        Fault::NameSevenRefused,
+        Fault::Name8Accepted,
+        Fault::ReturnToName8,
+        Fault::PointAtTheCountRefused,
+        Fault::OnlySetPointsMoved,
+        Fault::SetPointsStay,
+        Fault::SetOnePastTheCount,
+        Fault::SetOneBeforeTheCount,
+        Fault::SetAgainDoesNotMove,
+        Fault::SetSaysNo,
+        Fault::SetSaysOfOneMarkLess,
+        Fault::SetKeepsUnusedMarks,
+        Fault::SetForgetsTheYear,
+        Fault::SetDropsAnotherPoint,
+        Fault::SetClearsItsColumn,
+        Fault::ReturnToAnUnsetPoint,
+        Fault::UnsetPointLeavesAll,
+        Fault::PointAtNoMarksUnset,
+        Fault::PointsBeyondKept,
+        Fault::NextPointKept,
+        Fault::TargetDropped,
+        Fault::PointsAtTheTargetDropped,
+        Fault::AllOtherPointsDropped,
+        Fault::ClearedFromTheOwnColumn,
+        Fault::FirstColumnSpared,
+        Fault::Column64Spared,
+        Fault::WholeSpansSpared,
+        Fault::DiagonalSpared,
+        Fault::ClearsBehindTheCells,
+        Fault::ReturnSaysAsBefore,
+        Fault::ReturnSaysNo,
+        Fault::ReturnKeepsTheCount,
+        Fault::ReturnKeepsTheMarksBeyond,
+        Fault::ReturnForgetsTheYear,
+        Fault::TakeForgetsThePoints,
+        Fault::TakeDropsThePointAtTheCount,
+        Fault::TakeMovesThePointAtTheCount,
+    ];
+    all_caught(&faults.map(|fault| (format!("{fault:?}"), fault)), |fault| {
+        switch_on(Some(*fault));
+        let reader = Faulty::default();
+        (0..WITHIN).find_map(|seed| {
+            let difference = run_list(&reader, &book(seed), seed, &mut Counts::default());
             difference.err().map(|text| (seed, text))
         })
     });

@@ -10,7 +10,7 @@ use calls::{book, check, check_in, complete_in, count_in, fault, first_in, lengt
 use outside_tests::books::{filled, Draft, Rng, Sym};
 use outside_tests::compare::rubbish;
 use outside_tests::lister::walk::Given;
-use outside_tests::reader::{record, Answer, Reader, CELLS, FLAT, HAND, INPUT, NAME, YEAR, YEARS};
+use outside_tests::reader::{record, Answer, Reader, CELLS, FIRST_POINT, FLAT, HAND, INPUT, NAME, YEAR, YEARS};
 use outside_tests::reader_under_test;
 use plates::plate_in;
 
@@ -198,7 +198,8 @@ fn hands_of_two_years() {
     let mut hands = [1997, 1998, 2008, 0, 65_535].map(|year| (year, [9; HAND], rubbish(&mut Rng::new(21), CELLS)));
     for (year, hand, chart) in &mut hands {
         assert_eq!(reader.open(&flat, *year, hand, chart.part_mut()), Answer::No);
-        assert_eq!((hand[..YEAR].iter().all(|number| *number == 0), hand[YEAR]), (true, *year));
+        let zeros = |row: &[u16]| row.iter().all(|number| *number == 0);
+        assert!(zeros(&hand[..YEAR]) && hand[YEAR] == *year && zeros(&hand[FIRST_POINT..]));
     }
     for (year, hand, chart) in &mut hands {
         let due = if *year < 1998 { Answer::No } else { Answer::Yes };
@@ -216,6 +217,7 @@ fn hands_of_two_years() {
     for (count, cells, due) in [(65, CELLS, 14), (3, CELLS - 1, 10), (64, CELLS, 15)] {
         let mut hand = [9; HAND];
         (hand[INPUT], hand[YEAR]) = (count, 0xABCD);
+        hand[FIRST_POINT..].fill(0);
         let found = hand;
         assert_eq!(reader.take(&flat, &mut hand, b'A', &mut vec![0; cells]), Answer::Refused(due));
         assert_eq!(hand, found);

@@ -11,7 +11,7 @@ fn opened(row: &[u16; FLAT], at: usize, number: u16) -> u32 {
     let (mut h, mut k, mut x, mut y) = (hand(), hand(), chart(), chart());
     let code = Proved::open(&row, &mut h, &mut x);
     assert_eq!(code, Plain::open(&row, &mut k, &mut y), "{number} at {at}");
-    assert!(h == k && h == [0; 66] && x == y, "{number} at {at}");
+    assert!(h == k && h == [0; 74] && x == y, "{number} at {at}");
     code
 }
 
@@ -48,9 +48,10 @@ fn both_sides_judge_the_numbers_of_a_row_whole() {
 fn both_sides_judge_a_hand_whole_and_leave_a_refused_one() {
     let (mut row, mut offset) = ([9; FLAT], 9);
     assert_eq!(Proved::load(b"\x10\x00\x50", &mut row, &mut offset), 1);
-    let of = |count: u16, at: usize, mark: u16| {
-        let mut hand = [7; 66];
-        (hand[at], hand[64]) = (mark, count);
+    let of = |count: u16, at: usize, number: u16| {
+        let mut hand = [7; 74];
+        hand[66..].fill(0);
+        (hand[64], hand[at]) = (count, number);
         hand
     };
     let cases = [
@@ -58,15 +59,55 @@ fn both_sides_judge_a_hand_whole_and_leave_a_refused_one() {
         (of(256 + 3, 0, 7), Refusal::InvalidRecognizer.code()),
         (of(3, 2, 256), Refusal::InvalidRecognizer.code()),
         (of(64, 63, u16::MAX), Refusal::InvalidRecognizer.code()),
+        (of(3, 66, 5), Refusal::InvalidRecognizer.code()),
+        (of(3, 73, 256), Refusal::InvalidRecognizer.code()),
+        (of(64, 70, 66), Refusal::InvalidRecognizer.code()),
+        (of(64, 70, u16::MAX), Refusal::InvalidRecognizer.code()),
         (of(64, 0, 7), Refusal::RecognizerFull.code()),
+        (of(64, 73, 65), Refusal::RecognizerFull.code()),
         (of(3, 3, u16::MAX), 0),
+        (of(3, 66, 4), 0),
     ];
     for (found, code) in cases {
         let (mut h, mut k, mut x, mut y) = (found, found, chart(), chart());
         assert_eq!(Proved::take(&row, &mut h, 65, &mut x), code, "{found:?}");
         assert_eq!(Plain::take(&row, &mut k, 65, &mut y), code, "{found:?}");
         assert!(h == k && x == y && (code == 0) == (h != found), "{found:?}");
+        for name in [0, 4, 7, 8, usize::MAX] {
+            let (mut h, mut k, mut x, mut y) = (found, found, chart(), chart());
+            assert_eq!(Proved::return_to(&row, &mut h, name, &mut x), Plain::return_to(&row, &mut k, name, &mut y));
+            assert!(h == k && x == y, "{found:?}, return to {name}");
+            assert_eq!(Proved::set_point(&row, &mut h, name, &x), Plain::set_point(&row, &mut k, name, &y));
+            assert!(h == k, "{found:?}, set {name}");
+        }
     }
+}
+
+#[test]
+fn both_sides_go_back_to_the_same_points() {
+    let (mut random, mut seen) = (Random::new(15), [[0; 2]; 3]); // take, set and return, each let through or refused
+    for number in 0..8 {
+        let (book, input) = random_book(&mut random, number);
+        let (mut row, mut offset) = ([9; FLAT], 9);
+        assert_eq!(Proved::load(&book, &mut row, &mut offset), 1);
+        let (mut h, mut k, mut x, mut y) = (hand(), hand(), chart(), chart());
+        assert_eq!(Proved::open(&row, &mut h, &mut x), Plain::open(&row, &mut k, &mut y));
+        for _ in 0..200 {
+            let (which, name) = ([0, 0, 0, 0, 0, 0, 1, 2][random.below(8)], random.below(9));
+            let (a, b) = match which {
+                0 => {
+                    let byte = input[usize::from(h[64]) % 64];
+                    (Proved::take(&row, &mut h, byte, &mut x), Plain::take(&row, &mut k, byte, &mut y))
+                }
+                1 => (Proved::set_point(&row, &mut h, name, &x), Plain::set_point(&row, &mut k, name, &y)),
+                _ => (Proved::return_to(&row, &mut h, name, &mut x), Plain::return_to(&row, &mut k, name, &mut y)),
+            };
+            assert_eq!(a, b);
+            assert!(h == k && x == y);
+            seen[which][usize::from(a > 255)] += 1;
+        }
+    }
+    assert!(seen.iter().flatten().all(|&times| times > 30), "{seen:?}");
 }
 
 /// A random book of full size, every second time with ranges.

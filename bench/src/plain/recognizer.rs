@@ -4,6 +4,7 @@
 //! rules up to the last one in use, which each column looks for, as the proved code does.
 
 use super::packed::{contains, Packed, Rule};
+use super::points::POINTS;
 use super::{Grammar, Refusal, CHART, INPUT, RULES};
 
 type Flags = [[u32; RULES]; INPUT + 1];
@@ -132,15 +133,22 @@ pub struct Recognizer {
     pub bytes: [u8; INPUT],
     pub count: usize,
     pub year: u16,
+    /// 0 if not set, else 1 plus the count at which it was set.
+    pub points: [u8; POINTS],
 }
 
 impl Recognizer {
+    /// Check 14.
+    pub fn valid(&self) -> bool {
+        self.count <= INPUT && self.points.iter().all(|&point| usize::from(point) <= self.count + 1)
+    }
+
     /// Returns whether the input is complete. If refused, it leaves everything as it was.
     pub fn take(&mut self, g: &Grammar, byte: u8, chart: &mut [u32]) -> Result<bool, Refusal> {
         if !g.valid() {
             return Err(Refusal::InvalidGrammar);
         }
-        if self.count > INPUT {
+        if !self.valid() {
             return Err(Refusal::InvalidRecognizer);
         }
         if chart.len() < CHART {

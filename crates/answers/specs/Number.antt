@@ -23,4 +23,5 @@ numberOf R.RecognizerFull = 15
 numberOf R.RangeReversed = 16
 numberOf R.InvalidName = 17
 numberOf R.TextTooLong = 18
+numberOf R.NoPoint = 19
 numberOf R.YearsReversed = 21

@@ -22,6 +22,7 @@ pub enum Refusal {
     RangeReversed,
     InvalidName,
     TextTooLong,
+    NoPoint,
     YearsReversed,
 }
 
@@ -31,7 +32,7 @@ pub enum Outcome {
     Refused(Refusal, usize),
 }
 
-// Opening, taking, check and same build: yes, no, or why the call was refused.
+// Opening, taking, setting a point, returning to it, check and same build: yes, no, or why the call was refused.
 pub enum Verdict {
     Yes,
     No,
@@ -87,6 +88,7 @@ pub fn number(r: Refusal) -> u8
         Refusal::RangeReversed => 16,
         Refusal::InvalidName => 17,
         Refusal::TextTooLong => 18,
+        Refusal::NoPoint => 19,
         Refusal::YearsReversed => 21,
     }
 }

@@ -1,8 +1,8 @@
--- The count of a row: the used numbers are tested one after the other. Assumes nothing.
+-- Whether the used numbers of a row are bytes: they are tested one after the other. Assumes nothing.
 use Prim.Native.Nat.{ℕ, _+_, _≤_, _<_, min}
 use native.Mathlib.Decide.{decLe}
 use native.Mathlib.Omega.{arith}
-use mathlib.Core.Bool.{true}
+use mathlib.Core.Bool.{true, false}
 use mathlib.Core.List.{List}
 use mathlib.Core.Logic.{dite}
 use mathlib.Core.Path.{_≡_, refl, sym, ap, _∙_}
@@ -12,7 +12,7 @@ use borrow.Author.Tests.{le-leb, lt-leb}
 use Rattle.sizes.specs.Sizes.{maxInput}
 use Rattle.grammar.specs.Valid.{all}
 use Rattle.grammar.proofs.All.{all-more, all-refuses}
-use Rattle.c_hand.specs.Hand.{isByte, invalidCount, handCount}
+use Rattle.c_hand.specs.Hand.{isByte, usedBytes}
 
 module _ (h : List ℕ) where
   pub count-first : all isByte (take 0 h) ≡ true
@@ -41,14 +41,14 @@ module _ (h : List ℕ) where
     used-is = ap (λ (x : ℕ). take x (take maxInput h)) (sym count) ∙ used-first n ∙ ap (λ (x : ℕ). take x h) (sym first)
 
     -- a used number that is no byte
-    pub count-refused : i < m → 255 < getD h i 0 → invalidCount ≡ handCount h
-    unfolding handCount
+    pub count-refused : i < m → 255 < getD h i 0 → false ≡ usedBytes h
+    unfolding usedBytes
     count-refused k t =
         rw (used-is, all-refuses isByte 0 refl h m i k (lt-leb (getD h i 0) 255 t))
 
     -- each used number is a byte
-    pub count-passed : i ≤ m → m ≤ i → all isByte (take i h) ≡ true → n ≡ handCount h
-    unfolding handCount
+    pub count-passed : i ≤ m → m ≤ i → all isByte (take i h) ≡ true → true ≡ usedBytes h
+    unfolding usedBytes
     count-passed k j t =
         let e : m ≡ i = omega arith in
-        rw (used-is, e, t) count
+        rw (used-is, e, t)

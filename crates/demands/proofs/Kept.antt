@@ -9,6 +9,7 @@ use lib.ListN.{length, take, drop, length-append, length-drop, length-take}
 use lib.Seq.{drop-at}
 use borrow.Author.Tests.{ltb-false, eqb-false}
 use Rattle.sizes.specs.Sizes.{cells, maxInput, outputSize}
+use Rattle.laws.proofs.Bools.{or-neither}
 use Rattle.cfg.specs.Grammar.{Cfg}
 use Rattle.cfg.specs.Listing.{L}
 use Rattle.chart.specs.Cell.{fitsAt}
@@ -57,7 +58,7 @@ take-kept g h m chart =
     let w = take (h .count) (h .bytes) ++ (m ∷ []) in
     decide-either _ _ (λ (r : Recognition). ChartKept chart (r .chart)) _ (λ n. chart-same chart) (λ p.
     let (valid, (small, (room, (free, u)))) = p in
-    let c : h .count ≤ maxInput = ltb-false maxInput (h .count) small in
+    let c : h .count ≤ maxInput = ltb-false maxInput (h .count) (or-neither _ _ small .0) in
     let d : ¬ (h .count ≡ maxInput) = eqb-false (h .count) maxInput free in
     let l : length w ≤ maxInput = omega (arith, length-append (take (h .count) (h .bytes)) (m ∷ []), length-take (h .count) (h .bytes)) in
     record {

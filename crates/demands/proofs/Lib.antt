@@ -19,3 +19,6 @@ pub mod Words
 pub mod Demand1
 pub mod Recognized
 pub mod Taken
+pub mod Points
+pub mod PointsHeld
+pub mod PointsHistory

@@ -23,12 +23,13 @@ use Rattle.grammar.specs.Valid.{validGrammar}
 use Rattle.grammar.specs.View.{Dated, grammarOf}
 use Rattle.grammar.proofs.Bounds.{valid-bounded}
 use Rattle.results.specs.Answer.{refused, answered, check}
-use Rattle.results.specs.Recognize.{stateOf, Recognition, grammarCheck, stateCheck, chartCheck, openIn, openOf, takeIn, takeOf, fed}
+use Rattle.results.specs.Recognize.{handOf, noPoints, stateOf, pointsWithin, Recognition, grammarCheck, stateCheck, chartCheck}
+use Rattle.results.specs.Recognize.{openIn, openOf, takeIn, takeOf, fed}
 use Rattle.demands.specs.Recognized.{Recognized}
 use Rattle.results.proofs.Decide.{decide-first}
 use Rattle.results.proofs.Answers.{answered-inj}
 use Rattle.results.proofs.Goes.{open-passed, take-passed}
-use Rattle.results.proofs.State.{state-taken}
+use Rattle.results.proofs.State.{state-taken, none-past, state-let-through}
 
 -- taking two rows one after the other
 pub fed-append : (g : Grammar) (r : Recognition) (u v : List ℕ) → fed g r (u ++ v) ≡ fed g (fed g r u) v
@@ -36,65 +37,78 @@ unfolding fed
 fed-append g r [] v = refl
 fed-append g r (m ∷ u) v = fed-append g (takeOf g (r .state) m (r .chart)) u v
 
--- the result after n bytes u have been taken, with this chart
-abbrev pub result : Dated → List ℕ → ℕ → List ℕ → Recognition
-result g u n c = record { answer = answered (complete (grammarOf g) n c); state = stateOf u (g .year); chart = c }
+-- the result after n bytes u have been taken, with these points and this chart
+abbrev pub result : Dated → List ℕ → List ℕ → ℕ → List ℕ → Recognition
+result g points u n c = record { answer = answered (complete (grammarOf g) n c); state = handOf u points (g .year); chart = c }
 
 module _ (g : Dated) (found : List ℕ) where
-  -- the result after the bytes u, of which there are at most 64
-  abbrev pub after : List ℕ → Recognition
-  after u = result g u (length u) (filled (grammarOf g) u found)
+  -- the result after the bytes u, of which there are at most 64, with these points
+  abbrev pub afterWith : List ℕ → List ℕ → Recognition
+  afterWith points u = result g points u (length u) (filled (grammarOf g) u found)
 
-  -- the result after more than 64 bytes, where u is the first 64
+  -- the same with no point set
+  abbrev pub after : List ℕ → Recognition
+  after u = afterWith noPoints u
+
+  -- the result after more than 64 bytes, where u is the first 64, with these points
+  abbrev pub beyondWith : List ℕ → List ℕ → Recognition
+  beyondWith points u = record { answer = refused 15; state = handOf u points (g .year); chart = filled (grammarOf g) u found }
+
+  -- the same with no point set
   abbrev pub beyond : List ℕ → Recognition
-  beyond u = record { answer = refused 15; state = stateOf u (g .year); chart = filled (grammarOf g) u found }
+  beyond u = beyondWith noPoints u
 
   module _ (valid : validGrammar (g .grammar) ≡ true) (room : cells ≤ length found) where
-    open-after : openOf g found ≡ after []
+    pub open-after : openOf g found ≡ after []
     unfolding openIn filled extendedBy
     open-after = open-passed g found valid room
 
-    -- one more byte
-    take-after : (u : List ℕ) (m : ℕ) → length u < maxInput
-        → takeOf (g .grammar) (stateOf u (g .year)) m (filled (grammarOf g) u found) ≡ after (u ++ (m ∷ []))
-    unfolding takeIn stateOf
-    take-after u m l =
+    -- one more byte, whatever points are set
+    pub take-after : (points u : List ℕ) (m : ℕ) → pointsWithin (length u) points ≡ true → length u < maxInput
+        → takeOf (g .grammar) (handOf u points (g .year)) m (filled (grammarOf g) u found) ≡ afterWith points (u ++ (m ∷ []))
+    unfolding takeIn handOf
+    take-after points u m s l =
+        let h = handOf u points (g .year) in
         let c = filled (grammarOf g) u found in
         let v = u ++ (m ∷ []) in
         let n : length u + 1 ≡ length v = omega (arith, length-snoc u m) in
-        take-passed (g .grammar) (stateOf u (g .year)) m c valid l (omega (arith, filled-length (grammarOf g) u found room))
-        ∙ ap (λ (x : List ℕ). result g (x ++ (m ∷ [])) (length u + 1) (extended (grammarOf g) (x ++ (m ∷ [])) c)) (state-taken u (g .year))
-        ∙ ap (λ (i : ℕ). result g v i (extended (grammarOf g) v c)) n
-        ∙ ap (result g v (length v)) (sym (filled-snoc (grammarOf g) u m found))
+        take-passed (g .grammar) h m c valid (state-let-through h (omega arith) s) l
+        (omega (arith, filled-length (grammarOf g) u found room))
+        ∙ ap (λ (x : List ℕ). result g points (x ++ (m ∷ [])) (length u + 1) (extended (grammarOf g) (x ++ (m ∷ [])) c))
+        (state-taken u points (g .year))
+        ∙ ap (λ (i : ℕ). result g points v i (extended (grammarOf g) v c)) n
+        ∙ ap (result g points v (length v)) (sym (filled-snoc (grammarOf g) u m found))
 
     -- a row of bytes, if there are at most 64 in all
     fed-after : (u v : List ℕ) → length u + length v ≤ maxInput → fed (g .grammar) (after u) v ≡ after (u ++ v)
     unfolding fed
     fed-after u [] l = ap after (sym (append-nil u))
     fed-after u (m ∷ v) l =
-        ap (λ (x : Recognition). fed (g .grammar) x v) (take-after u m (omega arith))
+        ap (λ (x : Recognition). fed (g .grammar) x v) (take-after noPoints u m (none-past (length u)) (omega arith))
         ∙ fed-after (u ++ (m ∷ [])) v (omega (arith, length-snoc u m))
         ∙ ap after (append-snoc u m v)
 
     module _ (u : List ℕ) (l : length u ≡ maxInput) where
-      take-beyond : (m : ℕ) → takeOf (g .grammar) (stateOf u (g .year)) m (filled (grammarOf g) u found) ≡ beyond u
-      unfolding takeOf stateOf
-      take-beyond m =
+      pub take-beyond : (points : List ℕ) (m : ℕ) → pointsWithin (length u) points ≡ true
+          → takeOf (g .grammar) (handOf u points (g .year)) m (filled (grammarOf g) u found) ≡ beyondWith points u
+      unfolding takeOf handOf
+      take-beyond points m s =
+          let h = handOf u points (g .year) in
           let c = filled (grammarOf g) u found in
           let r : cells ≤ length c = omega (arith, filled-length (grammarOf g) u found room) in
-          decide-first _ _ (grammarCheck (g .grammar) ∷ stateCheck (stateOf u (g .year)) ∷ chartCheck c ∷ [])
-          (check (eqb (stateOf u (g .year) .count) maxInput) 15) []
-          (ap not valid, (le-ltb maxInput (length u) (omega arith), (le-ltb (length c) cells r, tt))) (eq-eqb (length u) maxInput l)
+          decide-first _ _ (grammarCheck (g .grammar) ∷ stateCheck h ∷ chartCheck c ∷ []) (check (eqb (h .count) maxInput) 15) []
+          (ap not valid, (state-let-through h (omega arith) s, (le-ltb (length c) cells r, tt))) (eq-eqb (length u) maxInput l)
 
       fed-beyond : (v : List ℕ) → fed (g .grammar) (beyond u) v ≡ beyond u
       unfolding fed
       fed-beyond [] = refl
-      fed-beyond (m ∷ v) = ap (λ (x : Recognition). fed (g .grammar) x v) (take-beyond m) ∙ fed-beyond v
+      fed-beyond (m ∷ v) = ap (λ (x : Recognition). fed (g .grammar) x v) (take-beyond noPoints m (none-past (length u))) ∙ fed-beyond v
 
       fed-after-beyond : (v : List ℕ) → 0 < length v → fed (g .grammar) (after u) v ≡ beyond u
       unfolding fed
       fed-after-beyond [] h = absurd (omega arith)
-      fed-after-beyond (m ∷ v) h = ap (λ (x : Recognition). fed (g .grammar) x v) (take-beyond m) ∙ fed-beyond v
+      fed-after-beyond (m ∷ v) h =
+          ap (λ (x : Recognition). fed (g .grammar) x v) (take-beyond noPoints m (none-past (length u))) ∙ fed-beyond v
 
     -- ---- from opening on
 
@@ -123,10 +137,11 @@ module _ (g : Dated) (found : List ℕ) where
       has-tree : (complete (grammarOf g) (length ms) (filled (grammarOf g) ms found) ≡ true) ↔ HasTree (grammarOf g) ms
       has-tree = complete-tree (grammarOf g) (valid-bounded g valid) ms found l room
 
-      tree-of : (answered (complete (grammarOf g) (length ms) (filled (grammarOf g) ms found)) ≡ answered true) ↔ HasTree (grammarOf g) ms
+      pub tree-of : (answered (complete (grammarOf g) (length ms) (filled (grammarOf g) ms found)) ≡ answered true)
+          ↔ HasTree (grammarOf g) ms
       tree-of = (λ e. has-tree .0 (answered-inj e), λ t. ap answered (has-tree .1 t))
 
-      no-tree-of : (answered (complete (grammarOf g) (length ms) (filled (grammarOf g) ms found)) ≡ answered false)
+      pub no-tree-of : (answered (complete (grammarOf g) (length ms) (filled (grammarOf g) ms found)) ≡ answered false)
           ↔ (HasTree (grammarOf g) ms → ⊥)
       no-tree-of = (λ e t. true-false (has-tree .1 t) (answered-inj e), λ f. ap answered (bool-false _ (λ e. f (has-tree .0 e))))
 

@@ -18,26 +18,28 @@ use Rattle.grammar.specs.Valid.{validGrammar}
 use Rattle.grammar.specs.View.{dated, grammarOf}
 use Rattle.grammar.proofs.Bounds.{valid-bounded}
 use Rattle.results.specs.Answer.{answered}
-use Rattle.results.specs.Recognize.{State, stateOf, Recognition, takeIn, takeOf}
+use Rattle.results.specs.Recognize.{State, handOf, pointsWithin, Recognition, takeIn, takeOf}
 use Rattle.demands.specs.Taken.{input, Taken}
 use Rattle.results.proofs.Goes.{take-passed}
+use Rattle.results.proofs.State.{state-let-through}
 
 module _ (g : Grammar) (h : State) (m : ℕ) (found : List ℕ) (valid : validGrammar g ≡ true) (bytes : length (h .bytes) ≡ maxInput)
-    (small : h .count < maxInput) (room : cells ≤ length found) where
+    (within : pointsWithin (h .count) (h .points) ≡ true) (small : h .count < maxInput) (room : cells ≤ length found) where
   size : length (input h m) ≡ h .count + 1
   size = omega (arith, length-snoc (take (h .count) (h .bytes)) m, length-take-le (h .count) (h .bytes) (omega arith))
 
-  -- the result, with the column written at the new count
+  -- the result, with the column written at n
+  abbrev leftAt : ℕ → Recognition
+  leftAt n =
+      let c = written (grammarOf (dated g (h .year))) (fitsAt (input h m)) n found in
+      record { answer = answered (has (g .start) (cell c 0 (h .count + 1))); state = handOf (input h m) (h .points) (h .year); chart = c }
+
   left : Recognition
-  left =
-      let c = written (grammarOf (dated g (h .year))) (fitsAt (input h m)) (h .count + 1) found in
-      record { answer = answered (has (g .start) (cell c 0 (h .count + 1))); state = stateOf (input h m) (h .year); chart = c }
+  left = leftAt (h .count + 1)
 
   gives : takeOf g h m found ≡ left
   unfolding takeIn extended complete left
-  gives = take-passed g h m found valid small room ∙ ap (λ (n : ℕ).
-      let c = written (grammarOf (dated g (h .year))) (fitsAt (input h m)) n found in
-      record { answer = answered (has (g .start) (cell c 0 (h .count + 1))); state = stateOf (input h m) (h .year); chart = c }) size
+  gives = take-passed g h m found valid (state-let-through h (omega arith) within) small room ∙ ap leftAt size
 
   of-left : Taken (grammarOf (dated g (h .year))) h m found (h .count + 1) left
   unfolding left

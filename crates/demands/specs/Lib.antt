@@ -9,3 +9,5 @@ pub mod OrderAfter
 pub mod Demand1
 pub mod Recognized
 pub mod Taken
+pub mod Points
+pub mod PointsHistory

@@ -1,12 +1,14 @@
--- For each call: the refusal given is the first that applies, in document 01's order. Causes have the numbers of their refusals.
+-- For each call: the refusal given is the first that applies, in the documents' order. Causes have the numbers of their refusals.
 -- Assumes nothing.
-use Prim.Native.Nat.{ℕ, _<_}
+use Prim.Native.Nat.{ℕ, _+_, _≤_, _<_}
 use mathlib.Core.Bool.{Bool, false}
 use mathlib.Core.List.{List, [], _∷_}
+use mathlib.Core.Logic.{_⊎_}
 use mathlib.Core.Path.{_≡_}
-use lib.ListN.{length}
+use lib.ListN.{length, getD}
 use Rattle.sizes.specs.Sizes.{cells, maxInput, outputSize}
 use Rattle.cfg.specs.Derivation.{Derivation, limit}
+use Rattle.theory_points.specs.Machine.{maxPoints}
 use Rattle.grammar.specs.declared.Grammar.{Grammar}
 use Rattle.grammar.specs.Valid.{validGrammar}
 use Rattle.grammar.specs.View.{Dated, grammarOf}
@@ -35,9 +37,9 @@ cause11 out = cause (length out < outputSize) 11
 abbrev pub cause12 : Type 0 → Cause ℕ
 cause12 offered = cause (offered → ⊥) 12
 
--- the state has a count over 64
+-- the state has a count over 64, or a set point past its count
 abbrev pub cause14 : State → Cause ℕ
-cause14 h = cause (maxInput < h .count) 14
+cause14 h = cause ((maxInput < h .count) ⊎ ((k : ℕ) × (h .count + 1 < getD (h .points) k 0))) 14
 
 -- the state has taken 64 bytes
 abbrev pub cause15 : State → Cause ℕ
@@ -46,6 +48,14 @@ cause15 h = cause (h .count ≡ maxInput) 15
 -- the text is longer than the buffer
 abbrev pub cause18 : List ℕ → List ℕ → Cause ℕ
 cause18 text buffer = cause (length buffer < length text) 18
+
+-- the name of a point to set is over 7
+abbrev pub cause19Name : ℕ → Cause ℕ
+cause19Name k = cause (maxPoints ≤ k) 19
+
+-- the name of a point to return to is over 7, or the point is not set
+abbrev pub cause19Point : State → ℕ → Cause ℕ
+cause19Point h k = cause ((maxPoints ≤ k) ⊎ (getD (h .points) k 0 ≡ 0)) 19
 
 -- nothing is refused
 abbrev pub NoRefusal : {A : Type 0} → Answer A → Type 0
@@ -62,6 +72,14 @@ OpenOrder g chart = Decided (cause8 (g .grammar) ∷ cause10 chart ∷ []) refus
 -- taking
 abbrev pub TakeOrder : Grammar → State → List ℕ → Answer Bool → Type 0
 TakeOrder g h chart = Decided (cause8 g ∷ cause14 h ∷ cause10 chart ∷ cause15 h ∷ []) refused NoRefusal
+
+-- setting a point
+abbrev pub SetOrder : Grammar → State → ℕ → List ℕ → Answer Bool → Type 0
+SetOrder g h k chart = Decided (cause8 g ∷ cause14 h ∷ cause10 chart ∷ cause19Name k ∷ []) refused NoRefusal
+
+-- returning to a point
+abbrev pub ReturnOrder : Grammar → State → ℕ → List ℕ → Answer Bool → Type 0
+ReturnOrder g h k chart = Decided (cause8 g ∷ cause14 h ∷ cause10 chart ∷ cause19Point h k ∷ []) refused NoRefusal
 
 -- check, length, same build and count
 abbrev pub InputOrder : {A : Type 0} → Dated → List ℕ → List ℕ → Answer A → Type 0

@@ -11,7 +11,7 @@ use Rattle.cfg.specs.Grammar.{Cfg}
 use Rattle.chart.specs.Cell.{index, cell, fitsAt}
 use Rattle.chart.specs.Closed.{Closed}
 use Rattle.results.specs.Answer.{answered}
-use Rattle.results.specs.Recognize.{State, stateOf, Recognition}
+use Rattle.results.specs.Recognize.{State, handOf, Recognition}
 
 -- the bytes that have been taken, with the new one
 abbrev pub input : State → ℕ → List ℕ
@@ -19,8 +19,8 @@ input h m = take (h .count) (h .bytes) ++ (m ∷ [])
 
 -- the result r of taking the byte m, which is the n-th, in the state h over the chart found
 pub record Taken (G : Cfg) (h : State) (m : ℕ) (found : List ℕ) (n : ℕ) (r : Recognition) : Type 0 where
-  -- the state has the byte, and zeros after it, and keeps its year
-  pub state : r .state ≡ stateOf (input h m) (h .year)
+  -- the state has the byte, and zeros after it, and keeps its points and its year
+  pub state : r .state ≡ handOf (input h m) (h .points) (h .year)
   -- the chart is as long as found, and of its numbers only the cells (i, n) for i = 0 to n are written
   pub long : length (r .chart) ≡ length found
   pub others : (p : ℕ) → ((i : ℕ) → i ≤ n → p ≢ index i n) → getD (r .chart) p 0 ≡ getD found p 0

@@ -23,6 +23,7 @@ use Rattle.results.specs.Enumerate.{Enumeration, firstOf, nextOf, countOf}
 use Rattle.results.specs.Load.{Loading, loadOf}
 use Rattle.results.specs.Name.{Part}
 use Rattle.results.specs.Measure.{lengthOf, sameBuildOf}
+use Rattle.results.specs.Points.{setPointOf, returnToOf}
 use Rattle.results.specs.Recognize.{State, Recognition, openOf, takeOf}
 use Rattle.results.specs.Words.{Writing, wordsOf}
 use Rattle.c_answer.specs.Code.{codeOf, leftOf, verdictCode, rowLeft, lengthCode, tenthsLeft, handingCode, nodesLeft}
@@ -81,11 +82,21 @@ module _ (f : List ℕ) (g : Grammar) (read : g ≡ grammarIn f) (chart₀ chart
         → Opens (openOf (dated (grammarIn f) y) chart₀) code row chart
     opens-of y s row e w = rw (← read, ← e) (record { returned = returned; state = w; left = refl })
 
-    -- taking reads a state too
+    -- taking, setting and returning read a state too
     pub takes-of : (byte : ℕ) (found : List ℕ) (h s : State) (row : List ℕ) → h ≡ stateOfRow found
         → recognized a s chart ≡ takeOf g h byte chart₀ → row ≡ leftOf (rowLeft s) a found
         → Takes (takeOf (grammarIn f) (stateOfRow found) byte chart₀) found code row chart
     takes-of byte found h s row state e w = rw (← read, ← state, ← e) (record { returned = returned; state = w; left = refl })
+
+    pub sets-of : (name : ℕ) (found : List ℕ) (h s : State) (row : List ℕ) → h ≡ stateOfRow found
+        → recognized a s chart ≡ setPointOf g h name chart₀ → row ≡ leftOf (rowLeft s) a found
+        → Takes (setPointOf (grammarIn f) (stateOfRow found) name chart₀) found code row chart
+    sets-of name found h s row state e w = rw (← read, ← state, ← e) (record { returned = returned; state = w; left = refl })
+
+    pub returns-of : (name : ℕ) (found : List ℕ) (h s : State) (row : List ℕ) → h ≡ stateOfRow found
+        → recognized a s chart ≡ returnToOf g h name chart₀ → row ≡ leftOf (rowLeft s) a found
+        → Takes (returnToOf (grammarIn f) (stateOfRow found) name chart₀) found code row chart
+    returns-of name found h s row state e w = rw (← read, ← state, ← e) (record { returned = returned; state = w; left = refl })
 
     pub checks-of : (y : ℕ) (w d : List ℕ) → checked a chart ≡ checkOf (dated g y) w d chart₀
         → Checks (checkOf (dated (grammarIn f) y) w d chart₀) code chart

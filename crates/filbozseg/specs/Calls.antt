@@ -31,7 +31,7 @@ pub record Opens (r : Recognition) (code : ℕ) (row : List ℕ) (chart : List �
   pub state : row ≡ rowOf (r .state)
   pub left : chart ≡ r .chart
 
--- taking: what is returned, the row left and the chart left
+-- taking, setting a point and returning to it: what is returned, the row left and the chart left
 pub record Takes (r : Recognition) (found : List ℕ) (code : ℕ) (row : List ℕ) (chart : List ℕ) : Type 0 where
   pub returned : code ≡ codeOf verdictCode (r .answer)
   pub state : row ≡ leftOf (rowLeft (r .state)) (r .answer) found

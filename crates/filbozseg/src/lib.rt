@@ -2,6 +2,7 @@
 // recognizer is a row (crate c_hand), and an answer is a number (crate c_answer). A lent number is written only if the answer has one.
 pub mod enumerate;
 pub mod name;
+pub mod recall;
 pub mod texts;
 
 use c_grammar::Flat;

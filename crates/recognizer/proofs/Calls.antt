@@ -19,21 +19,21 @@ use Rattle.grammar.specs.View.{dated, grammarOf}
 use Rattle.packed.specs.Packed.{cfgIn}
 use Rattle.packed.proofs.Laws.{cfg-in-bounded}
 use Rattle.results.specs.Answer.{Answer, refused, answered, decide}
-use Rattle.results.specs.Recognize.{State, Recognition, stateOf, openIn, openOf, takeIn, takeOf}
+use Rattle.results.specs.Recognize.{State, Recognition, handOf, stateOf, stateCheck, openIn, openOf, takeIn, takeOf}
 use Rattle.results.proofs.State.{state-count, state-within, state-taken}
 use Rattle.fill_columns.specs.Columns.{columnOf}
 
 -- the three parts of what a call gives
-abbrev given : Answer Bool → State → List ℕ → Recognition
+abbrev pub given : Answer Bool → State → List ℕ → Recognition
 given a h chart = record { answer = a; state = h; chart = chart }
 
-given-same : (a a' : Answer Bool) (h h' : State) (c c' : List ℕ) → a ≡ a' → h ≡ h' → c ≡ c' → given a h c ≡ given a' h' c'
+pub given-same : (a a' : Answer Bool) (h h' : State) (c c' : List ℕ) → a ≡ a' → h ≡ h' → c ≡ c' → given a h c ≡ given a' h' c'
 given-same a a' h h' c c' e f g = λ i. given (e i) (f i) (g i)
 
 -- the count of a state that has taken w is within its bytes
-module _ (k : State) (w : List ℕ) (y : ℕ) (next : k ≡ stateOf w y) where
+module _ (k : State) (w points : List ℕ) (y : ℕ) (next : k ≡ handOf w points y) where
   pub count-fits : k .count ≤ length (k .bytes)
-  count-fits = subst (λ (s : State). s .count ≤ length (s .bytes)) (sym next) (state-within w y)
+  count-fits = subst (λ (s : State). s .count ≤ length (s .bytes)) (sym next) (state-within w points y)
 
   pub count-part : k .count ≡ length (take (k .count) (k .bytes))
   count-part = sym (length-take-le (k .count) (k .bytes) count-fits)
@@ -89,47 +89,45 @@ module _ (g : Grammar) (chart : List ℕ) where
       unfolding takeOf decide
       take-invalid v e = rw v (given-same a (refused 8) k h chart chart e kept refl)
 
-      pub take-over : validGrammar g ≡ true → maxInput < h .count → a ≡ refused 14 → given a k chart ≡ takeOf g h m chart
+      pub take-over : validGrammar g ≡ true → stateCheck h .fails ≡ true → a ≡ refused 14 → given a k chart ≡ takeOf g h m chart
       unfolding takeOf decide
-      take-over v o e = rw (v, lt-ltb maxInput (h .count) o) (given-same a (refused 14) k h chart chart e kept refl)
+      take-over v o e = rw (v, o) (given-same a (refused 14) k h chart chart e kept refl)
 
-      pub take-short : validGrammar g ≡ true → h .count ≤ maxInput → length chart < cells → a ≡ refused 10
+      pub take-short : validGrammar g ≡ true → stateCheck h .fails ≡ false → length chart < cells → a ≡ refused 10
           → given a k chart ≡ takeOf g h m chart
       unfolding takeOf decide
-      take-short v o l e =
-          rw (v, le-ltb maxInput (h .count) o, lt-ltb (length chart) cells l) (given-same a (refused 10) k h chart chart e kept refl)
+      take-short v o l e = rw (v, o, lt-ltb (length chart) cells l) (given-same a (refused 10) k h chart chart e kept refl)
 
-      pub take-full : validGrammar g ≡ true → h .count ≤ maxInput → cells ≤ length chart → h .count ≡ maxInput → a ≡ refused 15
+      pub take-full : validGrammar g ≡ true → stateCheck h .fails ≡ false → cells ≤ length chart → h .count ≡ maxInput → a ≡ refused 15
           → given a k chart ≡ takeOf g h m chart
       unfolding takeOf decide
       take-full v o l f e =
-          rw (v, le-ltb maxInput (h .count) o, le-ltb (length chart) cells l, eq-eqb (h .count) maxInput f)
+          rw (v, o, le-ltb (length chart) cells l, eq-eqb (h .count) maxInput f)
           (given-same a (refused 15) k h chart chart e kept refl)
 
     -- the input so far, and the byte
     abbrev input : List ℕ
     input = take (h .count) (h .bytes) ++ (m ∷ [])
 
-    module _ (a : Answer Bool) (k : State) (next : k ≡ stateOf input (h .year)) (count : k .count ≡ h .count + 1) where
+    module _ (a : Answer Bool) (k : State) (next : k ≡ handOf input (h .points) (h .year)) (count : k .count ≡ h .count + 1) where
       size : length input ≡ k .count
-      size = sym (ap (λ (s : State). s .count) next ∙ state-count input (h .year))
+      size = sym (ap (λ (s : State). s .count) next ∙ state-count input (h .points) (h .year))
 
       bytes : take (k .count) (k .bytes) ≡ input
-      bytes = ap (λ (s : State). take (s .count) (s .bytes)) next ∙ state-taken input (h .year)
+      bytes = ap (λ (s : State). take (s .count) (s .bytes)) next ∙ state-taken input (h .points) (h .year)
 
-      pub take-right : (p chart' : List ℕ) → validGrammar g ≡ true → h .count < maxInput → cells ≤ length chart
-          → ((r : ℕ) → rule (cfgIn (g .start) p) r ≡ rule (grammarOf (dated g (h .year))) r)
+      pub take-right : (p chart' : List ℕ) → validGrammar g ≡ true → stateCheck h .fails ≡ false → h .count < maxInput
+          → cells ≤ length chart → ((r : ℕ) → rule (cfgIn (g .start) p) r ≡ rule (grammarOf (dated g (h .year))) r)
           → chart' ≡ columnOf p (take (k .count) (k .bytes)) (k .count) chart
           → a ≡ answered (has (g .start) (cell chart' 0 (k .count))) → given a k chart' ≡ takeOf g h m chart
       unfolding takeOf takeIn decide complete extended
-      take-right p chart' v o l same e f =
+      take-right p chart' v s o l same e f =
           let G = grammarOf (dated g (h .year)) in
           let c : chart' ≡ extended G input chart =
           e ∙ ap (λ (x : List ℕ). columnOf p x (k .count) chart) bytes ∙ ap (λ (x : ℕ). columnOf p input x chart) (sym size)
           ∙ extended-same-rules (cfgIn 0 p) G (same-rules G (g .start) p same) (cfg-in-bounded 0 p) input chart in
-          let d : h .count ≤ maxInput = omega arith in
-          rw (v, le-ltb maxInput (h .count) d, le-ltb (length chart) cells l, ne-eqb (h .count) maxInput (omega arith))
-          (given-same a (answered (complete G (h .count + 1) (extended G input chart))) k (stateOf input (h .year))
+          rw (v, s, le-ltb (length chart) cells l, ne-eqb (h .count) maxInput (omega arith))
+          (given-same a (answered (complete G (h .count + 1) (extended G input chart))) k (handOf input (h .points) (h .year))
           chart' (extended G input chart)
           (f ∙ ap (λ (x : ℕ). answered (has (g .start) (cell chart' 0 x))) count
           ∙ ap (λ (x : List ℕ). answered (has (g .start) (cell x 0 (h .count + 1)))) c) next c)

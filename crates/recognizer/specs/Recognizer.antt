@@ -8,7 +8,7 @@ use Rattle.answers.specs.Answers.{verdictOf}
 
 -- the state
 abbrev pub stateIn : Recognizer → State
-stateIn h = stateWith (h .bytes) (h .count) (h .year)
+stateIn h = stateWith (h .bytes) (h .count) (h .year) (h .points)
 
 -- what a call gave, and what it left in the chart
 abbrev pub recognitionOf : Advanced → List ℕ → Recognition

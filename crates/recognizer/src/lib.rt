@@ -1,5 +1,5 @@
 // The recognizer (document 01: the plate in hand): opening, and taking a byte.
-mod state;
+pub mod state;
 
 use answers::Refusal;
 use answers::Verdict;
@@ -9,12 +9,14 @@ use fill_columns::write_column;
 use grammar::Grammar;
 use numbers::wide_byte;
 use state::blank;
+use state::invalid;
 use state::with_byte;
-ghost use mathlib.Core.Bool.{true};
+ghost use mathlib.Core.Bool.{true, false};
 ghost use mathlib.Core.Path.{_≡_};
 ghost use Prim.Native.Nat.{_<_, _≤_};
 ghost use lib.ListN.{length};
 ghost use Rattle.sizes.specs.Sizes.{cells, maxInput};
+ghost use Rattle.theory_points.specs.Machine.{maxPoints};
 ghost use Rattle.sets.specs.Set.{has as inSet};
 ghost use Rattle.chart.specs.Cell.{cell};
 ghost use Rattle.grammar.specs.Valid.{validGrammar};
@@ -22,14 +24,19 @@ ghost use Rattle.grammar.specs.View.{dated};
 ghost use Rattle.answers.specs.Number.{numberOf};
 ghost use Rattle.answers.specs.Answers.{verdictOf};
 ghost use Rattle.results.specs.Answer.{answered, refused as refusedWith};
-ghost use Rattle.results.specs.Recognize.{openOf, takeOf};
+ghost use Rattle.results.specs.Recognize.{stateCheck, openOf, takeOf};
 ghost use Rattle.recognizer.specs.Recognizer.{stateIn, recognitionOf};
 
-// The state: 64 bytes, of which the first `count` have been taken, and the year with which it was opened.
+// How many points a state keeps; their names are 0 to 7.
+pub const POINTS: usize = 8;
+
+// The state: 64 bytes, of which the first `count` have been taken, the year with which it was opened, and its points, each 0 if it is not
+// set, else one more than the count at which it was set.
 pub struct Recognizer {
     pub bytes: [u8; sizes::MAX_INPUT],
     pub count: usize,
     pub year: u16,
+    pub points: [u8; POINTS],
 }
 
 // What a call gives: whether the input so far is complete, and the state.
@@ -38,8 +45,14 @@ pub struct Advanced {
     pub recognizer: Recognizer,
 }
 
+pub fn tied_points() -> usize
+    ensures { λ n. ⌜ n ≡ maxPoints ⌝ }
+{
+    POINTS
+}
+
 // The answer whether the input is complete after n bytes.
-fn says(start: u8, n: usize, chart: &[u32]) -> Verdict
+pub fn says(start: u8, n: usize, chart: &[u32]) -> Verdict
     requires { ⌜ (n ≤ maxInput) × (cells ≤ length (now chart)) ⌝ }
     ensures { λ a. ⌜ verdictOf a ≡ answered (inSet start (cell (now (chart .entry)) 0 n)) ⌝ }
 {
@@ -50,7 +63,8 @@ fn says(start: u8, n: usize, chart: &[u32]) -> Verdict
     }
 }
 
-fn refused(h: Recognizer, r: Refusal) -> Advanced
+// A refused call gives back the state as it was.
+pub fn refused(h: Recognizer, r: Refusal) -> Advanced
     ensures { λ a. ⌜ (verdictOf (a .accepted) ≡ refusedWith (numberOf r)) × (a .recognizer ≡ h) ⌝ }
 {
     Advanced {
@@ -88,7 +102,8 @@ pub fn open(g: Grammar, year: u16, chart: &mut [u32]) -> Advanced
 
 // Takes a byte, once the checks are passed.
 fn taking(h: Recognizer, g: Grammar, byte: u8, chart: &mut [u32]) -> Advanced
-    requires { ⌜ (validGrammar g ≡ true) × (h .count < maxInput) × (cells ≤ length (now chart)) ⌝ }
+    requires { ⌜ (validGrammar g ≡ true) × (stateCheck (stateIn h) .fails ≡ false) × (h .count < maxInput)
+        × (cells ≤ length (now chart)) ⌝ }
     ensures { λ r. ⌜ recognitionOf r (now (chart .exit)) ≡ takeOf g (stateIn h) byte (now (chart .entry)) ⌝ }
 {
     let p = packed_make::pack(g, h.year);
@@ -112,7 +127,7 @@ impl Recognizer {
         if !grammar::valid(g) {
             return refused(self, Refusal::InvalidGrammar);
         }
-        if n > sizes::MAX_INPUT {
+        if invalid(self) {
             return refused(self, Refusal::InvalidRecognizer);
         }
         if room < sizes::CELLS {

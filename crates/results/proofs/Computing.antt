@@ -13,6 +13,7 @@ use Rattle.grammar.specs.Valid.{all, validRule, distinctNames, validGrammar}
 use Rattle.results.specs.Answer.{decide}
 use Rattle.results.specs.Load as Load
 use Rattle.results.specs.Recognize as Recognize
+use Rattle.results.specs.Points as Points
 use Rattle.results.specs.Check.{same, listed, onInput, checkIn, checkOf}
 use Rattle.results.specs.Measure as Measure
 use Rattle.results.specs.Words as Words
@@ -26,12 +27,13 @@ unfolding fits joined over when from among keep rulesFrom items upTo listing der
     Column.opened Column.extended Column.extendedBy Column.filled Column.complete all validRule distinctNames validGrammar decide
     Load.operands Load.operand Load.signed Load.openRule Load.withStart Load.withRule Load.withPlace Load.withName Load.after Load.unknown
     Load.openNamed Load.outOfTurn Load.refusedName Load.operandChecks Load.commandChecks Load.carriedOut Load.step Load.refusedLoad
-    Load.acceptedLoad Load.run Load.loadOf Recognize.stateOf Recognize.openIn Recognize.openOf Recognize.takeIn Recognize.takeOf same
-    listed onInput checkIn checkOf Measure.sum Measure.nearest Measure.rounded Measure.unlisted Measure.lengthIn Measure.lengthOf
-    Measure.rulesUsed Measure.sameBuildIn Measure.sameBuildOf Before.occurrences Before.sameBag Before.sameBagBuildIn
-    Before.sameBagBuildOf Enumerate.treeIn Enumerate.handingOut Enumerate.headOf Enumerate.afterIn Enumerate.figure Enumerate.onOutput
-    Enumerate.firstIn Enumerate.firstOf Enumerate.nextIn Enumerate.nextOf Enumerate.countIn Enumerate.countOf outcomeIn yield code
-    Decode.placesOf Decode.withSiblings Decode.rowIn Decode.belowIn Decode.forestIn Name.nameByte Name.filling Name.filledUp
-    Name.validName Name.unnamed Name.sameName Name.hasName Name.unfilled Name.hexDigit Name.numberText Name.ruleText Texts.leafText
-    Texts.following Texts.forestText Texts.derivationText Words.wordsIn Words.wordsOf
+    Load.acceptedLoad Load.run Load.loadOf Recognize.handOf Recognize.pointsWithin Recognize.openIn Recognize.openOf Recognize.takeIn
+    Recognize.takeOf Points.keptPoint Points.setPointIn Points.setPointOf same listed onInput checkIn checkOf Measure.sum Measure.nearest
+    Measure.rounded Measure.unlisted Measure.lengthIn Measure.lengthOf Measure.rulesUsed Measure.sameBuildIn Measure.sameBuildOf
+    Before.occurrences Before.sameBag Before.sameBagBuildIn Before.sameBagBuildOf Enumerate.treeIn Enumerate.handingOut Enumerate.headOf
+    Enumerate.afterIn Enumerate.figure Enumerate.onOutput Enumerate.firstIn Enumerate.firstOf Enumerate.nextIn Enumerate.nextOf
+    Enumerate.countIn Enumerate.countOf outcomeIn yield code Decode.placesOf Decode.withSiblings Decode.rowIn Decode.belowIn
+    Decode.forestIn Name.nameByte Name.filling Name.filledUp Name.validName Name.unnamed Name.sameName Name.hasName Name.unfilled
+    Name.hexDigit Name.numberText Name.ruleText Texts.leafText Texts.following Texts.forestText Texts.derivationText Words.wordsIn
+    Words.wordsOf
 computing = tt

@@ -14,7 +14,8 @@ use Rattle.grammar.specs.View.{dated}
 use Rattle.grammar.specs.Zero.{zeroPlace, zeroRule, zeroGrammar}
 use Rattle.results.specs.Answer.{Answer, answered}
 use Rattle.results.specs.Load.{acceptedLoad, loadOf}
-use Rattle.results.specs.Recognize.{State, stateWith, openOf, takeOf}
+use Rattle.results.specs.Points.{pointsUpTo, setPointOf}
+use Rattle.results.specs.Recognize.{State, stateWith, noPoints, stateCheck, openOf, takeOf}
 use Rattle.results.specs.Measure.{sameBuildOf}
 use Rattle.results.specs.Check.{checkOf}
 use Rattle.results.specs.Drawer.{T, start, newRule, nameRule, nonterminalPlace, A, close, As}
@@ -101,17 +102,21 @@ pub depth-whole : acceptedLoad (setCount (setRule zeroGrammar 0 (openedRule 0 (p
 unfolding computing
 depth-whole = refl
 
--- after a take the unused bytes of a state are zeros, whatever they were, and its year is kept
-unfoldable pub taken : State
-taken = takeOf (grammarFrom T) (stateWith (65 ∷ replicate 63 9) 1 7) 66 (replicate cells 0) .state
+-- points: 0 is set at the count 1, and 7 at the count 0
+abbrev pub twoSet : List ℕ
+twoSet = 2 ∷ 0 ∷ 0 ∷ 0 ∷ 0 ∷ 0 ∷ 0 ∷ 1 ∷ []
 
-pub taken-clean : taken ≡ stateWith (65 ∷ 66 ∷ replicate 62 0) 2 7
+-- after a take the unused bytes of a state are zeros, whatever they were, and its year and its points are kept
+unfoldable pub taken : State
+taken = takeOf (grammarFrom T) (stateWith (65 ∷ replicate 63 9) 1 7 twoSet) 66 (replicate cells 0) .state
+
+pub taken-clean : taken ≡ stateWith (65 ∷ 66 ∷ replicate 62 0) 2 7 twoSet
 unfolding taken computing
 taken-clean = refl
 
 -- a refused take gives back the state as it was, also unused bytes: here refusal 15
 abbrev pub dirty : State
-dirty = stateWith (replicate 64 9) 64 7
+dirty = stateWith (replicate 64 9) 64 7 twoSet
 
 unfoldable pub refusedTake : State
 refusedTake = takeOf (grammarFrom T) dirty 66 (replicate cells 0) .state
@@ -120,11 +125,33 @@ pub refused-take-kept : refusedTake ≡ dirty
 unfolding refusedTake computing
 refused-take-kept = refl
 
+-- a point that is set at the count 1, from a state with rubbish in its unused bytes: these are zeros then, and the other points remain
+unfoldable pub pointSet : State
+pointSet = setPointOf (grammarFrom T) (stateWith (65 ∷ replicate 63 9) 1 7 twoSet) 3 (replicate cells 0) .state
+
+pub point-set-clean : pointSet ≡ stateWith (65 ∷ replicate 63 0) 1 7 (2 ∷ 0 ∷ 0 ∷ 2 ∷ 0 ∷ 0 ∷ 0 ∷ 1 ∷ [])
+unfolding pointSet computing
+point-set-clean = refl
+
+-- a return to the count 1: the point itself, others there and those before it remain, and the points past it are gone
+pub points-up-to-one : pointsUpTo 1 (2 ∷ 1 ∷ 3 ∷ 0 ∷ 2 ∷ 65 ∷ 0 ∷ 1 ∷ []) ≡ 2 ∷ 1 ∷ 0 ∷ 0 ∷ 2 ∷ 0 ∷ 0 ∷ 1 ∷ []
+unfolding computing
+points-up-to-one = refl
+
+-- 14: a point at the count is let through, and one past it is not
+pub point-at-the-count : stateCheck (stateWith (replicate 64 9) 1 7 twoSet) .fails ≡ false
+unfolding computing
+point-at-the-count = refl
+
+pub point-past-the-count : stateCheck (stateWith (replicate 64 9) 0 7 twoSet) .fails ≡ true
+unfolding computing
+point-past-the-count = refl
+
 -- a refused opening gives a state of zeros, whatever the year: here refusal 10
 unfoldable pub refusedOpening : State
 refusedOpening = openOf (dated (grammarFrom T) 7) (replicate (cells - 1) 0) .state
 
-pub refused-opening-zeros : refusedOpening ≡ stateWith (replicate 64 0) 0 0
+pub refused-opening-zeros : refusedOpening ≡ stateWith (replicate 64 0) 0 0 noPoints
 unfolding refusedOpening computing
 refused-opening-zeros = refl
 

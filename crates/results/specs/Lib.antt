@@ -4,6 +4,8 @@ pub mod Load
 pub mod Name
 pub mod Undated
 pub mod Recognize
+pub mod Points
+pub mod Operations
 pub mod Check
 pub mod Measure
 pub mod Words

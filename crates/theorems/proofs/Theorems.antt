@@ -1,8 +1,8 @@
 -- The final theorems over the definitions, each proved by citation. The demands are the customer's three (README gives them in short); the
 -- other sources are sections of document 01, his scope (docs/REFERENCE.md says what it fixes). The definitions are in `cfg/specs`,
--- `theory_listing/specs`, `theory_embedding/specs`, `chart/specs`, `grammar/specs`, `results/specs`, `load_nullable/specs`, `text/specs`,
--- `demands/specs`, `print_begin/specs`, `print_page/specs` and `theorems/specs`, and none is in a `proofs/` folder. A grammar of the type
--- `Dated` has the year of the input with it (document 02, U9).
+-- `theory_listing/specs`, `theory_embedding/specs`, `chart/specs`, `theory_clearing/specs`, `grammar/specs`, `theory_points/specs`,
+-- `results/specs`, `load_nullable/specs`, `text/specs`, `demands/specs`, `print_begin/specs`, `print_page/specs` and `theorems/specs`, and
+-- none is in a `proofs/` folder. A grammar of the type `Dated` has the year of the input with it (document 02, U9).
 --
 --   statement                         says                                                            source
 --   starred-table                     the starred plates, from book bytes to answers                   Plates from the drawer
@@ -25,6 +25,8 @@
 --   ..-twelve, ..-thirteen            refusals 12 and 13 exactly where they apply                      demand 1; Refusals
 --   words-demand, .., words-eighteen  the same for the call words, with refusals 12 and 18             demand 1; document 02, U4
 --   take-any                          one mark taken over any sheet and any hand                       Plate in hand and sheet
+--   set-demand, return-demand         a point set, or returned to, over any sheet and any hand           document 02, U6; demand 1
+--   points-history                    any list of taking, setting and returning goes as the machine    document 02, U6
 --   demand-2                          complete after each mark exactly if the marks have a tree        demand 2, first sentence
 --   check-yes, check-no               an offered reading is accepted exactly if it is one              demand 2, second sentence
 --   demand-3, tree-decided            any list of calls goes as the walk                               demand 3, first sentence; The walk
@@ -43,6 +45,8 @@
 --   lookup/src/lib.rt      name         nameOf
 --   recognizer/src/lib.rt  open         openOf
 --   recognizer/src/lib.rt  take         takeOf
+--   points/src/lib.rt      set_point    setPointOf
+--   points/src/lib.rt      return_to    returnToOf
 --   checker/src/lib.rt     check        checkOf
 --   checker/src/lib.rt     length       lengthOf
 --   words/src/lib.rt       words        wordsOf
@@ -77,6 +81,7 @@ use Rattle.cfg.specs.Listing.{L}
 use Rattle.cfg.specs.Nullable.{Nullable, Depth, depthOf, ExactDepth}
 use Rattle.theory_listing.specs.Budget.{filter}
 use Rattle.theory_embedding.specs.Embedding.{Embeds, usesOnly}
+use Rattle.theory_points.specs.Machine.{Op}
 use Rattle.grammar.specs.declared.Grammar.{Grammar}
 use Rattle.grammar.specs.Setters.{lastYear, setDepth}
 use Rattle.grammar.specs.Valid.{validGrammar}
@@ -86,7 +91,9 @@ use Rattle.results.specs.Answer.{refused, answered, nothing, counted, more, loa
 use Rattle.results.specs.Load.{step, loadOf}
 use Rattle.results.specs.Name.{namePart, nameOf, recordedName}
 use Rattle.results.specs.Undated.{Undated}
-use Rattle.results.specs.Recognize.{State, openOf, takeOf, fed}
+use Rattle.results.specs.Recognize.{State, pointsWithin, openOf, takeOf, fed}
+use Rattle.results.specs.Points.{setPointOf, returnToOf}
+use Rattle.results.specs.Operations.{heldAfter, ran}
 use Rattle.results.specs.Check.{checkOf}
 use Rattle.results.specs.Measure.{sum, tenthsOf, NearestTenth, lengthOf, sameBuilt, sameBuildOf}
 use Rattle.results.specs.Words.{wordsText, wordsOf}
@@ -116,6 +123,8 @@ use Rattle.demands.specs.NamePart.{NamePart}
 use Rattle.demands.specs.LoadDemand.{LoadDemand}
 use Rattle.demands.specs.Taken.{Taken}
 use Rattle.demands.specs.Recognized.{Recognized}
+use Rattle.demands.specs.Points.{SetDemand, ReturnDemand}
+use Rattle.demands.specs.PointsHistory.{PointsHistory}
 use Rattle.theorems.specs.EveryTree.{EveryTree}
 use Rattle.cfg.proofs.Fits as Fits
 use Rattle.theory_listing.proofs.Exact as Exact
@@ -149,6 +158,8 @@ use Rattle.demands.proofs.NamePart as NamePart
 use Rattle.demands.proofs.Check as Check
 use Rattle.demands.proofs.Taken as Take
 use Rattle.demands.proofs.Recognized as Fed
+use Rattle.demands.proofs.Points as Points
+use Rattle.demands.proofs.PointsHistory as Machine
 use Rattle.theorems.proofs.EveryTree as EveryTree
 use Rattle.theorems.proofs.Words as Words
 
@@ -322,12 +333,27 @@ first-thirteen = Trees.first-thirteen
 pub count-thirteen : (g : Dated) (w chart : List ℕ) → TreesOrder (Ready g w chart) (grammarOf g) w (countOf g w chart .answer)
 count-thirteen = Trees.count-thirteen
 
--- TAKING over any chart and any state of 64 bytes: the state after it; of the chart only column n is written, as the least one that is
--- closed under the rules with earlier columns as found; "complete" is the start symbol's bit
+-- TAKING over any chart and any state of 64 bytes without a set point past its count: the state after it; of the chart only column n is
+-- written, as the least one that is closed under the rules with earlier columns as found; "complete" is the start symbol's bit
 pub take-any : (g : Grammar) (h : State) (m : ℕ) (found : List ℕ) → validGrammar g ≡ true → length (h .bytes) ≡ maxInput
-    → h .count < maxInput
+    → pointsWithin (h .count) (h .points) ≡ true → h .count < maxInput
     → cells ≤ length found → Taken (grammarOf (dated g (h .year))) h m found (h .count + 1) (takeOf g h m found)
 take-any = Take.take-any
+
+-- THE POINTS of request U6. Demand 1 for setting one and returning to it, over any chart and any state: setting writes no cell; a return
+-- writes zero into the columns after the point, up to 64, and nothing else; the refusal given is the first that applies; and what each
+-- leaves
+pub set-demand : (g : Grammar) (h : State) (k : ℕ) (chart : List ℕ) → SetDemand g h k chart (setPointOf g h k chart)
+set-demand = Points.set-demand
+
+pub return-demand : (g : Grammar) (h : State) (k : ℕ) (chart : List ℕ) → ReturnDemand g h k chart (returnToOf g h k chart)
+return-demand = Points.return-demand
+
+-- after an opening over any chart and any list of taking, setting and returning, refused ones included: each reply is what a plain machine
+-- says, which knows no chart; and bytes, count and chart are what opening and taking only the bytes that remain would have left
+pub points-history : (g : Grammar) (y : ℕ) (found : List ℕ) → validGrammar g ≡ true → cells ≤ length found → (ops : List Op)
+    → PointsHistory g y found ops (ran ops (heldAfter g (openOf (dated g y) found)))
+points-history = Machine.points-history
 
 -- DEMAND 2: opened over any chart and fed any row of bytes, the recognizer says "complete" exactly if the bytes so far have a parse tree,
 -- and each cell holds exactly the nonterminals that derive its span

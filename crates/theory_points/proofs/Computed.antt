@@ -1,6 +1,5 @@
 -- What the machine must give in examples, each proved by computing it, for any grammar and any year. Assumes nothing.
 use Prim.Native.Nat.{ℕ}
-use mathlib.Core.Bool.{true, false}
 use mathlib.Core.List.{List, [], _∷_, _++_, map}
 use mathlib.Core.Option.{Option, none, some}
 use mathlib.Core.Path.{_≡_, refl}
@@ -8,7 +7,6 @@ use lib.ListN.{replicate}
 use Rattle.grammar.specs.declared.Grammar.{Grammar}
 use Rattle.theory_points.specs.Machine.{Op, takeByte, setPoint, returnTo, Remaining, remain, begun, refusedBy, remains}
 use Rattle.theory_points.specs.Machine.{pointUpTo, returned, moved, remainder, remainsAfter}
-use Rattle.theory_points.specs.Numbers.{pointNumber, notPast, numberUpTo}
 
 unfoldable running : Unit {0}
 unfolding pointUpTo returned moved remainder remainsAfter
@@ -56,16 +54,3 @@ module _ (g : Grammar) (y : ℕ) where
       ≡ (5 ∷ [], replicate 3 none ++ (some 1 ∷ replicate 4 none))
   unfolding running
   refused-kept = refl
-
--- ---- points as numbers
-
-pub point-numbers : map pointNumber (none ∷ some 0 ∷ some 64 ∷ []) ≡ 0 ∷ 1 ∷ 65 ∷ []
-unfolding pointNumber
-point-numbers = refl
-
--- after 3 bytes: not set, set before any byte, set at their end, set past them
-pub past-known : map (notPast 3) (0 ∷ 1 ∷ 4 ∷ 5 ∷ []) ≡ true ∷ true ∷ true ∷ false ∷ []
-past-known = refl
-
-pub up-to-known : map (numberUpTo 3) (0 ∷ 1 ∷ 4 ∷ 5 ∷ []) ≡ 0 ∷ 1 ∷ 4 ∷ 0 ∷ []
-up-to-known = refl

@@ -4,4 +4,3 @@ pub mod Points
 pub mod Moves
 pub mod Sound
 pub mod Undone
-pub mod Numbers

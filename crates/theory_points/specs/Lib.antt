@@ -1,3 +1,2 @@
--- Points to come back to (document 02, U6): the plain machine of a list of operations, and points as numbers.
+-- Points to come back to (document 02, U6): the plain machine of a list of operations.
 pub mod Machine
-pub mod Numbers

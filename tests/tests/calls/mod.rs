@@ -146,6 +146,7 @@ pub fn complete_in(flat: &FlatGrammar, input: &[u8], year: u16) -> bool {
     let mut due: Vec<u16> = input.iter().map(|mark| u16::from(*mark)).collect();
     due.resize(INPUT, 0);
     due.extend([input.len() as u16, year]);
+    due.resize(HAND, 0);
     assert_eq!(hand[..], due[..]);
     assert!(matches!(answer, Answer::Yes | Answer::No));
     answer == Answer::Yes

@@ -11,6 +11,9 @@ pub enum Forgets {
     Offset,
     OpenedHand,
     TakenHand,
+    SetHand,
+    ReturnedHand,
+    ReturnedChart,
     Tenths,
     OpenedChart,
     TakenChart,
@@ -33,11 +36,14 @@ pub enum Forgets {
 
 impl Forgets {
     /// Every one that forgets something.
-    pub const ALL: [Forgets; 20] = [
+    pub const ALL: [Forgets; 23] = [
         Forgets::Row,
         Forgets::Offset,
         Forgets::OpenedHand,
         Forgets::TakenHand,
+        Forgets::SetHand,
+        Forgets::ReturnedHand,
+        Forgets::ReturnedChart,
         Forgets::Tenths,
         Forgets::OpenedChart,
         Forgets::TakenChart,
@@ -88,6 +94,16 @@ impl Reader for Forgets {
     fn take(&self, grammar: &FlatGrammar, hand: &mut Hand, terminal: u8, chart: &mut [u32]) -> Answer {
         self.place(Forgets::TakenHand, hand, |h| {
             self.slice(Forgets::TakenChart, chart, |c| Lister.take(grammar, h, terminal, c))
+        })
+    }
+
+    fn set_point(&self, grammar: &FlatGrammar, hand: &mut Hand, name: usize, chart: &mut [u32]) -> Answer {
+        self.place(Forgets::SetHand, hand, |h| Lister.set_point(grammar, h, name, chart))
+    }
+
+    fn return_to(&self, grammar: &FlatGrammar, hand: &mut Hand, name: usize, chart: &mut [u32]) -> Answer {
+        self.place(Forgets::ReturnedHand, hand, |h| {
+            self.slice(Forgets::ReturnedChart, chart, |c| Lister.return_to(grammar, h, name, c))
         })
     }
 

@@ -4,6 +4,7 @@
 pub mod forgetful;
 #[cfg(feature = "library")]
 pub mod large;
+mod points;
 pub mod switches;
 
 use crate::lister::chart::cell;
@@ -147,6 +148,7 @@ impl Reader for Faulty {
             Answer::Refused(_) => (),
             _ => hand[YEAR] = if fault(Fault::OpenKeepsYear0) { 0 } else { year },
         }
+        points::opened(answer, &found, hand);
         if fault(Fault::OpenedHandWithoutItsCount) {
             hand[INPUT] = found[INPUT];
         }
@@ -158,7 +160,7 @@ impl Reader for Faulty {
 
     fn take(&self, flat: &FlatGrammar, hand: &mut Hand, terminal: u8, chart: &mut [u32]) -> Answer {
         let found = *hand;
-        let answer = Lister.take(flat, hand, terminal, chart);
+        let answer = points::take(flat, hand, terminal, chart);
         let used = usize::from(hand[INPUT]).min(INPUT);
         match answer {
             Answer::Refused(_) if fault(Fault::RefusedTakeClearsTheHand) => *hand = hand::of(&[], 0),
@@ -172,6 +174,14 @@ impl Reader for Faulty {
             _ => (),
         }
         answer
+    }
+
+    fn set_point(&self, flat: &FlatGrammar, hand: &mut Hand, name: usize, chart: &mut [u32]) -> Answer {
+        points::set(flat, hand, name, chart)
+    }
+
+    fn return_to(&self, flat: &FlatGrammar, hand: &mut Hand, name: usize, chart: &mut [u32]) -> Answer {
+        points::return_to(flat, hand, name, chart)
     }
 
     fn check(&self, flat: &FlatGrammar, input: &[u8], year: u16, offered: &[u16], chart: &mut [u32]) -> Answer {

@@ -11,7 +11,7 @@ use Rattle.c_hand.proofs.read_bytes.Statement.{statement}
 use Rattle.c_hand.proofs.read_bytes.Tie as tie
 
 abbrev Inv-loop : tie.InvT-loop
-Inv-loop h bytes₀ i₀ bytes i = Copied (map byteIn h) maxInput i bytes
+Inv-loop h bytes₀ i₀ bytes i = Copied maxInput (map byteIn h) maxInput i bytes
 
 abbrev μ-loop : tie.MeasureT-loop
 μ-loop h bytes₀ i₀ bytes i = maxInput - i
@@ -23,5 +23,5 @@ loop-again c =
 
 pub read-bytes-spec : {M : Type 1} → statement M
 read-bytes-spec = tie.close (tie.spec
-    Inv-loop μ-loop (λ c. copied-start _ _ _ refl) (λ c. omega arith) (λ c. omega arith) (λ c κs. omega arith) (λ c. omega arith)
+    Inv-loop μ-loop (λ c. copied-start _ _ _ _ refl) (λ c. omega arith) (λ c. omega arith) (λ c κs. omega arith) (λ c. omega arith)
     (λ c. omega arith) (λ c. omega arith) loop-again (λ c. read-done _ _ _ (c .before .loop .inv) (omega arith)))

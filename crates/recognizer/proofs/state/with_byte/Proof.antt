@@ -1,36 +1,16 @@
--- `recognizer::state::with_byte` meets its contract. The loop's invariant: the bytes passed are copied, and zeros come after them.
--- The measure is what is left of the count. Assumes nothing.
-use Rattle.sizes.specs.Sizes.{maxInput}
-use Rattle.recognizer.proofs.Declared.{bytes-long}
-use Rattle.recognizer.proofs.Copied.{bytes-step, bytes-done}
-use lib.ListN.{take, drop, replicate}
+-- `recognizer::state::with_byte` meets its contract. Assumes nothing.
 use native.Mathlib.Omega.{arith}
-use mathlib.Core.Path.{_≡_, refl}
-use mathlib.Core.List.{_++_}
-use Prim.Native.Nat.{_≤_, _-_}
+use mathlib.Core.Path.{refl}
+use borrow.Author.Needs.{needs}
+use Rattle.recognizer.proofs.Declared.{bytes-long}
+use Rattle.recognizer.proofs.Copied.{byte-state}
 use Rattle.recognizer.proofs.state.with_byte.Statement.{statement}
 use Rattle.recognizer.proofs.state.with_byte.Tie as tie
 
-abbrev Inv-loop : tie.InvT-loop
-Inv-loop byte h n bytes₀ i₀ bytes i = (i ≤ n) × (bytes ≡ take i (h .bytes) ++ drop i (replicate maxInput 0))
-
-abbrev μ-loop : tie.MeasureT-loop
-μ-loop byte h n bytes₀ i₀ bytes i = n - i
-
-loop-again : tie.Need-loop-again Inv-loop μ-loop
-loop-again c =
-    let l = c .before .before in
-    (omega arith, bytes-step _ (bytes-long (l .before .args .t1) _ (l .before .good .0)) _ _ (omega arith) (l .loop .inv .1))
-
-returns : tie.Need-returns Inv-loop μ-loop
+returns : tie.Need-returns
 returns c =
-    let l = c .before in (
-      bytes-done _ (bytes-long (l .before .args .t1) _ (l .before .good .0)) (l .loop .i) (l .before .args .t1 .count) _ _ _
-          (omega arith) (omega arith) (omega arith) (l .loop .inv .1),
-      refl,
-    )
+    let entry = c .before .before in
+    (byte-state _ (bytes-long (entry .args .h) _ (entry .good .0)) _ _ _ _ _ (entry .pre) (c .before .front .ensures), refl)
 
 pub with-byte-spec : {M : Type 1} → statement M
-with-byte-spec = tie.close (tie.spec
-    Inv-loop μ-loop (λ c. (omega arith, refl)) (λ c. omega arith) (λ c. omega arith) (λ c. omega arith) (λ c. omega arith) loop-again
-    (λ c. omega arith) (λ c. omega arith) returns)
+with-byte-spec = tie.close (tie.spec (λ c κs. omega arith) (λ c. omega arith) (λ c. omega arith) returns)

@@ -1,2 +1,0 @@
--- The turns of the two loops.
-pub mod Turns
