@@ -7,8 +7,7 @@ use mathlib.Core.List.{List, [], _∷_, _++_, map, append-assoc}
 use mathlib.Core.Path.{_≡_, refl, sym, ap, _∙_}
 use lib.ListN.{length, getD, take, drop, set, length-set, length-map, length-drop, length-append, List·getD-map}
 use lib.Seq.{take-suc, take-suc-set, take-all, take-at, getD-drop, getD-append-add, length-take-le}
-use Rattle.sizes.specs.Sizes.{maxInput}
-use Rattle.theory_points.specs.Machine.{maxPoints}
+use Rattle.sizes.specs.Sizes.{maxInput, maxPoints}
 use Rattle.results.specs.Recognize.{State, stateWith}
 use Rattle.results.proofs.State.{state-same}
 use Rattle.numbers.specs.Numbers.{byteIn, saturated}

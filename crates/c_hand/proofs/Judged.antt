@@ -10,8 +10,7 @@ use lib.Dec.{ltb, leb}
 use lib.ListN.{length, getD, take, drop, set, length-map, length-drop, length-take}
 use lib.Seq.{take-take}
 use borrow.Author.Tests.{lt-ltb, le-ltb, le-leb, lt-leb}
-use Rattle.sizes.specs.Sizes.{maxInput}
-use Rattle.theory_points.specs.Machine.{maxPoints}
+use Rattle.sizes.specs.Sizes.{maxInput, maxPoints}
 use Rattle.numbers.specs.Numbers.{byteIn}
 use Rattle.grammar.specs.Valid.{all}
 use Rattle.results.specs.Recognize.{pointsWithin, stateCheck}

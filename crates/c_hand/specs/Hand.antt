@@ -7,9 +7,8 @@ use mathlib.Core.Bool.{Bool, cond, _&&_}
 use mathlib.Core.List.{List, _∷_, _++_, map}
 use lib.Dec.{leb}
 use lib.ListN.{getD, take, drop, set}
-use Rattle.sizes.specs.Sizes.{maxInput}
+use Rattle.sizes.specs.Sizes.{maxInput, maxPoints}
 use Rattle.numbers.specs.Numbers.{byteIn, saturated}
-use Rattle.theory_points.specs.Machine.{maxPoints}
 use Rattle.grammar.specs.Valid.{all}
 use Rattle.results.specs.Recognize.{State, stateWith, pointsWithin}
 

@@ -10,9 +10,8 @@ use native.Mathlib.Omega.{arith}
 use lib.Dec.{eqb, ltb, leb}
 use lib.ListN.{length, getD}
 use borrow.Author.Tests.{not-true, ltb-true, leb-true, eqb-true, lt-ltb, le-leb, lt-leb, eq-eqb}
-use Rattle.sizes.specs.Sizes.{maxInput, cells, outputSize}
+use Rattle.sizes.specs.Sizes.{maxInput, maxPoints, cells, outputSize}
 use Rattle.cfg.specs.Grammar.{Cfg}
-use Rattle.theory_points.specs.Machine.{maxPoints}
 use Rattle.grammar.specs.declared.Grammar.{Grammar}
 use Rattle.grammar.specs.Valid.{validGrammar}
 use Rattle.grammar.specs.View.{Dated, grammarOf}

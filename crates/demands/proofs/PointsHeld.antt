@@ -11,12 +11,12 @@ use native.Mathlib.Omega.{arith}
 use lib.ListN.{length, getD, take, drop, set, replicate, length-drop, take-append-drop}
 use lib.Seq.{take-append-le, length-take-le}
 use borrow.Author.Tests.{le-leb, lt-leb}
-use Rattle.sizes.specs.Sizes.{cells, maxInput}
+use Rattle.sizes.specs.Sizes.{cells, maxInput, maxPoints}
 use Rattle.chart.specs.Column.{filled, complete}
 use Rattle.chart.proofs.Truth.{filled-length}
 use Rattle.theory_clearing.specs.Clearing.{cleared}
 use Rattle.theory_clearing.proofs.Filled.{cleared-filled}
-use Rattle.theory_points.specs.Machine.{maxPoints, pointUpTo}
+use Rattle.theory_points.specs.Machine.{pointUpTo}
 use Rattle.theory_points.proofs.Points.{Within}
 use Rattle.grammar.specs.Valid.{all, validGrammar}
 use Rattle.grammar.specs.View.{Dated, grammarOf}

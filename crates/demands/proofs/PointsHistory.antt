@@ -9,10 +9,10 @@ use mathlib.Core.Path.{_≡_, refl, sym, ap, _∙_, subst}
 use native.Mathlib.Decide.{decLt}
 use native.Mathlib.Omega.{arith}
 use lib.ListN.{length, getD, take, set as setAt, length-take, length-append, List·getD-map, List·getD-eq-default}
-use Rattle.sizes.specs.Sizes.{cells, maxInput}
+use Rattle.sizes.specs.Sizes.{cells, maxInput, maxPoints}
 use Rattle.chart.specs.Column.{filled}
 use Rattle.chart.proofs.Truth.{filled-length}
-use Rattle.theory_points.specs.Machine.{maxPoints, Op, takeByte, setPoint, returnTo, Remaining, remain, begun, Effect, refusedBy, remains}
+use Rattle.theory_points.specs.Machine.{Op, takeByte, setPoint, returnTo, Remaining, remain, begun, Effect, refusedBy, remains}
 use Rattle.theory_points.specs.Machine.{pointUpTo, moved, remainder, remainsAfter}
 use Rattle.theory_points.proofs.Points.{within-at}
 use Rattle.theory_points.proofs.Moves.{take-goes, take-full, set-goes, set-over, return-goes, return-unset}
@@ -22,7 +22,7 @@ use Rattle.grammar.specs.Valid.{validGrammar}
 use Rattle.grammar.specs.View.{Dated, dated, grammarOf}
 use Rattle.results.specs.Answer.{refused}
 use Rattle.results.specs.Recognize.{State, handOf, noPoints, pointsWithin, stateCheck, Recognition, openOf, fed}
-use Rattle.results.specs.Operations.{Held, heldAfter, Did, didBy, did, ran}
+use Rattle.theory_points.specs.Operations.{Held, heldAfter, Did, didBy, did, ran}
 use Rattle.results.proofs.Goes.{set-no-name, return-no-point}
 use Rattle.results.proofs.State.{state-let-through}
 use Rattle.demands.specs.PointsHistory.{Replied, AllReplied, pointNumber, PointsHistory}

@@ -6,9 +6,8 @@ use mathlib.Core.List.{List, [], _∷_}
 use mathlib.Core.Logic.{_⊎_}
 use mathlib.Core.Path.{_≡_}
 use lib.ListN.{length, getD}
-use Rattle.sizes.specs.Sizes.{cells, maxInput, outputSize}
+use Rattle.sizes.specs.Sizes.{cells, maxInput, maxPoints, outputSize}
 use Rattle.cfg.specs.Derivation.{Derivation, limit}
-use Rattle.theory_points.specs.Machine.{maxPoints}
 use Rattle.grammar.specs.declared.Grammar.{Grammar}
 use Rattle.grammar.specs.Valid.{validGrammar}
 use Rattle.grammar.specs.View.{Dated, grammarOf}

@@ -12,7 +12,7 @@ use Rattle.grammar.specs.declared.Grammar.{Grammar}
 use Rattle.grammar.specs.View.{dated, grammarOf}
 use Rattle.results.specs.Answer.{refused, answered}
 use Rattle.results.specs.Recognize.{Recognition, openOf, fed}
-use Rattle.results.specs.Operations.{Reply, Ran}
+use Rattle.theory_points.specs.Operations.{Reply, Ran}
 
 -- whether the bytes that remain have a tree, for the grammar and the year that remain
 abbrev pub RemainComplete : Remaining → Type 0

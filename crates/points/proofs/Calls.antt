@@ -6,12 +6,11 @@ use mathlib.Core.Path.{_≡_, refl, ap, _∙_}
 use native.Mathlib.Omega.{arith}
 use lib.ListN.{length, getD, take, set}
 use borrow.Author.Tests.{lt-ltb, le-ltb, lt-leb}
-use Rattle.sizes.specs.Sizes.{cells}
+use Rattle.sizes.specs.Sizes.{cells, maxPoints}
 use Rattle.sets.specs.Set.{has}
 use Rattle.chart.specs.Cell.{cell}
 use Rattle.chart.specs.Column.{complete}
 use Rattle.theory_clearing.specs.Clearing.{cleared}
-use Rattle.theory_points.specs.Machine.{maxPoints}
 use Rattle.grammar.specs.declared.Grammar.{Grammar}
 use Rattle.grammar.specs.Valid.{validGrammar}
 use Rattle.results.specs.Answer.{Answer, refused, answered, Check, decide}

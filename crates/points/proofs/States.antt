@@ -10,8 +10,7 @@ use lib.Dec.{leb}
 use lib.ListN.{length, getD, take, drop, set, replicate, length-map, List·getD-map, List·getD-eq-default}
 use lib.Seq.{take-all}
 use borrow.Author.Tests.{le-leb, lt-leb, eq-eqb, ne-eqb}
-use Rattle.sizes.specs.Sizes.{maxInput}
-use Rattle.theory_points.specs.Machine.{maxPoints}
+use Rattle.sizes.specs.Sizes.{maxInput, maxPoints}
 use Rattle.results.specs.Recognize.{State, stateCheck}
 use Rattle.results.specs.Points.{pointCheck, keptPoint, pointsUpTo}
 use Rattle.recognizer.proofs.Copied.{bytes-step, bytes-done}

@@ -7,10 +7,9 @@ use mathlib.Core.List.{List}
 use mathlib.Core.Logic.{_⊎_, inl, inr, dite}
 use mathlib.Core.Path.{_≡_, sym}
 use lib.ListN.{length, getD, List·getD-eq-default}
-use Rattle.sizes.specs.Sizes.{maxInput}
+use Rattle.sizes.specs.Sizes.{maxInput, maxPoints}
 use Rattle.laws.proofs.Bools.{bool-false}
 use Rattle.laws.proofs.Lists.{below-step}
-use Rattle.theory_points.specs.Machine.{maxPoints}
 use Rattle.results.specs.Recognize.{State, stateCheck}
 use Rattle.results.proofs.State.{state-refused, refused-state, count-low}
 

@@ -5,8 +5,7 @@ use mathlib.Core.Path.{_≡_}
 use lib.ListN.{length, length-map}
 use mir.Val.{Val}
 use denote.Laws.{Is}
-use Rattle.sizes.specs.Sizes.{maxInput}
-use Rattle.theory_points.specs.Machine.{maxPoints}
+use Rattle.sizes.specs.Sizes.{maxInput, maxPoints}
 use Rattle.recognizer.specs.declared.Recognizer as Declared
 use Rattle.recognizer.proofs.Recognizer as R
 

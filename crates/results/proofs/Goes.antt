@@ -8,9 +8,8 @@ use native.Mathlib.Omega.{arith}
 use lib.Dec.{leb}
 use lib.ListN.{length, getD}
 use borrow.Author.Tests.{le-ltb, le-leb, lt-leb, eq-eqb, ne-eqb}
-use Rattle.sizes.specs.Sizes.{maxInput, cells}
+use Rattle.sizes.specs.Sizes.{maxInput, maxPoints, cells}
 use Rattle.cfg.specs.Grammar.{Cfg}
-use Rattle.theory_points.specs.Machine.{maxPoints}
 use Rattle.grammar.specs.declared.Grammar.{Grammar}
 use Rattle.grammar.specs.Valid.{validGrammar}
 use Rattle.grammar.specs.View.{Dated, dated, grammarOf}

@@ -5,7 +5,6 @@ pub mod Name
 pub mod Undated
 pub mod Recognize
 pub mod Points
-pub mod Operations
 pub mod Check
 pub mod Measure
 pub mod Words

@@ -8,7 +8,7 @@ use lib.ListN.{getD, take, set}
 use Rattle.cfg.specs.Grammar.{Cfg}
 use Rattle.chart.specs.Column.{complete}
 use Rattle.theory_clearing.specs.Clearing.{cleared}
-use Rattle.theory_points.specs.Machine.{maxPoints}
+use Rattle.sizes.specs.Sizes.{maxPoints}
 use Rattle.grammar.specs.declared.Grammar.{Grammar}
 use Rattle.grammar.specs.View.{dated, grammarOf}
 use Rattle.results.specs.Answer.{refused, answered, Check, check, decide}

@@ -9,8 +9,7 @@ use Rattle.cfg.specs.Grammar.{Cfg}
 use Rattle.grammar.specs.declared.Grammar.{Grammar}
 use Rattle.grammar.specs.Valid.{all, validGrammar}
 use Rattle.grammar.specs.View.{Dated, dated, grammarOf}
-use Rattle.sizes.specs.Sizes.{maxInput, cells}
-use Rattle.theory_points.specs.Machine.{maxPoints}
+use Rattle.sizes.specs.Sizes.{maxInput, maxPoints, cells}
 use Rattle.chart.specs.Column.{opened, extended, complete}
 use Rattle.results.specs.Answer.{Answer, refused, answered, Check, check, decide}
 

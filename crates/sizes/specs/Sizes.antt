@@ -1,4 +1,4 @@
--- The sizes of document 01, each defined once. Assumes nothing.
+-- The sizes of documents 01 and 02, each defined once. Assumes nothing.
 use Prim.Native.Nat.{ℕ, _+_, _*_}
 
 -- the most rules that a grammar (book) may have
@@ -16,6 +16,10 @@ nonterminals = 32
 -- the most bytes (marks) that an input (plate) may have
 abbrev pub maxInput : ℕ
 maxInput = 64
+
+-- the most points of a plate in hand (document 02, U6); they are named by the numbers below this
+abbrev pub maxPoints : ℕ
+maxPoints = 8
 
 -- the number of positions where a span (stretch) can start or end: before each byte, and after the last
 abbrev pub side : ℕ

@@ -93,7 +93,7 @@ use Rattle.results.specs.Name.{namePart, nameOf, recordedName}
 use Rattle.results.specs.Undated.{Undated}
 use Rattle.results.specs.Recognize.{State, pointsWithin, openOf, takeOf, fed}
 use Rattle.results.specs.Points.{setPointOf, returnToOf}
-use Rattle.results.specs.Operations.{heldAfter, ran}
+use Rattle.theory_points.specs.Operations.{heldAfter, ran}
 use Rattle.results.specs.Check.{checkOf}
 use Rattle.results.specs.Measure.{sum, tenthsOf, NearestTenth, lengthOf, sameBuilt, sameBuildOf}
 use Rattle.results.specs.Words.{wordsText, wordsOf}

@@ -6,8 +6,8 @@ use mathlib.Core.Path.{_≡_, ap}
 use native.Mathlib.Omega.{arith}
 use lib.ListN.{length, getD, take, set}
 use borrow.Author.Tests.{lt-ltb, le-ltb, eq-eqb, ne-eqb}
-use Rattle.sizes.specs.Sizes.{maxInput}
-use Rattle.theory_points.specs.Machine.{maxPoints, takeByte, setPoint, returnTo, Remaining, remain, refusedBy, remains}
+use Rattle.sizes.specs.Sizes.{maxInput, maxPoints}
+use Rattle.theory_points.specs.Machine.{takeByte, setPoint, returnTo, Remaining, remain, refusedBy, remains}
 use Rattle.theory_points.specs.Machine.{pointUpTo, returned, moved}
 
 module _ (r : Remaining) where

@@ -9,9 +9,9 @@ use native.Mathlib.Decide.{decLt}
 use native.Mathlib.Omega.{arith}
 use lib.ListN.{length, getD, take, set, length-set, length-map, length-replicate, length-append}
 use lib.Seq.{length-take-le}
-use Rattle.sizes.specs.Sizes.{maxInput}
+use Rattle.sizes.specs.Sizes.{maxInput, maxPoints}
 use Rattle.grammar.specs.declared.Grammar.{Grammar}
-use Rattle.theory_points.specs.Machine.{maxPoints, Op, takeByte, setPoint, returnTo, Remaining, remain, begun, Effect}
+use Rattle.theory_points.specs.Machine.{Op, takeByte, setPoint, returnTo, Remaining, remain, begun, Effect}
 use Rattle.theory_points.specs.Machine.{pointUpTo, moved, remainder, remainsAfter}
 use Rattle.theory_points.proofs.Points.{Within, none-within, more-within, set-within, within-at, up-to-within}
 use Rattle.theory_points.proofs.Moves.{take-goes, take-full, set-goes, set-over, return-goes, return-unset}

@@ -8,9 +8,9 @@ use native.Mathlib.Decide.{decLt}
 use native.Mathlib.Omega.{arith}
 use lib.ListN.{length, take, set, length-append}
 use lib.Seq.{append-snoc, take-all, take-length, take-take, take-append-le, getD-set-same}
-use Rattle.sizes.specs.Sizes.{maxInput}
+use Rattle.sizes.specs.Sizes.{maxInput, maxPoints}
 use Rattle.grammar.specs.declared.Grammar.{Grammar}
-use Rattle.theory_points.specs.Machine.{maxPoints, Op, takeByte, setPoint, returnTo, Remaining, remain, Effect}
+use Rattle.theory_points.specs.Machine.{Op, takeByte, setPoint, returnTo, Remaining, remain, Effect}
 use Rattle.theory_points.specs.Machine.{pointUpTo, moved, remainder, remainsAfter}
 use Rattle.theory_points.proofs.Points.{set-within, up-to-same}
 use Rattle.theory_points.proofs.Moves.{take-goes, take-full, set-goes, return-goes}

@@ -6,12 +6,8 @@ use mathlib.Core.List.{List, [], _∷_, _++_, map}
 use mathlib.Core.Option.{Option, none, some}
 use lib.Dec.{eqb, leb, ltb}
 use lib.ListN.{length, getD, take, set, replicate}
-use Rattle.sizes.specs.Sizes.{maxInput}
+use Rattle.sizes.specs.Sizes.{maxInput, maxPoints}
 use Rattle.grammar.specs.declared.Grammar.{Grammar}
-
--- points are named by the numbers below this
-abbrev pub maxPoints : ℕ
-maxPoints = 8
 
 -- an operation on a plate in hand: a byte (mark) is taken, or the point of this name is set or returned to
 pub data Op : Type 0 where

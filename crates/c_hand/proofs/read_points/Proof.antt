@@ -3,7 +3,7 @@
 use Prim.Native.Nat.{_-_}
 use native.Mathlib.Omega.{arith}
 use mathlib.Core.Path.{refl}
-use Rattle.theory_points.specs.Machine.{maxPoints}
+use Rattle.sizes.specs.Sizes.{maxPoints}
 use Rattle.c_hand.proofs.Copies.{Copied, copied-start, pointBytes, point-step, points-done}
 use Rattle.c_hand.proofs.read_points.Statement.{statement}
 use Rattle.c_hand.proofs.read_points.Tie as tie

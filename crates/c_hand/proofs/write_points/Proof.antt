@@ -4,7 +4,7 @@ use Prim.Native.Nat.{_+_, _-_}
 use native.Mathlib.Omega.{arith}
 use mathlib.Core.Path.{refl}
 use borrow.Author.Needs.{needs}
-use Rattle.theory_points.specs.Machine.{maxPoints}
+use Rattle.sizes.specs.Sizes.{maxPoints}
 use Rattle.recognizer.proofs.Declared.{points-long}
 use Rattle.c_hand.specs.Hand.{handSize, pointsAt}
 use Rattle.c_hand.proofs.Copies.{Copied, withPoints, put-start, put-step, put-done}

@@ -5,7 +5,7 @@ use native.Mathlib.Omega.{arith}
 use mathlib.Core.List.{_++_}
 use mathlib.Core.Path.{_≡_, refl}
 use lib.ListN.{take, drop, replicate}
-use Rattle.theory_points.specs.Machine.{maxPoints}
+use Rattle.sizes.specs.Sizes.{maxPoints}
 use Rattle.results.specs.Points.{pointsUpTo}
 use Rattle.recognizer.proofs.Declared.{points-long}
 use Rattle.points.proofs.States.{points-step, points-done}

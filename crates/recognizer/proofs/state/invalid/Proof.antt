@@ -4,7 +4,7 @@ use Prim.Native.Nat.{_+_, _-_, _≤_, _<_, ℕ}
 use native.Mathlib.Omega.{arith}
 use lib.ListN.{getD}
 use borrow.Author.Needs.{needs}
-use Rattle.theory_points.specs.Machine.{maxPoints}
+use Rattle.sizes.specs.Sizes.{maxPoints}
 use Rattle.recognizer.proofs.Declared.{points-long}
 use Rattle.recognizer.proofs.Checked.{count-over, point-past, points-next, all-within}
 use Rattle.recognizer.specs.Recognizer.{stateIn}
