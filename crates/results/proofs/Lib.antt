@@ -16,3 +16,4 @@ pub mod EmptyInput
 pub mod SameBuild
 pub mod Demand3
 pub mod Loading
+pub mod Learning

@@ -5,6 +5,7 @@ pub mod Name
 pub mod Undated
 pub mod Recognize
 pub mod Points
+pub mod Learn
 pub mod Check
 pub mod Measure
 pub mod Words
@@ -19,5 +20,6 @@ pub mod Starred
 pub mod Builds
 pub mod YearLines
 pub mod NameLines
+pub mod LearnLines
 pub mod Texts
 pub mod Requests

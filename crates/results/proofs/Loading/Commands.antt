@@ -78,7 +78,7 @@ unfolding refusedName
 unrefused-valid g name r = not-false (validName name) (or-neither (not (validName name)) _ r .0)
 
 -- a limit that applies is kept
-kept-to : (b : Bool) (m n : ℕ) → (b && ltb m n) ≡ false → b ≡ true → n ≤ m
+pub kept-to : (b : Bool) (m n : ℕ) → (b && ltb m n) ≡ false → b ≡ true → n ≤ m
 kept-to b m n e t = ltb-false m n (rw t at e)
 
 module _ (bytes : List ℕ) (at : ℕ) (g : Grammar) where

@@ -1,0 +1,1 @@
+// Clearing what is unused in a grammar: definitions and theorems, no code.
