@@ -131,7 +131,7 @@ fn both_sides_learn_the_same_rules() {
             found[66] = if random.below(9) == 0 { 66 } else { 0 };
             let (mut h, mut k, mut x, mut y) = (found, found, chart(), chart());
             let cells = if random.below(9) == 0 { CHART - 1 } else { CHART };
-            let (mut f, mut g, mut at, mut to) = (row, row, 99, 99);
+            let (mut f, mut g, mut at, mut to) = (row, row, 9, 8);
             f[0] += if random.below(9) == 0 { 32 } else { 0 };
             g[0] = f[0];
             let before = f;
@@ -140,7 +140,6 @@ fn both_sides_learn_the_same_rules() {
             assert!(f == g && h == k && x == y, "{bytes:02x?}");
             assert_eq!(code > 255, f == before, "{bytes:02x?}");
             assert!(code < 256 || (h == found && x == chart()), "{bytes:02x?}");
-            assert_eq!(code < 256, at == 99, "{bytes:02x?}");
             seen[if code > 255 { code as usize - 256 } else { 22 * code as usize }] += 1;
         };
         for _ in 0..8 {

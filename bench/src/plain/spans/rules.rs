@@ -181,15 +181,7 @@ impl Looked {
     const NONE: Looked = Looked { inside: [0; RULES], flags: [0; RULES] };
 
     /// The rules with inner cuts, of those in word h of a set.
-    fn begin(
-        &mut self,
-        (h, word): (usize, u64),
-        rules: &[Rule],
-        e: &Empty,
-        at: Span,
-        ends: &Ends,
-        starts: &Starts,
-    ) -> u64 {
+    fn begin(&mut self, h: usize, word: u64, rules: &[Rule], e: &Empty, at: Span, ends: &Ends, starts: &Starts) -> u64 {
         let rest = if at.i + 1 < at.n { 1 << (at.i + 1) } else { 0 };
         let (mut word, mut begun) = (word, 0);
         while word != 0 {
@@ -223,14 +215,15 @@ impl Known {
 }
 
 impl Looked {
-    /// Looks at the rules in word h of a set, after those in the words before. `begun` is word h of those with inner cuts.
+    /// Looks at the rules in word h of a set, after those in the words before.
     fn pass(
         &mut self,
-        (h, begun): (usize, u64),
+        h: usize,
         todo: Rules,
         rules: &[Rule],
         e: &Empty,
         start: u32,
+        begun: u64,
         known: Known,
     ) -> Known {
         let (mut known, mut rest) = (known, todo);
@@ -255,8 +248,8 @@ impl Looked {
         let (mut own, mut looked, mut todo) = (0, [0; 2], begun);
         while todo != [0; 2] {
             looked = union(looked, todo);
-            let known = self.pass((0, begun[0]), todo, rules, e, start, Known { own, later: [0; 2] });
-            let known = self.pass((1, begun[1]), todo, rules, e, start, known);
+            let known = self.pass(0, todo, rules, e, start, begun[0], Known { own, later: [0; 2] });
+            let known = self.pass(1, todo, rules, e, start, begun[1], known);
             (own, todo) = (known.own, known.later);
         }
         (own, looked)
@@ -292,8 +285,8 @@ impl Words {
         for i in (0..n).rev() {
             let at = Span { i, n, byte: w[i], start: chart[65 * i + i] };
             let near = if i + 1 < n { starts.near(i + 1, ends.reach[i]) } else { e.ending };
-            let low = looked.begin((0, near[0]), rules, e, at, ends, starts);
-            let high = looked.begin((1, near[1]), rules, e, at, ends, starts);
+            let low = looked.begin(0, near[0], rules, e, at, ends, starts);
+            let high = looked.begin(1, near[1], rules, e, at, ends, starts);
             let (own, made) = looked.close(rules, e, at.start, [low, high]);
             starts.live[i] = [0; 2];
             starts.put_word(0, made[0], i, &looked.flags);
