@@ -5,8 +5,6 @@
 use super::packed::{contains, Packed, Rule};
 use super::{CHART, INPUT, PLACES, RULES};
 
-pub mod rules;
-
 const KINDS: usize = 32;
 
 /// What is the same for every column: the set of the kinds that derive the empty span; for each rule the places from

@@ -1,4 +1,4 @@
--- The laws of flat rows. What others cite: Judged, Round, Declared.
+-- The laws of flat rows. What others cite: Judged, Round.
 pub mod Records
 pub mod Parts
 pub mod Whole
@@ -6,4 +6,3 @@ pub mod Round
 pub mod Named
 pub mod Judged
 pub mod Written
-pub mod Declared

@@ -25,10 +25,10 @@ use Rattle.results.specs.Answer.{Answer, refused, answered, refusedAt, loaded, 
 use Rattle.results.specs.Load.{Loading, acceptedLoad}
 use Rattle.results.specs.Recognize.{State, stateWith, stateCheck}
 use Rattle.results.specs.Learn.{Joining, faulty, longer, enlarged, Learning, learnIn, unlearnt, learnOf}
-use Rattle.recognizer_arrays.proofs.Copied.{front-state}
 use Rattle.recognizer.specs.Recognizer.{stateIn}
 use Rattle.recognizer.specs.declared.Recognizer.{Recognizer}
 use Rattle.recognizer.proofs.Calls.{was-invalid, was-valid}
+use Rattle.recognizer.proofs.Copied.{front-state}
 use Rattle.learn.specs.Reading.{readingOf, joinedTo}
 use Rattle.learn.specs.Learnt.{learningOf}
 use Rattle.learn.specs.declared.Learnt.{Learnt}

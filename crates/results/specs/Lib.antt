@@ -20,6 +20,5 @@ pub mod Starred
 pub mod Builds
 pub mod YearLines
 pub mod NameLines
-pub mod LearnLines
 pub mod Texts
 pub mod Requests

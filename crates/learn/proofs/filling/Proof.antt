@@ -10,20 +10,20 @@ use Rattle.learn.proofs.filling.Tie as tie
 
 slice : tie.Need-slice-aggregate-fill
 slice c =
-    let entry = c .before .before .before .before .before in
+    let entry = c .before .before .before .before in
     let size = length-take-le (entry .args .h .count) (c .before .before .front .result) (search needs) in
     omega (arith, size)
 
 fill-requires : tie.Need-fill-requires
 fill-requires c κs =
-    let entry = c .before .before .before .before .before .before in
+    let entry = c .before .before .before .before .before in
     let size = length-take-le (entry .args .h .count) (c .before .before .before .front .result) (search needs) in
     (entry .pre .0, omega (arith, size), entry .pre .2)
 
 returns : tie.Need-returns
 returns c =
     let filled = c .before .before .before .before in
-    let entry = filled .before .before .before .before .before .before .before in
+    let entry = filled .before .before .before .before .before .before in
     let copied = filled .before .before .before .before .front in
     filled-right (stateIn (entry .args .h)) _ (bytes-long (entry .args .h) _ (entry .good .0)) (entry .pre .1) (copied .ensures) _ _ _ _ _ _
     (filled .fill .ensures .0) (c .says .ensures) (omega arith) (search needs)

@@ -1,4 +1,0 @@
--- Laws that the proofs of the functions cite.
-pub mod Copied
-pub mod Within
-pub mod Remaining
