@@ -18,9 +18,10 @@ enum { YEAR = 2008 }; /* any, since all rules of the books here are in force in 
 static uint8_t book[FILBOZSEG_BOOK], plate[FILBOZSEG_BYTES], text[FILBOZSEG_TEXT];
 static uint16_t full[FILBOZSEG_ROW], deep[FILBOZSEG_ROW], wide[FILBOZSEG_ROW], left[FILBOZSEG_ROW], hand[FILBOZSEG_HAND];
 static uint16_t nested[FILBOZSEG_OUTPUT], output[FILBOZSEG_OUTPUT];
-static uint16_t twin[FILBOZSEG_ROW];
+static uint16_t twin[FILBOZSEG_ROW], fewer[FILBOZSEG_ROW], longer[FILBOZSEG_ROW];
+static uint8_t last[64];
 static uint32_t chart[FILBOZSEG_CELLS], code;
-static size_t offset, size, nodes, length, bytes;
+static size_t offset, size, nodes, length, bytes, last_size;
 static int32_t tenths;
 static ucontext_t home, away;
 
@@ -71,6 +72,25 @@ static void return_full(void)
     hold(FILBOZSEG_BYTES, 0);
     code = filbozseg_return_to(full, hand, FILBOZSEG_POINTS - 1, chart, FILBOZSEG_CELLS);
     if (hand[FILBOZSEG_BYTES] != 0 || chart[FILBOZSEG_CELLS - 1] != 0)
+        code = ~0u;
+}
+/* The last rule of the full book, with 64 marks and 127 rules before it. */
+static void learn_full(void)
+{
+    hold(FILBOZSEG_BYTES, 0);
+    memcpy(longer, fewer, sizeof longer);
+    offset = ~(size_t)0;
+    code = filbozseg_learn(longer, hand, last, last_size, chart, FILBOZSEG_CELLS, &offset);
+    if (offset != ~(size_t)0 || memcmp(longer, full, sizeof full) != 0)
+        code = ~0u;
+}
+/* The same bytes without the last one. */
+static void learn_cut(void)
+{
+    hold(FILBOZSEG_BYTES, 0);
+    memcpy(longer, fewer, sizeof longer);
+    code = filbozseg_learn(longer, hand, last, last_size - 1, chart, FILBOZSEG_CELLS, &offset);
+    if (offset != last_size - 1 || memcmp(longer, fewer, sizeof fewer) != 0)
         code = ~0u;
 }
 static void check_deep(void) { code = filbozseg_check(deep, plate, 64, YEAR, nested, 1024, chart, FILBOZSEG_CELLS); }
@@ -151,6 +171,8 @@ static const struct {
     {"take", take_full, 0, FILBOZSEG_TAKE_STACK},
     {"set point", set_full, 0, FILBOZSEG_SET_POINT_STACK},
     {"return to", return_full, 0, FILBOZSEG_RETURN_TO_STACK},
+    {"learn", learn_full, 0, FILBOZSEG_LEARN_STACK},
+    {"learn cut", learn_cut, 256 + FILBOZSEG_REFUSAL_UNEXPECTED_END, FILBOZSEG_LEARN_STACK},
     {"check deep", check_deep, 1, FILBOZSEG_CHECK_STACK},
     {"check full", check_full, 0, FILBOZSEG_CHECK_STACK},
     {"length", length_deep, 1, FILBOZSEG_LENGTH_STACK},
@@ -244,18 +266,26 @@ static int load_twin(void)
     return filbozseg_load(book, size, twin, &offset) == 1;
 }
 
-/* 128 rules of 8 places with their years and names, and a range in every second place. */
+/* 128 rules of 8 places with their years and names, and a range in every second place. Also the bytes of the last rule, and the book
+   without it. */
 static int load_full(void)
 {
-    size_t k, q;
+    size_t k, q, front = 0;
     size = 0;
     put((uint8_t[]){0x10, 0}, 2);
     for (k = 0; k < 128; k++) {
+        front = size;
         put((uint8_t[]){0x21, k % 32, 1, 0, k, 0, 0xFF, 0xFF}, 8);
         put_name(k);
         for (q = 0; q < 8; q++)
             put(q % 2 ? (uint8_t[]){0x41, 'A', 'B'} : (uint8_t[]){0x30, (k + q) % 32}, q % 2 ? 3 : 2);
     }
+    last_size = size - front;
+    memcpy(last, book + front, last_size);
+    book[front] = 0x50;
+    if (filbozseg_load(book, front + 1, fewer, &offset) != 1)
+        return 0;
+    book[front] = last[0];
     put((uint8_t[]){0x50}, 1);
     return filbozseg_load(book, size, full, &offset) == 1;
 }

@@ -11,7 +11,7 @@
  *     0          no; none
  *     1          yes; loaded; found; measured; written; handed out; counted
  *     2          more (only from filbozseg_count)
- *     256 + n    refusal n, 1 <= n <= 19 or n = 21: FILBOZSEG_REFUSED gives n, enum filbozseg_refusal has its name,
+ *     256 + n    refusal n, 1 <= n <= 21: FILBOZSEG_REFUSED gives n, enum filbozseg_refusal has its name,
  *                filbozseg_refusal_text says what it means, and docs/REFERENCE.md when a call is refused with it and what the call leaves
  * and no other code. No function allocates or keeps anything between calls. Of the C library they need only memcpy and memset. Several
  * threads may call them at once if what is lent for writing is lent to one call only.
@@ -23,11 +23,12 @@
  * Overlap. What is lent for writing (every pointer to non-const) must not overlap anything else that is lent to the same call, and nobody
  * else may read or write it until the call returns. What is lent for reading may overlap.
  *
- * What is written. A lent number is written only with an answer that carries it: the offset with a refused book, offset and length with a
- * name found, the tenths with a measured derivation, the bytes with a text written, the nodes with a derivation handed out, the count with
- * a counted input. With any other answer it is left as found. Each call says below what it leaves in a row, a hand, a chart, an output and
- * a buffer. Cells from 4225 on are never touched. What a lent place holds before a call has no effect, except for the hand and the chart
- * of filbozseg_take, filbozseg_set_point and filbozseg_return_to.
+ * What is written. A lent number is written only with an answer that carries it: the offset with a refused book or rule, offset and length
+ * with a name found, the tenths with a measured derivation, the bytes with a text written, the nodes with a derivation handed out, the
+ * count with a counted input. With any other answer it is left as found. Each call says below what it leaves in a row, a hand, a chart, an
+ * output and a buffer. Only filbozseg_learn writes a grammar's row that it is given. Cells from 4225 on are never touched. What a lent
+ * place holds before a call has no effect, except for the grammar and the hand of filbozseg_learn, and the hand and the chart of
+ * filbozseg_take, filbozseg_set_point and filbozseg_return_to.
  *
  * Years. Each rule has a first and a last year, and is in force from one to the other, both included. A call on an input goes by the year
  * that it is given, and a call on a hand by the year that the hand was opened with: only rules in force in that year build trees, empty
@@ -52,7 +53,7 @@ extern "C" {
 
 /* The version of this header and of the library that it describes. */
 #define FILBOZSEG_VERSION_MAJOR 0
-#define FILBOZSEG_VERSION_MINOR 10
+#define FILBOZSEG_VERSION_MINOR 11
 #define FILBOZSEG_VERSION_PATCH 0
 
 /* The version as one number, which grows from version to version: 1000000 * major + 1000 * minor + patch. Like the other functions with a
@@ -89,11 +90,12 @@ static inline const char *filbozseg_version_text(void)
    take depends on book and input, up to 1.8 MB at their deepest. So a thread of 1 MiB passes small tests, and crashes on deep plates: give
    it FILBOZSEG_FIRST_STACK and what the thread itself needs. */
 #define FILBOZSEG_LOAD_STACK (48 * 1024)
-#define FILBOZSEG_NAME_STACK (40 * 1024)
+#define FILBOZSEG_NAME_STACK (48 * 1024)
 #define FILBOZSEG_OPEN_STACK (48 * 1024)
 #define FILBOZSEG_TAKE_STACK (56 * 1024)
 #define FILBOZSEG_SET_POINT_STACK (24 * 1024)
 #define FILBOZSEG_RETURN_TO_STACK (24 * 1024)
+#define FILBOZSEG_LEARN_STACK (96 * 1024)
 #define FILBOZSEG_CHECK_STACK (148 * 1024)
 #define FILBOZSEG_LENGTH_STACK (148 * 1024)
 #define FILBOZSEG_WORDS_STACK (152 * 1024)
@@ -124,6 +126,7 @@ enum filbozseg_refusal {
     FILBOZSEG_REFUSAL_INVALID_NAME = 17,
     FILBOZSEG_REFUSAL_TEXT_TOO_LONG = 18,
     FILBOZSEG_REFUSAL_NO_POINT = 19,
+    FILBOZSEG_REFUSAL_NOT_ONE_RULE = 20,
     FILBOZSEG_REFUSAL_YEARS_REVERSED = 21
 };
 
@@ -179,6 +182,8 @@ static inline const char *filbozseg_refusal_text(uint32_t refusal)
         return "the text of the reading is longer than the buffer";
     case FILBOZSEG_REFUSAL_NO_POINT:
         return "the name of the point is over 7, or the point to return to is not set";
+    case FILBOZSEG_REFUSAL_NOT_ONE_RULE:
+        return "the bytes to learn are not exactly one rule";
     case FILBOZSEG_REFUSAL_YEARS_REVERSED:
         return "a rule of the book has its first year over its last";
     default:
@@ -278,6 +283,28 @@ uint32_t filbozseg_set_point(const uint16_t grammar[FILBOZSEG_ROW], uint16_t han
  */
 uint32_t filbozseg_return_to(const uint16_t grammar[FILBOZSEG_ROW], uint16_t hand[FILBOZSEG_HAND], size_t name,
                              uint32_t *chart, size_t chart_length);
+
+/*
+ * Learns a rule with a hand under way. The bytes are the commands of one rule as in a book, and nothing else: 20 or 21 first, then places
+ * and a name; the rule ends where the bytes end, without 50. Writes the row of the grammar with this rule under the next number: the old
+ * rules keep theirs, the nullable depth is that of the longer grammar, and all unused numbers become zeros. The hand keeps marks, count,
+ * points and year, and gets zeros in its unused marks. The chart's first 4225 cells are what opening with the longer grammar in the hand's
+ * year and taking the marks leaves, whatever the chart held. Returns whether the input so far is then complete in the hand's year. A rule
+ * that is out of force in that year is learnt too. Each derivation of an input under the old grammar is one under the longer grammar, and
+ * the old ones keep their order.
+ *
+ * Refusals, in this order: 8 the grammar; 14 the hand; 10 a chart of fewer than 4225 cells; 20 no bytes. Then, at each command from the
+ * left: 2 an unknown byte; 20 a first command that opens no rule, or a later one that opens a rule, is 10 or is 50, also if it is cut
+ * short; 3 a second name for the rule; 1 the bytes end inside the command; then as for filbozseg_load 4, 16, 17, 21, 5 and 6. A grammar of
+ * 128 rules gets 5, and 17 goes by the names of all its used rules. If refused, it writes none of grammar, hand and chart, whatever they
+ * hold.
+ *
+ * The offset is written if the rule is refused. It is where the faulty command begins in these bytes; with 1 it is their length; with 8,
+ * 14, 10 and with no bytes it is 0. filbozseg_name does not find the name of a learnt rule, since it goes by the bytes of a book.
+ * Stack: FILBOZSEG_LEARN_STACK.
+ */
+uint32_t filbozseg_learn(uint16_t grammar[FILBOZSEG_ROW], uint16_t hand[FILBOZSEG_HAND], const uint8_t *bytes, size_t bytes_length,
+                         uint32_t *chart, size_t chart_length, size_t *offset);
 
 /*
  * Returns whether the offered row is a derivation of the input in the year: for each node, in preorder, how many bytes it covers and the

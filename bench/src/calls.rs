@@ -22,6 +22,7 @@ pub trait Reader {
     fn take(flat: &Flat, hand: &mut Hand, byte: u8, chart: &mut [u32]) -> u32;
     fn set_point(flat: &Flat, hand: &mut Hand, name: usize, chart: &[u32]) -> u32;
     fn return_to(flat: &Flat, hand: &mut Hand, name: usize, chart: &mut [u32]) -> u32;
+    fn learn(flat: &mut Flat, hand: &mut Hand, bytes: &[u8], chart: &mut [u32], offset: &mut usize) -> u32;
     fn check(flat: &Flat, input: &[u8], offered: &[u16], chart: &mut [u32]) -> u32;
     fn length(flat: &Flat, input: &[u8], offered: &[u16], chart: &mut [u32], tenths: &mut i32) -> u32;
     fn words(flat: &Flat, input: &[u8], offered: &[u16], chart: &mut [u32], text: &mut [u8], bytes: &mut usize) -> u32;
@@ -68,6 +69,11 @@ impl Reader for Proved {
 
     fn return_to(flat: &Flat, hand: &mut Hand, name: usize, chart: &mut [u32]) -> u32 {
         unsafe { sys::filbozseg_return_to(flat, hand, name, chart.as_mut_ptr(), chart.len()) }
+    }
+
+    fn learn(flat: &mut Flat, hand: &mut Hand, bytes: &[u8], chart: &mut [u32], offset: &mut usize) -> u32 {
+        let (x, cells) = (chart.as_mut_ptr(), chart.len());
+        unsafe { sys::filbozseg_learn(flat, hand, bytes.as_ptr(), bytes.len(), x, cells, offset) }
     }
 
     fn check(flat: &Flat, input: &[u8], offered: &[u16], chart: &mut [u32]) -> u32 {
@@ -179,6 +185,21 @@ impl Reader for Plain {
 
     fn return_to(flat: &Flat, hand: &mut Hand, name: usize, chart: &mut [u32]) -> u32 {
         moved(hand, |state| state.return_to(&flat::read(flat), name, chart))
+    }
+
+    fn learn(flat: &mut Flat, hand: &mut Hand, bytes: &[u8], chart: &mut [u32], offset: &mut usize) -> u32 {
+        let mut state = hand::read(hand);
+        match state.learn(&flat::read(flat), bytes, chart) {
+            Ok((longer, complete)) => {
+                flat::write(&longer, flat);
+                hand::write(&state, hand);
+                complete.into()
+            }
+            Err((refusal, at)) => {
+                *offset = at;
+                refusal.code()
+            }
+        }
     }
 
     fn check(flat: &Flat, input: &[u8], offered: &[u16], chart: &mut [u32]) -> u32 {

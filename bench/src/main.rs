@@ -4,6 +4,7 @@
 
 mod calls;
 mod firsts;
+mod learns;
 mod named;
 mod nexts;
 mod points;
@@ -392,9 +393,9 @@ fn sweep(count: usize) {
 }
 
 fn main() {
-    let count = std::env::args()
-        .nth(1)
-        .map_or(200, |n| n.parse().expect("usage: bench [BOOKS IN THE SWEEP [first|next|names|points|program|spans]]"));
+    let count = std::env::args().nth(1).map_or(200, |n| {
+        n.parse().expect("usage: bench [BOOKS IN THE SWEEP [first|next|names|points|learn|program|spans]]")
+    });
     println!(
         "The proved library (C functions of libfilbozseg.a) compared with the same algorithms in plain Rust. Load average {}.",
         load_average()
@@ -414,6 +415,9 @@ fn main() {
     if only.as_deref() == Some("points") {
         return points::points();
     }
+    if only.as_deref() == Some("learn") {
+        return learns::learns();
+    }
     if only.as_deref() == Some("program") {
         return program::program();
     }
@@ -430,6 +434,7 @@ fn main() {
     checks();
     named::names();
     points::points();
+    learns::learns();
     firsts::firsts(count / 10);
     nexts::nexts(count);
     program::program();

@@ -6,6 +6,7 @@ pub mod checker;
 pub mod enumerator;
 pub mod flat;
 pub mod hand;
+pub mod learn;
 pub mod listing;
 pub mod loader;
 pub mod names;

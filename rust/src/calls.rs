@@ -1,11 +1,11 @@
 //! Loading, and the calls on an offered derivation.
 
+use crate::error::What;
 use crate::refusal::{answer, done};
-use crate::{sys, Grammar, LoadError, Refusal, NO_NUMBER, ROW};
+use crate::{sys, Grammar, LoadError, Refusal, NO_NUMBER, NO_OFFSET, ROW};
 
-// What a lent place holds before the library writes it. No book has such an offset and no derivation such a length, so a place that the
-// library fails to write is never mistaken for a result.
-const NO_OFFSET: usize = usize::MAX;
+// What a lent place holds before the library writes it. No derivation has such a length, so a place that the library fails to write is never
+// mistaken for a result.
 const NO_TENTHS: i32 = i32::MIN;
 
 /// Loads a book of any length.
@@ -29,7 +29,7 @@ pub fn load(book: &[u8]) -> Result<Grammar, LoadError> {
     let grammar = Grammar::from_row(&row);
     match done(code) {
         Ok(()) => Ok(grammar),
-        Err(refusal) => Err(LoadError { refusal, offset, grammar }),
+        Err(refusal) => Err(LoadError { refusal, offset, grammar, what: What::Book }),
     }
 }
 

@@ -1,27 +1,42 @@
-//! The errors: for a refused book, and for any refusal.
+//! The errors: for a refused book or rule, and for any refusal.
 
 use crate::{Grammar, Refusal};
 use std::error;
 use std::fmt;
 
-/// A refused book. The text of the error says where the fault is, and what it is. So it has no [source](error::Error::source), which would
-/// say the second again.
+/// A refused book, or a refused rule that was to be [learnt](crate::Recognizer::learn). The text of the error says which of the two it is,
+/// where the fault is, and what it is. So it has no [source](error::Error::source), which would say the last again.
 ///
 /// ```
-/// use filbozseg::{load, Refusal};
+/// use filbozseg::{load, open, Refusal, CELLS};
 /// let fault = load(b"\x10\x20").unwrap_err();
 /// assert_eq!((fault.refusal, fault.offset), (Refusal::NonterminalTooLarge, 0));
 /// assert_eq!(fault.to_string(), "the book is refused at offset 0: a nonterminal of the book is over 31 (refusal 4)");
+///
+/// let (mut grammar, mut chart) = (load(b"\x10\x00\x50").unwrap(), vec![0; CELLS]);
+/// let (mut recognizer, _) = open(&grammar, 2008, &mut chart);
+/// let fault = recognizer.learn(&mut grammar, b"\x20\x00\x00\x00\x50", &mut chart).unwrap_err();
+/// assert_eq!(fault.to_string(), "the rule is refused at offset 4: the bytes to learn are not exactly one rule (refusal 20)");
 /// ```
 #[derive(Clone, PartialEq, Eq, Hash)]
 #[non_exhaustive]
 pub struct LoadError {
-    /// Why the book is refused: refusals 1 to 7, 16, 17 and 21.
+    /// Why the bytes are refused: a book with 1 to 7, 16, 17 or 21; a rule with 1 to 6, 8, 10, 14, 16, 17, 20 or 21.
     pub refusal: Refusal,
-    /// The offset of the faulty command. If the book ends too early, its length; if a byte follows its end, the offset of that byte.
+    /// The offset of the faulty command in these bytes. If they end too early, their length; if a byte follows the end of a book, the
+    /// offset of that byte. It is 0 if a rule is refused with 8, 14 or 10, or because there are no bytes.
     pub offset: usize,
-    /// The grammar that the call leaves. It has no rules: its row is all zeros.
+    /// The grammar that the call leaves. That of a refused book has no rules: its row is all zeros. That of a refused rule is as found.
     pub grammar: Grammar,
+    /// What is refused.
+    pub(crate) what: What,
+}
+
+/// What was to be read.
+#[derive(Clone, Copy, PartialEq, Eq, Hash)]
+pub(crate) enum What {
+    Book,
+    Rule,
 }
 
 impl fmt::Debug for LoadError {
@@ -35,7 +50,11 @@ impl fmt::Debug for LoadError {
 
 impl fmt::Display for LoadError {
     fn fmt(&self, f: &mut fmt::Formatter<'_>) -> fmt::Result {
-        write!(f, "the book is refused at offset {}: {}", self.offset, self.refusal)
+        let what = match self.what {
+            What::Book => "book",
+            What::Rule => "rule",
+        };
+        write!(f, "the {what} is refused at offset {}: {}", self.offset, self.refusal)
     }
 }
 
@@ -55,7 +74,7 @@ impl error::Error for LoadError {}
 #[derive(Clone, Debug, PartialEq, Eq, Hash)]
 #[non_exhaustive]
 pub enum Error {
-    /// A book was refused.
+    /// A book was refused, or a rule that was to be learnt.
     Load(LoadError),
     /// Another call was refused.
     Refused(Refusal),

@@ -21,10 +21,10 @@
 //! ```
 //!
 //! Each of the functions [`load`], [`name`], [`open`], [`Recognizer::take`], [`Recognizer::set_point`], [`Recognizer::return_to`],
-//! [`check`], [`length`], [`words`], [`same_build`], [`first`], [`next`] and [`count`] calls one function of the static library, which is
-//! proved to meet its contract, and turns its code into a result. They use the memory that the caller lends and allocate nothing; only
-//! `load` allocates the grammar. [`Grammar::readings`] and [`Grammar::reading`] are built on them and allocate what they need. [`sys`] has
-//! the functions of the static library themselves.
+//! [`Recognizer::learn`], [`check`], [`length`], [`words`], [`same_build`], [`first`], [`next`] and [`count`] calls one function of the
+//! static library, which is proved to meet its contract, and turns its code into a result. They use the memory that the caller lends and
+//! allocate nothing; only `load` and `learn` allocate the grammar. [`Grammar::readings`] and [`Grammar::reading`] are built on them and
+//! allocate what they need. [`sys`] has the functions of the static library themselves.
 //!
 //! # Years
 //!
@@ -41,6 +41,11 @@
 //!
 //! A recognizer keeps up to eight points, each with a name from 0 to 7. [`Recognizer::set_point`] sets one at the count, and
 //! [`Recognizer::return_to`] goes back there: what was taken after it is gone, as if it had not been taken.
+//!
+//! # Learning
+//!
+//! [`Recognizer::learn`] adds a rule to a grammar while an input is being taken. Recognizer and chart then are as if the input had been
+//! taken with the longer grammar.
 //!
 //! # Terms
 //!
@@ -117,6 +122,9 @@ pub const HAND: usize = BYTES + 2 + POINTS;
 // What a row or a hand holds before the library writes it. A row or a hand of such numbers is refused (8, 14), so one that the library
 // fails to write is never mistaken for a result.
 const NO_NUMBER: u16 = u16::MAX;
+
+// What a lent offset holds before the library writes it. No book has such an offset.
+const NO_OFFSET: usize = usize::MAX;
 
 /// The program in README, byte for byte, as a test.
 #[cfg(doctest)]

@@ -1,7 +1,8 @@
 //! The recognizer, which takes an input byte by byte.
 
+use crate::error::What;
 use crate::refusal::answer;
-use crate::{sys, Grammar, Refusal, BYTES, HAND, NO_NUMBER, POINTS};
+use crate::{sys, Grammar, LoadError, Refusal, BYTES, HAND, NO_NUMBER, NO_OFFSET, POINTS};
 
 /// Where the year is in a row, and where the points begin.
 const YEAR: usize = BYTES + 1;
@@ -60,8 +61,8 @@ impl Recognizer {
         usize::from(self.row[BYTES])
     }
 
-    /// The year that the recognizer was opened with, according to the row. [`Recognizer::take`], [`Recognizer::set_point`] and
-    /// [`Recognizer::return_to`] go by it.
+    /// The year that the recognizer was opened with, according to the row. [`Recognizer::take`], [`Recognizer::set_point`],
+    /// [`Recognizer::return_to`] and [`Recognizer::learn`] go by it.
     pub fn year(&self) -> u16 {
         self.row[YEAR]
     }
@@ -90,6 +91,7 @@ impl Recognizer {
         // SAFETY: as in `open`.
         answer(unsafe { sys::filbozseg_take(grammar.row(), &mut self.row, byte, chart.as_mut_ptr(), chart.len()) })
     }
+
     /// Sets the point of this name, 0 to 7, at the count, wherever it was, and returns whether the input so far is complete in the
     /// recognizer's year, as the chart has it. The recognizer keeps its bytes, with zeros after them, its year and its other points.
     ///
@@ -134,5 +136,61 @@ impl Recognizer {
     pub fn return_to(&mut self, grammar: &Grammar, name: usize, chart: &mut [u32]) -> Result<bool, Refusal> {
         // SAFETY: as in `open`.
         answer(unsafe { sys::filbozseg_return_to(grammar.row(), &mut self.row, name, chart.as_mut_ptr(), chart.len()) })
+    }
+
+    /// Learns a rule, and returns whether the input so far is then complete in the recognizer's year. The bytes are the commands of one
+    /// rule as in a book, and nothing else: 20 or 21 first, then places and a name. The rule ends where the bytes end, without 50.
+    ///
+    /// The grammar then has this rule under the next number, its old ones under theirs, and the nullable depth of all of them. The
+    /// recognizer keeps its bytes, with zeros after them, its points and its year. The chart's first 4,225 cells are what opening with the
+    /// longer grammar and taking these bytes leaves, whatever the chart held. A rule that is out of force in the recognizer's year is
+    /// learnt too. Each reading of an input under the old grammar is one under the longer grammar, and the old ones keep their order.
+    ///
+    /// Clones of the grammar, and the readings made with it, keep the old one. [`name`](crate::name) does not find the name of a learnt
+    /// rule, since it goes by the bytes of a book.
+    ///
+    /// ```
+    /// # fn main() -> Result<(), filbozseg::Error> {
+    /// use filbozseg::{load, open, CELLS};
+    /// // 0 -> 0 A, 0 -> A
+    /// let mut grammar = load(b"\x10\x00\x20\x00\x00\x00\x30\x00\x40A\x20\x00\x00\x00\x40A\x50")?;
+    /// let mut chart = vec![0; CELLS];
+    /// let (mut recognizer, _) = open(&grammar, 2008, &mut chart);
+    /// recognizer.take(&grammar, b'A', &mut chart)?;
+    /// assert!(!recognizer.take(&grammar, b'S', &mut chart)?); // a spring that the book lacks
+    /// assert!(recognizer.learn(&mut grammar, b"\x20\x00\x96\x00\x30\x00\x40S\x60SPRING  ", &mut chart)?); // 0 -> 0 S, 1.5 mm
+    /// assert_eq!(format!("{:?}", grammar.rule(2).unwrap()), "0 -> 0 'S' (150, SPRING)");
+    /// assert!(recognizer.take(&grammar, b'A', &mut chart)?);
+    /// # Ok(())
+    /// # }
+    /// ```
+    ///
+    /// # Errors
+    ///
+    /// Refusals 8, 14 and 10, in this order; 20 if there are no bytes; and then the first fault of the bytes, read from the left: 2; 20 if
+    /// the first command opens no rule, or a later one opens a rule, is 10 or is 50; 3 for a second name; 1 if the bytes end inside a
+    /// command; 4, 16, 17, 21, 5 and 6 as for [`load`](crate::load). The error has the offset in these bytes. Grammar, recognizer and chart
+    /// are left as found.
+    pub fn learn(&mut self, grammar: &mut Grammar, bytes: &[u8], chart: &mut [u32]) -> Result<bool, LoadError> {
+        let (mut row, mut offset) = (*grammar.row(), NO_OFFSET);
+        // SAFETY: as in `open`; the row is a copy, since clones of the grammar share it.
+        let code = unsafe {
+            sys::filbozseg_learn(
+                &mut row,
+                &mut self.row,
+                bytes.as_ptr(),
+                bytes.len(),
+                chart.as_mut_ptr(),
+                chart.len(),
+                &mut offset,
+            )
+        };
+        match answer(code) {
+            Ok(complete) => {
+                *grammar = Grammar::from_row(&row);
+                Ok(complete)
+            }
+            Err(refusal) => Err(LoadError { refusal, offset, grammar: grammar.clone(), what: What::Rule }),
+        }
     }
 }

@@ -14,7 +14,7 @@ use std::fmt;
 #[derive(Clone, Copy, Debug, PartialEq, Eq, Hash)]
 #[non_exhaustive]
 pub enum Refusal {
-    /// The book ends inside a command, or before its end command.
+    /// The book ends inside a command, or before its end command; or the bytes to learn end inside a command.
     UnexpectedEnd,
     /// A byte is no command where a command must be.
     UnknownCommand,
@@ -52,6 +52,9 @@ pub enum Refusal {
     TextTooLong,
     /// The name of the point is over 7, or the point to return to is not set.
     NoPoint,
+    /// The bytes to learn are empty, begin with a command that opens no rule, or have a later one that opens a rule, gives the start or
+    /// ends a book.
+    NotOneRule,
     /// A rule of the book has its first year over its last.
     YearsReversed,
     /// A refusal that this version of the crate does not know, with its number: the library that is linked is a later one. The crate never
@@ -69,7 +72,7 @@ use Refusal::*;
 const REFUSED: u32 = 256;
 
 impl Refusal {
-    /// All refusals that have a name, in the order of their numbers, which are 1 to 19, and 21.
+    /// All refusals that have a name, in the order of their numbers, which are 1 to 21.
     pub const ALL: &'static [Refusal] = &[
         UnexpectedEnd,
         UnknownCommand,
@@ -90,6 +93,7 @@ impl Refusal {
         InvalidName,
         TextTooLong,
         NoPoint,
+        NotOneRule,
         YearsReversed,
     ];
 
@@ -115,6 +119,7 @@ impl Refusal {
             InvalidName => 17,
             TextTooLong => 18,
             NoPoint => 19,
+            NotOneRule => 20,
             YearsReversed => 21,
             Unknown { number } => number,
         }
@@ -170,6 +175,7 @@ impl Refusal {
             InvalidName => "a name of the book is empty, has a wrong byte, or is that of an earlier rule",
             TextTooLong => "the text of the reading is longer than the buffer",
             NoPoint => "the name of the point is over 7, or the point to return to is not set",
+            NotOneRule => "the bytes to learn are not exactly one rule",
             YearsReversed => "a rule of the book has its first year over its last",
             Unknown { .. } => "a refusal that this version does not know",
         }

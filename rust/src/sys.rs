@@ -57,6 +57,17 @@ extern "C" {
         chart_length: usize,
     ) -> u32;
 
+    /// Learns a rule: see [`crate::Recognizer::learn`].
+    pub fn filbozseg_learn(
+        grammar: *mut [u16; ROW],
+        hand: *mut [u16; HAND],
+        bytes: *const u8,
+        bytes_length: usize,
+        chart: *mut u32,
+        chart_length: usize,
+        offset: *mut usize,
+    ) -> u32;
+
     /// Whether the offered row is a derivation of the input: see [`crate::check`].
     pub fn filbozseg_check(
         grammar: *const [u16; ROW],

@@ -287,13 +287,13 @@ fn derivations_are_counted_up_to_4096() {
 
 #[test]
 fn refusals_numbers_and_codes_agree() {
-    for (number, &refusal) in (1..=19).chain([21]).zip(Refusal::ALL) {
+    for (number, &refusal) in (1..=21).zip(Refusal::ALL) {
         assert_eq!((refusal.number(), Refusal::of_number(number)), (number, Some(refusal)));
         let code = 256 + u32::from(number);
         assert_eq!((refusal.code(), Refusal::of_code(code)), (code, Some(refusal)));
     }
-    assert_eq!(Refusal::ALL.len(), 20);
-    assert!([0, 20, 22, 255].iter().all(|&number| Refusal::of_number(number).is_none()));
+    assert_eq!(Refusal::ALL.len(), 21);
+    assert!([0, 22, 255].iter().all(|&number| Refusal::of_number(number).is_none()));
     let codes = [0, 1, 2, 255, 256, 512, 513, u32::MAX];
     assert!(codes.iter().all(|&code| Refusal::of_code(code).is_none()));
 }

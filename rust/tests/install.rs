@@ -146,7 +146,7 @@ fn it_is_proved_first_and_then_all_is_there() {
         said(Command::new("nm").args(["-D", "--defined-only", "-j"]).arg(checkout.path("here/lib/libfilbozseg.so")));
     let mut shown: Vec<_> = shown.lines().collect();
     shown.sort();
-    let calls = "check count first length load name next open return_to same_build set_point take words";
+    let calls = "check count first learn length load name next open return_to same_build set_point take words";
     assert_eq!(shown, calls.split(' ').map(|call| format!("filbozseg_{call}")).collect::<Vec<_>>());
 }
 

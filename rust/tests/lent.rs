@@ -13,6 +13,10 @@ fn slices_of_no_length_are_judged_as_any() {
     assert_eq!(open(&t, YEAR, &mut chart).0.take(&t, b'A', &mut []), Err(Refusal::ChartTooShort));
     assert_eq!(open(&t, YEAR, &mut chart).0.set_point(&t, 8, &[]), Err(Refusal::ChartTooShort));
     assert_eq!(open(&t, YEAR, &mut chart).0.return_to(&t, 8, &mut []), Err(Refusal::ChartTooShort));
+    for (cells, number) in [(0, 10), (CELLS, 20)] {
+        let fault = open(&t, YEAR, &mut chart).0.learn(&mut t.clone(), b"", &mut chart[..cells]).unwrap_err();
+        assert_eq!((fault.refusal.number(), fault.offset), (number, 0));
+    }
     chart.fill(7);
     for input in [&b""[..], b"A"] {
         let refusal = Refusal::ChartTooShort;
@@ -67,6 +71,11 @@ fn said(grammar: &Grammar, input: &[u8]) -> String {
         text += &format!(" {:?}", recognizer.set_point(grammar, name, &chart));
         text += &format!(" {:?}", recognizer.take(grammar, byte, &mut chart));
     }
+    let mut longer = grammar.clone();
+    for rule in [&b"\x20\x00\x01\x00"[..], b"\x21\x00\x01\x00\x00\x00\xff\xff\x30\x00\x40C\x60LEARNT  ", b"\x50"] {
+        text += &format!(" {:?} {recognizer:?}", recognizer.learn(&mut longer, rule, &mut chart));
+    }
+    text += &format!("{:?} {chart:?}", longer.row());
     for name in (0..=POINTS).rev() {
         text += &format!(" {:?} {recognizer:?}", recognizer.return_to(grammar, name, &mut chart));
     }

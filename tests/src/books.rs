@@ -2,8 +2,10 @@
 //! fail on.
 
 mod dated;
+mod learnt;
 mod named;
 
+pub use learnt::{rule_to_learn, spoil_rule};
 pub use named::{bad_name, filled, Name};
 
 use crate::reader::RULES;

@@ -5,6 +5,7 @@ mod copies;
 mod firsts;
 mod grammars;
 mod hands;
+mod learns;
 mod lent;
 mod loads;
 mod names;
@@ -20,6 +21,7 @@ mod words;
 mod years;
 
 pub use copies::compare_copies;
+pub use learns::run_learning;
 pub use lent::{rubbish, Counts, Lent};
 pub use nexts::compare_boundary;
 pub use points::run_list;
@@ -78,7 +80,8 @@ impl Comparison<'_> {
             self.other_years(&flat, input, year, &book.years)?;
         }
         self.searches(&flat)?;
-        self.points(&flat, &book.inputs, &book.years)
+        self.points(&flat, &book.inputs, &book.years)?;
+        self.learns(&flat, book)
     }
 
     /// Counts what came up with an input. What comes up with the empty input is also counted by itself.

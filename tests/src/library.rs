@@ -136,6 +136,20 @@ impl Reader for Library {
         }))
     }
 
+    fn learn(
+        &self,
+        grammar: &mut FlatGrammar,
+        hand: &mut Hand,
+        bytes: &[u8],
+        chart: &mut [u32],
+        offset: &mut usize,
+    ) -> Answer {
+        let ((b, n), (c, m)) = ((bytes.as_ptr(), bytes.len()), (chart.as_mut_ptr(), chart.len()));
+        said(lend(grammar, |grammar| {
+            lend(hand, |hand| lend(offset, |offset| unsafe { sys::filbozseg_learn(grammar, hand, b, n, c, m, offset) }))
+        }))
+    }
+
     fn check(&self, grammar: &FlatGrammar, input: &[u8], year: u16, offered: &[u16], chart: &mut [u32]) -> Answer {
         wrapped(filbozseg::check(&Grammar::from_row(grammar), input, year, offered, chart))
     }

@@ -1,4 +1,4 @@
-//! The simple reference, written from document 01 and requests U1 to U7, U9 and U13 of document 02 alone: explicit
+//! The simple reference, written from document 01 and requests U1 to U9 and U13 of document 02 alone: explicit
 //! trees, the definitions word by word, no cleverness.
 //! As a `Reader` it can be the code under test. Read each `fault(..)` as "no": only tests/faults.rs compiles these
 //! files with faults that can be switched on.
@@ -7,6 +7,7 @@ pub mod chart;
 pub mod depth;
 pub mod grammar;
 pub mod hand;
+pub mod learn;
 pub mod listing;
 pub mod names;
 pub mod parse;
@@ -181,6 +182,17 @@ impl Reader for Lister {
 
     fn return_to(&self, flat: &FlatGrammar, hand: &mut Hand, name: usize, chart: &mut [u32]) -> Answer {
         points::return_to(flat, hand, name, chart)
+    }
+
+    fn learn(
+        &self,
+        flat: &mut FlatGrammar,
+        hand: &mut Hand,
+        bytes: &[u8],
+        chart: &mut [u32],
+        offset: &mut usize,
+    ) -> Answer {
+        learn::learn(flat, hand, bytes, chart, offset)
     }
 
     fn check(&self, flat: &FlatGrammar, input: &[u8], year: u16, offered: &[u16], chart: &mut [u32]) -> Answer {

@@ -108,6 +108,18 @@ pub trait Reader {
         self.inner().return_to(grammar, hand, name, chart)
     }
 
+    /// Always writes the offset. Leaves grammar, hand and chart as found with a refusal.
+    fn learn(
+        &self,
+        grammar: &mut FlatGrammar,
+        hand: &mut Hand,
+        bytes: &[u8],
+        chart: &mut [u32],
+        offset: &mut usize,
+    ) -> Answer {
+        self.inner().learn(grammar, hand, bytes, chart, offset)
+    }
+
     fn check(&self, grammar: &FlatGrammar, input: &[u8], year: u16, offered: &[u16], chart: &mut [u32]) -> Answer {
         self.inner().check(grammar, input, year, offered, chart)
     }

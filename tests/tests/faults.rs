@@ -15,7 +15,8 @@ use faulty::switches::{self, switch_on, Fault};
 use faulty::Faulty;
 use outside_tests::books::book;
 use outside_tests::compare::{
-    compare_book, compare_boundary, compare_copies, compare_searches, compare_year_files, play_book, run_list, Counts,
+    compare_book, compare_boundary, compare_copies, compare_searches, compare_year_files, play_book, run_learning,
+    run_list, Counts,
 };
 use outside_tests::reader::{self, Reader};
 use std::sync::atomic::{AtomicUsize, Ordering};
@@ -67,7 +68,7 @@ fn all_caught<T: Sync>(cases: &[(String, T)], try_one: impl Fn(&T) -> Option<(u6
 #[test]
 fn every_fault_is_caught() {
     let faults: Vec<(String, Fault)> = Fault::ALL.iter().map(|fault| (format!("{fault:?}"), *fault)).collect();
-    assert!(faults.len() >= 345);
+    assert!(faults.len() >= 435);
     all_caught(&faults, |fault| {
         switch_on(Some(*fault));
         caught(&Faulty::default())
@@ -187,6 +188,93 @@ fn the_lists_alone_catch_what_they_have_to() {
         let reader = Faulty::default();
         (0..WITHIN).find_map(|seed| {
             let difference = run_list(&reader, &book(seed), seed, &mut Counts::default());
+            difference.err().map(|text| (seed, text))
+        })
+    });
+}
+
+/// The faults that a list with learning must show by itself: by loading the book with the rules learnt, opening again and taking what
+/// remains.
+#[test]
+fn the_lists_with_learning_alone_catch_what_they_have_to() {
+    let faults = [
+        Fault::NoBytesAreOne,
+        Fault::NoBytesLearnt,
+        Fault::NoBytesAtOne,
+        Fault::NoRuleFirstIsThree,
+        Fault::NameFirstIsThree,
+        Fault::StartLearntFirst,
+        Fault::TwentyOneOpensNoRule,
+        Fault::AnotherRuleIsThree,
+        Fault::AnotherRuleLearnt,
+        Fault::AnotherRuleOf21Learnt,
+        Fault::LaterStartIsThree,
+        Fault::LaterStartLearnt,
+        Fault::EndIsThree,
+        Fault::EndIsSeven,
+        Fault::EndLearnt,
+        Fault::EndLearntAtTheEnd,
+        Fault::UnknownFirstIsTwenty,
+        Fault::UnknownLaterIsTwenty,
+        Fault::OneBeforeTwentyFirst,
+        Fault::OneBeforeTwentyLater,
+        Fault::SecondNameLearnt,
+        Fault::SecondNameIsTwenty,
+        Fault::SecondNameIsSeventeen,
+        Fault::OneWhereTheRuleEnds,
+        Fault::CutCommandLeftOut,
+        Fault::CutIsTwenty,
+        Fault::OneAtTheCommand,
+        Fault::LearnFourBeforeOne,
+        Fault::LearnTwentyOneBeforeFour,
+        Fault::LearnSixBeforeSixteen,
+        Fault::LearnSixBeforeFour,
+        Fault::LearnOffsetOfTheOperand,
+        Fault::Kind32Learnt,
+        Fault::ReversedYearsLearnt,
+        Fault::ReversedRangeLearnt,
+        Fault::NinthPlaceLearnt,
+        Fault::NamesOfTheBookUnread,
+        Fault::OnlyTheLastNameRead,
+        Fault::LastNameUnread,
+        Fault::FirstNameUnread,
+        Fault::NamesOutOfForceUnread,
+        Fault::OutOfForceRefused,
+        Fault::OutOfForceNotLearnt,
+        Fault::LearntUnderNumber0,
+        Fault::LearntUnderTheLastOldNumber,
+        Fault::LearntBeforeTheLastRule,
+        Fault::LearntForAllYears,
+        Fault::DepthAsFound,
+        Fault::DepthOfTheOldRules,
+        Fault::DepthInTheHandsYear,
+        Fault::LearnDropsTheMarks,
+        Fault::LearnKeepsUnusedMarks,
+        Fault::LearnClearsThePoints,
+        Fault::LearnDropsThePointAtTheCount,
+        Fault::LearnForgetsTheYear,
+        Fault::ChartAsFound,
+        Fault::ChartOfTheOldGrammar,
+        Fault::ChartOfAllYears,
+        Fault::OnlyTheLastColumnFilled,
+        Fault::LastColumnUnfilled,
+        Fault::LearnWritesBehindTheCells,
+        Fault::LearnSaysOfTheOldGrammar,
+        Fault::LearnSaysNo,
+        Fault::LearnSaysYes,
+        Fault::OffsetZeroWhenLearnt,
+        Fault::OffsetOfTheEndWhenLearnt,
+        Fault::RefusedRuleClearsTheGrammar,
+        Fault::RefusedRuleOpensARule,
+        Fault::RefusedRuleTidiesTheHand,
+        Fault::RefusedRuleClearsTheHand,
+        Fault::RefusedRuleClearsTheChart,
+    ];
+    all_caught(&faults.map(|fault| (format!("{fault:?}"), fault)), |fault| {
+        switch_on(Some(*fault));
+        let reader = Faulty::default();
+        (0..WITHIN).find_map(|seed| {
+            let difference = run_learning(&reader, &book(seed), seed, &mut Counts::default());
             difference.err().map(|text| (seed, text))
         })
     });

@@ -1,6 +1,6 @@
 //! Both sides check all 16 bits of each number, and leave the same in what is lent.
 
-use super::{chart, hand, Plain, Proved, Reader, Refusal, FLAT};
+use super::{chart, hand, Plain, Proved, Reader, Refusal, CHART, FLAT};
 use crate::books::{chain, named, random_full, random_full_of_ranges};
 use crate::random::Random;
 
@@ -108,6 +108,56 @@ fn both_sides_go_back_to_the_same_points() {
         }
     }
     assert!(seen.iter().flatten().all(|&times| times > 30), "{seen:?}");
+}
+
+#[test]
+fn both_sides_learn_the_same_rules() {
+    let (mut random, mut seen) = (Random::new(16), [0; 23]); // by the number of the refusal; no, and then yes, at the end
+    let seals = named(b"\x10\x00\x20\x00\x64\x00\x40A\x20\x00\xc8\x00\x40B\x50");
+    let small = b"\x10\x00\x20\x00\x00\x00\x30\x00\x30\x00\x20\x00\x00\x00\x40A\x50";
+    let none = b"\x10\x00\x50";
+    let full = [&[0x10, 0][..], &[0x20, 0, 1, 0].repeat(128), &[0x50]].concat();
+    let rule = b"\x21\x00\x64\x00\x00\x00\x07\x00\x40A\x60LEARNT  \x30\x00\x41AB\x40B\x40B\x40B\x40B\x40B";
+    for book in [&seals[..], small, none, &full] {
+        let (mut row, mut offset) = ([9; FLAT], 9);
+        assert_eq!(Proved::load(book, &mut row, &mut offset), 1);
+        row[2] = 0xbeef;
+        (row[3..].iter_mut().skip(128 * 29 - 29)).for_each(|number| *number += u16::from(book != full) * 0xbeef);
+        let mut compared = |bytes: &[u8]| {
+            let count = random.below(5);
+            let mut found = [65; 74];
+            (found[64], found[65]) = (count as u16, 0);
+            found[66..].fill(count as u16 + 1);
+            found[66] = if random.below(9) == 0 { 66 } else { 0 };
+            let (mut h, mut k, mut x, mut y) = (found, found, chart(), chart());
+            let cells = if random.below(9) == 0 { CHART - 1 } else { CHART };
+            let (mut f, mut g, mut at, mut to) = (row, row, 99, 99);
+            f[0] += if random.below(9) == 0 { 32 } else { 0 };
+            g[0] = f[0];
+            let before = f;
+            let code = Proved::learn(&mut f, &mut h, bytes, &mut x[..cells], &mut at);
+            assert_eq!((code, at), (Plain::learn(&mut g, &mut k, bytes, &mut y[..cells], &mut to), to), "{bytes:02x?}");
+            assert!(f == g && h == k && x == y, "{bytes:02x?}");
+            assert_eq!(code > 255, f == before, "{bytes:02x?}");
+            assert!(code < 256 || (h == found && x == chart()), "{bytes:02x?}");
+            assert_eq!(code < 256, at == 99, "{bytes:02x?}");
+            seen[if code > 255 { code as usize - 256 } else { 22 * code as usize }] += 1;
+        };
+        for _ in 0..8 {
+            (0..=rule.len()).for_each(|cut| compared(&rule[..cut]));
+            compared(&[&rule[..], b"\x40B"].concat());
+            compared(&[&rule[..], b"\x60OTHER   "].concat());
+            compared(&[&rule[..8], &seals[seals.len() - 12..seals.len() - 3]].concat());
+        }
+        for at in 0..rule.len() {
+            for byte in [0, b' ', b'A', b'R', 0x10, 0x20, 0x21, 0x30, 0x40, 0x41, 0x50, 0x60, 0xff] {
+                compared(&[&rule[..at], &[byte], &rule[at + 1..]].concat());
+                compared(&[&rule[..at], &[byte], &rule[at..]].concat());
+            }
+        }
+    }
+    let never = [7, 9, 11, 12, 13, 15, 18, 19];
+    assert!((0..23).all(|number| (seen[number] > 5) != never.contains(&number)), "{seen:?}");
 }
 
 /// A random book of full size, every second time with ranges.

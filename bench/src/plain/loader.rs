@@ -5,7 +5,7 @@ use super::names::{self, Name, Names};
 use super::{Grammar, Refusal, Rule, Symbol, PLACES, RULES};
 
 /// A rule and a place have as many operands as they say, a name has eight.
-enum Command {
+pub(super) enum Command {
     Start(u8),
     Rule(Rule, usize),
     Place(Symbol, usize),
@@ -13,68 +13,69 @@ enum Command {
     End,
 }
 
-/// The command at a byte, after so many rules and places; `named` says whether the open rule has a name.
-fn command(bytes: &[u8], at: usize, rules: usize, places: usize, named: bool) -> Result<Command, (Refusal, usize)> {
-    let Some(&byte) = bytes.get(at) else {
-        return Err((Refusal::UnexpectedEnd, bytes.len()));
-    };
+/// What is known of a grammar being read: how many rules it has, and of the open one how many places, and whether it has a name.
+#[derive(Clone, Copy)]
+pub(super) struct Open {
+    rules: usize,
+    places: usize,
+    pub(super) named: bool,
+}
+
+impl Open {
+    pub(super) fn of(g: &Grammar) -> Open {
+        match g.count.checked_sub(1).map(|last| &g.rules[last]) {
+            Some(open) => Open { rules: g.count, places: open.count, named: open.name != names::NONE },
+            None => Open { rules: 0, places: 0, named: false },
+        }
+    }
+}
+
+pub(super) fn unknown(byte: u8) -> bool {
+    !matches!(byte, 0x10 | 0x20 | 0x21 | 0x30 | 0x40 | 0x41 | 0x50 | 0x60)
+}
+
+fn out_of_turn(byte: u8, at: usize, open: Open) -> bool {
     match byte {
-        0x10 => {
-            if at > 0 {
-                return Err((Refusal::OutOfTurn, at));
+        0x10 => at > 0,
+        0x60 => at == 0 || open.rules == 0 || open.named,
+        0x30 | 0x40 | 0x41 => at == 0 || open.rules == 0,
+        _ => at == 0,
+    }
+}
+
+/// The known command at a byte, once its turn is checked.
+#[inline]
+pub(super) fn operands_at(bytes: &[u8], at: usize, open: Open) -> Result<Command, (Refusal, usize)> {
+    match (bytes[at], &bytes[at + 1..]) {
+        (0x10, &[k, ..]) if k > 31 => Err((Refusal::NonterminalTooLarge, at)),
+        (0x10, &[k, ..]) => Ok(Command::Start(k)),
+        (0x20, &[k, low, high, ..]) => {
+            if k > 31 {
+                return Err((Refusal::NonterminalTooLarge, at));
             }
-            match bytes[at + 1..] {
-                [] => Err((Refusal::UnexpectedEnd, bytes.len())),
-                [k, ..] if k > 31 => Err((Refusal::NonterminalTooLarge, at)),
-                [k, ..] => Ok(Command::Start(k)),
+            if open.rules >= RULES {
+                return Err((Refusal::TooManyRules, at));
             }
+            let length = i16::from_le_bytes([low, high]);
+            Ok(Command::Rule(Rule { left: k, length, last: u16::MAX, ..Rule::ZERO }, 3))
         }
-        0x20 => {
-            if at == 0 {
-                return Err((Refusal::OutOfTurn, at));
+        (0x21, &[k, low, high, first_low, first_high, last_low, last_high, ..]) => {
+            if k > 31 {
+                return Err((Refusal::NonterminalTooLarge, at));
             }
-            match bytes[at + 1..] {
-                [k, low, high, ..] => {
-                    if k > 31 {
-                        return Err((Refusal::NonterminalTooLarge, at));
-                    }
-                    if rules >= RULES {
-                        return Err((Refusal::TooManyRules, at));
-                    }
-                    let length = i16::from_le_bytes([low, high]);
-                    Ok(Command::Rule(Rule { left: k, length, last: u16::MAX, ..Rule::ZERO }, 3))
-                }
-                _ => Err((Refusal::UnexpectedEnd, bytes.len())),
+            let length = i16::from_le_bytes([low, high]);
+            let first = u16::from_le_bytes([first_low, first_high]);
+            let last = u16::from_le_bytes([last_low, last_high]);
+            if first > last {
+                return Err((Refusal::YearsReversed, at));
             }
+            if open.rules >= RULES {
+                return Err((Refusal::TooManyRules, at));
+            }
+            Ok(Command::Rule(Rule { left: k, length, first, last, ..Rule::ZERO }, 7))
         }
-        0x21 => {
-            if at == 0 {
-                return Err((Refusal::OutOfTurn, at));
-            }
-            match bytes[at + 1..] {
-                [k, low, high, first_low, first_high, last_low, last_high, ..] => {
-                    if k > 31 {
-                        return Err((Refusal::NonterminalTooLarge, at));
-                    }
-                    let length = i16::from_le_bytes([low, high]);
-                    let first = u16::from_le_bytes([first_low, first_high]);
-                    let last = u16::from_le_bytes([last_low, last_high]);
-                    if first > last {
-                        return Err((Refusal::YearsReversed, at));
-                    }
-                    if rules >= RULES {
-                        return Err((Refusal::TooManyRules, at));
-                    }
-                    Ok(Command::Rule(Rule { left: k, length, first, last, ..Rule::ZERO }, 7))
-                }
-                _ => Err((Refusal::UnexpectedEnd, bytes.len())),
-            }
-        }
-        0x30 | 0x40 | 0x41 => {
-            if at == 0 || rules == 0 {
-                return Err((Refusal::OutOfTurn, at));
-            }
-            let place = match (byte, &bytes[at + 1..]) {
+        (byte @ (0x30 | 0x40 | 0x41), operands) => {
+            let place = match (byte, operands) {
                 (0x30, &[k, ..]) if k > 31 => return Err((Refusal::NonterminalTooLarge, at)),
                 (0x41, &[low, high, ..]) if low > high => return Err((Refusal::RangeReversed, at)),
                 (0x30, &[k, ..]) => Command::Place(Symbol::Nonterminal(k), 1),
@@ -82,32 +83,34 @@ fn command(bytes: &[u8], at: usize, rules: usize, places: usize, named: bool) ->
                 (0x41, &[low, high, ..]) => Command::Place(Symbol::Range(low, high), 2),
                 _ => return Err((Refusal::UnexpectedEnd, bytes.len())),
             };
-            if places >= PLACES {
+            if open.places >= PLACES {
                 return Err((Refusal::TooManyPlaces, at));
             }
             Ok(place)
         }
-        0x60 => {
-            if at == 0 || rules == 0 || named {
-                return Err((Refusal::OutOfTurn, at));
-            }
-            match bytes[at + 1..].first_chunk() {
-                Some(name) if names::valid(name) => Ok(Command::Name(*name)),
-                Some(_) => Err((Refusal::InvalidName, at)),
-                None => Err((Refusal::UnexpectedEnd, bytes.len())),
-            }
-        }
-        0x50 => {
-            if at == 0 {
-                return Err((Refusal::OutOfTurn, at));
-            }
-            if at + 1 < bytes.len() {
-                return Err((Refusal::FurtherByte, at + 1));
-            }
-            Ok(Command::End)
-        }
-        _ => Err((Refusal::UnknownCommand, at)),
+        (0x60, operands) => match operands.first_chunk() {
+            Some(name) if names::valid(name) => Ok(Command::Name(*name)),
+            Some(_) => Err((Refusal::InvalidName, at)),
+            None => Err((Refusal::UnexpectedEnd, bytes.len())),
+        },
+        (0x50, &[]) => Ok(Command::End),
+        (0x50, _) => Err((Refusal::FurtherByte, at + 1)),
+        _ => Err((Refusal::UnexpectedEnd, bytes.len())),
     }
+}
+
+/// The command at a byte of a book.
+fn command(bytes: &[u8], at: usize, open: Open) -> Result<Command, (Refusal, usize)> {
+    let Some(&byte) = bytes.get(at) else {
+        return Err((Refusal::UnexpectedEnd, bytes.len()));
+    };
+    if unknown(byte) {
+        return Err((Refusal::UnknownCommand, at));
+    }
+    if out_of_turn(byte, at, open) {
+        return Err((Refusal::OutOfTurn, at));
+    }
+    operands_at(bytes, at, open)
 }
 
 /// Whether each place of the rule holds a known kind.
@@ -156,40 +159,52 @@ pub fn load_with(bytes: &[u8], parts: &mut [usize; RULES]) -> Result<Grammar, (R
     let mut known = Names::EMPTY;
     let mut at = 0;
     loop {
-        let n = g.count;
-        let (places, named) = match n.checked_sub(1).map(|last| &g.rules[last]) {
-            Some(open) => (open.count, open.name != names::NONE),
-            None => (0, false),
-        };
-        match command(bytes, at, n, places, named)? {
-            Command::Start(k) => {
-                g.start = k;
-                at += 2;
-            }
-            Command::Rule(rule, operands) => {
-                g.rules[n] = rule;
-                g.count += 1;
-                at += 1 + operands;
-            }
-            Command::Place(symbol, operands) => {
-                let rule = &mut g.rules[n - 1];
-                rule.places[rule.count] = symbol;
-                rule.count += 1;
-                at += 1 + operands;
-            }
-            Command::Name(name) => {
-                if known.has(&name, n - 1) {
-                    return Err((Refusal::InvalidName, at));
-                }
-                known.set(n - 1, &name);
-                g.rules[n - 1].name = name;
-                parts[n - 1] = at + 1;
-                at += 9;
-            }
+        let command = command(bytes, at, Open::of(&g))?;
+        match command {
+            Command::Name(_) => parts[g.count - 1] = at + 1,
             Command::End => {
                 g.depth = nullable_depth(&g, nullable_set(&g));
                 return Ok(g);
             }
+            _ => (),
         }
+        at = carried_out(command, at, &mut g, &mut known)?;
+    }
+}
+
+/// Carries out the command at a byte. Returns where the next one begins.
+#[inline]
+pub(super) fn carried_out(
+    command: Command,
+    at: usize,
+    g: &mut Grammar,
+    known: &mut Names,
+) -> Result<usize, (Refusal, usize)> {
+    let n = g.count;
+    match command {
+        Command::Start(k) => {
+            g.start = k;
+            Ok(at + 2)
+        }
+        Command::Rule(rule, operands) => {
+            g.rules[n] = rule;
+            g.count += 1;
+            Ok(at + 1 + operands)
+        }
+        Command::Place(symbol, operands) => {
+            let rule = &mut g.rules[n - 1];
+            rule.places[rule.count] = symbol;
+            rule.count += 1;
+            Ok(at + 1 + operands)
+        }
+        Command::Name(name) => {
+            if known.has(&name, n - 1) {
+                return Err((Refusal::InvalidName, at));
+            }
+            known.set(n - 1, &name);
+            g.rules[n - 1].name = name;
+            Ok(at + 9)
+        }
+        Command::End => Ok(at + 1),
     }
 }

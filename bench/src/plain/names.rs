@@ -28,6 +28,12 @@ pub struct Names {
 impl Names {
     pub const EMPTY: Names = Names { numbers: [0; RULES] };
 
+    pub fn of(rules: &[Rule]) -> Names {
+        let mut names = Names::EMPTY;
+        names.numbers.iter_mut().zip(rules).for_each(|(number, rule)| *number = u64::from_le_bytes(rule.name));
+        names
+    }
+
     /// Whether one of the first n rules has this name.
     pub fn has(&self, name: &Name, n: usize) -> bool {
         self.numbers[..n].contains(&u64::from_le_bytes(*name))

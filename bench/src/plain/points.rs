@@ -14,8 +14,8 @@ fn clear_after(p: usize, chart: &mut [u32]) {
 }
 
 impl Recognizer {
-    /// Checks 8, 14 and 10, which set and return share.
-    fn judged(&self, g: &Grammar, cells: usize) -> Result<(), Refusal> {
+    /// Checks 8, 14 and 10, which set, return and learn share.
+    pub(super) fn judged(&self, g: &Grammar, cells: usize) -> Result<(), Refusal> {
         match () {
             _ if !g.valid() => Err(Refusal::InvalidGrammar),
             _ if !self.valid() => Err(Refusal::InvalidRecognizer),

@@ -1,26 +1,20 @@
-//! Opening, taking and filling with spans as bits, and with sets of rules (docs/FILL.md). For a start and a kind, `ends`
-//! has the set of the ends found so far. For a rule and a place q, `starts` has the set of the starts from which the
-//! places q.. cut up to the column's end. A piece inside the span followed by the rest from its end is then one AND.
-//! At a cell only those rules are looked at that a set of rules names.
+//! Opening, taking and filling with spans as bits (docs/FILL.md). For a start and a kind, `ends` has the set of the
+//! ends found so far. For a rule and a place q, `starts` has the set of the starts from which the places q.. cut up
+//! to the column's end. A piece inside the span followed by the rest from its end is then one AND.
 
 use super::packed::{contains, Packed, Rule};
 use super::{CHART, INPUT, PLACES, RULES};
 
-pub mod before;
+pub mod rules;
 
 const KINDS: usize = 32;
 
-/// A set of rules.
-type Rules = [u64; 2];
-
 /// What is the same for every column: the set of the kinds that derive the empty span; for each rule the places from
-/// which on it cuts that span; the rules with a terminal that can end a span; and for each kind the rules whose flags
-/// at a span depend on whether the kind derives the span.
+/// which on it cuts that span; and the kinds whose place is the last that need not be empty.
 struct Empty {
     own: u32,
     last: [u32; RULES],
-    ending: Rules,
-    holders: [Rules; KINDS],
+    kinds: [u32; RULES],
 }
 
 /// For a start i and a kind k, the ends b of k from i, i < b; `reach` is their union over k.
@@ -29,16 +23,11 @@ struct Ends {
     reach: [u64; INPUT],
 }
 
-/// For a rule and a place q, the starts from which the places q.. cut up to the column's end. For a start the rules
-/// that have it at a place from 1 on, and `all` is their union over the starts of the column.
+/// For a rule and a place q, the starts from which the places q.. cut up to the column's end; `live` is their union
+/// over q from 1 on.
 struct Starts {
     of: [[u64; PLACES]; RULES],
-    live: [Rules; INPUT],
-    all: Rules,
-}
-
-fn union(a: Rules, b: Rules) -> Rules {
-    [a[0] | b[0], a[1] | b[1]]
+    live: [u64; RULES],
 }
 
 /// The places q of a rule such that the places q.. cut the span. `whole` and `empty` are the sets of the span and of
@@ -58,37 +47,38 @@ fn rule_flags(rule: &Rule, at_end: bool, empty: u32, whole: u32, inner: u32, las
     v
 }
 
-impl Empty {
-    fn new(rules: &[Rule]) -> Empty {
-        let mut e = Empty { own: 0, last: [0; RULES], ending: [0; 2], holders: [[0; 2]; KINDS] };
-        loop {
-            let before = e.own;
-            for (rule, last) in rules.iter().zip(&mut e.last) {
-                *last = rule_flags(rule, true, e.own, 0, 0, 0);
-                if *last & 1 == 1 && rule.left < 32 {
-                    e.own |= 1 << rule.left;
-                }
-            }
-            if e.own == before {
-                break;
-            }
-        }
-        for (r, rule) in rules.iter().enumerate() {
-            e.hold(r, rule);
-        }
-        e
+fn added(rule: &Rule, flags: u32, own: u32) -> u32 {
+    if flags & 1 == 1 && rule.left < 32 {
+        own | 1 << rule.left
+    } else {
+        own
     }
+}
 
-    /// Looks for the places of rule r after which everything can be empty.
-    fn hold(&mut self, r: usize, rule: &Rule) {
-        for (_, place) in rule.places().iter().enumerate().filter(|&(q, _)| contains(self.last[r], q + 1)) {
-            if !place.is_nonterminal() {
-                self.ending[r / 64] |= 1 << (r % 64);
-            } else if place.value < 32 {
-                self.holders[place.value as usize][r / 64] |= 1 << (r % 64);
-            }
+/// The kinds on which the rule's flags at a non-empty span depend: those in places after which everything can be
+/// empty.
+fn kinds_of(rule: &Rule, last: u32) -> u32 {
+    let after = |q: usize| contains(last, q + 1);
+    let kinds = rule.places().iter().enumerate().filter(|&(q, place)| place.is_nonterminal() && after(q));
+    kinds.filter(|(_, place)| place.value < 32).fold(0, |set, (_, place)| set | 1 << place.value)
+}
+
+fn empty_span(rules: &[Rule]) -> Empty {
+    let mut e = Empty { own: 0, last: [0; RULES], kinds: [0; RULES] };
+    loop {
+        let before = e.own;
+        for (rule, last) in rules.iter().zip(&mut e.last) {
+            *last = rule_flags(rule, true, e.own, 0, 0, 0);
+            e.own = added(rule, *last, e.own);
+        }
+        if e.own == before {
+            break;
         }
     }
+    for ((rule, &last), kinds) in rules.iter().zip(&e.last).zip(&mut e.kinds) {
+        *kinds = kinds_of(rule, last);
+    }
+    e
 }
 
 impl Ends {
@@ -119,29 +109,12 @@ impl Ends {
 }
 
 impl Starts {
-    const NONE: Starts = Starts { of: [[0; PLACES]; RULES], live: [[0; 2]; INPUT], all: [0; 2] };
-
-    /// Begins a column. What `live` has of a start is written before it is read.
-    fn clear(&mut self, rules: usize) {
-        self.of[..rules].fill([0; PLACES]);
-        self.all = [0; 2];
-    }
-
-    /// The rules that have one of these starts at a place from 1 on, starts before `next` aside.
-    fn near(&self, next: usize, reach: u64) -> Rules {
-        let mut near = self.live[next];
-        let mut reach = reach;
-        while near != self.all && reach != 0 {
-            near = union(near, self.live[reach.trailing_zeros() as usize]);
-            reach &= reach - 1;
-        }
-        near
-    }
+    const NONE: Starts = Starts { of: [[0; PLACES]; RULES], live: [0; RULES] };
 
     /// The flags of rule r at the start i.
     fn put(&mut self, r: usize, i: usize, flags: u32) {
         if flags >> 1 != 0 {
-            self.live[i][r / 64] |= 1 << (r % 64);
+            self.live[r] |= 1 << i;
             for (q, set) in self.of[r].iter_mut().enumerate().skip(1) {
                 *set |= u64::from(flags >> q & 1) << i;
             }
@@ -167,73 +140,49 @@ fn inner(rule: &Rule, byte: u8, ends: &[u64; KINDS], starts: &[u64; PLACES], res
     v
 }
 
-/// What is known at one cell: of the rules that were looked at the flags, and of those with inner cuts where they
-/// begin. What the words of other rules say is not asked.
+/// What is known about each rule at one start: where inner cuts begin, the flags, and the members of the cell's set
+/// on which the flags depend, as they were when the flags were made.
 struct Looked {
     inside: [u32; RULES],
     flags: [u32; RULES],
+    made: [u32; RULES],
 }
 
 impl Looked {
-    const NONE: Looked = Looked { inside: [0; RULES], flags: [0; RULES] };
+    const NONE: Looked = Looked { inside: [0; RULES], flags: [0; RULES], made: [0; RULES] };
 
-    /// The rules with inner cuts, of those in word h of a set.
-    fn begin(&mut self, h: usize, word: u64, rules: &[Rule], e: &Empty, byte: u8, at: Span, ends: &Ends, s: &Starts) -> u64 {
+    /// Looks at rule r, at a cell of which `own` is known.
+    fn look(&mut self, r: usize, rule: &Rule, e: &Empty, start: u32, own: u32) -> u32 {
+        self.made[r] = own & e.kinds[r];
+        self.flags[r] = rule_flags(rule, false, start, own, self.inside[r], e.last[r]);
+        added(rule, self.flags[r], own)
+    }
+
+    /// The first look at the rules, at the cell (i, n). Rules that can have no flag are skipped.
+    fn first(&mut self, rules: &[Rule], e: &Empty, byte: u8, at: Span, ends: &Ends, starts: &Starts) -> u32 {
         let rest = if at.i + 1 < at.n { 1 << (at.i + 1) } else { 0 };
-        let (mut word, mut begun) = (word, 0);
-        while word != 0 {
-            let r = 64 * h + word.trailing_zeros() as usize;
-            self.inside[r] = inner(&rules[r], byte, &ends.of[at.i], &s.of[r], rest, e.last[r]);
-            if self.inside[r] != 0 {
-                begun |= word & word.wrapping_neg();
-            }
-            word &= word - 1;
-        }
-        begun
-    }
-}
-
-/// The set of a cell as far as it is known, the rules that were looked at, and those to look at in the next pass.
-#[derive(Clone, Copy)]
-struct State {
-    own: u32,
-    looked: Rules,
-    later: Rules,
-}
-
-impl Looked {
-    /// Looks at the rules in word h of a set.
-    fn pass(&mut self, h: usize, word: u64, rules: &[Rule], e: &Empty, start: u32, begun: u64, state: State) -> State {
-        let (mut word, mut s) = (word, state);
-        s.looked[h] |= word;
-        while word != 0 {
-            let bit = word & word.wrapping_neg();
-            let r = 64 * h + word.trailing_zeros() as usize;
-            word &= word - 1;
-            s.later[h] &= !bit;
-            let inside = if begun & bit != 0 { self.inside[r] } else { 0 };
-            let flags = rule_flags(&rules[r], false, start, s.own, inside, e.last[r]);
-            self.flags[r] = flags;
-            let left = rules[r].left as usize;
-            if flags & 1 == 1 && left < 32 && s.own >> left & 1 == 0 {
-                s.own |= 1 << left;
-                s.later = union(s.later, e.holders[left]);
+        let near = ends.reach[at.i] | rest;
+        let mut own = 0;
+        for (r, rule) in rules.iter().enumerate() {
+            let can = rest == 0 || near & starts.live[r] != 0;
+            self.inside[r] = if can { inner(rule, byte, &ends.of[at.i], &starts.of[r], rest, e.last[r]) } else { 0 };
+            (self.made[r], self.flags[r]) = (0, 0);
+            if self.inside[r] != 0 || own & e.kinds[r] != 0 {
+                own = self.look(r, rule, e, at.start, own);
             }
         }
-        s
+        own
     }
 
-    /// Looks at the rules with inner cuts, and then at those whose flags may have changed.
-    fn close(&mut self, rules: &[Rule], e: &Empty, start: u32, begun: Rules) -> State {
-        let mut s = State { own: 0, looked: [0; 2], later: [0; 2] };
-        let mut now = begun;
-        while now != [0; 2] {
-            s = self.pass(0, now[0], rules, e, start, begun[0], s);
-            s = self.pass(1, now[1], rules, e, start, begun[1], s);
-            now = s.later;
-            s.later = [0; 2];
+    /// Looks again at the rules whose flags may have changed.
+    fn again(&mut self, rules: &[Rule], e: &Empty, start: u32, own: u32) -> u32 {
+        let mut own = own;
+        for (r, rule) in rules.iter().enumerate() {
+            if own & e.kinds[r] != self.made[r] {
+                own = self.look(r, rule, e, start, own);
+            }
         }
-        s
+        own
     }
 }
 
@@ -246,28 +195,25 @@ struct Span {
 }
 
 /// Column n. `ends` has the ends of the columns before n; afterwards it also has those of n, if a column can follow.
-fn column(rules: &[Rule], e: &Empty, w: &[u8], n: usize, ends: &mut Ends, s: &mut Starts, l: &mut Looked, chart: &mut [u32]) {
-    s.clear(rules.len());
+fn column(rules: &[Rule], e: &Empty, w: &[u8], n: usize, ends: &mut Ends, chart: &mut [u32]) {
+    let (mut starts, mut looked) = (Starts::NONE, Looked::NONE);
     chart[65 * n + n] = e.own;
     for i in (0..n).rev() {
         let at = Span { i, n, start: chart[65 * i + i] };
-        let near = if i + 1 < n { s.near(i + 1, ends.reach[i]) } else { e.ending };
-        s.live[i] = [0; 2];
-        let begun =
-            [l.begin(0, near[0], rules, e, w[i], at, ends, s), l.begin(1, near[1], rules, e, w[i], at, ends, s)];
-        let state = l.close(rules, e, at.start, begun);
-        for (h, word) in state.looked.into_iter().enumerate() {
-            let mut word = word;
-            while word != 0 {
-                let r = 64 * h + word.trailing_zeros() as usize;
-                s.put(r, i, l.flags[r]);
-                word &= word - 1;
+        let mut own = looked.first(rules, e, w[i], at, ends, &starts);
+        loop {
+            let next = looked.again(rules, e, at.start, own);
+            if next == own {
+                break;
             }
+            own = next;
         }
-        s.all = union(s.all, s.live[i]);
-        chart[65 * i + n] = state.own;
+        for (r, &flags) in looked.flags[..rules.len()].iter().enumerate() {
+            starts.put(r, i, flags);
+        }
+        chart[65 * i + n] = own;
         if n < INPUT {
-            ends.put(i, n, state.own);
+            ends.put(i, n, own);
         }
     }
 }
@@ -275,17 +221,16 @@ fn column(rules: &[Rule], e: &Empty, w: &[u8], n: usize, ends: &mut Ends, s: &mu
 /// Column n over the chart as found.
 pub fn write_column(p: &Packed, w: &[u8], n: usize, chart: &mut [u32]) {
     let rules = p.used();
-    let (mut starts, mut looked) = (Starts::NONE, Looked::NONE);
-    column(rules, &Empty::new(rules), w, n, &mut Ends::found(chart, n), &mut starts, &mut looked, chart);
+    column(rules, &empty_span(rules), w, n, &mut Ends::found(chart, n), chart);
 }
 
 pub fn fill(p: &Packed, w: &[u8], chart: &mut [u32]) {
     let rules = p.used();
-    let e = Empty::new(rules);
-    let (mut ends, mut starts, mut looked) = (Ends::NONE, Starts::NONE, Looked::NONE);
+    let e = empty_span(rules);
+    let mut ends = Ends::NONE;
     chart[..CHART].fill(0);
     for n in 0..=w.len() {
-        column(rules, &e, w, n, &mut ends, &mut starts, &mut looked, chart);
+        column(rules, &e, w, n, &mut ends, chart);
     }
 }
 

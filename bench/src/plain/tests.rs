@@ -2,7 +2,7 @@
 //! over every way to cut a span, over filled and spoilt charts; each offered row against explicit trees.
 
 use super::packed::Packed;
-use super::recognizer::{fill, write_column};
+use super::recognizer::{fill, write_column, Recognizer};
 use super::{checker, enumerator, flat, listing, loader, names, words, Grammar, Refusal, Rule, Symbol, CHART};
 use crate::books;
 use crate::random::Random;
@@ -341,6 +341,48 @@ fn faulty_names_have_the_numbers_and_offsets_of_the_design() {
         let next = [0x20, 0, 0, 0];
         assert_eq!(rule(&[&named[..], &next, &next, &named].concat()), Err((17, 23)), "an earlier name");
     }
+}
+
+/// The bytes of a rule, cut at each byte and with each byte changed: the grammar, or the fault, is that of the book with the rule.
+#[test]
+fn a_learnt_rule_is_that_of_the_joined_book() {
+    let front = books::named(b"\x10\x00\x20\x00\x64\x00\x40A\x20\x00\xc8\x00\x40B\x50");
+    let front = &front[..front.len() - 1];
+    let g = loader::load(&[front, b"\x50"].concat()).unwrap();
+    let rule = b"\x21\x00\x64\x00\x01\x00\x02\x00\x40A\x60RULE0002\x30\x00\x41AB";
+    let mut seen = [0; 3];
+    let mut compared = |bytes: &[u8]| {
+        let mut state = Recognizer { bytes: [65; 64], count: 3, year: 1, points: [4; 8] };
+        let mut chart = vec![7; CHART];
+        match state.learn(&g, bytes, &mut chart) {
+            Ok((longer, complete)) => {
+                assert_eq!(Ok(&longer), loader::load(&[front, bytes, b"\x50"].concat()).as_ref(), "{bytes:02x?}");
+                let mut due = vec![7; CHART];
+                fill(&Packed::new(&longer, 1), b"AAA", &mut due);
+                assert_eq!((chart, complete), (due.clone(), due[3] & 1 == 1));
+                assert_eq!((state.count, state.year, state.points, state.bytes[3..] == [0; 61]), (3, 1, [4; 8], true));
+                seen[0] += 1;
+            }
+            Err((Refusal::NotOneRule, at)) => {
+                let opens = bytes.get(at).is_some_and(|byte| matches!(byte, 0x20 | 0x21));
+                assert!(if at == 0 { !opens } else { opens || matches!(bytes[at], 0x10 | 0x50) }, "{bytes:02x?}");
+                seen[1] += 1;
+            }
+            Err((refusal, at)) => {
+                let end: &[u8] = if refusal == Refusal::UnexpectedEnd { b"" } else { b"\x50" };
+                let joined = [front, bytes, end].concat();
+                assert_eq!(loader::load(&joined), Err((refusal, front.len() + at)), "{bytes:02x?}");
+                seen[2] += 1;
+            }
+        }
+    };
+    (0..=rule.len()).for_each(|cut| compared(&rule[..cut]));
+    for at in 0..rule.len() {
+        for byte in [0, 1, b' ', b'1', b'A', 0x10, 0x20, 0x21, 0x30, 0x40, 0x50, 0x60, 0xff] {
+            compared(&[&rule[..at], &[byte], &rule[at + 1..]].concat());
+        }
+    }
+    assert!(seen.iter().all(|&times| times > 15), "{seen:?}");
 }
 
 #[test]

@@ -24,4 +24,5 @@ numberOf R.RangeReversed = 16
 numberOf R.InvalidName = 17
 numberOf R.TextTooLong = 18
 numberOf R.NoPoint = 19
+numberOf R.NotOneRule = 20
 numberOf R.YearsReversed = 21

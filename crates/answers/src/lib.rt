@@ -23,6 +23,7 @@ pub enum Refusal {
     InvalidName,
     TextTooLong,
     NoPoint,
+    NotOneRule,
     YearsReversed,
 }
 
@@ -89,6 +90,7 @@ pub fn number(r: Refusal) -> u8
         Refusal::InvalidName => 17,
         Refusal::TextTooLong => 18,
         Refusal::NoPoint => 19,
+        Refusal::NotOneRule => 20,
         Refusal::YearsReversed => 21,
     }
 }

@@ -5,6 +5,8 @@ use mathlib.Core.Bool.{Bool, true, false}
 use mathlib.Core.List.{List}
 use mathlib.Core.Path.{_≡_}
 use lib.IntN.{ℤ}
+use Rattle.grammar.specs.declared.Grammar.{Grammar}
+use Rattle.c_grammar.specs.Flat.{flatOf}
 use Rattle.c_hand.specs.Hand.{rowOf}
 use Rattle.results.specs.Answer.{Answer, refused, answered, Handing, handed, nothing, Figure, counted, more, LoadAnswer, refusedAt, loaded}
 use Rattle.results.specs.Recognize.{State}
@@ -19,14 +21,18 @@ abbrev pub leftOf : {A B : Type 0} → (A → B → B) → Answer A → B → B
 leftOf left (refused n) found = found
 leftOf left (answered a) found = left a found
 
--- opening, taking, check and same build
+-- opening, taking, learning, check and same build
 abbrev pub verdictCode : Bool → ℕ
 verdictCode true = 1
 verdictCode false = 0
 
--- taking: the row of the state
+-- taking and learning: the row of the state
 abbrev pub rowLeft : State → Bool → List ℕ → List ℕ
 rowLeft s b found = rowOf s
+
+-- learning: the row of the longer grammar
+abbrev pub flatLeft : Grammar → Bool → List ℕ → List ℕ
+flatLeft g b found = flatOf g
 
 -- length
 abbrev pub lengthCode : ℤ → ℕ
@@ -73,6 +79,11 @@ loadCode loaded = 1
 abbrev pub offsetLeft : LoadAnswer → ℕ → ℕ
 offsetLeft (refusedAt n at) found = at
 offsetLeft loaded found = found
+
+-- learning: the offset of a refused rule; one that is learnt leaves the number found
+abbrev pub faultLeft : ℕ → Answer Bool → ℕ → ℕ
+faultLeft at (refused n) found = at
+faultLeft at (answered b) found = found
 
 -- what a caller knows from the code and what is left: which answer it was, and that only a call with code 1 has written
 pub record CodeKnown {A B : Type 0} (code : A → ℕ) (left : A → B → B) : Type 0 where

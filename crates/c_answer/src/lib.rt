@@ -1,5 +1,7 @@
 // The codes that the exported functions return for their answers, and what each answer leaves in the place that was lent for it. A code is
 // 0 for no and none; 1 for yes, loaded, measured, written, handed out and counted; 2 for more; 256 + n for refusal n.
+pub mod learning;
+
 use answers::Counted;
 use answers::Handed;
 use answers::Measured;
@@ -23,7 +25,7 @@ pub fn of_refusal(r: Refusal) -> u32
     256 + (answers::number(r) as u32)
 }
 
-// Opening, check and same build.
+// Opening, learning, check and same build.
 pub fn of_verdict(v: Verdict) -> u32
     ensures { λ c. ⌜ c ≡ codeOf verdictCode (verdictOf v) ⌝ }
 {

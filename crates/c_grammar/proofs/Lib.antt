@@ -1,4 +1,4 @@
--- The laws of flat rows. What others cite: Judged, Round.
+-- The laws of flat rows. What others cite: Judged, Round, Declared.
 pub mod Records
 pub mod Parts
 pub mod Whole
@@ -6,3 +6,4 @@ pub mod Round
 pub mod Named
 pub mod Judged
 pub mod Written
+pub mod Declared

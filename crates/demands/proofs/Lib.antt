@@ -20,5 +20,11 @@ pub mod Demand1
 pub mod Recognized
 pub mod Taken
 pub mod Points
+pub mod LearnOrder
+pub mod LearnFault
+pub mod Learn
+pub mod LearnValid
 pub mod PointsHeld
+pub mod LearnHeld
+pub mod LearnHistory
 pub mod PointsHistory

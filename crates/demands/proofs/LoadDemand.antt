@@ -21,6 +21,13 @@ use Rattle.demands.proofs.LoadOrder.{step-order}
 use Rattle.demands.proofs.LoadFault.{step-fault}
 use Rattle.demands.proofs.LoadUnused.{Tidy, tidy-invariant}
 
+-- another nullable depth does not change this
+pub depth-tidy : (g : Grammar) (d : ℕ) → Tidy g → Tidy (setDepth g d)
+depth-tidy g d T = record {
+  valid = set-depth-valid g (T .valid) d;
+  behind = record { size = T .behind .size; unused = T .behind .unused; places = T .behind .places };
+}
+
 module _ (bytes : List ℕ) where
   -- what each command keeps holds of each offset and grammar that is reached
   reached-kept : {P : ℕ → Grammar → Type 0} → Invariant bytes P → {at : ℕ} {g : Grammar} → Reached bytes at g → P at g
@@ -40,13 +47,6 @@ module _ (bytes : List ℕ) where
     stops = e;
     fault = step-fault bytes at g (f .number) (f .offset) e;
     order = subst (CommandOrder bytes at (getD bytes at 0) g) e (step-order bytes at g);
-  }
-
-  -- another nullable depth does not change this
-  depth-tidy : (g : Grammar) (d : ℕ) → Tidy g → Tidy (setDepth g d)
-  depth-tidy g d T = record {
-    valid = set-depth-valid g (T .valid) d;
-    behind = record { size = T .behind .size; unused = T .behind .unused; places = T .behind .places };
   }
 
   accepted : (at : ℕ) (g g′ : Grammar) → Reached bytes at g → step bytes at g ≡ done g′ → LoadAccepted bytes (acceptedLoad g′)

@@ -12,7 +12,7 @@ use Rattle.demands.specs.LoadOrder.{ended, CommandOrder}
 use Rattle.demands.proofs.Decided.{decided, all-failing}
 
 -- loading does not stop after the checks
-goes-on : (b : Bool) (at : ℕ) (g h : Grammar) (f : Fault) → cond b (done g) (next at h) ≡ stop f → ⊥
+pub goes-on : (b : Bool) (at : ℕ) (g h : Grammar) (f : Fault) → cond b (done g) (next at h) ≡ stop f → ⊥
 goes-on true at g h f e = clash cc
 goes-on false at g h f e = clash cc
 

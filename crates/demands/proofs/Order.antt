@@ -43,7 +43,7 @@ tells8 g = record { exact = (not-true (validGrammar g), ap not); same = refl }
 pub tells9 : (w : List ℕ) → Tells (inputCheck w) (cause9 w)
 tells9 w = less maxInput (length w) 9
 
-tells14 : (h : State) → Tells (stateCheck h) (cause14 h)
+pub tells14 : (h : State) → Tells (stateCheck h) (cause14 h)
 tells14 h = record { exact = (state-refused h, refused-state h); same = refl }
 
 -- ---- opening and taking

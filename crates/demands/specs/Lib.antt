@@ -10,4 +10,6 @@ pub mod Demand1
 pub mod Recognized
 pub mod Taken
 pub mod Points
+pub mod LearnOrder
+pub mod Learn
 pub mod PointsHistory

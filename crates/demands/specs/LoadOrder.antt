@@ -55,13 +55,10 @@ stopped n at = stop (record { number = n; offset = at })
 abbrev pub stops : Bool → ℕ → ℕ → Cause Fault
 stops b n at = cause (b ≡ true) (record { number = n; offset = at })
 
--- the causes for the command c at an offset; g is the grammar read so far
-abbrev pub commandCauses : List ℕ → ℕ → ℕ → Grammar → List (Cause Fault)
-commandCauses bytes at c g =
-    stops (ended bytes at) 1 (length bytes)
-    ∷ stops (unknown c) 2 at
-    ∷ stops (outOfTurn c at g) 3 at
-    ∷ stops (endsInside bytes at c) 1 (length bytes)
+-- the causes for the command c at an offset that come after its turn; g is the grammar read so far
+abbrev pub operandCauses : List ℕ → ℕ → ℕ → Grammar → List (Cause Fault)
+operandCauses bytes at c g =
+    stops (endsInside bytes at c) 1 (length bytes)
     ∷ stops (nonterminalOver bytes at c) 4 at
     ∷ stops (rangeReversed bytes at c) 16 at
     ∷ stops (nameRefused bytes at c g) 17 at
@@ -70,6 +67,14 @@ commandCauses bytes at c g =
     ∷ stops (placesOver c g) 6 at
     ∷ stops (furtherByte bytes at c) 7 (at + 1)
     ∷ []
+
+-- all causes for the command c at an offset
+abbrev pub commandCauses : List ℕ → ℕ → ℕ → Grammar → List (Cause Fault)
+commandCauses bytes at c g =
+    stops (ended bytes at) 1 (length bytes)
+    ∷ stops (unknown c) 2 at
+    ∷ stops (outOfTurn c at g) 3 at
+    ∷ operandCauses bytes at c g
 
 -- the first of them that applies decides; if none applies, loading does not stop here
 abbrev pub CommandOrder : List ℕ → ℕ → ℕ → Grammar → Step → Type 0

@@ -56,6 +56,10 @@ cause19Name k = cause (maxPoints ≤ k) 19
 abbrev pub cause19Point : State → ℕ → Cause ℕ
 cause19Point h k = cause ((maxPoints ≤ k) ⊎ (getD (h .points) k 0 ≡ 0)) 19
 
+-- there are no bytes of a rule to learn
+abbrev pub cause20Empty : List ℕ → Cause ℕ
+cause20Empty bytes = cause (length bytes ≡ 0) 20
+
 -- nothing is refused
 abbrev pub NoRefusal : {A : Type 0} → Answer A → Type 0
 NoRefusal answer = (n : ℕ) → answer ≡ refused n → ⊥

@@ -28,17 +28,17 @@ use Rattle.results.proofs.Loading.Lists.{set-each, replicate-each}
 
 -- ---- the grammar read so far
 
-record SmallRule (ρ : Rule) : Type 0 where
+pub record SmallRule (ρ : Rule) : Type 0 where
   pub declared : DeclaredRule ρ
   pub count : ρ .count ≤ maxPlaces
 
-record Small (g : Grammar) : Type 0 where
+pub record Small (g : Grammar) : Type 0 where
   pub start : g .start < 256
   pub count : g .count ≤ maxRules
   pub rules : length (g .rules) ≡ maxRules
   pub each : (r : ℕ) → r < maxRules → SmallRule (getD (g .rules) r noRule)
 
-small-fits : (g : Grammar) (d : ℕ) → Small g → d < 256 → Fits16 (setDepth g d)
+pub small-fits : (g : Grammar) (d : ℕ) → Small g → d < 256 → Fits16 (setDepth g d)
 small-fits g d S h = record {
   declared = record { start = S .start; depth = h; rules = S .rules; each = λ r m. S .each r m .declared };
   count = omega (arith, S .count);
@@ -74,12 +74,15 @@ named-small ρ name R n h = record {
   count = R .count;
 }
 
+pub zero-rule-small : SmallRule zeroRule
+zero-rule-small = opened-small 0 (pos 0) 0 0 (omega arith) (omega arith)
+
 zero-small : Small zeroGrammar
 zero-small = record {
   start = omega arith;
   count = omega arith;
   rules = refl;
-  each = replicate-each SmallRule noRule zeroRule maxRules (opened-small 0 (pos 0) 0 0 (omega arith) (omega arith));
+  each = replicate-each SmallRule noRule zeroRule maxRules zero-rule-small;
 }
 
 negative-small : (n m : ℕ) → n ≡ suc m → m < 32768 → mag (negℤ (pos n)) < 32768
@@ -169,7 +172,7 @@ module _ (bytes : List ℕ) (small : (i : ℕ) → getD bytes i 0 < 256) where
   given-small at (suc (suc (suc (suc (suc (suc (suc zero))))))) h = operand-small at 7
   given-small at (suc (suc (suc (suc (suc (suc (suc (suc k)))))))) h = absurd (omega arith)
 
-  small-invariant : Invariant bytes (λ at g. Small g)
+  pub small-invariant : Invariant bytes (λ at g. Small g)
   small-invariant = record {
     zero = zero-small;
     start = λ at g S e h. start-small g S (operand bytes at 0) (operand-small at 0);

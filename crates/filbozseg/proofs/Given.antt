@@ -20,16 +20,18 @@ use Rattle.lookup.specs.Found.{partOf}
 use Rattle.results.specs.Answer.{Answer, Handing, Figure}
 use Rattle.results.specs.Check.{Checking, checkOf}
 use Rattle.results.specs.Enumerate.{Enumeration, firstOf, nextOf, countOf}
+use Rattle.results.specs.Learn.{Learning, learnOf}
 use Rattle.results.specs.Load.{Loading, loadOf}
 use Rattle.results.specs.Name.{Part}
 use Rattle.results.specs.Measure.{lengthOf, sameBuildOf}
 use Rattle.results.specs.Points.{setPointOf, returnToOf}
 use Rattle.results.specs.Recognize.{State, Recognition, openOf, takeOf}
 use Rattle.results.specs.Words.{Writing, wordsOf}
-use Rattle.c_answer.specs.Code.{codeOf, leftOf, verdictCode, rowLeft, lengthCode, tenthsLeft, handingCode, nodesLeft}
-use Rattle.c_answer.specs.Code.{wordsCode, bytesLeft, figureCode, figureLeft, loadCode, offsetLeft}
-use Rattle.filbozseg.specs.Calls.{Loads, Opens, Takes, Checks, Measures, Writes, Hands, Counts, Finds}
+use Rattle.c_answer.specs.Code.{codeOf, leftOf, verdictCode, rowLeft, flatLeft, lengthCode, tenthsLeft, handingCode}
+use Rattle.c_answer.specs.Code.{nodesLeft, wordsCode, bytesLeft, figureCode, figureLeft, loadCode, offsetLeft, faultLeft}
+use Rattle.filbozseg.specs.Calls.{Loads, Opens, Takes, Learns, Checks, Measures, Writes, Hands, Counts, Finds}
 use Rattle.filbozseg.proofs.Fits.{load-fits}
+use Rattle.filbozseg.proofs.Longer.{ReadBack, learnt-back}
 
 -- ---- loading
 
@@ -52,6 +54,26 @@ module _ (book : List ℕ) (small : (i : ℕ) → getD book i 0 < 256) (l : Load
   pub loads-of : (found code offset : ℕ) (row : List ℕ) → row ≡ flatOf (l .grammar) → code ≡ loadCode (outcomeOf (l .outcome))
       → offset ≡ offsetLeft (outcomeOf (l .outcome)) found → Loads book found code row offset
   loads-of found code offset row e f k = rw (e, f, k) (row-loads found)
+
+-- ---- learning
+
+abbrev learnt : Answer Bool → ℕ → Grammar → State → List ℕ → Learning
+learnt a at g s chart = record { answer = a; offset = at; grammar = g; state = s; chart = chart }
+
+-- the grammar g was read from the row f, and the state h from the row found
+module _ (f found bytes chart₀ : List ℕ) (g : Grammar) (h : State) (read : g ≡ grammarIn f) (state : h ≡ stateOfRow found)
+    (small : (i : ℕ) → getD bytes i 0 < 256) where
+  pub learns-of : (a : Answer Bool) (at : ℕ) (g′ : Grammar) (s : State) (before code offset : ℕ) (flat row chart : List ℕ)
+      → learnt a at g′ s chart ≡ learnOf g h bytes chart₀ → code ≡ codeOf verdictCode a → offset ≡ faultLeft at a before
+      → flat ≡ leftOf (flatLeft g′) a f → row ≡ leftOf (rowLeft s) a found
+      → Learns (learnOf (grammarIn f) (stateOfRow found) bytes chart₀) f found before code flat row chart offset
+  learns-of a at g′ s before code offset flat row chart e returned o w v =
+      rw (← read, ← state, ← e) (record { returned = returned; grammar = w; state = v; left = refl; at = o; read = back })
+    where
+      back : ((i : ℕ) → getD f i 0 < 65536) → grammarIn flat ≡ g′
+      back cells =
+          ap grammarIn w
+          ∙ subst (ReadBack f) (sym (e ∙ ap (λ (x : Grammar). learnOf x h bytes chart₀) read)) (learnt-back f h bytes chart₀ cells small)
 
 -- ---- the name lookup
 

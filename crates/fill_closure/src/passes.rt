@@ -1,73 +1,115 @@
 // All rules at one cell, until nothing is added.
 use super::Known;
-use super::grown;
-use fill_rule::passes::added;
-use fill_rule::passes::rule_mask;
-use fill_empty::kinds::Holders;
-use fill_sets::Rules;
+use super::look_again;
+use super::look_first;
 use packed::Packed;
+ghost use mathlib.Core.Path.{_≡_};
+ghost use Prim.Native.Nat.{_≤_};
+ghost use lib.ListN.{length};
+ghost use Rattle.sizes.specs.Sizes.{maxRules};
+ghost use Rattle.fill_closure.specs.Looks.{PassState, PassMade, LeastClosed};
 
-fn inside_of(begun: u64, b: usize, inside: u32) -> u32
-{
-    if sets::wide::has(begun, b) { inside } else { 0 }
-}
-
-// Looks at the rules of a word.
-fn pass(
+// The first look at the rules below this number. It starts with the empty set.
+fn first(
     p: &Packed,
-    half: usize,
-    todo: u64,
-    others: u64,
+    rules: usize,
     start: u32,
-    known: Known,
-    begun: u64,
     insides: &[u32; sizes::MAX_RULES],
     lasts: &[u32; sizes::MAX_RULES],
-    holders: &Holders,
+    kinds: &[u32; sizes::MAX_RULES],
     flags: &mut [u32; sizes::MAX_RULES],
-) -> Known
+    made: &mut [u32; sizes::MAX_RULES],
+) -> u32
+    requires { ⌜ (rules ≤ maxRules) × (length (now flags) ≡ maxRules) × (length (now made) ≡ maxRules) ⌝ }
+    ensures { λ v.
+        ⌜ PassState (now (p .entry)) rules start (now (insides .entry)) (now (lasts .entry)) (now (kinds .entry))
+        rules v (now (flags .exit)) (now (made .exit)) ⌝ }
 {
-    let mut v = known;
-    let mut rest = todo;
-    while rest != 0 {
-        let b = sets::wide::first(rest);
-        rest = fill_sets::rest(rest);
-        let r = 64 * half + b;
-        let m = rule_mask(p, r, false, start, v.own, inside_of(begun, b, insides[r]), lasts[r]);
-        flags[r] = m;
-        let own = added(p, r, m, v.own);
-        if own != v.own {
-            v = grown(packed::left(p, r), half, v, own, rest, others, holders);
-        }
+    let mut own: u32 = 0;
+    let mut r = 0;
+    while r < rules {
+        own = look_first(
+            p,
+            r,
+            Known { start, own },
+            insides[r],
+            lasts[r],
+            kinds[r],
+            flags,
+            made,
+        );
+        r += 1;
     }
-    v
+    own
 }
 
-pub struct Closed {
-    pub own: u32,
-    pub looked: Rules,
+// A further look at those rules whose flags can have changed.
+fn again(
+    p: &Packed,
+    rules: usize,
+    known: Known,
+    insides: &[u32; sizes::MAX_RULES],
+    lasts: &[u32; sizes::MAX_RULES],
+    kinds: &[u32; sizes::MAX_RULES],
+    flags: &mut [u32; sizes::MAX_RULES],
+    made: &mut [u32; sizes::MAX_RULES],
+) -> u32
+    requires { ⌜ (rules ≤ maxRules)
+        × PassState (now p) rules (known .start) (now insides) (now lasts) (now kinds) rules (known .own) (now flags) (now made) ⌝ }
+    ensures { λ v.
+        ⌜ PassMade (now (p .entry)) rules (known .start) (now (insides .entry)) (now (lasts .entry)) (now (kinds .entry))
+        rules (known .own) v (now (flags .exit)) (now (made .exit)) ⌝ }
+{
+    let Known { start, own } = known;
+    let mut v = own;
+    let mut r = 0;
+    while r < rules {
+        v = look_again(
+            p,
+            r,
+            Known { start, own: v },
+            insides[r],
+            lasts[r],
+            kinds[r],
+            flags,
+            made,
+        );
+        r += 1;
+    }
+    v
 }
 
 // Looks until nothing is added: returns the set of the cell, and leaves the flags of the rules in flags.
 pub fn closure(
     p: &Packed,
+    rules: usize,
     start: u32,
-    begun: Rules,
     insides: &[u32; sizes::MAX_RULES],
     lasts: &[u32; sizes::MAX_RULES],
-    holders: &Holders,
+    kinds: &[u32; sizes::MAX_RULES],
     flags: &mut [u32; sizes::MAX_RULES],
-) -> Closed
+    made: &mut [u32; sizes::MAX_RULES],
+) -> u32
+    requires { ⌜ (rules ≤ maxRules) × (length (now flags) ≡ maxRules) × (length (now made) ≡ maxRules) ⌝ }
+    ensures { λ v.
+        ⌜ LeastClosed (now (p .entry)) rules start (now (insides .entry)) (now (lasts .entry)) (now (kinds .entry))
+        v (now (flags .exit)) (now (made .exit)) ⌝ }
 {
-    let mut todo = begun;
-    let mut looked = fill_sets::none();
-    let mut own: u32 = 0;
-    while todo.low != 0 || todo.high != 0 {
-        looked = fill_sets::union(looked, todo);
-        let low = pass(p, 0, todo.low, todo.high, start, Known { own, later: 0, across: 0 }, begun.low, insides, lasts, holders, flags);
-        let high = pass(p, 1, todo.high, 0, start, Known { own: low.own, later: low.across, across: low.later }, begun.high, insides, lasts, holders, flags);
-        todo = Rules { low: high.across, high: high.later };
-        own = high.own;
+    let mut own = first(p, rules, start, insides, lasts, kinds, flags, made);
+    loop {
+        let next = again(
+            p,
+            rules,
+            Known { start, own },
+            insides,
+            lasts,
+            kinds,
+            flags,
+            made,
+        );
+        if next == own {
+            return next;
+        }
+        own = next;
     }
-    Closed { own, looked }
 }

@@ -1,16 +1,11 @@
 // The chart's columns: writing one, opening, filling for a whole input, and the bit "complete".
 mod write;
 
-use fill_empty::Told;
-use fill_empty::kinds::HOLDERS_SIZE;
-use fill_empty::kinds::Holders;
 use fill_empty::span::closure;
 use fill_empty::tell;
 use fill_words::ends::put_column;
 use fill_words::ends::put_columns;
 use fill_words::words::ENDS_SIZE;
-use fill_words::words::LIVES_SIZE;
-use fill_words::words::STARTS_SIZE;
 use packed::Packed;
 use packed_fit::FitTable;
 use packed_fit::table;
@@ -35,14 +30,24 @@ pub fn write_column(p: &Packed, w: &[u8], n: usize, chart: &mut [u32])
 {
     let rules = packed::rule_count(p);
     let mut lasts = [0u32; sizes::MAX_RULES];
-    let mut holders = [0u64; HOLDERS_SIZE];
-    let told = tell(p, rules, &mut lasts, &mut holders);
+    let mut kinds = [0u32; sizes::MAX_RULES];
+    let own = tell(p, rules, &mut lasts, &mut kinds);
     let fits = table(p, w);
     let mut ends = [0u64; ENDS_SIZE];
     let mut reach = [0u64; sizes::MAX_INPUT];
-    let mut starts = [0u64; STARTS_SIZE];
     put_columns(n, chart, &mut ends, &mut reach);
-    column(p, rules, &fits, n, told, &lasts, &holders, &ends, &reach, chart, &mut starts);
+    column(
+        p,
+        rules,
+        &fits,
+        n,
+        own,
+        &lasts,
+        &kinds,
+        &ends,
+        &reach,
+        chart,
+    );
 }
 
 fn clear(chart: &mut [u32])
@@ -81,9 +86,9 @@ fn take_all(
     rules: usize,
     fits: &FitTable,
     n: usize,
-    told: Told,
+    own: u32,
     lasts: &[u32; sizes::MAX_RULES],
-    holders: &Holders,
+    kinds: &[u32; sizes::MAX_RULES],
     chart: &mut [u32],
 )
     requires { ⌜ (rules ≤ maxRules) × Used (now p) rules × (n ≤ maxInput) × EmptyTold (now p) rules own (now lasts) (now kinds)
@@ -92,12 +97,11 @@ fn take_all(
 {
     let mut ends = [0u64; ENDS_SIZE];
     let mut reach = [0u64; sizes::MAX_INPUT];
-    let mut starts = [0u64; STARTS_SIZE];
     let mut m = 0;
     while m < n {
         put_column(m, chart, &mut ends, &mut reach);
         m += 1;
-        column(p, rules, fits, m, told, lasts, holders, &ends, &reach, chart, &mut starts);
+        column(p, rules, fits, m, own, lasts, kinds, &ends, &reach, chart);
     }
 }
 
@@ -109,10 +113,10 @@ pub fn fill(p: &Packed, fits: &FitTable, n: usize, chart: &mut [u32])
 {
     let rules = packed::rule_count(p);
     let mut lasts = [0u32; sizes::MAX_RULES];
-    let mut holders = [0u64; HOLDERS_SIZE];
-    let told = tell(p, rules, &mut lasts, &mut holders);
-    open_with(told.own, chart);
-    take_all(p, rules, fits, n, told, &lasts, &holders, chart);
+    let mut kinds = [0u32; sizes::MAX_RULES];
+    let own = tell(p, rules, &mut lasts, &mut kinds);
+    open_with(own, chart);
+    take_all(p, rules, fits, n, own, &lasts, &kinds, chart);
 }
 
 // Whether the start symbol is in the cell of the whole input.

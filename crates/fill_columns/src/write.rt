@@ -1,54 +1,74 @@
 // One column of the chart, written cell by cell from the last start down, with spans as bits.
 use fill_closure::passes::closure;
-use fill_empty::Told;
-use fill_empty::kinds::Holders;
 use fill_inner::rules::begin_all;
-use fill_inner::rules::near;
+use fill_reach::Live;
 use fill_reach::Reach;
-use fill_sets::Rules;
-use fill_words::starts::clear;
 use fill_words::starts::put_flags;
 use fill_words::words::Ends;
-use fill_words::words::LIVES_SIZE;
-use fill_words::words::Lives;
 use fill_words::words::STARTS_SIZE;
 use fill_words::words::Starts;
 use packed::Packed;
 use packed_fit::FitTable;
+ghost use mathlib.Core.Path.{_≡_};
+ghost use Prim.Native.Nat.{_<_, _≤_};
+ghost use lib.ListN.{length};
+ghost use Rattle.sizes.specs.Sizes.{cells, maxRules, maxInput};
+ghost use Rattle.packed.specs.Packed.{Used};
+ghost use Rattle.fill_words.specs.Spans.{startsSize};
+ghost use Rattle.fill_empty.specs.Empty.{KindsAll, EmptyTold};
+ghost use Rattle.fill_columns.specs.Columns.{CellWritten, LowerWritten, ColumnWritten};
 
-// Writes the cell (i, n), after those of the later starts. What insides and flags hold before does not matter.
+// Writes the cell (i, n), after those of the later starts. What insides, flags and made hold before does not matter.
 fn close_cell(
     p: &Packed,
+    rules: usize,
     fits: &FitTable,
     i: usize,
     n: usize,
     ends: &Ends,
     reach: &Reach,
-    ending: Rules,
     lasts: &[u32; sizes::MAX_RULES],
-    holders: &Holders,
+    kinds: &[u32; sizes::MAX_RULES],
     chart: &mut [u32],
     starts: &mut Starts,
-    lives: &mut Lives,
-    all: Rules,
+    live: &mut Live,
     insides: &mut [u32; sizes::MAX_RULES],
     flags: &mut [u32; sizes::MAX_RULES],
-) -> Rules
+    made: &mut [u32; sizes::MAX_RULES],
+)
+    requires { ⌜ (rules ≤ maxRules) × Used (now p) rules × (i < n) × (n ≤ maxInput) × KindsAll (now p) rules (now lasts) (now kinds)
+        × (cells ≤ length (now chart)) × (length (now starts) ≡ startsSize) × (length (now live) ≡ maxRules)
+        × (length (now insides) ≡ maxRules) × (length (now flags) ≡ maxRules) × (length (now made) ≡ maxRules) ⌝ }
+    ensures { λ _.
+        ⌜ CellWritten (now (p .entry)) (now (fits .entry)) rules n i (now (ends .entry)) (now (reach .entry)) (now (lasts .entry))
+        (now (chart .entry)) (now (starts .entry)) (now (live .entry)) (now (chart .exit)) (now (starts .exit)) (now (live .exit))
+        × (length (now (insides .exit)) ≡ maxRules) × (length (now (flags .exit)) ≡ maxRules) × (length (now (made .exit)) ≡ maxRules) ⌝ }
 {
-    let some = near(i, n, reach[i], lives, all, ending);
-    let begun = begin_all(p, some, fits, i, n, ends, starts, lasts, insides);
-    let known = closure(
+    begin_all(
         p,
+        rules,
+        fits,
+        i,
+        n,
+        ends,
+        starts,
+        reach[i],
+        live,
+        lasts,
+        insides,
+    );
+    let own = closure(
+        p,
+        rules,
         chart[sizes::SIDE * i + i],
-        begun,
         insides,
         lasts,
-        holders,
+        kinds,
         flags,
+        made,
     );
-    let live = put_flags(p, known.looked, i, flags, starts, lives);
-    chart[sizes::SIDE * i + n] = known.own;
-    fill_sets::union(all, live)
+    put_flags(p, rules, i, flags, starts, live);
+    chart[sizes::SIDE * i + n] = own;
 }
 
 // Writes the cells of column n before the last, which is already written.
@@ -59,37 +79,40 @@ fn lower_cells(
     n: usize,
     ends: &Ends,
     reach: &Reach,
-    ending: Rules,
     lasts: &[u32; sizes::MAX_RULES],
-    holders: &Holders,
+    kinds: &[u32; sizes::MAX_RULES],
     chart: &mut [u32],
-    starts: &mut Starts,
 )
+    requires { ⌜ (rules ≤ maxRules) × Used (now p) rules × (n ≤ maxInput) × KindsAll (now p) rules (now lasts) (now kinds)
+        × (cells ≤ length (now chart)) ⌝ }
+    ensures { λ _.
+        ⌜ LowerWritten (now (p .entry)) (now (fits .entry)) rules n (now (ends .entry)) (now (reach .entry)) (now (lasts .entry))
+        (now (chart .entry)) (now (chart .exit)) ⌝ }
 {
-    clear(rules, starts);
-    let mut lives = [0u64; LIVES_SIZE];
+    let mut starts = [0u64; STARTS_SIZE];
+    let mut live = [0u64; sizes::MAX_RULES];
     let mut insides = [0u32; sizes::MAX_RULES];
     let mut flags = [0u32; sizes::MAX_RULES];
-    let mut all = fill_sets::none();
+    let mut made = [0u32; sizes::MAX_RULES];
     let mut i = n;
     while i > 0 {
         i -= 1;
-        all = close_cell(
+        close_cell(
             p,
+            rules,
             fits,
             i,
             n,
             ends,
             reach,
-            ending,
             lasts,
-            holders,
+            kinds,
             chart,
-            starts,
-            &mut lives,
-            all,
+            &mut starts,
+            &mut live,
             &mut insides,
             &mut flags,
+            &mut made,
         );
     }
 }
@@ -100,15 +123,18 @@ pub fn column(
     rules: usize,
     fits: &FitTable,
     n: usize,
-    told: Told,
+    own: u32,
     lasts: &[u32; sizes::MAX_RULES],
-    holders: &Holders,
+    kinds: &[u32; sizes::MAX_RULES],
     ends: &Ends,
     reach: &Reach,
     chart: &mut [u32],
-    starts: &mut Starts,
 )
+    requires { ⌜ (rules ≤ maxRules) × Used (now p) rules × (n ≤ maxInput) × EmptyTold (now p) rules own (now lasts) (now kinds)
+        × (cells ≤ length (now chart)) ⌝ }
+    ensures { λ _. ⌜ ColumnWritten (now (p .entry)) (now (fits .entry)) n (now (ends .entry)) (now (reach .entry)) (now (chart .entry))
+        (now (chart .exit)) ⌝ }
 {
-    chart[sizes::SIDE * n + n] = told.own;
-    lower_cells(p, rules, fits, n, ends, reach, told.ending, lasts, holders, chart, starts);
+    chart[sizes::SIDE * n + n] = own;
+    lower_cells(p, rules, fits, n, ends, reach, lasts, kinds, chart);
 }

@@ -1,52 +1,40 @@
-// Which rules have a nonterminal, or a terminal, after which they can be empty.
-use fill_sets::Rules;
-use fill_sets::with;
-use fill_sets::with_if;
+// On which nonterminals of a cell's set the flags of a rule depend.
 use packed::Packed;
+ghost use mathlib.Core.Path.{_≡_};
+ghost use Prim.Native.Nat.{_<_, _≤_};
+ghost use lib.ListN.{length};
+ghost use Rattle.sizes.specs.Sizes.{maxRules, maxPlaces};
+ghost use Rattle.fill_empty.specs.Empty.{Kinds, KindAt, KindsAll};
 
-pub const HOLDERS_SIZE: usize = 2 * sizes::NONTERMINALS;
-
-pub type Holders = [u64; HOLDERS_SIZE];
-
-// The rules whose flags depend on the nonterminal k.
-pub fn holders_of(holders: &Holders, k: usize) -> Rules
-{
-    Rules { low: holders[2 * k], high: holders[2 * k + 1] }
-}
-
-fn put_holder(holders: &mut Holders, k: usize, r: usize)
-{
-    let s = with(holders_of(holders, k), r);
-    holders[2 * k] = s.low;
-    holders[2 * k + 1] = s.high;
-}
-
-// Whether place q of rule r holds a terminal after which the places cut the empty span. A nonterminal is put into the holders.
-fn place_ends(p: &Packed, r: usize, q: usize, last: u32, holders: &mut Holders) -> bool
+// The set v, with the nonterminal in place q of rule r if the places after it cut the empty span.
+fn kind_at(p: &Packed, r: usize, q: usize, last: u32, v: u32) -> u32
+    requires { ⌜ (r < maxRules) × (q < maxPlaces) ⌝ }
+    ensures { λ x. ⌜ KindAt (now (p .entry)) r q last v x ⌝ }
 {
     if packed::contains(last, q + 1) {
         if packed::is_nonterminal(p, r, q) {
             let k = packed::value(p, r, q);
             if k < sizes::NONTERMINALS {
-                put_holder(holders, k, r);
+                return sets::with(v, k);
             }
-            return false;
         }
-        return true;
     }
-    false
+    v
 }
 
-fn rule_ends(p: &Packed, r: usize, last: u32, holders: &mut Holders, ending: Rules) -> Rules
+// The nonterminals of rule r after which its places cut the empty span.
+fn kinds_of(p: &Packed, r: usize, last: u32) -> u32
+    requires { ⌜ r < maxRules ⌝ }
+    ensures { λ v. ⌜ Kinds (now (p .entry)) r last v ⌝ }
 {
     let count = packed::count(p, r);
-    let mut s = ending;
+    let mut v: u32 = 0;
     let mut q = 0;
     while q < count {
-        s = with_if(s, r, place_ends(p, r, q, last, holders));
+        v = kind_at(p, r, q, last, v);
         q += 1;
     }
-    s
+    v
 }
 
 // The same for every rule below this number.
@@ -54,14 +42,14 @@ pub fn all_kinds(
     p: &Packed,
     rules: usize,
     lasts: &[u32; sizes::MAX_RULES],
-    holders: &mut Holders,
-) -> Rules
+    kinds: &mut [u32; sizes::MAX_RULES],
+)
+    requires { ⌜ (rules ≤ maxRules) × (length (now kinds) ≡ maxRules) ⌝ }
+    ensures { λ _. ⌜ KindsAll (now (p .entry)) rules (now (lasts .entry)) (now (kinds .exit)) ⌝ }
 {
-    let mut s = fill_sets::none();
     let mut r = 0;
     while r < rules {
-        s = rule_ends(p, r, lasts[r], holders, s);
+        kinds[r] = kinds_of(p, r, lasts[r]);
         r += 1;
     }
-    s
 }

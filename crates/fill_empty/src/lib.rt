@@ -3,26 +3,26 @@
 pub mod kinds;
 pub mod span;
 
-use fill_sets::Rules;
-use kinds::Holders;
 use kinds::all_kinds;
 use packed::Packed;
 use span::closure;
-
-pub struct Told {
-    pub own: u32,
-    pub ending: Rules,
-}
+ghost use mathlib.Core.Path.{_≡_};
+ghost use Prim.Native.Nat.{_≤_};
+ghost use lib.ListN.{length};
+ghost use Rattle.sizes.specs.Sizes.{maxRules};
+ghost use Rattle.fill_empty.specs.Empty.{EmptyTold};
 
 // The set of the empty span, with the flags and the kinds of the rules below this number.
 pub fn tell(
     p: &Packed,
     rules: usize,
     lasts: &mut [u32; sizes::MAX_RULES],
-    holders: &mut Holders,
-) -> Told
+    kinds: &mut [u32; sizes::MAX_RULES],
+) -> u32
+    requires { ⌜ (rules ≤ maxRules) × (length (now lasts) ≡ maxRules) × (length (now kinds) ≡ maxRules) ⌝ }
+    ensures { λ v. ⌜ EmptyTold (now (p .entry)) rules v (now (lasts .exit)) (now (kinds .exit)) ⌝ }
 {
     let own = closure(p, rules, lasts);
-    let ending = all_kinds(p, rules, lasts, holders);
-    Told { own, ending }
+    all_kinds(p, rules, lasts, kinds);
+    own
 }

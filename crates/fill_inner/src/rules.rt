@@ -1,89 +1,69 @@
 // Where inner cuts begin, for every rule. Rules that can have none are passed over.
 use super::places::Window;
 use super::places::begins;
-use fill_sets::Rules;
-use fill_words::starts::lives_of;
+use fill_reach::Live;
+use fill_reach::can_begin;
 use fill_words::words::Ends;
-use fill_words::words::Lives;
 use fill_words::words::Starts;
 use packed::Packed;
 use packed_fit::FitTable;
 use packed_fit::wide_word;
+ghost use mathlib.Core.Path.{_≡_};
+ghost use Prim.Native.Nat.{_<_, _≤_};
+ghost use lib.ListN.{length};
+ghost use Rattle.sizes.specs.Sizes.{maxRules, maxInput};
+ghost use Rattle.fill_inner.specs.Begins.{BeginsNear, AllBegin};
 
-// The rules that have one of these starts.
-fn meeting(near: Rules, reach: u64, lives: &Lives, all: Rules) -> Rules
-{
-    let mut s = near;
-    let mut rest = reach;
-    while rest != 0 {
-        if fill_sets::same(s, all) {
-            return s;
-        }
-        let b = sets::wide::first(rest);
-        s = fill_sets::union(s, lives_of(lives, b));
-        rest = fill_sets::rest(rest);
-    }
-    s
-}
-
-// The rules that can have an inner cut of the span from i to n.
-pub fn near(i: usize, n: usize, reach: u64, lives: &Lives, all: Rules, ending: Rules) -> Rules
-{
-    if i + 1 < n {
-        meeting(lives_of(lives, i + 1), reach, lives, all)
-    } else {
-        ending
-    }
-}
-
-// The places at which inner cuts of the span from i to n begin, for the rules of a set. Returns the rules that have some.
-fn begin_word(
+// The places of rule r at which an inner cut begins. If the sets of all ends and all starts show that it has none, it is passed over.
+fn begins_near(
     p: &Packed,
-    base: usize,
-    near: u64,
+    r: usize,
+    window: Window,
+    ends: &Ends,
+    starts: &Starts,
+    reach: u64,
+    live: u64,
+) -> u32
+    requires { ⌜ (r < maxRules) × (window .i < window .n) × (window .n ≤ maxInput) ⌝ }
+    ensures { λ v.
+        ⌜ BeginsNear (now (p .entry)) r (window .i) (window .n) (window .fits)
+        (now (ends .entry)) (now (starts .entry)) reach live (window .last) v ⌝ }
+{
+    if can_begin(window.i, window.n, reach, live) {
+        begins(p, r, window, ends, starts)
+    } else {
+        0
+    }
+}
+
+// The places at which inner cuts of the span from i to n begin, for every rule below this number.
+pub fn begin_all(
+    p: &Packed,
+    rules: usize,
     fits: &FitTable,
     i: usize,
     n: usize,
     ends: &Ends,
     starts: &Starts,
+    reach: u64,
+    live: &Live,
     lasts: &[u32; sizes::MAX_RULES],
     insides: &mut [u32; sizes::MAX_RULES],
-) -> u64
+)
+    requires { ⌜ (rules ≤ maxRules) × (i < n) × (n ≤ maxInput) × (length (now insides) ≡ maxRules) ⌝ }
+    ensures { λ _.
+        ⌜ AllBegin (now (p .entry)) rules i n (now (fits .entry)) (now (ends .entry)) (now (starts .entry)) reach
+        (now (live .entry)) (now (lasts .entry)) (now (insides .exit)) ⌝ }
 {
-    let mut begun: u64 = 0;
-    let mut rest = near;
-    while rest != 0 {
-        let b = sets::wide::first(rest);
-        let r = base + b;
+    let mut r = 0;
+    while r < rules {
         let window = Window {
             i,
             n,
             fits: wide_word(fits[sizes::MAX_RULES * i + r]),
             last: lasts[r],
         };
-        let v = begins(p, r, window, ends, starts);
-        insides[r] = v;
-        if v != 0 {
-            begun = sets::wide::with(begun, b);
-        }
-        rest = fill_sets::rest(rest);
+        insides[r] = begins_near(p, r, window, ends, starts, reach, live[r]);
+        r += 1;
     }
-    begun
-}
-
-pub fn begin_all(
-    p: &Packed,
-    near: Rules,
-    fits: &FitTable,
-    i: usize,
-    n: usize,
-    ends: &Ends,
-    starts: &Starts,
-    lasts: &[u32; sizes::MAX_RULES],
-    insides: &mut [u32; sizes::MAX_RULES],
-) -> Rules
-{
-    let low = begin_word(p, 0, near.low, fits, i, n, ends, starts, lasts, insides);
-    let high = begin_word(p, 64, near.high, fits, i, n, ends, starts, lasts, insides);
-    Rules { low, high }
 }

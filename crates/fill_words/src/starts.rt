@@ -1,80 +1,70 @@
 // The starts of spans: the flags of one start are added.
-use super::words::Lives;
 use super::words::Starts;
-use fill_sets::Rules;
+use fill_reach::Live;
 use packed::Packed;
+ghost use mathlib.Core.Bool.{cond};
+ghost use mathlib.Core.Path.{_≡_};
+ghost use Prim.Native.Nat.{_<_, _≤_};
+ghost use lib.ListN.{length};
+ghost use Rattle.sizes.specs.Sizes.{maxRules, maxInput};
+ghost use Rattle.sets.specs.Set.{insert};
+ghost use Rattle.fill_words.specs.Spans.{startsSize};
+ghost use Rattle.fill_words.specs.Ends.{StartAdded, FlagsPut};
 
 // The set, with k in it if the test holds.
 fn with_if(w: u64, k: usize, test: bool) -> u64
+    requires { ⌜ k < maxInput ⌝ }
+    ensures { λ x. ⌜ x ≡ cond test (insert k w) w ⌝ }
 {
     if test { sets::wide::with(w, k) } else { w }
 }
 
 // Adds i to the starts of rule r at the places from 1 on that its flags have.
-fn put_places(p: &Packed, r: usize, i: usize, flags: u32, starts: &mut Starts)
+fn put_places(p: &Packed, r: usize, i: usize, flags: u32, starts: &mut Starts, live: &mut Live)
+    requires { ⌜ (r < maxRules) × (i < maxInput) × (length (now starts) ≡ startsSize) × (length (now live) ≡ maxRules) ⌝ }
+    ensures { λ _.
+        ⌜ StartAdded (now (p .entry)) r i flags
+        (now (starts .entry)) (now (live .entry)) (now (starts .exit)) (now (live .exit)) ⌝ }
 {
     let count = packed::count(p, r);
     let mut q = 1;
     while q < count {
-        if packed::contains(flags, q) {
-            starts[sizes::MAX_PLACES * r + q] = sets::wide::with(starts[sizes::MAX_PLACES * r + q], i);
-        }
+        let test = packed::contains(flags, q);
+        starts[sizes::MAX_PLACES * r + q] = with_if(starts[sizes::MAX_PLACES * r + q], i, test);
+        live[r] = with_if(live[r], i, test);
         q += 1;
     }
 }
 
-// The rules that have the start i.
-pub fn lives_of(lives: &Lives, i: usize) -> Rules
+// The same, but a rule without flags is passed over.
+fn put_rule(p: &Packed, r: usize, i: usize, flags: u32, starts: &mut Starts, live: &mut Live)
+    requires { ⌜ (r < maxRules) × (i < maxInput) × (length (now starts) ≡ startsSize) × (length (now live) ≡ maxRules) ⌝ }
+    ensures { λ _.
+        ⌜ StartAdded (now (p .entry)) r i flags
+        (now (starts .entry)) (now (live .entry)) (now (starts .exit)) (now (live .exit)) ⌝ }
 {
-    Rules { low: lives[2 * i], high: lives[2 * i + 1] }
-}
-
-// The same for the rules in a word of a set. Those with flags from 1 on are returned.
-fn put_word(
-    p: &Packed,
-    base: usize,
-    looked: u64,
-    i: usize,
-    flags: &[u32; sizes::MAX_RULES],
-    starts: &mut Starts,
-) -> u64
-{
-    let mut live: u64 = 0;
-    let mut rest = looked;
-    while rest != 0 {
-        let b = sets::wide::first(rest);
-        let r = base + b;
-        if flags[r] > 1 {
-            put_places(p, r, i, flags[r], starts);
-            live = sets::wide::with(live, b);
-        }
-        rest = fill_sets::rest(rest);
+    if flags != 0 {
+        put_places(p, r, i, flags, starts, live);
     }
-    live
 }
 
+// The same for every rule below this number.
 pub fn put_flags(
     p: &Packed,
-    looked: Rules,
+    rules: usize,
     i: usize,
     flags: &[u32; sizes::MAX_RULES],
     starts: &mut Starts,
-    lives: &mut Lives,
-) -> Rules
+    live: &mut Live,
+)
+    requires { ⌜ (rules ≤ maxRules) × (i < maxInput) × (length (now starts) ≡ startsSize) × (length (now live) ≡ maxRules) ⌝ }
+    ensures { λ _.
+        ⌜ FlagsPut (now (p .entry)) rules i (now (flags .entry))
+        (now (starts .entry)) (now (live .entry)) (now (starts .exit)) (now (live .exit)) ⌝ }
 {
-    let low = put_word(p, 0, looked.low, i, flags, starts);
-    let high = put_word(p, 64, looked.high, i, flags, starts);
-    lives[2 * i] = low;
-    lives[2 * i + 1] = high;
-    Rules { low, high }
-}
-
-// Clears the starts of the rules below this number.
-pub fn clear(rules: usize, starts: &mut Starts)
-{
-    let mut x = 0;
-    while x < sizes::MAX_PLACES * rules {
-        starts[x] = 0;
-        x += 1;
+    let mut r = 0;
+    while r < rules {
+        put_rule(p, r, i, flags[r], starts, live);
+        r += 1;
     }
 }

@@ -12,11 +12,6 @@ pub const STARTS_SIZE: usize = sizes::MAX_RULES * sizes::MAX_PLACES;
 
 pub type Starts = [u64; STARTS_SIZE];
 
-// Two words for each start: the set of the rules that have it at a place from 1 on.
-pub const LIVES_SIZE: usize = 2 * sizes::MAX_INPUT;
-
-pub type Lives = [u64; LIVES_SIZE];
-
 pub fn tied_ends() -> usize
     ensures { λ n. ⌜ n ≡ endsSize ⌝ }
 {

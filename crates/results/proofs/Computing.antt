@@ -9,11 +9,13 @@ use Rattle.chart.specs.Cell.{fitsAt, piece, someFrom, cuts, derived}
 use Rattle.chart.specs.Column as Column
 use Rattle.theory_words.specs.Name as Name
 use Rattle.theory_words.specs.Words as Texts
+use Rattle.theory_tidying.specs.Tidying.{tidiedRule, tidied}
 use Rattle.grammar.specs.Valid.{all, validRule, distinctNames, validGrammar}
 use Rattle.results.specs.Answer.{decide}
 use Rattle.results.specs.Load as Load
 use Rattle.results.specs.Recognize as Recognize
 use Rattle.results.specs.Points as Points
+use Rattle.results.specs.Learn as Learn
 use Rattle.results.specs.Check.{same, listed, onInput, checkIn, checkOf}
 use Rattle.results.specs.Measure as Measure
 use Rattle.results.specs.Words as Words
@@ -35,5 +37,5 @@ unfolding fits joined over when from among keep rulesFrom items upTo listing der
     Enumerate.countIn Enumerate.countOf outcomeIn yield code Decode.placesOf Decode.withSiblings Decode.rowIn Decode.belowIn
     Decode.forestIn Name.nameByte Name.filling Name.filledUp Name.validName Name.unnamed Name.sameName Name.hasName Name.unfilled
     Name.hexDigit Name.numberText Name.ruleText Texts.leafText Texts.following Texts.forestText Texts.derivationText Words.wordsIn
-    Words.wordsOf
+    Words.wordsOf Learn.misplaced Learn.learnChecks Learn.learnStep Learn.withDepth Learn.learnRun Learn.enlarged Learn.learnIn Learn.learnOf tidiedRule tidied
 computing = tt

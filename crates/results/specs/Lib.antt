@@ -20,5 +20,6 @@ pub mod Starred
 pub mod Builds
 pub mod YearLines
 pub mod NameLines
+pub mod LearnLines
 pub mod Texts
 pub mod Requests

@@ -1,6 +1,7 @@
 -- Plates for the requests of document 02, as one table with the columns of the starred one. `Requested` is what is proved of it.
 -- Assumes nothing.
 use Prim.Native.Nat.{ℕ, zero, suc}
+use mathlib.Core.Bool.{true}
 use mathlib.Core.List.{List, [], _∷_, map}
 use mathlib.Core.Path.{_≡_}
 use lib.IntN.{ℤ, pos, negℤ}
@@ -8,12 +9,15 @@ use lib.ListN.{replicate}
 use Rattle.cfg.specs.Tree.{HasTree}
 use Rattle.grammar.specs.View.{dated, grammarOf}
 use Rattle.grammar.specs.Zero.{noName}
-use Rattle.results.specs.Answer.{loaded, refusedAt}
+use Rattle.results.specs.Answer.{refused, answered, loaded, refusedAt}
 use Rattle.results.specs.Measure.{rounded}
-use Rattle.results.specs.Drawer.{start, newRule, nonterminalPlace, A, rangePlace, close, T, bare, As}
+use Rattle.results.specs.Drawer.{start, newRule, newRuleIn, nonterminalPlace, A, rangePlace, close, T, bare, As}
 use Rattle.results.specs.Builds.{twoWays, rules11, rules12, rules21, rules22, movedB, AB, beside, inside, compared, Pair, builds}
 use Rattle.results.specs.Starred.{grammarFrom, datedFrom, Line, lineOutcome, found, absent, zeros}
 use Rattle.results.specs.NameLines.{bodyName, namedT, nameLines, namesFrom, answerNamed, goodNames, badNames}
+use Rattle.results.specs.Learn.{faulty, enlarged}
+use Rattle.results.specs.LearnLines.{ruleLearnt, ruleLoaded, learntLines, RefusedLine, refusedLines, shortWithRubbish}
+use Rattle.results.specs.LearnLines.{handOfB, learntWithB}
 use Rattle.results.specs.YearLines.{seals, emptyInYears, startInYears, oneYear, yearLines}
 use Rattle.results.specs.Texts.{TextLine, textOutcome, textLines}
 
@@ -165,3 +169,16 @@ pub record Requested : Type 0 where
   pub depths-years : map depthFrom (seals ∷ emptyInYears ∷ startInYears ∷ oneYear ∷ []) ≡ 0 ∷ 1 ∷ 0 ∷ 1 ∷ []
   -- U4: every line comes out as its table says
   pub texts : map textOutcome textLines ≡ map (λ (l : TextLine). l .gives) textLines
+  -- U8: learning a rule gives the grammar that loading the joined bytes gives
+  pub learns : map ruleLearnt learntLines ≡ map ruleLoaded learntLines
+  -- U8: every refusal comes out as its table says
+  pub unlearnt : map (λ (l : RefusedLine). ruleLearnt (l .line)) refusedLines
+      ≡ map (λ (l : RefusedLine). faulty (record { number = l .number; offset = l .offset })) refusedLines
+  -- U8: rubbish is not handed back
+  pub tidies : enlarged shortWithRubbish (newRule 0 []) ≡ enlarged (grammarFrom onlyA) (newRule 0 [])
+  -- U8: 0 → B, in force in the year 5 alone, is learnt: the hand is as it was, and complete
+  pub learnt-answer : learntWithB (newRuleIn 0 5 5 (0x40 ∷ 0x42 ∷ [])) .answer ≡ answered true
+  pub learnt-hand : learntWithB (newRuleIn 0 5 5 (0x40 ∷ 0x42 ∷ [])) .state ≡ handOfB
+  -- U8: a fault's number and offset
+  pub unlearnt-answer : learntWithB (newRule 0 (A close)) .answer ≡ refused 20
+  pub unlearnt-offset : learntWithB (newRule 0 (A close)) .offset ≡ 6

@@ -1,8 +1,8 @@
 -- The final theorems over the definitions, each proved by citation. The demands are the customer's three (README gives them in short); the
 -- other sources are sections of document 01, his scope (docs/REFERENCE.md says what it fixes). The definitions are in `cfg/specs`,
--- `theory_listing/specs`, `theory_embedding/specs`, `chart/specs`, `theory_clearing/specs`, `grammar/specs`, `theory_points/specs`,
--- `results/specs`, `load_nullable/specs`, `text/specs`, `demands/specs`, `print_begin/specs`, `print_page/specs` and `theorems/specs`, and
--- none is in a `proofs/` folder. A grammar of the type `Dated` has the year of the input with it (document 02, U9).
+-- `theory_listing/specs`, `theory_embedding/specs`, `chart/specs`, `theory_clearing/specs`, `grammar/specs`, `theory_tidying/specs`,
+-- `results/specs`, `theory_points/specs`, `load_nullable/specs`, `text/specs`, `demands/specs`, `print_begin/specs`, `print_page/specs` and
+-- `theorems/specs`, and none is in a `proofs/` folder. A grammar of the type `Dated` has the year of the input with it (document 02, U9).
 --
 --   statement                         says                                                            source
 --   starred-table                     the starred plates, from book bytes to answers                   Plates from the drawer
@@ -26,7 +26,11 @@
 --   words-demand, .., words-eighteen  the same for the call words, with refusals 12 and 18             demand 1; document 02, U4
 --   take-any                          one mark taken over any sheet and any hand                       Plate in hand and sheet
 --   set-demand, return-demand         a point set, or returned to, over any sheet and any hand           document 02, U6; demand 1
+--   learn-demand, learn-order         a rule is learnt, or refused at its first fault; what is left     document 02, U8; demand 1
+--   learn-valid, learn-old            the longer grammar passes check 8, has no rubbish and the old rules document 02, U8
+--   learn-readings, -list, -tree      old readings are new ones; the old L is the new one, filtered    document 02, U8
 --   points-history                    any list of taking, setting and returning goes as the machine    document 02, U6
+--   learn-history                     the same with learning: as opened with the longer book           document 02, U8
 --   demand-2                          complete after each mark exactly if the marks have a tree        demand 2, first sentence
 --   check-yes, check-no               an offered reading is accepted exactly if it is one              demand 2, second sentence
 --   demand-3, tree-decided            any list of calls goes as the walk                               demand 3, first sentence; The walk
@@ -47,6 +51,7 @@
 --   recognizer/src/lib.rt  take         takeOf
 --   points/src/lib.rt      set_point    setPointOf
 --   points/src/lib.rt      return_to    returnToOf
+--   learn/src/lib.rt       learn        learnOf
 --   checker/src/lib.rt     check        checkOf
 --   checker/src/lib.rt     length       lengthOf
 --   words/src/lib.rt       words        wordsOf
@@ -81,7 +86,8 @@ use Rattle.cfg.specs.Listing.{L}
 use Rattle.cfg.specs.Nullable.{Nullable, Depth, depthOf, ExactDepth}
 use Rattle.theory_listing.specs.Budget.{filter}
 use Rattle.theory_embedding.specs.Embedding.{Embeds, usesOnly}
-use Rattle.theory_points.specs.Machine.{Op}
+use Rattle.theory_tidying.specs.Tidying.{Shaped}
+use Rattle.theory_points.specs.Machine.{Op, NoLearning}
 use Rattle.grammar.specs.declared.Grammar.{Grammar}
 use Rattle.grammar.specs.Setters.{lastYear, setDepth}
 use Rattle.grammar.specs.Valid.{validGrammar}
@@ -93,6 +99,7 @@ use Rattle.results.specs.Name.{namePart, nameOf, recordedName}
 use Rattle.results.specs.Undated.{Undated}
 use Rattle.results.specs.Recognize.{State, pointsWithin, openOf, takeOf, fed}
 use Rattle.results.specs.Points.{setPointOf, returnToOf}
+use Rattle.results.specs.Learn.{learnStep, learnOf}
 use Rattle.theory_points.specs.Operations.{heldAfter, ran}
 use Rattle.results.specs.Check.{checkOf}
 use Rattle.results.specs.Measure.{sum, tenthsOf, NearestTenth, lengthOf, sameBuilt, sameBuildOf}
@@ -120,11 +127,14 @@ use Rattle.results.specs.Ready.{Ready, ReadyOut}
 use Rattle.demands.specs.OrderAfter.{OfferedOrder, TreesOrder}
 use Rattle.demands.specs.LoadOrder.{CommandOrder}
 use Rattle.demands.specs.NamePart.{NamePart}
-use Rattle.demands.specs.LoadDemand.{LoadDemand}
+use Rattle.demands.specs.LoadDemand.{ZeroBehind, LoadDemand}
+use Rattle.demands.specs.Order.{NoRefusal}
 use Rattle.demands.specs.Taken.{Taken}
 use Rattle.demands.specs.Recognized.{Recognized}
 use Rattle.demands.specs.Points.{SetDemand, ReturnDemand}
-use Rattle.demands.specs.PointsHistory.{PointsHistory}
+use Rattle.demands.specs.LearnOrder.{LearnCommandOrder}
+use Rattle.demands.specs.Learn.{LearnDemand, Longer}
+use Rattle.demands.specs.PointsHistory.{PointsHistory, LearnHistory}
 use Rattle.theorems.specs.EveryTree.{EveryTree}
 use Rattle.cfg.proofs.Fits as Fits
 use Rattle.theory_listing.proofs.Exact as Exact
@@ -159,7 +169,11 @@ use Rattle.demands.proofs.Check as Check
 use Rattle.demands.proofs.Taken as Take
 use Rattle.demands.proofs.Recognized as Fed
 use Rattle.demands.proofs.Points as Points
+use Rattle.demands.proofs.LearnOrder as LearnOrder
+use Rattle.demands.proofs.Learn as Learn
+use Rattle.demands.proofs.LearnValid as LearnValid
 use Rattle.demands.proofs.PointsHistory as Machine
+use Rattle.demands.proofs.LearnHistory as Learnt
 use Rattle.theorems.proofs.EveryTree as EveryTree
 use Rattle.theorems.proofs.Words as Words
 
@@ -349,11 +363,54 @@ set-demand = Points.set-demand
 pub return-demand : (g : Grammar) (h : State) (k : ℕ) (chart : List ℕ) → ReturnDemand g h k chart (returnToOf g h k chart)
 return-demand = Points.return-demand
 
+-- THE RULE LEARNT of request U8. Demand 1 for learning, over any chart and any state: the first refusal that applies, with its offset; what
+-- it leaves; and that a rule which is learnt leaves the chart as opening and taking with the longer grammar does
+pub learn-demand : (g : Grammar) (h : State) (bytes chart : List ℕ) → LearnDemand g h bytes chart (learnOf g h bytes chart)
+learn-demand = Learn.learn-demand
+
+-- at each command within the bytes the refusal given is the first that applies
+pub learn-order : (bytes : List ℕ) (at : ℕ) (g : Grammar) → at < length bytes
+    → LearnCommandOrder bytes at (getD bytes at 0) g (learnStep bytes at g)
+learn-order = LearnOrder.learn-step-order
+
+-- the longer grammar, where the lists of the old one are as long as the arrays of a grammar in the code: check 8 lets it through, and what
+-- is unused in it is zero
+pub learn-valid : (g : Grammar) (h : State) (bytes chart : List ℕ) → Shaped g → NoRefusal (learnOf g h bytes chart .answer)
+    → (validGrammar (learnOf g h bytes chart .grammar) ≡ true) × ZeroBehind (learnOf g h bytes chart .grammar)
+learn-valid = LearnValid.learn-valid
+
+-- it has one rule more, and the old rules under their numbers, of the whole grammar and in every year
+pub learn-old : (g : Grammar) (h : State) (bytes chart : List ℕ) → Shaped g → NoRefusal (learnOf g h bytes chart .answer)
+    → Longer g (learnOf g h bytes chart .grammar)
+learn-old = LearnValid.learn-old
+
+-- so each derivation of every input in every year is one of the longer grammar
+pub learn-readings : (g g′ : Grammar) → Longer g g′ → (y : ℕ) (w e : List ℕ) → Derivation (grammarOf (dated g y)) limit w e
+    → Derivation (grammarOf (dated g′ y)) limit w e
+learn-readings g g′ longer y = Embedded.derivation-same (grammarOf (dated g y)) (grammarOf (dated g′ y)) (longer .years y) limit
+
+-- and the list L of the old grammar is that of the longer one, without the derivations that use the new rule
+pub learn-list : (g g′ : Grammar) → Longer g g′ → (y : ℕ) (w : List ℕ)
+    → filter (usesOnly (grammarOf (dated g y))) (L (grammarOf (dated g′ y)) w) ≡ L (grammarOf (dated g y)) w
+learn-list g g′ longer y = Inside.derivations-own (grammarOf (dated g y)) (grammarOf (dated g′ y)) (longer .years y) limit
+
+-- what had a tree has one
+pub learn-tree : (g g′ : Grammar) → Longer g g′ → (y : ℕ) (w : List ℕ) → HasTree (grammarOf (dated g y)) w
+    → HasTree (grammarOf (dated g′ y)) w
+learn-tree g g′ longer y = Embedded.tree-into (λ r. r) (grammarOf (dated g y)) (grammarOf (dated g′ y)) (longer .years y)
+
 -- after an opening over any chart and any list of taking, setting and returning, refused ones included: each reply is what a plain machine
 -- says, which knows no chart; and bytes, count and chart are what opening and taking only the bytes that remain would have left
 pub points-history : (g : Grammar) (y : ℕ) (found : List ℕ) → validGrammar g ≡ true → cells ≤ length found → (ops : List Op)
-    → PointsHistory g y found ops (ran ops (heldAfter g (openOf (dated g y) found)))
+    → NoLearning ops → PointsHistory g y found ops (ran ops (heldAfter g (openOf (dated g y) found)))
 points-history = Machine.points-history
+
+-- A RULE LEARNT, request U8. After an opening over any chart and any list of taking, setting, returning and learning, refused ones too:
+-- each reply is what the machine says, with the offset of a refused rule; grammar and points are the machine's; and bytes, count and chart
+-- are what opening with the grammar that remains, and taking only the bytes that remain, would have left
+pub learn-history : (g : Grammar) (y : ℕ) (found : List ℕ) → validGrammar g ≡ true → cells ≤ length found → (ops : List Op)
+    → LearnHistory g y found ops (ran ops (heldAfter g (openOf (dated g y) found)))
+learn-history = Learnt.learn-history
 
 -- DEMAND 2: opened over any chart and fed any row of bytes, the recognizer says "complete" exactly if the bytes so far have a parse tree,
 -- and each cell holds exactly the nonterminals that derive its span

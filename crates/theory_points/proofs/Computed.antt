@@ -33,7 +33,7 @@ module _ (g : Grammar) (y : ℕ) where
   set-again = refl
 
   -- names over 7, and points that are not set
-  pub no-point : map (λ (op : Op). moved op (begun g y)) (setPoint 8 ∷ returnTo 8 ∷ returnTo 7 ∷ []) ≡ replicate 3 (refusedBy 19)
+  pub no-point : map (λ (op : Op). moved op (begun g y)) (setPoint 8 ∷ returnTo 8 ∷ returnTo 7 ∷ []) ≡ replicate 3 (refusedBy 19 0)
   unfolding running
   no-point = refl
 
@@ -42,7 +42,7 @@ module _ (g : Grammar) (y : ℕ) where
   last-point = refl
 
   -- the 64th byte is taken, the 65th refused; a refused operation changes nothing
-  pub full : moved (takeByte 1) (holding (replicate 64 2)) ≡ refusedBy 15
+  pub full : moved (takeByte 1) (holding (replicate 64 2)) ≡ refusedBy 15 0
   unfolding running
   full = refl
 

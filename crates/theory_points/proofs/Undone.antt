@@ -9,7 +9,6 @@ use native.Mathlib.Omega.{arith}
 use lib.ListN.{length, take, set, length-append}
 use lib.Seq.{append-snoc, take-all, take-length, take-take, take-append-le, getD-set-same}
 use Rattle.sizes.specs.Sizes.{maxInput, maxPoints}
-use Rattle.grammar.specs.declared.Grammar.{Grammar}
 use Rattle.theory_points.specs.Machine.{Op, takeByte, setPoint, returnTo, Remaining, remain, Effect}
 use Rattle.theory_points.specs.Machine.{pointUpTo, moved, remainder, remainsAfter}
 use Rattle.theory_points.proofs.Points.{set-within, up-to-same}
@@ -50,7 +49,7 @@ takes-only (m ∷ ms) r h = dite (decLt (length (r .bytes)) maxInput)
 
 -- ---- a point, any bytes, and the return to it
 
-module _ (g : Grammar) (y : ℕ) (r : Remaining) (s : Sound g y r) (k : ℕ) (named : k < maxPoints) (ms : List ℕ) where
+module _ (y : ℕ) (r : Remaining) (s : Sound y r) (k : ℕ) (named : k < maxPoints) (ms : List ℕ) where
   abbrev n : ℕ
   n = length (r .bytes)
 

@@ -23,7 +23,7 @@ const FILLS: usize = 3;
 
 /// An operation on a plate in hand.
 #[derive(Clone, Copy, PartialEq, Eq, Debug)]
-enum Op {
+pub(super) enum Op {
     Take(u8),
     Set(usize),
     Return(usize),
@@ -31,7 +31,13 @@ enum Op {
 
 impl Op {
     /// Makes the call, given what the hand holds before: returns the answer and the hand afterwards.
-    fn call(self, r: &dyn Reader, grammar: &FlatGrammar, mut hand: Hand, chart: &mut [u32]) -> (Answer, Hand) {
+    pub(super) fn call(
+        self,
+        r: &dyn Reader,
+        grammar: &FlatGrammar,
+        mut hand: Hand,
+        chart: &mut [u32],
+    ) -> (Answer, Hand) {
         let answer = match self {
             Op::Take(mark) => return taken(r, grammar, hand, mark, chart),
             Op::Set(name) => r.set_point(grammar, &mut hand, name, chart),
@@ -40,7 +46,7 @@ impl Op {
         (answer, hand)
     }
 
-    fn name(self) -> &'static str {
+    pub(super) fn name(self) -> &'static str {
         match self {
             Op::Take(_) => "take",
             Op::Set(_) => "set",
@@ -61,14 +67,14 @@ pub fn run_list(reader: &dyn Reader, book: &Book, seed: u64, counts: &mut Counts
 
 /// What remains after a list of operations, without hands and charts: the marks, and where the points are.
 #[derive(Clone, Default)]
-struct Remaining {
-    marks: Vec<u8>,
-    points: Points,
+pub(super) struct Remaining {
+    pub marks: Vec<u8>,
+    pub points: Points,
 }
 
 impl Remaining {
     /// Makes an operation, or says with which number it is refused.
-    fn moved(&mut self, op: Op) -> Result<(), u8> {
+    pub(super) fn moved(&mut self, op: Op) -> Result<(), u8> {
         match op {
             Op::Take(_) if self.marks.len() == INPUT => return Err(15),
             Op::Take(mark) => self.marks.push(mark),
@@ -83,7 +89,7 @@ impl Remaining {
     }
 
     /// The hand of this year that is due.
-    fn hand(&self, year: u16) -> Hand {
+    pub(super) fn hand(&self, year: u16) -> Hand {
         let mut due = hand::of(&self.marks, year);
         for (number, point) in due[FIRST_POINT..].iter_mut().zip(&self.points) {
             *number = point.map_or(0, |count| count as u16 + 1);
@@ -93,7 +99,7 @@ impl Remaining {
 }
 
 /// The chart of the marks but the last with the last one taken too, and whether they are complete.
-fn taken_after(grammar: &Grammar, marks: &[u8], before: &Lent<u32>) -> (Lent<u32>, bool) {
+pub(super) fn taken_after(grammar: &Grammar, marks: &[u8], before: &Lent<u32>) -> (Lent<u32>, bool) {
     let mut chart = before.clone();
     chart::fill_column(grammar, marks, chart.part_mut());
     let complete = match marks.len() {
@@ -120,7 +126,7 @@ impl Comparison<'_> {
     }
 
     /// An operation: a mark of the input or any mark, or a name, mostly one that fits.
-    fn operation(&mut self, input: &[u8], points: &Points, count: usize, style: usize) -> Op {
+    pub(super) fn operation(&mut self, input: &[u8], points: &Points, count: usize, style: usize) -> Op {
         let (takes, sets) = STYLES[style];
         let of_ten = self.rng.below(10);
         if of_ten < takes {
@@ -144,7 +150,7 @@ impl Comparison<'_> {
     }
 
     /// Fills the unused marks of a hand with rubbish.
-    fn dirty(&mut self, hand: &mut Hand) {
+    pub(super) fn dirty(&mut self, hand: &mut Hand) {
         let used = usize::from(hand[INPUT]).min(INPUT);
         hand[used..INPUT].iter_mut().for_each(|mark| *mark = lent::number(&mut self.rng));
     }
@@ -186,17 +192,23 @@ impl Comparison<'_> {
             self.seen_operation(op, &before, &left, answer);
         }
         self.counts.add(if length > 100 { "list: over 100 operations" } else { "list: up to 100 operations" });
-        self.opened_again(flat, year, &left, &chart)
+        self.opened_again(flat, year, &left.marks, &chart)
     }
 
     /// The reader opens again, on another chart, and takes what remains: the same cells, marks and count.
-    fn opened_again(&self, flat: &FlatGrammar, year: u16, left: &Remaining, chart: &Lent<u32>) -> Result<(), String> {
+    pub(super) fn opened_again(
+        &self,
+        flat: &FlatGrammar,
+        year: u16,
+        marks: &[u8],
+        chart: &Lent<u32>,
+    ) -> Result<(), String> {
         let mut other = Lent::filled(CELLS, || 0xABCD_ABCD);
         let (_, mut hand) = opened(self.reader, flat, year, [9; crate::reader::HAND], other.part_mut());
-        for mark in &left.marks {
+        for mark in marks {
             (_, hand) = taken(self.reader, flat, hand, *mark, other.part_mut());
         }
-        same("opened again: the hand", hand, hand::of(&left.marks, year))?;
+        same("opened again: the hand", hand, hand::of(marks, year))?;
         other.against(&Lent::of(&chart.part()[..CELLS], 0xABCD_ABCD), "opened again: the chart")
     }
 

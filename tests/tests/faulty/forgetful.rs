@@ -14,6 +14,10 @@ pub enum Forgets {
     SetHand,
     ReturnedHand,
     ReturnedChart,
+    LearntRow,
+    LearntHand,
+    LearntChart,
+    LearntOffset,
     Tenths,
     OpenedChart,
     TakenChart,
@@ -36,7 +40,7 @@ pub enum Forgets {
 
 impl Forgets {
     /// Every one that forgets something.
-    pub const ALL: [Forgets; 23] = [
+    pub const ALL: [Forgets; 27] = [
         Forgets::Row,
         Forgets::Offset,
         Forgets::OpenedHand,
@@ -44,6 +48,10 @@ impl Forgets {
         Forgets::SetHand,
         Forgets::ReturnedHand,
         Forgets::ReturnedChart,
+        Forgets::LearntRow,
+        Forgets::LearntHand,
+        Forgets::LearntChart,
+        Forgets::LearntOffset,
         Forgets::Tenths,
         Forgets::OpenedChart,
         Forgets::TakenChart,
@@ -104,6 +112,23 @@ impl Reader for Forgets {
     fn return_to(&self, grammar: &FlatGrammar, hand: &mut Hand, name: usize, chart: &mut [u32]) -> Answer {
         self.place(Forgets::ReturnedHand, hand, |h| {
             self.slice(Forgets::ReturnedChart, chart, |c| Lister.return_to(grammar, h, name, c))
+        })
+    }
+
+    fn learn(
+        &self,
+        grammar: &mut FlatGrammar,
+        hand: &mut Hand,
+        bytes: &[u8],
+        chart: &mut [u32],
+        offset: &mut usize,
+    ) -> Answer {
+        self.place(Forgets::LearntRow, grammar, |g| {
+            self.place(Forgets::LearntHand, hand, |h| {
+                self.slice(Forgets::LearntChart, chart, |c| {
+                    self.place(Forgets::LearntOffset, offset, |at| Lister.learn(g, h, bytes, c, at))
+                })
+            })
         })
     }
 

@@ -4,6 +4,7 @@
 pub mod forgetful;
 #[cfg(feature = "library")]
 pub mod large;
+mod learn;
 mod points;
 pub mod switches;
 
@@ -182,6 +183,17 @@ impl Reader for Faulty {
 
     fn return_to(&self, flat: &FlatGrammar, hand: &mut Hand, name: usize, chart: &mut [u32]) -> Answer {
         points::return_to(flat, hand, name, chart)
+    }
+
+    fn learn(
+        &self,
+        flat: &mut FlatGrammar,
+        hand: &mut Hand,
+        bytes: &[u8],
+        chart: &mut [u32],
+        offset: &mut usize,
+    ) -> Answer {
+        learn::learn(flat, hand, bytes, chart, offset)
     }
 
     fn check(&self, flat: &FlatGrammar, input: &[u8], year: u16, offered: &[u16], chart: &mut [u32]) -> Answer {

@@ -1,9 +1,9 @@
-//! Spans as bits against the fill that goes from end to end: the same charts, on random grammars of all sizes, on the
-//! books of the benchmark, and over charts spoilt in every way.
+//! Spans as bits, with sets of rules and without, against the fill that goes from end to end: the same charts, on random
+//! grammars of all sizes, on the books of the benchmark, and over charts spoilt in every way.
 
 use super::super::packed::Packed;
 use super::super::{loader, recognizer, Grammar, Rule, Symbol, CHART};
-use super::{fill, write_column};
+use super::{fill, rules, write_column};
 use crate::books;
 use crate::random::Random;
 
@@ -51,10 +51,12 @@ fn spoilt(random: &mut Random) -> Vec<u32> {
 }
 
 fn fills_alike(p: &Packed, w: &[u8]) -> u32 {
-    let (mut a, mut b) = ([7u32; CHART + 3], [9u32; CHART + 3]);
+    let (mut a, mut b, mut c) = ([7u32; CHART + 3], [9u32; CHART + 3], [8u32; CHART + 3]);
     recognizer::fill(p, w, &mut a);
     fill(p, w, &mut b);
+    rules::fill(p, w, &mut c);
     assert!(a[..CHART] == b[..CHART] && b[CHART..] == [9; 3], "{w:?}");
+    assert!(c[..CHART] == b[..CHART], "{w:?}");
     a[..CHART].iter().map(|word| word.count_ones()).sum()
 }
 
@@ -82,6 +84,10 @@ fn the_books_of_the_benchmark_are_filled_alike() {
         (books::worst(), a.clone()),
         (books::worst_mixed(), a.clone()),
         (books::unit_graph(), a.clone()),
+        (books::unit_cycles(&[]), a.clone()),
+        (books::unit_cycles(&[&[books::P::N(0), books::P::N(0)]]), a.clone()),
+        (books::chain(&[&[books::A], &[]]), a.clone()),
+        (books::chain(&[&[books::A, books::P::N(31)], &[]]), a.clone()),
         books::random_full(&mut random),
         books::random_full_of_ranges(&mut random),
     ] {
@@ -98,10 +104,11 @@ fn a_column_over_a_spoilt_chart_is_written_alike() {
         let n = some(&mut random, [5, 20, 65]);
         let w = input(&mut random, n);
         let mut a = spoilt(&mut random);
-        let mut b = a.clone();
+        let (mut b, mut c) = (a.clone(), a.clone());
         recognizer::write_column(&p, &w, n, &mut a);
         write_column(&p, &w, n, &mut b);
-        assert!(a == b, "{w:?}");
+        rules::write_column(&p, &w, n, &mut c);
+        assert!(a == b && b == c, "{w:?}");
         bits += (0..=n).map(|i| a[65 * i + n].count_ones()).sum::<u32>();
     }
     assert!(bits > 100_000, "{bits}");

@@ -17,7 +17,7 @@ use Rattle.grammar.specs.View.{wholeOf}
 use Rattle.theory_tidying.specs.Tidying.{tidied}
 use Rattle.results.specs.Load.{withRule, withPlace, withName, Step, stop, next, done, carriedOut}
 use Rattle.results.specs.Learn.{learnStep, faulty, longer, withDepth, learnRun, enlarged}
-use Rattle.results.proofs.Learning.Run.{learn-stop, learn-next, learn-done, learn-forward, enlarged-empty, enlarged-some}
+use Rattle.results.proofs.Learning.Run.{learn-stop, learn-next, learn-done, learn-forward, with-depth, enlarged-empty, enlarged-some}
 use Rattle.results.proofs.Learning.Commands.{learn-cases, LearnInvariant, learn-kept}
 
 -- ---- the end of the bytes
@@ -50,8 +50,8 @@ pub record LongerBy (bytes : List ℕ) (P : ℕ → Grammar → Type 0) (g′ : 
 
 module _ {bytes : List ℕ} {P : ℕ → Grammar → Type 0} (I : LearnInvariant bytes P) (some : 0 < length bytes) (g′ : Grammar) where
   deepened : (at : ℕ) (g : Grammar) → P at g → length bytes ≤ at → withDepth g ≡ longer g′ → LongerBy bytes P g′
-  unfolding withDepth
   deepened at g H l e =
+      let p : longer (setDepth g (depthOf (wholeOf g))) ≡ longer g′ = sym (with-depth g) ∙ e in
       let q : setDepth g (depthOf (wholeOf g)) ≡ g′ = cc in
       record { at = at; read = g; past = l; later = omega arith; holds = H; same = sym q }
 

@@ -8,11 +8,14 @@ use lib.Dec.{eqb, ltb}
 use lib.ListN.{length, getD}
 use borrow.Author.Tests.{lt-ltb, le-ltb, ne-eqb}
 use Rattle.laws.proofs.Bools.{clash, by-test}
+use Rattle.cfg.specs.Nullable.{depthOf}
 use Rattle.grammar.specs.declared.Grammar.{Grammar}
+use Rattle.grammar.specs.Setters.{setDepth}
+use Rattle.grammar.specs.View.{wholeOf}
 use Rattle.theory_tidying.specs.Tidying.{tidied}
 use Rattle.results.specs.Answer.{decide}
 use Rattle.results.specs.Load.{Fault, Step, operands, stop, next, done, carriedOut}
-use Rattle.results.specs.Learn.{learnChecks, learnStep, Joining, faulty, withDepth, learnRun, enlarged}
+use Rattle.results.specs.Learn.{learnChecks, learnStep, Joining, faulty, longer, withDepth, learnRun, enlarged}
 use Rattle.results.proofs.Decide.{decide-either}
 
 -- ---- one command
@@ -33,6 +36,11 @@ module _ (n : ℕ) (bytes : List ℕ) (at : ℕ) (g : Grammar) where
   pub learn-done : (g′ : Grammar) → learnStep bytes at g ≡ done g′ → learnRun bytes (suc n) at g ≡ withDepth g′
   unfolding learnRun
   learn-done g′ e = ap (resume n bytes) e
+
+-- the depth that is added is that of the grammar
+pub with-depth : (g : Grammar) → withDepth g ≡ longer (setDepth g (depthOf (wholeOf g)))
+unfolding withDepth
+with-depth g = refl
 
 -- ---- where the bytes end, and where they do not
 
