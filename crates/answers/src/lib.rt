@@ -1,9 +1,11 @@
 // The refusals of document 01, and what each call returns: an answer, or the refusal of the call.
+#![tactic(auto)]
+
 ghost use Rattle.std.specs.Prelude.{◌≡◌};
 ghost use Rattle.answers.specs.Number.{number_of};
 
 // The refusals, in the order of their numbers.
-#[derive(Drop)]
+#[derive(Clone, Copy)]
 pub enum Refusal {
     UnexpectedEnd,
     UnknownCommand,
@@ -29,14 +31,14 @@ pub enum Refusal {
 }
 
 // Loading: the book was accepted, or why it was refused and at which offset.
-#[derive(Drop)]
+#[derive(Clone, Copy)]
 pub enum Outcome {
     Accepted,
     Refused(Refusal, usize),
 }
 
 // Opening, taking, setting a point, returning to it, check and same build: yes, no, or why the call was refused.
-#[derive(Drop)]
+#[derive(Clone, Copy)]
 pub enum Verdict {
     Yes,
     No,
@@ -44,21 +46,21 @@ pub enum Verdict {
 }
 
 // Length: tenths of a millimetre, or why the call was refused.
-#[derive(Drop)]
+#[derive(Clone, Copy)]
 pub enum Measured {
     Tenths(i32),
     Refused(Refusal),
 }
 
 // Words: how many bytes the text has, or why the call was refused.
-#[derive(Drop)]
+#[derive(Clone, Copy)]
 pub enum Written {
     Bytes(usize),
     Refused(Refusal),
 }
 
 // First and next: how many nodes the derivation handed out has; that there is none; or why the call was refused.
-#[derive(Drop)]
+#[derive(Clone, Copy)]
 pub enum Handed {
     Nodes(usize),
     Nothing,
@@ -66,7 +68,7 @@ pub enum Handed {
 }
 
 // Count: how many derivations there are; that there are more than 4,096; or why the call was refused.
-#[derive(Drop)]
+#[derive(Clone, Copy)]
 pub enum Counted {
     Exactly(usize),
     More,

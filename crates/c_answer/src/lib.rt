@@ -1,5 +1,7 @@
 // The codes that the exported functions return for their answers, and what each answer leaves in the place that was lent for it. A code is
 // 0 for no and none; 1 for yes, loaded, measured, written, handed out and counted; 2 for more; 256 + n for refusal n.
+#![tactic(auto)]
+
 pub mod learning;
 
 ghost use Rattle.std.specs.Prelude.{◌+◌, ◌≡◌};

@@ -1,6 +1,8 @@
 // A declared grammar as a flat row of 16-bit numbers, the form in which it crosses to C and Rust: its size, reading it and writing it.
 // Check 8 refuses the grammar read from a row exactly if the row's own numbers are invalid. It refuses the row of a grammar exactly if it
 // refuses the grammar.
+#![tactic(auto)]
+
 pub mod read;
 pub mod symbol;
 pub mod write;

@@ -1,6 +1,8 @@
 // A state of the recognizer (document 01: the plate in hand) as a row of 16-bit numbers, the form in which it crosses to C and Rust: the 64
 // bytes, the count, the year, then the eight points. Check 14 refuses the state read from a row exactly if the row's own numbers are
 // invalid. It refuses the row of a state exactly if it refuses the state.
+#![tactic(auto)]
+
 ghost use Rattle.std.specs.Prelude.{◌++◌, ◌≡◌, min, length, take};
 ghost use Rattle.sizes.specs.Sizes.{max_input};
 ghost use Rattle.recognizer.specs.Recognizer.{state_in};

@@ -1,4 +1,6 @@
 // The total length of a derivation: the sum of the rule lengths of its nodes, rounded to tenths.
+#![tactic(auto)]
+
 ghost use Rattle.std.specs.Prelude.{map, ◌≡◌, ◌<◌, ◌≤◌, length};
 ghost use Rattle.std.specs.Int.Signed.{mag};
 ghost use Rattle.sizes.specs.Sizes.{max_rules, output_size};

@@ -10,7 +10,7 @@ use packed::Packed;
 use tree_node::child_set;
 
 // What comes next in a row: nothing that fits, its end, a byte, or a node with its nonterminal and the number of its bytes.
-#[derive(Drop)]
+#[derive(Clone, Copy)]
 pub enum Step {
     No,
     End,
@@ -19,7 +19,7 @@ pub enum Step {
 }
 
 // Where a row continues: at node `at`, over the bytes `from` to `to`.
-#[derive(Drop)]
+#[derive(Clone, Copy)]
 struct Here {
     at: usize,
     from: usize,

@@ -1,4 +1,6 @@
 // The calls on offered derivations (document 01: readings): check, length and same build.
+#![tactic(auto)]
+
 ghost use Rattle.std.specs.Prelude.{◌≡◌, length};
 ghost use Rattle.sizes.specs.Sizes.{max_rules};
 ghost use Rattle.cfg.specs.Listing.{L};

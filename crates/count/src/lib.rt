@@ -1,4 +1,6 @@
 // How many derivations (readings) an input has.
+#![tactic(auto)]
+
 ghost use Rattle.std.specs.Prelude.{◌≡◌, ◌<◌, ◌≤◌, length};
 ghost use Rattle.cfg.specs.Listing.{L};
 ghost use Rattle.theory_costs.specs.Span.{bytes_of};

@@ -1,4 +1,6 @@
 // Counting the derivations one after the other, from the first one on.
+#![tactic(auto)]
+
 ghost use Rattle.std.specs.Prelude.{◌<◌, ◌≤◌, length};
 ghost use Rattle.sizes.specs.Sizes.{max_rules, side, cells, output_size};
 ghost use Rattle.answers.specs.Answers.{counted_of};

@@ -1,5 +1,7 @@
 // The functions that C and Rust link. They take numbers, slices and arrays: a grammar is a flat row (crate c_grammar), a state of the
 // recognizer is a row (crate c_hand), and an answer is a number (crate c_answer). A lent number is written only if the answer has one.
+#![tactic(auto)]
+
 pub mod enumerate;
 pub mod learning;
 pub mod name;

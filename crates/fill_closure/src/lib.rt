@@ -1,4 +1,6 @@
 // The rules at one cell of a column are looked at until nothing is added. A rule is looked at again only if its flags can have changed.
+#![tactic(auto)]
+
 pub mod passes;
 
 ghost use Rattle.std.specs.Prelude.{◌≡◌, ◌<◌, length};
@@ -9,7 +11,7 @@ use fill_rule::passes::{added, rule_mask};
 use packed::Packed;
 
 // What is known at a cell: the set of the empty span at its start, and its own set so far.
-#[derive(Drop)]
+#[derive(Clone, Copy)]
 pub struct Known {
     pub start: u32,
     pub own: u32,

@@ -1,4 +1,6 @@
 // The chart's columns: writing one, opening, filling for a whole input, and the bit "complete".
+#![tactic(auto)]
+
 mod write;
 
 ghost use Rattle.std.specs.Prelude.{List, ◌++◌, ◌≡◌, ℕ, ◌≤◌, length, drop, replicate};

@@ -1,5 +1,7 @@
 // The empty span at the end of a column: its set, the flags of the rules at it, and on which nonterminals of a cell's set the flags of a
 // rule depend. All this depends on no byte and on no other cell, so it is the same for every column.
+#![tactic(auto)]
+
 pub mod kinds;
 pub mod span;
 

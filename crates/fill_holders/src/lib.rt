@@ -1,4 +1,6 @@
 // Which rules are looked at again when a nonterminal is added to a cell's set, and which can end with a terminal.
+#![tactic(auto)]
+
 ghost use Rattle.std.specs.Prelude.{◌≡◌, ◌<◌, ◌≤◌, length, replicate};
 ghost use Rattle.sizes.specs.Sizes.{max_rules, max_places};
 ghost use Rattle.fill_rules.specs.Rules.{row_size};

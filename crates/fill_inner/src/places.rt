@@ -11,7 +11,7 @@ use packed::Packed;
 
 // The span from i to n, with two sets of places of a rule: those that fit the byte at i, and those from which on the rule cuts the empty
 // span at n.
-#[derive(Drop)]
+#[derive(Clone, Copy)]
 pub struct Window {
     pub i: usize,
     pub n: usize,

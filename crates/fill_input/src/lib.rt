@@ -1,4 +1,6 @@
 // What every call on an input does before its own work: checks 8 to 11, and then the packing of the grammar and the filling of the chart.
+#![tactic(auto)]
+
 ghost use Rattle.std.specs.Prelude.{◌≡◌, ℕ, length};
 ghost use Rattle.cfg.specs.Grammar.{rule as rule_of_number};
 ghost use Rattle.chart.specs.Column.{filled};
@@ -13,7 +15,7 @@ use packed::Packed;
 use packed_fit::FitTable;
 
 // Whether the checks are passed.
-#[derive(Drop)]
+#[derive(Clone, Copy)]
 pub enum Judged {
     Passed,
     Refused(Refusal),

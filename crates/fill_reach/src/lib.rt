@@ -1,4 +1,6 @@
 // The ends of nonterminals from each start, read from the chart as sets of positions, and whether a rule is passed over because of them.
+#![tactic(auto)]
+
 ghost use Rattle.std.specs.Prelude.{◌<◌, ◌≤◌, length};
 ghost use Rattle.sizes.specs.Sizes.{cells, side};
 ghost use Rattle.fill_reach.specs.Reach.{ReachFrom, Reaches, CanBegin};

@@ -1,4 +1,6 @@
 // Sets of rules: they are joined, stored in rows and listed.
+#![tactic(auto)]
+
 pub mod list;
 pub mod row;
 

@@ -1,4 +1,6 @@
 // The first derivation (reading) of an input.
+#![tactic(auto)]
+
 ghost use Rattle.std.specs.Prelude.{◌≡◌, ◌≤◌, length};
 ghost use Rattle.sizes.specs.Sizes.{cells, output_size, max_input};
 ghost use Rattle.theory_costs.specs.Span.{bytes_of};

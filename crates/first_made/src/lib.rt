@@ -1,4 +1,6 @@
 // The tables of an input and, once they are made, whether there is a derivation, and the first one.
+#![tactic(auto)]
+
 ghost use Rattle.std.specs.Prelude.{◌≡◌, ◌<◌, ◌≤◌, leb, length};
 ghost use Rattle.sizes.specs.Sizes.{cells, max_nodes, output_size, max_rules, max_input, side};
 ghost use Rattle.theory_costs.specs.Span.{bytes_of};

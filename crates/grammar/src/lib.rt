@@ -1,4 +1,6 @@
 // The declared types of a grammar (document 01: a loaded book), and check 8 over any struct handed in.
+#![tactic(auto)]
+
 pub mod building;
 mod records;
 pub mod tagged;
@@ -10,7 +12,7 @@ ghost use Rattle.grammar.specs.Valid.{valid_grammar};
 use records::valid_rule;
 
 // What a place holds: a nonterminal (kind), a terminal (mark), or a range that any byte from its low to its high end fits.
-#[derive(Drop)]
+#[derive(Clone, Copy)]
 pub enum Symbol {
     Nonterminal(u8),
     Terminal(u8),
@@ -18,14 +20,14 @@ pub enum Symbol {
 }
 
 // A place of a rule.
-#[derive(Drop)]
+#[derive(Clone, Copy)]
 pub struct Place {
     pub symbol: Symbol,
 }
 
 // A rule record: its left side, its length in hundredths of a millimetre, how many of its places are used, the first and the last year in
 // which it holds, and its name, which is zeros if it has none.
-#[derive(Drop)]
+#[derive(Clone, Copy)]
 pub struct Rule {
     pub left: u8,
     pub length: i16,
@@ -37,7 +39,7 @@ pub struct Rule {
 }
 
 // A loaded grammar (book): its start symbol, how many of its rules are used, and its nullable depth (blank depth).
-#[derive(Drop)]
+#[derive(Clone, Copy)]
 pub struct Grammar {
     pub start: u8,
     pub count: usize,

@@ -1,5 +1,7 @@
 // Learning a rule (document 02, U8): from the bytes of one rule to the longer grammar, and the chart filled anew for the bytes of the
 // state.
+#![tactic(auto)]
+
 mod operands;
 mod reading;
 mod turn;
@@ -21,7 +23,7 @@ use recognizer::state::{front, invalid};
 use recognizer::{Recognizer, says};
 
 // What learning gives: whether the input so far is complete, the offset of a fault, the grammar and the state.
-#[derive(Drop)]
+#[derive(Clone, Copy)]
 pub struct Learnt {
     pub accepted: Verdict,
     pub offset: usize,

@@ -14,7 +14,7 @@ use load_commands::opcode::Command;
 use load_commands::scan;
 
 // What reading gives, and the grammar: the longer one, or the old one at a fault.
-#[derive(Drop)]
+#[derive(Clone, Copy)]
 pub struct Enlarged {
     pub outcome: Outcome,
     pub grammar: Grammar,

@@ -1,4 +1,6 @@
 // Clears what is unused in a grammar (document 02, U8): a longer grammar that is handed back has no rubbish of the one handed in.
+#![tactic(auto)]
+
 ghost use Rattle.std.specs.Prelude.{true, ◌≡◌, ◌≤◌};
 ghost use Rattle.sizes.specs.Sizes.{max_places};
 ghost use Rattle.grammar.specs.Valid.{valid_grammar};

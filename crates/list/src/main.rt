@@ -1,5 +1,7 @@
 // The listing program: the book is the file `book.bin`, the year is in the file `year.bin`, the plate is standard input, and the text goes
 // to standard output.
+#![tactic(auto)]
+
 ghost use Rattle.std.specs.Prelude.{◌≡◌, length};
 ghost use Rattle.io.specs.Counts.{IsPrefixLen};
 ghost use Rattle.text.specs.Front.{book_front, year_front, plate_front};

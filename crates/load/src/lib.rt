@@ -1,4 +1,6 @@
 // The loader: from the bytes of a book to a grammar, or to the refusal and the offset of the first fault.
+#![tactic(auto)]
+
 ghost use Rattle.std.specs.Prelude.{true, ◌≡◌};
 ghost use Rattle.grammar.specs.Valid.{valid_grammar};
 ghost use Rattle.answers.specs.Number.{number_of};
@@ -11,7 +13,7 @@ use load_commands::opcode::Command;
 use load_commands::scan;
 
 // What loading answers, and the grammar: that of the book, or zeros if the book is refused.
-#[derive(Drop)]
+#[derive(Clone, Copy)]
 pub struct Loaded {
     pub outcome: Outcome,
     pub grammar: Grammar,

@@ -19,7 +19,7 @@ const PLACES: usize = sizes::MAX_PLACES;
 const NONTERMINALS: u8 = 32;
 
 // A command without its operands.
-#[derive(Drop)]
+#[derive(Clone, Copy)]
 pub enum Opcode {
     Start,
     Rule,
@@ -32,14 +32,14 @@ pub enum Opcode {
 }
 
 // The class of a command byte: an opcode, or none.
-#[derive(Drop)]
+#[derive(Clone, Copy)]
 pub enum Class {
     Known(Opcode),
     Unknown,
 }
 
 // What a rule is opened with: its left side, its length as a low and a high byte, and its first and last year.
-#[derive(Drop)]
+#[derive(Clone, Copy)]
 pub struct Header {
     pub left: u8,
     pub low: u8,
@@ -50,7 +50,7 @@ pub struct Header {
 
 // A command with its operands, or the refusal of the command and the offset that the refusal names. A rule and a place have the number of
 // the command's bytes, and a name the offset of its first byte and its word: a variant holds no array.
-#[derive(Drop)]
+#[derive(Clone, Copy)]
 pub enum Command {
     Start(u8),
     Rule(Header, usize),
@@ -61,7 +61,7 @@ pub enum Command {
 }
 
 // What has been read before a command: whether a start, whether a rule, to which places can be added, and whether a name for that rule.
-#[derive(Drop)]
+#[derive(Clone, Copy)]
 pub struct Turn {
     pub started: bool,
     pub opened: bool,

@@ -1,4 +1,6 @@
 // The search for the nullable nonterminals of a grammar, and the nullable depth.
+#![tactic(auto)]
+
 ghost use Rattle.std.specs.Prelude.{true, ◌≡◌, take};
 ghost use Rattle.cfg.specs.Nullable.{level_above, depth_of};
 ghost use Rattle.grammar.specs.Valid.{valid_place, valid_rule, valid_grammar};
@@ -67,7 +69,7 @@ pub fn nullable_pass(g: Grammar, known: u32) -> u32
 }
 
 // What the search gives back: the nonterminals that it found, as a set, and how many passes it made.
-#[derive(Drop)]
+#[derive(Clone, Copy)]
 pub struct Sought {
     pub set: u32,
     pub passes: u8,

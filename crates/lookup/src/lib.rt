@@ -1,5 +1,7 @@
 // The name lookup: which part of the caller's own book bytes is the name of a rule. It goes along the commands of a book that loads, and
 // counts the rules that they open.
+#![tactic(auto)]
+
 ghost use Rattle.std.specs.Prelude.{suc, ◌+◌, ◌≤◌, cond, ◌&&◌, ◌≡◌, eqb};
 ghost use Rattle.sizes.specs.Sizes.{max_rules};
 ghost use Rattle.results.specs.Answer.{loaded};
@@ -13,14 +15,14 @@ use load_commands::opcode;
 use load_commands::opcode::{Class, Opcode};
 
 // A part of the bytes: where it begins, and how many bytes it has.
-#[derive(Drop)]
+#[derive(Clone, Copy)]
 pub struct Part {
     pub offset: usize,
     pub length: usize,
 }
 
 // Where a name begins, if anywhere.
-#[derive(Drop)]
+#[derive(Clone, Copy)]
 pub enum Found {
     At(usize),
     Nowhere,

@@ -1,4 +1,6 @@
 // Names of rules: which are valid, and names as words of 64 bits, so that two names are compared in one step.
+#![tactic(auto)]
+
 ghost use Rattle.std.specs.Prelude.{◌≤◌, ◌<◌, not, ◌&&◌, ◌||◌, [], ◌∷◌, ◌≡◌, eqb, length, take};
 ghost use Rattle.sizes.specs.Sizes.{max_rules};
 ghost use Rattle.theory_words.specs.Name.{name_size, blank, name_byte, valid_name, allowed_name};

@@ -1,4 +1,6 @@
 // The derivation (reading) after an offered one.
+#![tactic(auto)]
+
 ghost use Rattle.std.specs.Prelude.{true, ◌≡◌, ◌≤◌, length};
 ghost use Rattle.cfg.specs.Listing.{L};
 ghost use Rattle.theory_costs.specs.Span.{bytes_of};

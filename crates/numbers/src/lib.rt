@@ -1,4 +1,6 @@
 // Small functions that several crates need: a number of one width as a number of another. None cuts a number to its low bits.
+#![tactic(auto)]
+
 ghost use Rattle.std.specs.Prelude.{◌≡◌, ◌<◌};
 ghost use Rattle.numbers.specs.Numbers.{byte_in, saturated, signed_in, unsigned_of};
 

@@ -1,4 +1,6 @@
 // The flat copy of a grammar for inner loops. Loops and recursion take it by reference.
+#![tactic(auto)]
+
 ghost use Rattle.std.specs.Prelude.{◌≡◌, ◌<◌, ◌≤◌};
 ghost use Rattle.sizes.specs.Sizes.{max_rules, max_places};
 ghost use Rattle.sets.specs.Set.{has as in_set};

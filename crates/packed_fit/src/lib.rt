@@ -1,4 +1,6 @@
 // The fit table: which places of which rules fit which positions of an input. It is made once for a call, and nothing else reads the input.
+#![tactic(auto)]
+
 ghost use Rattle.std.specs.Prelude.{◌≡◌, ◌<◌, ◌≤◌, length};
 ghost use Rattle.sizes.specs.Sizes.{max_rules, max_places, max_input};
 ghost use Rattle.sets.specs.Set.{insert};

@@ -1,4 +1,6 @@
 // Packing: the flat copy of a declared grammar.
+#![tactic(auto)]
+
 ghost use Rattle.std.specs.Prelude.{true, ◌≡◌, ℕ, ◌<◌, length};
 ghost use Rattle.std.proofs.Math.Option.{none};
 ghost use Rattle.sizes.specs.Sizes.{max_rules};

@@ -1,4 +1,6 @@
 // Points to come back to (document 02, U6): setting one, and returning to it.
+#![tactic(auto)]
+
 mod state;
 
 ghost use Rattle.std.specs.Prelude.{true, false, ◌≡◌, ◌+◌, ◌≤◌, ◌<◌, length, get_or};

@@ -1,4 +1,6 @@
 // Clearing the columns of a chart after one, as a return to a point does.
+#![tactic(auto)]
+
 ghost use Rattle.std.specs.Prelude.{◌≡◌, ◌≤◌, length};
 ghost use Rattle.sizes.specs.Sizes.{cells, max_input};
 ghost use Rattle.theory_clearing.specs.Clearing.{cleared_column, cleared};

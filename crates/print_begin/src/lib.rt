@@ -1,11 +1,12 @@
 // The first step of the listing program: from the bytes of the book, of the file with the year and of the plate to the first line that is
 // due.
+#![tactic(auto)]
 
 pub mod begin;
 pub mod year;
 
 // What is due: the line that is printed next.
-#[derive(Drop)]
+#[derive(Clone, Copy)]
 pub enum Due {
     // `REFUSED` and a number, the only line
     Refusal(usize),

@@ -1,4 +1,6 @@
 // The lines of the listing, written into a lent buffer.
+#![tactic(auto)]
+
 pub mod fixed;
 pub mod line;
 

@@ -1,4 +1,6 @@
 // Writes bytes and numbers into a lent buffer. Each function returns the index after the last byte that it wrote.
+#![tactic(auto)]
+
 ghost use Rattle.std.specs.Prelude.{[], ◌∷◌, ◌+◌, ◌<◌, ◌≤◌, length};
 ghost use Rattle.std.specs.Int.Signed.{mag};
 ghost use Rattle.text.specs.Number.{decimal, signed_decimal};

@@ -1,4 +1,6 @@
 // The listing in pages: each page has as many further lines as fit into a lent buffer.
+#![tactic(auto)]
+
 ghost use Rattle.std.specs.Prelude.{◌≡◌, ◌≤◌, length};
 ghost use Rattle.print_begin.specs.Due.{DueSized};
 ghost use Rattle.check_length.specs.Measure.{lengths_in};
@@ -19,7 +21,7 @@ pub const PAGE: usize = 65536;
 const ROOM: usize = PAGE - print_line::LINE;
 
 // A page: how many bytes of the buffer it has, and what is due after it.
-#[derive(Drop)]
+#[derive(Clone, Copy)]
 pub struct Page {
     pub bytes: usize,
     pub due: Due,

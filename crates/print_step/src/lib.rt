@@ -1,2 +1,4 @@
 // The steps of the listing program after the first one.
+#![tactic(auto)]
+
 pub mod step;

@@ -19,7 +19,7 @@ use table_layout::layout::Tables;
 use tree_node::Root;
 
 // How many bytes the written line has, and what is due then.
-#[derive(Drop)]
+#[derive(Clone, Copy)]
 pub struct Printed {
     pub bytes: usize,
     pub due: Due,

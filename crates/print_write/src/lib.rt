@@ -1,4 +1,6 @@
 // Writes the pages of the listing to standard output.
+#![tactic(auto)]
+
 ghost use Rattle.std.specs.Prelude.{◌≡◌, ◌+◌, ◌≤◌, length};
 ghost use Rattle.print_begin.specs.Due.{Ahead, DueSized};
 ghost use Rattle.check_length.specs.Measure.{lengths_in};
@@ -18,7 +20,7 @@ use table_layout::layout::Tables;
 const PAGES: usize = sizes::MOST + 1;
 
 // How many bytes were handed to the write, and whether it wrote all of them.
-#[derive(Drop)]
+#[derive(Clone, Copy)]
 pub struct Written {
     pub bytes: usize,
     pub all: bool,

@@ -1,4 +1,6 @@
 // The recognizer (document 01: the plate in hand): opening, and taking a byte.
+#![tactic(auto)]
+
 pub mod state;
 
 ghost use Rattle.std.specs.Prelude.{true, false, ◌≡◌, ◌<◌, ◌≤◌, length};
@@ -24,7 +26,7 @@ pub const POINTS: usize = 8;
 
 // The state: 64 bytes, of which the first `count` have been taken, the year with which it was opened, and its points, each 0 if it is not
 // set, else one more than the count at which it was set.
-#[derive(Drop)]
+#[derive(Clone, Copy)]
 pub struct Recognizer {
     pub bytes: [u8; sizes::MAX_INPUT],
     pub count: usize,
@@ -33,7 +35,7 @@ pub struct Recognizer {
 }
 
 // What a call gives: whether the input so far is complete, and the state.
-#[derive(Drop)]
+#[derive(Clone, Copy)]
 pub struct Advanced {
     pub accepted: Verdict,
     pub recognizer: Recognizer,

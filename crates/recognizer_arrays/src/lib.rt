@@ -1,4 +1,6 @@
 // The arrays of a state of the recognizer (document 01: the plate in hand): the front of its bytes, and whether a point is past a count.
+#![tactic(auto)]
+
 pub mod kept;
 
 ghost use Rattle.std.specs.Prelude.{not, ◌++◌, ◌≡◌, ◌-◌, ◌≤◌, take as take_first, replicate};

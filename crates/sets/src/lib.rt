@@ -1,5 +1,7 @@
 // Sets of nonterminals 0..31, each a u32 whose bit k says whether k is in the set; and sets of 0..63. The project has no other shifts
 // and masks.
+#![tactic(auto)]
+
 pub mod wide;
 
 ghost use Rattle.std.specs.Prelude.{true, ◌≢◌, ◌≡◌, ◌<◌};

@@ -1,5 +1,7 @@
 // The sizes of document 01, for every crate. A function for each constant ties it to its twin in specs/, since a must-fail edit of a
 // constant is checked in this crate only.
+#![tactic(auto)]
+
 ghost use Rattle.std.specs.Prelude.{◌≡◌};
 ghost use Rattle.sizes.specs.Sizes.{max_rules, max_places, nonterminals, max_input, side, cells, max_nodes, too_many, most, output_size};
 

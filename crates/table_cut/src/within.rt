@@ -12,7 +12,7 @@ use packed::Packed;
 use table_layout::layout::{Full, Tables, cost, full_of};
 
 // The part from a to j of a span from i to j. Of the ends after a, those from `from` on are read.
-#[derive(Drop)]
+#[derive(Clone, Copy)]
 pub struct Part {
     pub i: usize,
     pub a: usize,

@@ -16,7 +16,7 @@ use table_suffix::rows::put_start;
 use table_write::AllRows;
 
 // A span from i to j, with what the chart says of it: its cell, and the ends of nonterminals that start at i.
-#[derive(Drop)]
+#[derive(Clone, Copy)]
 pub struct Over {
     pub i: usize,
     pub j: usize,

@@ -1,4 +1,6 @@
 // The least numbers of nodes over one whole span: passes over the rules, from 513 everywhere, until a pass changes nothing.
+#![tactic(auto)]
+
 ghost use Rattle.std.specs.Prelude.{◌<◌, ◌≤◌};
 ghost use Rattle.sizes.specs.Sizes.{max_rules, nonterminals, side};
 ghost use Rattle.table_solve.specs.Solve.{RuleOver, Wanted, Numbers, Improved, PassSolved, Solved};

@@ -1,4 +1,6 @@
 // One span: its costs that need no numbers of the whole span, its numbers, and with them the rows from its start.
+#![tactic(auto)]
+
 ghost use Rattle.std.specs.Prelude.{◌≡◌, ◌<◌, ◌≤◌, length};
 ghost use Rattle.sizes.specs.Sizes.{max_rules, side};
 ghost use Rattle.table_layout.specs.Layout.{tables_size};

@@ -1,4 +1,6 @@
 // The rows from one start, for all rules, for those that are not passed over, or for those that the numbers of the whole span change.
+#![tactic(auto)]
+
 ghost use Rattle.std.specs.Prelude.{false, ◌≡◌, ◌<◌, ◌≤◌, length};
 ghost use Rattle.sizes.specs.Sizes.{max_rules, side};
 ghost use Rattle.table_write.specs.Writes.{all_rows, Nothing};

@@ -1,4 +1,6 @@
 // What is written into the tables for one span: its numbers, and the costs of rules without a child over the whole span.
+#![tactic(auto)]
+
 ghost use Rattle.std.specs.Prelude.{◌≡◌, ◌<◌, ◌≤◌, length};
 ghost use Rattle.sizes.specs.Sizes.{max_rules, side};
 ghost use Rattle.table_layout.specs.Layout.{tables_size};

@@ -1,1 +1,2 @@
 // What the listing program prints: specs/, and laws of it: proofs/.
+#![tactic(auto)]

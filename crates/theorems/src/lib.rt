@@ -1,1 +1,2 @@
 // The final theorems, each proved by citation: proofs/Theorems.antt.
+#![tactic(auto)]

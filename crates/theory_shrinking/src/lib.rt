@@ -1,1 +1,2 @@
 // Trees without superfluous recursion: theorems only, no code.
+#![tactic(auto)]

@@ -12,7 +12,7 @@ use table_suffix::rows::Rows;
 use tree_node::Tail;
 
 // What comes next in a row: nothing, its end, a byte, or a node of the nonterminal k up to b with its share of the budget.
-#[derive(Drop)]
+#[derive(Clone, Copy)]
 pub enum Step {
     No,
     End,

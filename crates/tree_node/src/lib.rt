@@ -1,4 +1,6 @@
 // One node of a derivation: the numbers that locate it, the masks for it and below it, and the writing of its two numbers.
+#![tactic(auto)]
+
 ghost use Rattle.std.specs.Prelude.{◌≡◌, ◌<◌, ◌≤◌, length};
 ghost use Rattle.sizes.specs.Sizes.{max_rules, nonterminals, side, max_nodes, output_size};
 ghost use Rattle.sets.specs.Set.{insert};
@@ -6,7 +8,7 @@ ghost use Rattle.theory_enumeration.specs.Rows.{SameSpan};
 ghost use Rattle.tree_node.specs.Numbers.{NodePut};
 
 // The span of a node, from i to j, and the nonterminals that no node over the whole of it may have.
-#[derive(Drop)]
+#[derive(Clone, Copy)]
 pub struct Span {
     pub i: usize,
     pub j: usize,
@@ -14,7 +16,7 @@ pub struct Span {
 }
 
 // The trees of a whole input: those of the start symbol over n bytes, with rules whose numbers are below `rules`.
-#[derive(Drop)]
+#[derive(Clone, Copy)]
 pub struct Root {
     pub rules: usize,
     pub start: usize,
@@ -22,14 +24,14 @@ pub struct Root {
 }
 
 // How many nodes a tree or a row may have, and the node at which it is written.
-#[derive(Drop)]
+#[derive(Clone, Copy)]
 pub struct Room {
     pub budget: usize,
     pub at: usize,
 }
 
 // The places of rule r from q on, from position a on.
-#[derive(Drop)]
+#[derive(Clone, Copy)]
 pub struct Tail {
     pub r: usize,
     pub q: usize,
@@ -37,7 +39,7 @@ pub struct Tail {
 }
 
 // The node of k from a to b, at place q of rule r.
-#[derive(Drop)]
+#[derive(Clone, Copy)]
 pub struct Child {
     pub r: usize,
     pub q: usize,

@@ -8,7 +8,7 @@ use packed::Packed;
 
 // What comes next in a row: nothing that fits, its end, a byte, a node of k up to b with only terminals after it, or a node at another
 // place, whose tree has `size` nodes.
-#[derive(Drop)]
+#[derive(Clone, Copy)]
 pub enum Step {
     No,
     End,

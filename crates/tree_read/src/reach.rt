@@ -8,7 +8,7 @@ use super::look::{Step, look};
 use packed::Packed;
 
 // The last node of a row: there is none, or it is of the nonterminal k from a to b, is stored at node `at`, and has a budget.
-#[derive(Drop)]
+#[derive(Clone, Copy)]
 pub enum Found {
     Nowhere,
     There {

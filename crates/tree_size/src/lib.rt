@@ -1,5 +1,7 @@
 // Where a subtree ends in a buffer with the code of a forest: for each node, in preorder, the number of bytes that it covers and its rule.
 // The code counts the children that are still to come, and reads no input.
+#![tactic(auto)]
+
 ghost use Rattle.std.specs.Prelude.{◌≡◌, ◌<◌, ◌≤◌, length};
 ghost use Rattle.sizes.specs.Sizes.{max_nodes, output_size, max_rules, max_places};
 ghost use Rattle.packed.specs.Packed.{symbol_in};

@@ -1,4 +1,6 @@
 // Writes a derivation (reading) as a text: each node as the name of its rule with what is below it in parentheses.
+#![tactic(auto)]
+
 ghost use Rattle.std.specs.Prelude.{List, ◌≡◌, ℕ, ◌≤◌, length};
 ghost use Rattle.sizes.specs.Sizes.{max_input};
 ghost use Rattle.cfg.specs.Listing.{L};

@@ -1,4 +1,6 @@
 // How many bytes the text of a derivation has: a sum over its nodes, and three for each byte of the input.
+#![tactic(auto)]
+
 ghost use Rattle.std.specs.Prelude.{◌≡◌, ◌*◌, ◌+◌, ◌≤◌, length};
 ghost use Rattle.sizes.specs.Sizes.{max_input, output_size};
 ghost use Rattle.words_text.specs.Names.{names_size};

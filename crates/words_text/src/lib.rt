@@ -1,4 +1,6 @@
 // The pieces of a text: names of rules, numbers of rules, leaves. Each function that writes returns the index after the last byte.
+#![tactic(auto)]
+
 ghost use Rattle.std.specs.Prelude.{◌≡◌, ◌+◌, ◌<◌, ◌≤◌, length, take, drop};
 ghost use Rattle.sizes.specs.Sizes.{max_rules};
 ghost use Rattle.theory_words.specs.Name.{name_size, unnamed, unfilled, hex_digit, number_text};

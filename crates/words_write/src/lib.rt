@@ -1,4 +1,6 @@
 // Writes the text of a derivation, node by node.
+#![tactic(auto)]
+
 ghost use Rattle.std.specs.Prelude.{[], ◌∷◌, ◌++◌, ◌≡◌, ◌+◌, ◌<◌, ◌≤◌, length, get_or};
 ghost use Rattle.sizes.specs.Sizes.{max_rules, max_places, max_nodes, max_input};
 ghost use Rattle.packed.specs.Packed.{symbol_in};
@@ -19,7 +21,7 @@ const CLOSING: u8 = 0x29;
 const COMMA: u8 = 0x2C;
 
 // Where the writer is: at a node of the derivation, at a byte of the input, at an index of the buffer.
-#[derive(Drop)]
+#[derive(Clone, Copy)]
 pub struct Cursor {
     pub node: usize,
     pub byte: usize,
@@ -27,7 +29,7 @@ pub struct Cursor {
 }
 
 // What is at a place of a rule.
-#[derive(Drop)]
+#[derive(Clone, Copy)]
 pub enum Place {
     Leaf,
     Node,
