@@ -2,7 +2,7 @@
 -- need gives this as a path into the record's fields (`c.good.0`), and here each path has a name. Assumes nothing.
 use mathlib.Core.List.{List}
 use mathlib.Core.Path.{◌≡◌}
-use lib.ListN.{length, length-map}
+use lib.ListN.{length}
 use mir.Syntax.{w16}
 use mir.Val.{Val, SFits}
 use denote.Laws.{Is}
@@ -17,7 +17,7 @@ module _ (r : Rule) (vs : List Val) (known : Is R.the_row r vs) where
   length-fits = record { sfits = known.1.1.1.0.1 }
 
   pub places-long : length r.places ≡ max_places
-  places-long = simp length-map at known.1.1.1.1.1.0.1.0.1
+  places-long = known.1.1.1.1.1.0.1.0.1
 
 pub rules-long : (g : Grammar) (vs : List Val) → Is G.the_row g vs → length g.rules ≡ max_rules
-rules-long g vs known = simp length-map at known.1.1.1.1.1.0.1.0.1
+rules-long g vs known = known.1.1.1.1.1.0.1.0.1

@@ -18,11 +18,11 @@ use Rattle.theory_costs.proofs.Lowest.{lowest-unique}
 use Rattle.theory_costs.specs.Span.{bytes_of, Tells, Reads, reads_end, reads_byte, TreeOver, Least}
 
 module _ {bytes : ℕ → ℕ → Type 0} where
-  pub reads-length : {a b : ℕ} {u : List ℕ} → Reads bytes b a u → a + length u ≡ b
+  pub reads-length : {b a : ℕ} {u : List ℕ} → Reads bytes b a u → a + length u ≡ b
   reads-length (reads_end e) = omega arith
   reads-length (reads_byte {u = u} p r) = omega (arith, reads-length r)
 
-  pub reads-append : {a b c : ℕ} {u v : List ℕ} → Reads bytes c a u → Reads bytes b c v → Reads bytes b a (u ++ v)
+  pub reads-append : {b c a : ℕ} {u v : List ℕ} → Reads bytes c a u → Reads bytes b c v → Reads bytes b a (u ++ v)
   reads-append {b = b} {v = v} (reads_end e) s = subst (λ (x : ℕ). Reads bytes b x v) (sym e) s
   reads-append (reads_byte p r) s = reads_byte p (reads-append r s)
 
@@ -49,9 +49,9 @@ module _ (w : List ℕ) where
     λ p. let (m, (l, e), f) = p in at-fits w a t l (subst (λ (x : ℕ). fits t x ≡ true) e f),
   )
 
-  pub reads-slice : {a b : ℕ} {u : List ℕ} → b ≤ length w → Reads (bytes_of w) b a u → u ≡ slice a b w
-  reads-slice {a} {b} l (reads_end e) = sym (ap (λ (x : ℕ). slice x b w) e ∙ slice_empty b w)
-  reads-slice {a} {b} l (reads_byte {u = u} (p, e) r) =
+  pub reads-slice : {b a : ℕ} {u : List ℕ} → b ≤ length w → Reads (bytes_of w) b a u → u ≡ slice a b w
+  reads-slice {b} {a} l (reads_end e) = sym (ap (λ (x : ℕ). slice x b w) e ∙ slice_empty b w)
+  reads-slice {b} {a} l (reads_byte {u = u} (p, e) r) =
       let h : a < b = omega (arith, reads-length r) in
       ap (λ (x : ℕ). x ∷ u) e ∙ ap {B = List ℕ} (λ (x : List ℕ). get_or w a 0 ∷ x) (reads-slice l r) ∙ sym (slice-cons a b w 0 h l)
 

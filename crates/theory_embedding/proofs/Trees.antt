@@ -49,6 +49,7 @@ module _ (f : ℕ → ℕ) (G G' : Cfg) (inside : RulesIn f G G') where
 
   pub has-back : {places : List Symbol} {k n : ℕ} {t : Forest} → Fits G places t → Has G' k n (renumber f t) → Has G k n t
   unfolding renumber
+  has-back {k = j} {n = n} fits_end x4 = elim x4 [ ]
   has-back (fits_leaf _ q) (has_after h) = has_after (has-back q h)
   has-back {k = j} (fits_node {k = k} {r} {below = below} o p q) (has_here o' e) =
       has_here (of-back r j k o o') (ap length (sym (renumber-yield f below)) ∙ e)
@@ -57,6 +58,7 @@ module _ (f : ℕ → ℕ) (G G' : Cfg) (inside : RulesIn f G G') where
 
   pub superfluous-back : {places : List Symbol} {t : Forest} → Fits G places t → Superfluous G' (renumber f t) → Superfluous G t
   unfolding renumber
+  superfluous-back fits_end x4 = elim x4 [ ]
   superfluous-back (fits_leaf _ q) (super_after h) = super_after (superfluous-back q h)
   superfluous-back (fits_node {k = k} {r} {below = below} o p q) (super_here {k = j} o' h) =
       super_here (of-back r j k o o')

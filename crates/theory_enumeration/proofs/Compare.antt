@@ -37,11 +37,15 @@ compared (a ∷ x) (b ∷ y) = go (numbers a b) (compared x y)
     go (equal e) c = rw e (compared-cons b c)
     go (above h) c = behind (first_less h)
 
+-- two lists in order whose first numbers are the same
+≺-tail : {a b : ℕ} {x y : List ℕ} → (a ∷ x) ≺ (b ∷ y) → a ≡ b → x ≺ y
+≺-tail {b = b} (first_less h) e = absurd (lt_irrefl b (rw e at h))
+≺-tail (first_same h) e = h
+
 -- the order does not depend on what both begin with
 pub ≺-cancel : (p : List ℕ) {x y : List ℕ} → p ++ x ≺ p ++ y → x ≺ y
 ≺-cancel [] h = h
-≺-cancel (a ∷ p) (first_less h) = absurd (lt_irrefl a h)
-≺-cancel (a ∷ p) (first_same h) = ≺-cancel p h
+≺-cancel (a ∷ p) h = ≺-cancel p (≺-tail h refl)
 
 -- ---- forests
 

@@ -19,7 +19,8 @@ use Rattle.theory_enumeration.proofs.Nodes.{node-layered, rule-prefixed, rule-no
 
 -- nothing is before the empty code
 before-none : (x : List ℕ) → x ≺ [] → ⊥
-before-none x = elim [ ]
+before-none [] h = elim h [ ]
+before-none (a ∷ x) h = elim h [ ]
 
 module _ (G : Cfg) (w : List ℕ) (cover mask from to budget : ℕ) (known : to ≤ length w) where
   -- ---- the part of the mask that matters for a row over c bytes

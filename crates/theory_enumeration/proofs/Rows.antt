@@ -8,7 +8,7 @@ use native.Mathlib.Omega.{arith}
 use lib.ListN.{length, get_or}
 use lib.Seq.{slice, slice-cons, slice_empty, length-slice}
 use Rattle.cfg.specs.Grammar.{Cfg, Symbol, terminal, Terminal, fits}
-use Rattle.cfg.specs.Tree.{Forest, end, leaf, yield, nodes, code, Fits, fits_end, fits_leaf}
+use Rattle.cfg.specs.Tree.{Forest, end, leaf, node, yield, nodes, code, Fits, fits_end, fits_leaf}
 use Rattle.cfg.specs.Derivation.{Superfluous}
 use Rattle.chart.proofs.Slices.{slice-nil, slice-head}
 use Rattle.theory_enumeration.specs.Rows.{Free, Row, SameSpan}
@@ -72,6 +72,8 @@ module _ (G : Cfg) (w : List ℕ) where
       where
         go : (u : Forest) → Fits G [] u → yield u ≡ slice from to w → (from ≡ to) × (u ≡ end)
         go end fits_end c = (slice-nil from to w h l c, refl)
+        go (leaf _ _) x c = elim x [ ]
+        go (node _ _ _) x c = elim x [ ]
 
     module _ (places : List Symbol) (rising : from ≤ to) (known : to ≤ length w) where
       -- ---- a terminal

@@ -17,7 +17,7 @@ filter-cases {A} p (b ∷ l) {a} h = go (p b) refl h (λ i. filter-cases p l i)
     go true e (Memᴰ.tail i) later = let r = later i in (Memᴰ.tail r.0, r.1)
     go false e i later = let r = later i in (Memᴰ.tail r.0, r.1)
 
-pub filter-member : {A : Type 0} (p : A → Bool) {l : List A} {a : A} → Memᴰ a l → p a ≡ true → Memᴰ a (filter p l)
+pub filter-member : {A : Type 0} (p : A → Bool) {a : A} {l : List A} → Memᴰ a l → p a ≡ true → Memᴰ a (filter p l)
 unfolding filter
 filter-member p (Memᴰ.head q) e = rw (sym (ap p q) ∙ e, filter) (Memᴰ.head q)
 filter-member {A} p {a = a} (Memᴰ.tail {x} {xs} i) e = go (p x) (filter-member p i e)

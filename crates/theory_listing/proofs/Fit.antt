@@ -53,6 +53,7 @@ fit→fits (fit-node o h f g) = fits_node o (fit→fits f) (fit→fits g)
 pub fit-has-none : {G : Cfg} {above : List Span} {places : List Symbol} {t : Forest} {k n : ℕ} → Fit G above places t
     → among k n above ≡ true
     → Has G k n t → ⊥
+fit-has-none {G = G} {k = k} {n = n} (fit-end {above = above}) a x9 = elim x9 [ ]
 fit-has-none (fit-leaf h f) a (has_after i) = fit-has-none f a i
 fit-has-none {k = k} {n} (fit-node {above} {k = j} {below = below} o h f g) a (has_here p e) =
     true≢false (sym a ∙ subst (λ x. among x n above ≡ false) (of-same-left o p) (subst (λ x. among j x above ≡ false) e h))
@@ -61,6 +62,7 @@ fit-has-none {k = k} {n} (fit-node {above} {k = j} {below = below} o h f g) a (h
 fit-has-none (fit-node o h f g) a (has_beside i) = fit-has-none g a i
 
 pub fit-plain : {G : Cfg} {above : List Span} {places : List Symbol} {t : Forest} → Fit G above places t → Superfluous G t → ⊥
+fit-plain {G = G} (fit-end {above = above}) x5 = elim x5 [ ]
 fit-plain (fit-leaf h f) (super_after i) = fit-plain f i
 fit-plain (fit-node {above} {k = j} {below = below} o h f g) (super_here {k} p i) =
     fit-has-none f (subst (λ x. among x (length (yield below)) (span j (length (yield below)) ∷ above) ≡ true) (of-same-left o p)

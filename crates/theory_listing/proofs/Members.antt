@@ -28,7 +28,7 @@ over-cases {A} (a ∷ l) f {e} h = step (λ k. over-cases l f k) (Memᴰ.append_
     step later (inl k) = (a, Memᴰ.head refl, k)
     step later (inr k) = let r = later k in (r.0, Memᴰ.tail r.1, r.2)
 
-pub over-member : {A : Type 0} {l : List A} (f : A → List (List ℕ)) {a : A} {e : List ℕ} → Memᴰ a l → Memᴰ e (f a)
+pub over-member : {A : Type 0} {a : A} {l : List A} (f : A → List (List ℕ)) {e : List ℕ} → Memᴰ a l → Memᴰ e (f a)
     → Memᴰ e (over l f)
 unfolding over
 over-member {l = []} f h k = absurd (Memᴰ.not-nil h)

@@ -120,7 +120,7 @@ pub listing-find-member : (G : Cfg) (b k r : ℕ) (above : List Span) (todo : Li
     → Memᴰ (length u ∷ r ∷ e) (listing G (suc b) (find k above ∷ todo) (u ++ v))
 unfolding listing up_to
 listing-find-member G b k r above todo u v o {e} new h =
-    over-member (with_cover G b k above todo (u ++ v)) {a = length u} first
+    over-member {a = length u} (with_cover G b k above todo (u ++ v)) first
     (when-member (not (among k (length u) above)) (λ _. over (rules_from k 0 G.rules) (with_rule G b k above todo (u ++ v) (length u)))
     (ap not new)
     (over-member (with_rule G b k above todo (u ++ v) (length u)) (rules-member G k r o)

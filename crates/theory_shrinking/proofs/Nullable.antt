@@ -38,6 +38,7 @@ pub record Less (k : ℕ) (l : List ℕ) : Type 0 where
   pub other : (j : ℕ) → Memᴰ j l → j ≢ k → Memᴰ j left
 
 pub less : (k : ℕ) (l : List ℕ) → Memᴰ k l → Less k l
+less k [] x' = elim x' [ ]
 less k (x ∷ l) (Memᴰ.head e) = record { left = l; size = refl; other = other }
   where
     other : (j : ℕ) → Memᴰ j (x ∷ l) → j ≢ k → Memᴰ j l

@@ -10,18 +10,18 @@ use Rattle.c_hand.proofs.Copies.{Copied, copied-start, read_step, read_done}
 use Rattle.c_hand.proofs.read_bytes.Statement.{statement}
 use Rattle.c_hand.proofs.read_bytes.Tie as tie
 
-abbrev invariant-loop : tie.invariant-loop
+abbrev invariant-loop : tie.invariant-loop-i
 invariant-loop h bytes₀ i₀ bytes i = Copied max_input (map byte_in h) max_input i bytes
 
-abbrev decreases-loop : tie.decreases-loop
+abbrev decreases-loop : tie.decreases-loop-i
 decreases-loop h bytes₀ i₀ bytes i = max_input - i
 
-loop-again : tie.Need-loop-preserved invariant-loop decreases-loop
+loop-again : tie.Need-loop-i-preserved invariant-loop decreases-loop
 loop-again c =
     let l = c.before.before in
-    read_step l.before.args.t1 _ _ _ l.loop.invariant l.before.well-formed.0.1.0.1 (omega arith) c.byte.ensures
+    read_step l.before.args.h _ _ _ l.loop-i.invariant l.before.well_formed.0.1.0.1 (omega arith) c.byte.ensures
 
 pub read_bytes_spec : {M : Type 1} → statement M
 read_bytes_spec = tie.close (tie.spec
     invariant-loop decreases-loop (λ c. copied-start _ _ _ _ refl) (λ c. omega arith) (λ c. omega arith) (λ c κs. omega arith) (λ c. omega arith)
-    (λ c. omega arith) (λ c. omega arith) loop-again (λ c. read_done _ _ _ c.before.loop.invariant (omega arith)))
+    (λ c. omega arith) (λ c. omega arith) loop-again (λ c. read_done _ _ _ c.before.loop-i.invariant (omega arith)))

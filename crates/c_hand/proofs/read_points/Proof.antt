@@ -8,18 +8,18 @@ use Rattle.c_hand.proofs.Copies.{Copied, copied-start, point_bytes, point-step, 
 use Rattle.c_hand.proofs.read_points.Statement.{statement}
 use Rattle.c_hand.proofs.read_points.Tie as tie
 
-abbrev invariant-loop : tie.invariant-loop
+abbrev invariant-loop : tie.invariant-loop-i
 invariant-loop h points₀ i₀ points i = Copied max_points (point_bytes h) max_points i points
 
-abbrev decreases-loop : tie.decreases-loop
+abbrev decreases-loop : tie.decreases-loop-i
 decreases-loop h points₀ i₀ points i = max_points - i
 
-loop-again : tie.Need-loop-preserved invariant-loop decreases-loop
+loop-again : tie.Need-loop-i-preserved invariant-loop decreases-loop
 loop-again c =
     let l = c.before.before in
-    point-step l.before.args.t1 _ _ _ l.loop.invariant l.before.well-formed.0.1.0.1 (omega arith) c.byte.ensures
+    point-step l.before.args.h _ _ _ l.loop-i.invariant l.before.well_formed.0.1.0.1 (omega arith) c.byte.ensures
 
 pub read_points_spec : {M : Type 1} → statement M
 read_points_spec = tie.close (tie.spec
     invariant-loop decreases-loop (λ c. copied-start _ _ _ _ refl) (λ c. omega arith) (λ c. omega arith) (λ c. omega arith) (λ c κs. omega arith)
-    (λ c. omega arith) (λ c. omega arith) (λ c. omega arith) loop-again (λ c. points-done _ _ _ c.before.loop.invariant (omega arith)))
+    (λ c. omega arith) (λ c. omega arith) (λ c. omega arith) loop-again (λ c. points-done _ _ _ c.before.loop-i.invariant (omega arith)))

@@ -11,10 +11,10 @@ use Rattle.c_hand.proofs.Counts.{count-first, count_next, count-refused, count-p
 use Rattle.c_hand.proofs.used_bytes.Statement.{statement}
 use Rattle.c_hand.proofs.used_bytes.Tie as tie
 
-abbrev invariant-loop : tie.invariant-loop
+abbrev invariant-loop : tie.invariant-loop-i
 invariant-loop h n m i₀ i = (i ≤ m) × (all is_byte (take i h) ≡ true)
 
-abbrev decreases-loop : tie.decreases-loop
+abbrev decreases-loop : tie.decreases-loop-i
 decreases-loop h n m i₀ i = m - i
 
 pub used_bytes_spec : {M : Type 1} → statement M

@@ -11,17 +11,17 @@ use Rattle.c_hand.proofs.Copies.{Copied, copied-start, copied-step, stored-long,
 use Rattle.c_hand.proofs.write.Statement.{statement}
 use Rattle.c_hand.proofs.write.Tie as tie
 
-abbrev invariant-loop : tie.invariant-loop
+abbrev invariant-loop : tie.invariant-loop-k
 invariant-loop h₀ r k₀ h k = Copied max_input r.bytes hand_size k h
 
-abbrev decreases-loop : tie.decreases-loop
+abbrev decreases-loop : tie.decreases-loop-k
 decreases-loop h₀ r k₀ h k = max_input - k
 
-loop-again : tie.Need-loop-preserved invariant-loop decreases-loop
+loop-again : tie.Need-loop-k-preserved invariant-loop decreases-loop
 loop-again c =
     let at-loop = c.before.before in
     let entry = at-loop.before.before in
-    copied-step _ _ _ _ _ _ at-loop.loop.invariant (omega (arith, bytes-long entry.args.t1 _ entry.well-formed.0)) (omega arith)
+    copied-step _ _ _ _ _ _ at-loop.loop-k.invariant (omega (arith, bytes-long entry.args.r _ entry.well_formed.0)) (omega arith)
     (omega arith)
     refl
 
@@ -30,13 +30,13 @@ returns c =
     let at-loop = c.before.before.before.before in
     let entry = at-loop.before.before in
     c.write-points.ensures
-    ∙ write_done _ _ _ _ at-loop.loop.invariant (bytes-long entry.args.t1 _ entry.well-formed.0) (omega arith)
+    ∙ write_done _ _ _ _ at-loop.loop-k.invariant (bytes-long entry.args.r _ entry.well_formed.0) (omega arith)
     c.before.before.saturate.ensures
 
 write-points-requires : tie.Need-write-points-requires invariant-loop decreases-loop
 write-points-requires c κs =
     let at-loop = c.before.before.before in
-    stored-long at-loop.loop.h c.before.saturate.result at-loop.before.before.args.t1.year at-loop.loop.invariant.long
+    stored-long at-loop.loop-k.h c.before.saturate.result at-loop.before.before.args.r.year at-loop.loop-k.invariant.long
 
 pub write_spec : {M : Type 1} → statement M
 write_spec = tie.close (tie.spec

@@ -11,26 +11,26 @@ use Rattle.c_hand.proofs.Copies.{Copied, with_points, put-start, put_step, put-d
 use Rattle.c_hand.proofs.write_points.Statement.{statement}
 use Rattle.c_hand.proofs.write_points.Tie as tie
 
-abbrev invariant-loop : tie.invariant-loop
+abbrev invariant-loop : tie.invariant-loop-i
 invariant-loop h₀ r i₀ h i = Copied hand_size (with_points h₀ r.points) hand_size (points_at + i) h
 
-abbrev decreases-loop : tie.decreases-loop
+abbrev decreases-loop : tie.decreases-loop-i
 decreases-loop h₀ r i₀ h i = max_points - i
 
 returns : tie.Need-returns invariant-loop decreases-loop
 returns c =
     let entry = c.before.before in
-    put-done entry.args.h.now _ entry.requires (points-long entry.args.t1 _ entry.well-formed.0) c.before.loop.i _
-    c.before.loop.invariant (omega arith)
+    put-done entry.args.h.now _ entry.requires (points-long entry.args.r _ entry.well_formed.0) c.before.loop-i.i _
+    c.before.loop-i.invariant (omega arith)
 
-loop-holds : tie.Need-loop-init invariant-loop decreases-loop
-loop-holds c = put-start c.args.h.now _ c.requires (points-long c.args.t1 _ c.well-formed.0)
+loop-holds : tie.Need-loop-i-init invariant-loop decreases-loop
+loop-holds c = put-start c.args.h.now _ c.requires (points-long c.args.r _ c.well_formed.0)
 
-loop-again : tie.Need-loop-preserved invariant-loop decreases-loop
+loop-again : tie.Need-loop-i-preserved invariant-loop decreases-loop
 loop-again c =
     let l = c.before.before in
     let entry = l.before in
-    put_step entry.args.h.now _ entry.requires (points-long entry.args.t1 _ entry.well-formed.0) l.loop.i _ _ l.loop.invariant
+    put_step entry.args.h.now _ entry.requires (points-long entry.args.r _ entry.well_formed.0) l.loop-i.i _ _ l.loop-i.invariant
     (omega arith) refl
 
 pub write_points_spec : {M : Type 1} → statement M

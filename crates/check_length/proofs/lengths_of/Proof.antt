@@ -16,29 +16,29 @@ use borrow.Author.Rules.{rules}
 use Rattle.check_length.proofs.lengths_of.Statement.{statement}
 use Rattle.check_length.proofs.lengths_of.Tie as tie
 
-abbrev invariant-loop : tie.invariant-loop
+abbrev invariant-loop : tie.invariant-loop-r
 invariant-loop g l₀ r₀ l r = (r ≤ max_rules) × (length l ≡ max_rules) × (take r l ≡ take r (map length_of_rule g.rules))
 
-abbrev decreases-loop : tie.decreases-loop
+abbrev decreases-loop : tie.decreases-loop-r
 decreases-loop g l₀ r₀ l r = max_rules - r
 
-loop-again : tie.Need-loop-preserved invariant-loop decreases-loop
+loop-again : tie.Need-loop-r-preserved invariant-loop decreases-loop
 loop-again c =
     let b = c.before.before.before in
-    let rules = b.before.args.t1.rules in
-    let full = rules-long b.before.args.t1 _ b.before.well-formed.0 in
+    let rules = b.before.args.g.rules in
+    let full = rules-long b.before.args.g _ b.before.well_formed.0 in
     let read = to_z-of_z {w = w16} {z = c.length-of.result} (record { sfits = c.length-of.type-inv }) ∙ c.length-of.ensures in (
       omega arith,
       search rules,
-      ap (λ (z : ℤ). take (b.loop.r + 1) (set b.loop.l b.loop.r z)) read
-          ∙ lengths-step b.loop.l rules b.loop.r (omega arith) (omega arith) b.loop.invariant.2,
+      ap (λ (z : ℤ). take (b.loop-r.r + 1) (set b.loop-r.l b.loop-r.r z)) read
+          ∙ lengths-step b.loop-r.l rules b.loop-r.r (omega arith) (omega arith) b.loop-r.invariant.2,
     )
 
 returns : tie.Need-returns invariant-loop decreases-loop
 returns c =
     let b = c.before in
-    let full = rules-long b.before.args.t1 _ b.before.well-formed.0 in
-    lengths-done b.loop.l b.before.args.t1.rules b.loop.r b.loop.invariant.1 full (omega arith) (omega arith) b.loop.invariant.2
+    let full = rules-long b.before.args.g _ b.before.well_formed.0 in
+    lengths-done b.loop-r.l b.before.args.g.rules b.loop-r.r b.loop-r.invariant.1 full (omega arith) (omega arith) b.loop-r.invariant.2
 
 pub lengths_of_spec : {M : Type 1} → statement M
 lengths_of_spec = tie.close (tie.spec

@@ -1,7 +1,6 @@
 -- `check_length::total` meets its contract. The loop's invariant: the sum so far and the lengths of the nodes left make the whole sum.
 -- The sum so far is at most 32768 for each node passed. The measure is the number of nodes left. Assumes nothing.
 use Prim.Native.Nat.{◌-◌, ◌/◌, ◌≤◌}
-use mathlib.Core.Logic.{⊎_elim}
 use mathlib.Core.Path.{◌≡◌, refl, ◌∙◌}
 use native.Mathlib.Omega.{arith}
 use lib.ListN.{length}
@@ -9,31 +8,31 @@ use mir.Facts.{to_z-of_z}
 use mir.Syntax.{w16}
 use Rattle.check_length.specs.Measure.{lengths_in}
 use Rattle.check_length.proofs.Lengths.{SumTo, more-fits, sum-start, next-rule, next-none, sum_done, lengths-beyond}
+use Rattle.check_length.proofs.total.Lts.Came-Joined-r-lt-MAX_RULES.{then-r-lt-MAX_RULES, else-r-lt-MAX_RULES}
 use Rattle.check_length.proofs.total.Statement.{statement}
 use Rattle.check_length.proofs.total.Tie as tie
 
-abbrev invariant-loop : tie.invariant-loop
+abbrev invariant-loop : tie.invariant-loop-i
 invariant-loop l e n sum₀ i₀ sum i = (i ≤ n) × (n ≡ length e / 2) × SumTo (lengths_in l) e i sum
 
-abbrev decreases-loop : tie.decreases-loop
+abbrev decreases-loop : tie.decreases-loop-i
 decreases-loop l e n sum₀ i₀ sum i = n - i
 
-loop-again : tie.Need-loop-preserved invariant-loop decreases-loop
+loop-again : tie.Need-loop-i-preserved invariant-loop decreases-loop
 loop-again c =
     let read = c.before in
     let in-loop = read.before.before in
     let start = in-loop.before.before in
-    let so_far = in-loop.loop.invariant.2 in
-    ⊎_elim
-    (λ w.
-    let x = next-rule _ _ (omega arith) (omega arith) read.rule-number.ensures so_far _ w.0.taken
-    (w.2.ensures.0 ∙ to_z-of_z {w = w16} (record { sfits = w.1.given }), w.2.ensures.1) w.3 in
-    (omega arith, refl, x))
-    (λ w.
-    let x = next-none _ _ (omega arith) (omega arith) read.rule-number.ensures so_far
-    (lengths-beyond start.args.l.now start.requires.1) w.0.left w.1 in
-    (omega arith, refl, x))
-    c.if1.branch
+    let so_far = in-loop.loop-i.invariant.2 in
+    elim c.if1.branch [
+      then-r-lt-MAX_RULES w ↦
+        let x = next-rule _ _ (omega arith) (omega arith) read.rule_number.ensures so_far _ w.if1.true
+            (w.widened.ensures.0 ∙ to_z-of_z {w = w16} (record { sfits = w.way_told.given }), w.widened.ensures.1) w.sum-is in
+        (omega arith, refl, x)
+      | else-r-lt-MAX_RULES w ↦
+        let x = next-none _ _ (omega arith) (omega arith) read.rule_number.ensures so_far
+            (lengths-beyond start.args.l.now start.requires.1) w.if1.false w.sum-is in
+        (omega arith, refl, x) ]
 
 pub total_spec : {M : Type 1} → statement M
 total_spec = tie.close (tie.spec
@@ -41,4 +40,4 @@ total_spec = tie.close (tie.spec
     -- the call of `rule_number`, and sum += widened(l[r])
     (λ c κs. omega arith) (λ c. omega arith) (λ c. omega arith) (λ c κs. omega arith) (λ c. search more-fits)
     -- a turn, and the end
-    (λ c. omega arith) (λ c. omega arith) loop-again (λ c. (sum_done _ _ (omega arith) c.before.loop.invariant.2, omega arith)))
+    (λ c. omega arith) (λ c. omega arith) loop-again (λ c. (sum_done _ _ (omega arith) c.before.loop-i.invariant.2, omega arith)))

@@ -7,13 +7,13 @@ use Rattle.fill_columns.proofs.Filling.{FillTo, fill-zero, fill-go, fill-taken}
 use Rattle.fill_columns.proofs.take_all.Statement.{statement}
 use Rattle.fill_columns.proofs.take_all.Tie as tie
 
-abbrev invariant-loop : tie.invariant-loop
+abbrev invariant-loop : tie.invariant-loop-m
 invariant-loop p rules fits n own lasts kinds chart₀ ends₀ reach₀ m₀ chart ends reach m = FillTo p fits n chart₀ m chart ends reach
 
-abbrev decreases-loop : tie.decreases-loop
+abbrev decreases-loop : tie.decreases-loop-m
 decreases-loop p rules fits n own lasts kinds chart₀ ends₀ reach₀ m₀ chart ends reach m = n - m
 
 pub take_all_spec : {M : Type 1} → statement M
 take_all_spec = tie.close (tie.spec
     invariant-loop decreases-loop (λ c. fill-zero _ _ _ _) (λ c κs. (omega arith, omega arith, search rules, search rules)) (λ c. omega arith)
-    (λ c κs. search rules) (λ c. omega arith) (λ c. search fill-go) (λ c. c.before.loop.invariant.long) (λ c. search fill-taken))
+    (λ c κs. search rules) (λ c. omega arith) (λ c. search fill-go) (λ c. c.before.loop-m.invariant.long) (λ c. search fill-taken))

@@ -8,17 +8,17 @@ use Rattle.fill_holders.proofs.Ending.{ending-start, ending-step, ending-done}
 use Rattle.fill_holders.proofs.ending_rules.Statement.{statement}
 use Rattle.fill_holders.proofs.ending_rules.Tie as tie
 
-abbrev invariant-loop : tie.invariant-loop
+abbrev invariant-loop : tie.invariant-loop-r
 invariant-loop p rules lasts s₀ r₀ s r = (r ≤ rules) × EndingRules p r lasts s
 
-abbrev decreases-loop : tie.decreases-loop
+abbrev decreases-loop : tie.decreases-loop-r
 decreases-loop p rules lasts s₀ r₀ s r = rules - r
 
-loop-holds : tie.Need-loop-init invariant-loop decreases-loop
+loop-holds : tie.Need-loop-r-init invariant-loop decreases-loop
 loop-holds c = (omega arith, search ending-start)
 
-loop-again : tie.Need-loop-preserved invariant-loop decreases-loop
-loop-again c = (omega arith, search (ending-step, c.with-if.ensures, c.before.ends.ensures))
+loop-again : tie.Need-loop-r-preserved invariant-loop decreases-loop
+loop-again c = (omega arith, search (ending-step, c.with_if-s.ensures, c.before.ends.ensures))
 
 returns : tie.Need-returns invariant-loop decreases-loop
 returns c = search ending-done

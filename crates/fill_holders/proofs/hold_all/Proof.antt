@@ -8,19 +8,19 @@ use Rattle.fill_holders.proofs.Holding.{all_start, all-step, all_done}
 use Rattle.fill_holders.proofs.hold_all.Statement.{statement}
 use Rattle.fill_holders.proofs.hold_all.Tie as tie
 
-abbrev invariant-loop : tie.invariant-loop
+abbrev invariant-loop : tie.invariant-loop-r
 invariant-loop rules kinds holders₀ r₀ holders r = (r ≤ rules) × HeldAll r kinds holders
 
-abbrev decreases-loop : tie.decreases-loop
+abbrev decreases-loop : tie.decreases-loop-r
 decreases-loop rules kinds holders₀ r₀ holders r = rules - r
 
-loop-holds : tie.Need-loop-init invariant-loop decreases-loop
+loop-holds : tie.Need-loop-r-init invariant-loop decreases-loop
 loop-holds c = (omega arith, search all_start)
 
 hold-requires : tie.Need-hold-requires invariant-loop decreases-loop
 hold-requires c κs = (omega arith, search rules)
 
-loop-again : tie.Need-loop-preserved invariant-loop decreases-loop
+loop-again : tie.Need-loop-r-preserved invariant-loop decreases-loop
 loop-again c = (omega arith, search all-step)
 
 returns : tie.Need-returns invariant-loop decreases-loop

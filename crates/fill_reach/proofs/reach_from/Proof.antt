@@ -1,22 +1,24 @@
 -- `fill_reach::reach_from` meets its contract. The loop's invariant: the set has the ends passed. The measure is what is left of them.
 -- Assumes nothing.
 use Prim.Native.Nat.{◌-◌, ◌≤◌}
-use mathlib.Core.Logic.{⊎_elim}
 use native.Mathlib.Omega.{arith}
 use borrow.Author.Rules.{rules}
 use Rattle.fill_reach.specs.Reach.{ReachFrom}
 use Rattle.fill_reach.proofs.Reaching.{from_start, from-put, from-none, from_end}
+use Rattle.fill_reach.proofs.reach_from.Lts.Came-Joined-chart-i-ne0.{then-chart-i-ne0, else-chart-i-ne0}
 use Rattle.fill_reach.proofs.reach_from.Statement.{statement}
 use Rattle.fill_reach.proofs.reach_from.Tie as tie
 
-abbrev invariant-loop : tie.invariant-loop
+abbrev invariant-loop : tie.invariant-loop-c
 invariant-loop chart i n ends₀ c₀ ends c = (c ≤ n) × ReachFrom chart i c ends
 
-abbrev decreases-loop : tie.decreases-loop
+abbrev decreases-loop : tie.decreases-loop-c
 decreases-loop chart i n ends₀ c₀ ends c = n - c
 
-loop-again : tie.Need-loop-preserved invariant-loop decreases-loop
-loop-again c = ⊎_elim (λ w. (search rules, search (rules, from-put))) (λ w. (search rules, search (rules, from-none))) c.if1.branch
+loop-again : tie.Need-loop-c-preserved invariant-loop decreases-loop
+loop-again c = elim c.if-chart-i-ne0.branch [
+    then-chart-i-ne0 w ↦ (search rules, search (rules, from-put))
+    | else-chart-i-ne0 w ↦ (search rules, search (rules, from-none)) ]
 
 pub reach_from_spec : {M : Type 1} → statement M
 reach_from_spec = tie.close (tie.spec

@@ -8,10 +8,10 @@ use Rattle.fill_reach.proofs.Reaching.{reaches-start, reaches_step, reaches_end}
 use Rattle.fill_reach.proofs.reaches.Statement.{statement}
 use Rattle.fill_reach.proofs.reaches.Tie as tie
 
-abbrev invariant-loop : tie.invariant-loop
+abbrev invariant-loop : tie.invariant-loop-i
 invariant-loop chart n reach₀ i₀ reach i = (i ≤ n) × ReachesBefore chart n i reach
 
-abbrev decreases-loop : tie.decreases-loop
+abbrev decreases-loop : tie.decreases-loop-i
 decreases-loop chart n reach₀ i₀ reach i = n - i
 
 pub reaches_spec : {M : Type 1} → statement M

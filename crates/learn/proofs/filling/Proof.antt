@@ -10,19 +10,19 @@ prefix : tie.Need-array-share-prefix-bytes
 prefix c =
     let entry = c.before.before.before in
     let copied = c.before.front in
-    front_fits (state_in entry.args.h) _ (bytes-long entry.args.h _ entry.well-formed.0) entry.requires.1 copied.ensures
+    front_fits (state_in entry.args.h) _ (bytes-long entry.args.h _ entry.well_formed.0) entry.requires.1 copied.ensures
 
 slice : tie.Need-slice-aggregate-fill
 slice c =
     let entry = c.before.before.before.before in
     let copied = c.before.before.front in
-    front-part (state_in entry.args.h) _ (bytes-long entry.args.h _ entry.well-formed.0) entry.requires.1 copied.ensures
+    front-part (state_in entry.args.h) _ (bytes-long entry.args.h _ entry.well_formed.0) entry.requires.1 copied.ensures
 
 fill-requires : tie.Need-fill-requires
 fill-requires c κs =
     let entry = c.before.before.before.before.before in
     let copied = c.before.before.before.front in
-    let part = front-part (state_in entry.args.h) _ (bytes-long entry.args.h _ entry.well-formed.0) entry.requires.1 copied.ensures in
+    let part = front-part (state_in entry.args.h) _ (bytes-long entry.args.h _ entry.well_formed.0) entry.requires.1 copied.ensures in
     (entry.requires.0, omega (arith, part, entry.requires.1), entry.requires.2)
 
 returns : tie.Need-returns
@@ -30,7 +30,7 @@ returns c =
     let filled = c.before.before.before.before in
     let entry = filled.before.before.before.before.before.before in
     let copied = filled.before.before.before.before.front in
-    filled-right (state_in entry.args.h) _ (bytes-long entry.args.h _ entry.well-formed.0) entry.requires.1 copied.ensures _ _ _ _
+    filled-right (state_in entry.args.h) _ (bytes-long entry.args.h _ entry.well_formed.0) entry.requires.1 copied.ensures _ _ _ _
     filled.fill.ensures.0 c.says.ensures
 
 pub filling_spec : {M : Type 1} → statement M

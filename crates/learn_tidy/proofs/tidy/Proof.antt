@@ -2,45 +2,46 @@
 -- records. Assumes nothing.
 use Prim.Native.Nat.{◌-◌, ◌≤◌}
 use native.Mathlib.Omega.{arith}
-use mathlib.Core.Logic.{⊎_elim}
 use mathlib.Core.Path.{◌≡◌, refl, ◌∙◌}
 use Rattle.sizes.specs.Sizes.{max_rules}
 use Rattle.grammar.proofs.Declared.{rules-long}
 use Rattle.learn_tidy.proofs.Cleared.{cleared_up_to, next-places, used_step, unused-step, records-done}
+use Rattle.learn_tidy.proofs.tidy.Lts.Came-Joined-i-n.{then-i-n, else-i-n}
 use Rattle.learn_tidy.proofs.tidy.Statement.{statement}
 use Rattle.learn_tidy.proofs.tidy.Tie as tie
 
-abbrev invariant-loop : tie.invariant-loop
+abbrev invariant-loop : tie.invariant-loop-i
 invariant-loop h₀ n i₀ h i = (i ≤ max_rules) × (h ≡ cleared_up_to h₀ i)
 
-abbrev decreases-loop : tie.decreases-loop
+abbrev decreases-loop : tie.decreases-loop-i
 decreases-loop h₀ n i₀ h i = max_rules - i
 
 tidy-rule-requires : tie.Need-tidy-rule-requires invariant-loop decreases-loop
 tidy-rule-requires c κs =
     let l = c.before.before.before in
     let entry = l.before in
-    next-places entry.args.g (rules-long entry.args.g _ entry.well-formed.0) entry.requires _ _ (omega arith) l.loop.invariant.1
+    next-places entry.args.g (rules-long entry.args.g _ entry.well_formed.0) entry.requires _ _ (omega arith) l.loop-i.invariant.1
     (omega arith)
 
-loop-again : tie.Need-loop-preserved invariant-loop decreases-loop
+loop-again : tie.Need-loop-i-preserved invariant-loop decreases-loop
 loop-again c =
     let l = c.before.before in
     let entry = l.before in
-    let long = rules-long entry.args.g _ entry.well-formed.0 in (
+    let long = rules-long entry.args.g _ entry.well_formed.0 in (
       omega arith,
-      ⊎_elim
-          (λ w. w.3 ∙ used_step entry.args.g long entry.requires _ _ (omega arith) l.loop.invariant.1 w.0.taken _ w.2.ensures)
-          (λ w. w.2 ∙ unused-step entry.args.g long entry.requires _ _ (omega arith) l.loop.invariant.1 w.0.left _ w.1.ensures)
-          c.if1.branch,
+      elim c.if1.branch [
+          then-i-n w ↦ w.h-is
+              ∙ used_step entry.args.g long entry.requires _ _ (omega arith) l.loop-i.invariant.1 w.if1.true _ w.tidy_rule.ensures
+          | else-i-n w ↦ w.h-is
+              ∙ unused-step entry.args.g long entry.requires _ _ (omega arith) l.loop-i.invariant.1 w.if1.false _ w.zero_rule.ensures ],
     )
 
 returns : tie.Need-returns invariant-loop decreases-loop
 returns c =
     let l = c.before in
     let entry = l.before in
-    records-done entry.args.g (rules-long entry.args.g _ entry.well-formed.0) entry.requires _ l.loop.i (omega arith)
-    l.loop.invariant.1
+    records-done entry.args.g (rules-long entry.args.g _ entry.well_formed.0) entry.requires _ l.loop-i.i (omega arith)
+    l.loop-i.invariant.1
 
 pub tidy_spec : {M : Type 1} → statement M
 tidy_spec = tie.close (tie.spec

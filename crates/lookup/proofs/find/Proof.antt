@@ -8,10 +8,10 @@ use Rattle.lookup.proofs.Walk.{Walk, walk_first, walk-ended, never-unknown, walk
 use Rattle.lookup.proofs.find.Statement.{statement}
 use Rattle.lookup.proofs.find.Tie as tie
 
-abbrev invariant-loop : tie.invariant-loop
+abbrev invariant-loop : tie.invariant-loop-at
 invariant-loop bytes rule at₀ rules₀ at rules = Walk bytes rule at rules
 
-abbrev decreases-loop : tie.decreases-loop
+abbrev decreases-loop : tie.decreases-loop-at
 decreases-loop bytes rule at₀ rules₀ at rules = length bytes - at
 
 pub find_spec : {M : Type 1} → statement M

@@ -10,18 +10,18 @@ use Rattle.names.proofs.Valid.{rest_of, first-refused, first_passes, byte-refuse
 use Rattle.names.proofs.valid_name.Statement.{statement}
 use Rattle.names.proofs.valid_name.Tie as tie
 
-abbrev invariant-loop : tie.invariant-loop
+abbrev invariant-loop : tie.invariant-loop-i
 invariant-loop name ended₀ i₀ ended i = (i ≤ name_size) × (length name ≡ name_size) × (valid_name name ≡ rest_of ended (drop i name))
 
-abbrev decreases-loop : tie.decreases-loop
+abbrev decreases-loop : tie.decreases-loop-i
 decreases-loop name ended₀ i₀ ended i = name_size - i
 
-returns : tie.Need-returns invariant-loop decreases-loop
-returns c = let size = c.before.before.well-formed.0.1.0.1 in search first-refused
+returns : tie.Need-returns-then-not-name_byte invariant-loop decreases-loop
+returns c = let size = c.before.before.well_formed.0.1.0.1 in search first-refused
 
-loop-holds : tie.Need-loop-init invariant-loop decreases-loop
+loop-holds : tie.Need-loop-i-init invariant-loop decreases-loop
 loop-holds c =
-    let size = c.before.before.well-formed.0.1.0.1 in
+    let size = c.before.before.well_formed.0.1.0.1 in
     (omega arith, size, search first_passes)
 
 pub valid_name_spec : {M : Type 1} → statement M

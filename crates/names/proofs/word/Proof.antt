@@ -6,7 +6,7 @@ use Rattle.names.proofs.word.Statement.{statement}
 use Rattle.names.proofs.word.Tie as tie
 
 returns : tie.Need-returns
-returns c = let size = c.before.before.well-formed.0.1.0.1 in search word-halves
+returns c = let size = c.before.before.well_formed.0.1.0.1 in search word-halves
 
 pub word_spec : {M : Type 1} → statement M
 word_spec = tie.close (tie.spec

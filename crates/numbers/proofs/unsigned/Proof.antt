@@ -6,7 +6,7 @@ use Rattle.numbers.proofs.unsigned.Tie as tie
 
 pub unsigned_spec : {M : Type 1} → statement M
 unsigned_spec = tie.close (tie.spec
-    (λ c. flip-fits _ c.before.ranges.z c.if1.true) (λ c. flip-casts _ c.before.ranges.z c.if1.true)
-    (λ c. omega (arith, flip-below c.before.args.z c.before.ranges.z c.if1.true))
-    (λ c. natural_casts _ c.before.ranges.z c.if1.false) (λ c. unsigned_negative _ c.before.ranges.z c.if1.true)
-    (λ c. unsigned-natural _ c.before.ranges.z c.if1.false))
+    (λ c. flip-fits _ c.before.ranges.z c.if-z-lt0.true) (λ c. flip-casts _ c.before.ranges.z c.if-z-lt0.true)
+    (λ c. omega (arith, flip-below c.before.args.z c.before.ranges.z c.if-z-lt0.true))
+    (λ c. natural_casts _ c.before.ranges.z c.if-z-lt0.false) (λ c. unsigned_negative _ c.before.ranges.z c.if-z-lt0.true)
+    (λ c. unsigned-natural _ c.before.ranges.z c.if-z-lt0.false))

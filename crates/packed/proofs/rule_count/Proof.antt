@@ -9,10 +9,10 @@ use Prim.Native.Nat.{◌≤◌}
 use Rattle.packed.proofs.rule_count.Statement.{statement}
 use Rattle.packed.proofs.rule_count.Tie as tie
 
-abbrev invariant-loop : tie.invariant-loop
+abbrev invariant-loop : tie.invariant-loop-m
 invariant-loop p m₀ m = (m ≤ max_rules) × Used p m
 
-abbrev decreases-loop : tie.decreases-loop
+abbrev decreases-loop : tie.decreases-loop-m
 decreases-loop p m₀ m = m
 
 pub rule_count_spec : {M : Type 1} → statement M

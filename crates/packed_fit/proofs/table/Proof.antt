@@ -8,14 +8,14 @@ use Rattle.packed_fit.proofs.Tables.{TableTo, table-start, table_step, table_don
 use Rattle.packed_fit.proofs.table.Statement.{statement}
 use Rattle.packed_fit.proofs.table.Tie as tie
 
-abbrev invariant-loop : tie.invariant-loop
+abbrev invariant-loop : tie.invariant-loop-r
 invariant-loop p w n rules t₀ r₀ t r = (r ≤ rules) × TableTo p w n fit_size r t
 
-abbrev decreases-loop : tie.decreases-loop
+abbrev decreases-loop : tie.decreases-loop-r
 decreases-loop p w n rules t₀ r₀ t r = rules - r
 
 pub table_spec : {M : Type 1} → statement M
 table_spec = tie.close (tie.spec
     invariant-loop decreases-loop (λ c κs. omega arith) (λ c κs. omega arith) (λ c. (omega arith, table-start _ _ _))
-    (λ c κs. (omega arith, search rules, c.before.before.loop.invariant.1.put.long)) (λ c. omega arith) (λ c. omega arith)
+    (λ c κs. (omega arith, search rules, c.before.before.loop-r.invariant.1.put.long)) (λ c. omega arith) (λ c. omega arith)
     (λ c. (omega arith, search table_step)) (λ c. search table_done))

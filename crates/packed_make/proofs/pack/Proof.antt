@@ -10,10 +10,10 @@ use Rattle.packed_make.proofs.Rows.{Rows, rows_start, rows-free, rows_step, rows
 use Rattle.packed_make.proofs.pack.Statement.{statement}
 use Rattle.packed_make.proofs.pack.Tie as tie
 
-abbrev invariant-loop : tie.invariant-loop
+abbrev invariant-loop : tie.invariant-loop-r
 invariant-loop year g p₀ n r₀ p r = (r ≤ n) × (n ≤ max_rules) × Rows g year r p
 
-abbrev decreases-loop : tie.decreases-loop
+abbrev decreases-loop : tie.decreases-loop-r
 decreases-loop year g p₀ n r₀ p r = n - r
 
 pub pack_spec : {M : Type 1} → statement M

@@ -9,27 +9,27 @@ use Rattle.packed_make.proofs.Row.{Row, row-start, row_step, row_done}
 use Rattle.packed_make.proofs.pack_rule.Statement.{statement}
 use Rattle.packed_make.proofs.pack_rule.Tie as tie
 
-abbrev invariant-loop : tie.invariant-loop
+abbrev invariant-loop : tie.invariant-loop-q
 invariant-loop r p₀ rule n q₀ p q = (q ≤ n) × (n ≤ max_places) × Row rule r q p₀ p
 
-abbrev decreases-loop : tie.decreases-loop
+abbrev decreases-loop : tie.decreases-loop-q
 decreases-loop r p₀ rule n q₀ p q = n - q
 
-loop-again : tie.Need-loop-preserved invariant-loop decreases-loop
+loop-again : tie.Need-loop-q-preserved invariant-loop decreases-loop
 loop-again c =
     let at_value = c.before in
     let at_tag = at_value.before in
     let in-loop = at_tag.before.before.before in (
       omega arith,
       omega arith,
-      row_step _ _ in-loop.before.requires.0 _ _ _ _ _ _ (omega arith) in-loop.loop.invariant.2 at_tag.tag_of.ensures
+      row_step _ _ in-loop.before.requires.0 _ _ _ _ _ _ (omega arith) in-loop.loop-q.invariant.2 at_tag.tag_of.ensures
           at_value.value_of_lem.ensures c.high-of.ensures,
     )
 
 returns : tie.Need-returns invariant-loop decreases-loop
 returns c =
     row_done _ _ _ c.before.before.args.p.now _ (search places-long)
-    c.before.before.requires.1 (omega arith) c.before.loop.invariant.2
+    c.before.before.requires.1 (omega arith) c.before.loop-q.invariant.2
 
 pub pack_rule_spec : {M : Type 1} → statement M
 pack_rule_spec = tie.close (tie.spec

@@ -8,7 +8,7 @@ use Rattle.points.proofs.point.Tie as tie
 
 returns-2 : tie.Need-returns-2
 returns-2 c =
-    no_name c.before.args.t1.points c.before.args.name (points-long c.before.args.t1 _ c.before.well-formed.0) (omega arith)
+    no_name c.before.args.h.points c.before.args.name (points-long c.before.args.h _ c.before.well_formed.0) (omega arith)
 
 pub point_spec : {M : Type 1} → statement M
 point_spec = tie.close (tie.spec (λ c. omega arith) (λ c κs. omega arith) (λ c. search rules) returns-2)

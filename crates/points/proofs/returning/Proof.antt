@@ -9,7 +9,7 @@ returns : tie.Need-returns
 returns c =
     let cleared = c.before.before.before.before.before in
     let entry = cleared.before.before.before in
-    return-right _ _ _ _ entry.requires.0 entry.requires.1 entry.requires.2 _ _ _ _ (points-long entry.args.h _ entry.well-formed.0)
+    return-right _ _ _ _ entry.requires.0 entry.requires.1 entry.requires.2 _ _ _ _ (points-long entry.args.h _ entry.well_formed.0)
     entry.requires.3 c.back.ensures cleared.clear-after.ensures c.before.says.ensures
 
 pub returning_spec : {M : Type 1} → statement M

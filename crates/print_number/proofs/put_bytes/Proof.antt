@@ -9,10 +9,10 @@ use Rattle.print_number.proofs.Writing.{put-none, bytes-step, bytes-done}
 use Rattle.print_number.proofs.put_bytes.Statement.{statement}
 use Rattle.print_number.proofs.put_bytes.Tie as tie
 
-abbrev invariant-loop : tie.invariant-loop
+abbrev invariant-loop : tie.invariant-loop-i
 invariant-loop s at out₀ n i₀ out i = (i ≤ length s) × Put (take i s) at (at + i) out₀ out
 
-abbrev decreases-loop : tie.decreases-loop
+abbrev decreases-loop : tie.decreases-loop-i
 decreases-loop s at out₀ n i₀ out i = length s - i
 
 pub put_bytes_spec : {M : Type 1} → statement M

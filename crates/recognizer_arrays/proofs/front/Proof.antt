@@ -10,23 +10,23 @@ use Prim.Native.Nat.{◌≤◌, ◌-◌}
 use Rattle.recognizer_arrays.proofs.front.Statement.{statement}
 use Rattle.recognizer_arrays.proofs.front.Tie as tie
 
-abbrev invariant-loop : tie.invariant-loop
+abbrev invariant-loop : tie.invariant-loop-i
 invariant-loop n bytes copy₀ i₀ copy i = (i ≤ n) × (copy ≡ take i bytes ++ drop i (replicate max_input 0))
 
-abbrev decreases-loop : tie.decreases-loop
+abbrev decreases-loop : tie.decreases-loop-i
 decreases-loop n bytes copy₀ i₀ copy i = n - i
 
-loop-again : tie.Need-loop-preserved invariant-loop decreases-loop
+loop-again : tie.Need-loop-i-preserved invariant-loop decreases-loop
 loop-again c =
     let l = c.before in
-    (omega arith, bytes-step max_input l.before.args.t1 l.before.well-formed.0.1.0.1 _ _ (omega arith) l.loop.invariant.1)
+    (omega arith, bytes-step max_input l.before.args.bytes l.before.well_formed.0.1.0.1 _ _ (omega arith) l.loop-i.invariant.1)
 
 returns : tie.Need-returns invariant-loop decreases-loop
 returns c =
     let l = c.before in
     let entry = l.before in
-    bytes-done max_input entry.args.t1 entry.well-formed.0.1.0.1 l.loop.i entry.args.n _ (omega arith) (omega arith)
-    l.loop.invariant.1
+    bytes-done max_input entry.args.bytes entry.well_formed.0.1.0.1 l.loop-i.i entry.args.n _ (omega arith) (omega arith)
+    l.loop-i.invariant.1
 
 pub front_spec : {M : Type 1} → statement M
 front_spec = tie.close (tie.spec

@@ -8,30 +8,30 @@ use Rattle.recognizer_arrays.proofs.Within.{point-past, points-next, all-within}
 use Rattle.recognizer_arrays.proofs.past.Statement.{statement}
 use Rattle.recognizer_arrays.proofs.past.Tie as tie
 
-abbrev invariant-loop : tie.invariant-loop
+abbrev invariant-loop : tie.invariant-loop-i
 invariant-loop n points i₀ i = (k : ℕ) → k < i → get_or points k 0 ≤ n + 1
 
-abbrev decreases-loop : tie.decreases-loop
+abbrev decreases-loop : tie.decreases-loop-i
 decreases-loop n points i₀ i = max_points - i
 
 returns : tie.Need-returns invariant-loop decreases-loop
 returns c =
     let l = c.before.before.before in
     let entry = l.before in
-    point-past entry.args.n entry.args.t1 entry.requires l.loop.i _ c.before.wide-byte.ensures.0 (omega arith)
+    point-past entry.args.n entry.args.points entry.requires l.loop-i.i _ c.before.wide-byte.ensures.0 (omega arith)
 
-loop-again : tie.Need-loop-preserved invariant-loop decreases-loop
+loop-again : tie.Need-loop-i-preserved invariant-loop decreases-loop
 loop-again c =
     let l = c.before.before.before in
     let entry = l.before in
-    points-next entry.args.n entry.args.t1 entry.requires l.loop.i _ c.before.wide-byte.ensures.0 (omega arith)
-    l.loop.invariant
+    points-next entry.args.n entry.args.points entry.requires l.loop-i.i _ c.before.wide-byte.ensures.0 (omega arith)
+    l.loop-i.invariant
 
 returns-2 : tie.Need-returns-2 invariant-loop decreases-loop
 returns-2 c =
     let l = c.before in
     let entry = l.before in
-    all-within entry.args.n entry.args.t1 entry.requires _ entry.well-formed.0.1.0.1 (omega arith) l.loop.invariant
+    all-within entry.args.n entry.args.points entry.requires _ entry.well_formed.0.1.0.1 (omega arith) l.loop-i.invariant
 
 pub past_spec : {M : Type 1} → statement M
 past_spec = tie.close (tie.spec

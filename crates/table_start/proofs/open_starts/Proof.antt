@@ -8,11 +8,11 @@ use Rattle.table_start.proofs.Columns.{opened-start, opened-step, opened-end}
 use Rattle.table_start.proofs.open_starts.Statement.{statement}
 use Rattle.table_start.proofs.open_starts.Tie as tie
 
-abbrev invariant-loop : tie.invariant-loop
+abbrev invariant-loop : tie.invariant-loop-r
 invariant-loop p rules fits tables nothing over rows₀ live₀ r₀ rows live r =
     (r ≤ rules) × StartsOpened p r fits tables nothing over.reach over.i over.j rows₀ live₀ rows live
 
-abbrev decreases-loop : tie.decreases-loop
+abbrev decreases-loop : tie.decreases-loop-r
 decreases-loop p rules fits tables nothing over rows₀ live₀ r₀ rows live r = rules - r
 
 pub open_starts_spec : {M : Type 1} → statement M

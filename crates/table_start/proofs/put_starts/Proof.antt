@@ -8,10 +8,10 @@ use Rattle.table_start.proofs.Columns.{starts-start, starts-step, starts-end}
 use Rattle.table_start.proofs.put_starts.Statement.{statement}
 use Rattle.table_start.proofs.put_starts.Tie as tie
 
-abbrev invariant-loop : tie.invariant-loop
+abbrev invariant-loop : tie.invariant-loop-r
 invariant-loop p rules fits tables full i j rows₀ r₀ rows r = (r ≤ rules) × StartsPut p r fits tables full i j rows₀ rows
 
-abbrev decreases-loop : tie.decreases-loop
+abbrev decreases-loop : tie.decreases-loop-r
 decreases-loop p rules fits tables full i j rows₀ r₀ rows r = rules - r
 
 pub put_starts_spec : {M : Type 1} → statement M

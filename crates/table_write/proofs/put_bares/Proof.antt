@@ -8,10 +8,10 @@ use Rattle.table_write.proofs.Written.{bares-start, bares-step, bares-end}
 use Rattle.table_write.proofs.put_bares.Statement.{statement}
 use Rattle.table_write.proofs.put_bares.Tie as tie
 
-abbrev invariant-loop : tie.invariant-loop
+abbrev invariant-loop : tie.invariant-loop-r
 invariant-loop rules i j rows tables₀ r₀ tables r = (r ≤ rules) × BaresPut r i j rows tables₀ tables
 
-abbrev decreases-loop : tie.decreases-loop
+abbrev decreases-loop : tie.decreases-loop-r
 decreases-loop rules i j rows tables₀ r₀ tables r = rules - r
 
 pub put_bares_spec : {M : Type 1} → statement M

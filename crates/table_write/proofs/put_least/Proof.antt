@@ -8,10 +8,10 @@ use Rattle.table_write.proofs.Written.{least_start, least_step, least-end}
 use Rattle.table_write.proofs.put_least.Statement.{statement}
 use Rattle.table_write.proofs.put_least.Tie as tie
 
-abbrev invariant-loop : tie.invariant-loop
+abbrev invariant-loop : tie.invariant-loop-k
 invariant-loop full i j tables₀ k₀ tables k = (k ≤ 32) × LeastBefore full i j k tables₀ tables
 
-abbrev decreases-loop : tie.decreases-loop
+abbrev decreases-loop : tie.decreases-loop-k
 decreases-loop full i j tables₀ k₀ tables k = 32 - k
 
 pub put_least_spec : {M : Type 1} → statement M

@@ -7,10 +7,10 @@ use Rattle.tree_size.proofs.Counts.{Counted, counted_start, counted_step, counte
 use Rattle.tree_size.proofs.children.Statement.{statement}
 use Rattle.tree_size.proofs.children.Tie as tie
 
-abbrev invariant-loop : tie.invariant-loop
+abbrev invariant-loop : tie.invariant-loop-q
 invariant-loop p r count n₀ q₀ n q = (q ≤ count) × (n ≤ q) × Counted p r q n
 
-abbrev decreases-loop : tie.decreases-loop
+abbrev decreases-loop : tie.decreases-loop-q
 decreases-loop p r count n₀ q₀ n q = count - q
 
 pub children_spec : {M : Type 1} → statement M

@@ -8,10 +8,10 @@ use Rattle.tree_size.proofs.Walk.{Walked, walked_start, walked_step, sized-full,
 use Rattle.tree_size.proofs.size.Statement.{statement}
 use Rattle.tree_size.proofs.size.Tie as tie
 
-abbrev invariant-loop : tie.invariant-loop
+abbrev invariant-loop : tie.invariant-loop-todo
 invariant-loop p buf at todo₀ n₀ todo n = (at + n ≤ max_nodes) × (todo ≤ 8 * (n + 1)) × Walked p buf at n todo
 
-abbrev decreases-loop : tie.decreases-loop
+abbrev decreases-loop : tie.decreases-loop-todo
 decreases-loop p buf at todo₀ n₀ todo n = max_nodes - n
 
 pub size_spec : {M : Type 1} → statement M

@@ -8,10 +8,10 @@ use Rattle.words_length.proofs.Sums.{SumTo, sum-start, sum-next, sum_done}
 use Rattle.words_length.proofs.text_length.Statement.{statement}
 use Rattle.words_length.proofs.text_length.Tie as tie
 
-abbrev invariant-loop : tie.invariant-loop
+abbrev invariant-loop : tie.invariant-loop-i
 invariant-loop names p n e nodes m₀ i₀ m i = (i ≤ nodes) × (nodes ≡ length e / 2) × SumTo names p e n i m
 
-abbrev decreases-loop : tie.decreases-loop
+abbrev decreases-loop : tie.decreases-loop-i
 decreases-loop names p n e nodes m₀ i₀ m i = nodes - i
 
 pub text_length_spec : {M : Type 1} → statement M

@@ -11,11 +11,11 @@ use Rattle.words_text.proofs.Names.{unnamed-passed, unnamed-no, unnamed-yes}
 use Rattle.words_text.proofs.is_unnamed.Statement.{statement}
 use Rattle.words_text.proofs.is_unnamed.Tie as tie
 
-abbrev invariant-loop : tie.invariant-loop
+abbrev invariant-loop : tie.invariant-loop-i
 invariant-loop names r at i₀ i = (length names ≡ names_size) × (at ≡ name_size * r) × (i ≤ name_size)
     × (unnamed (name_in names r) ≡ unnamed (drop i (name_in names r)))
 
-abbrev decreases-loop : tie.decreases-loop
+abbrev decreases-loop : tie.decreases-loop-i
 decreases-loop names r at i₀ i = name_size - i
 
 pub is_unnamed_spec : {M : Type 1} → statement M

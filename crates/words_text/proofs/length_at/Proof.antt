@@ -10,11 +10,11 @@ use Rattle.words_text.proofs.Names.{filled-passed, filled-here, filled_none}
 use Rattle.words_text.proofs.length_at.Statement.{statement}
 use Rattle.words_text.proofs.length_at.Tie as tie
 
-abbrev invariant-loop : tie.invariant-loop
+abbrev invariant-loop : tie.invariant-loop-i
 invariant-loop bytes at i₀ i = (i ≤ name_size)
     × (length (unfilled (take name_size (drop at bytes))) ≡ i + length (unfilled (drop i (take name_size (drop at bytes)))))
 
-abbrev decreases-loop : tie.decreases-loop
+abbrev decreases-loop : tie.decreases-loop-i
 decreases-loop bytes at i₀ i = name_size - i
 
 pub length_at_spec : {M : Type 1} → statement M

@@ -7,10 +7,10 @@ use Rattle.c_grammar.proofs.Whole.{Begins, begins-first, begins-more, begins-who
 use Rattle.c_grammar.proofs.read.read.Statement.{statement}
 use Rattle.c_grammar.proofs.read.read.Tie as tie
 
-abbrev invariant-loop : tie.invariant-loop
+abbrev invariant-loop : tie.invariant-loop-r
 invariant-loop f start count depth g₀ r₀ g r = Begins f r g
 
-abbrev decreases-loop : tie.decreases-loop
+abbrev decreases-loop : tie.decreases-loop-r
 decreases-loop f start count depth g₀ r₀ g r = max_rules - r
 
 pub read_spec : {M : Type 1} → statement M

@@ -9,15 +9,15 @@ use Rattle.c_grammar.proofs.Records.{Read, read-start, read_step, read_done}
 use Rattle.c_grammar.proofs.read.read_name.Statement.{statement}
 use Rattle.c_grammar.proofs.read.read_name.Tie as tie
 
-abbrev invariant-loop : tie.invariant-loop
+abbrev invariant-loop : tie.invariant-loop-k
 invariant-loop f at name₀ k₀ name k = Read (row_byte f) 1 at name_size k name
 
-abbrev decreases-loop : tie.decreases-loop
+abbrev decreases-loop : tie.decreases-loop-k
 decreases-loop f at name₀ k₀ name k = name_size - k
 
-loop-again : tie.Need-loop-preserved invariant-loop decreases-loop
+loop-again : tie.Need-loop-k-preserved invariant-loop decreases-loop
 loop-again c =
-    let loop = c.before.before.before.loop in
+    let loop = c.before.before.before.loop-k in
     read_step _ _ _ _ _ loop.k _ _ loop.invariant (omega arith) c.byte.ensures (omega arith)
 
 pub read_name_spec : {M : Type 1} → statement M

@@ -9,10 +9,10 @@ use Rattle.c_grammar.proofs.Records.{Read, read-start, read_step, read_done}
 use Rattle.c_grammar.proofs.read.read_places.Statement.{statement}
 use Rattle.c_grammar.proofs.read.read_places.Tie as tie
 
-abbrev invariant-loop : tie.invariant-loop
+abbrev invariant-loop : tie.invariant-loop-q
 invariant-loop f at places₀ q₀ places q = Read (row_place f) 2 at max_places q places
 
-abbrev decreases-loop : tie.decreases-loop
+abbrev decreases-loop : tie.decreases-loop-q
 decreases-loop f at places₀ q₀ places q = max_places - q
 
 pub read_places_spec : {M : Type 1} → statement M

@@ -11,21 +11,21 @@ use Rattle.c_grammar.proofs.Written.{Written, written_start, written_step, gramm
 use Rattle.c_grammar.proofs.write.write.Statement.{statement}
 use Rattle.c_grammar.proofs.write.write.Tie as tie
 
-abbrev invariant-loop : tie.invariant-loop
+abbrev invariant-loop : tie.invariant-loop-r
 invariant-loop f₀ g r₀ f r = Written flat_rule rule_numbers 3 g.rules max_rules f₀ r f
 
-abbrev decreases-loop : tie.decreases-loop
+abbrev decreases-loop : tie.decreases-loop-r
 decreases-loop f₀ g r₀ f r = max_rules - r
 
-loop-holds : tie.Need-loop-init invariant-loop decreases-loop
+loop-holds : tie.Need-loop-r-init invariant-loop decreases-loop
 loop-holds c =
     let entry = c.before.before in
-    written_start _ _ _ _ _ _ (rules-long entry.args.t1 _ entry.well-formed.0) (simp (length-set, length-replicate) refl)
+    written_start _ _ _ _ _ _ (rules-long entry.args.g _ entry.well_formed.0) (simp (length-set, length-replicate) refl)
 
 returns : tie.Need-returns invariant-loop decreases-loop
 returns c =
     grammar-done _ (replicate flat_size 0) _ _ _ (length-replicate {A = ℕ} flat_size 0) (omega arith) c.before.before.saturate.ensures
-    c.before.loop.invariant
+    c.before.loop-r.invariant
 
 pub write_spec : {M : Type 1} → statement M
 write_spec = tie.close (tie.spec

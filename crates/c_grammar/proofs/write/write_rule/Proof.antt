@@ -9,7 +9,7 @@ use Rattle.c_grammar.proofs.write.write_rule.Tie as tie
 returns : tie.Need-returns
 returns c =
     let entry = c.before.before.before.before.before.before.before.before in
-    let fits = length-fits entry.args.rule _ entry.well-formed.0 in
+    let fits = length-fits entry.args.rule _ entry.well_formed.0 in
     (search rule-done, c.write-rest.ensures.1)
 
 pub write_rule_spec : {M : Type 1} → statement M

@@ -9,10 +9,10 @@ use Rattle.checker.proofs.Used.{used-passed, next-found, next-none}
 use Rattle.checker.proofs.build.next_used.Statement.{statement}
 use Rattle.checker.proofs.build.next_used.Tie as tie
 
-abbrev invariant-loop : tie.invariant-loop
+abbrev invariant-loop : tie.invariant-loop-r
 invariant-loop e i n r₀ r = (i ≤ r) × (n ≡ length e / 2) × (used_from e i ≡ used_from e r)
 
-abbrev decreases-loop : tie.decreases-loop
+abbrev decreases-loop : tie.decreases-loop-r
 decreases-loop e i n r₀ r = n - r
 
 pub next_used_spec : {M : Type 1} → statement M

@@ -8,10 +8,10 @@ use Rattle.checker.proofs.Used.{Comparing, comparing-start, second-ends, rules-d
 use Rattle.checker.proofs.build.same_rules.Statement.{statement}
 use Rattle.checker.proofs.build.same_rules.Tie as tie
 
-abbrev invariant-loop : tie.invariant-loop
+abbrev invariant-loop : tie.invariant-loop-i
 invariant-loop a b n m i₀ j₀ i j = (n ≡ length a / 2) × (m ≡ length b / 2) × Comparing a b i j
 
-abbrev decreases-loop : tie.decreases-loop
+abbrev decreases-loop : tie.decreases-loop-i
 decreases-loop a b n m i₀ j₀ i j = n - i
 
 pub same_rules_spec : {M : Type 1} → statement M

@@ -10,12 +10,12 @@ use Rattle.fill_columns.proofs.Writing.{LowerTo, lower-start, lower-step, lower-
 use Rattle.fill_columns.proofs.write.lower_cells.Statement.{statement}
 use Rattle.fill_columns.proofs.write.lower_cells.Tie as tie
 
-abbrev invariant-loop : tie.invariant-loop
+abbrev invariant-loop : tie.invariant-loop-i
 invariant-loop p rules fits n ends reach lasts kinds chart₀ starts₀ live₀ insides₀ flags₀ made₀ i₀ chart starts live insides flags made i =
     (i ≤ n) × (length insides ≡ max_rules) × (length flags ≡ max_rules) × (length made ≡ max_rules)
     × LowerTo p fits rules n ends reach lasts chart₀ starts₀ live₀ i chart starts live
 
-abbrev decreases-loop : tie.decreases-loop
+abbrev decreases-loop : tie.decreases-loop-i
 decreases-loop p rules fits n ends reach lasts kinds chart₀ starts₀ live₀ insides₀ flags₀ made₀ i₀ chart starts live insides flags made i = i
 
 pub lower_cells_spec : {M : Type 1} → statement M

@@ -10,14 +10,14 @@ use Rattle.fill_empty.proofs.Gather.{KindsTo, kinds-start, kinds-step, kinds-don
 use Rattle.fill_empty.proofs.kinds.kinds_of.Statement.{statement}
 use Rattle.fill_empty.proofs.kinds.kinds_of.Tie as tie
 
-abbrev invariant-loop : tie.invariant-loop
+abbrev invariant-loop : tie.invariant-loop-q
 invariant-loop p r last count v₀ q₀ v q = (q ≤ count) × (count ≡ place_count p r) × (count ≤ max_places) × KindsTo p r last q v
 
-abbrev decreases-loop : tie.decreases-loop
+abbrev decreases-loop : tie.decreases-loop-q
 decreases-loop p r last count v₀ q₀ v q = count - q
 
 pub kinds_of_spec : {M : Type 1} → statement M
 kinds_of_spec = tie.close (tie.spec
-    invariant-loop decreases-loop (λ c κs. omega arith) (λ c. (omega arith, c.count.ensures.0, c.count.ensures.1, kinds-start _ _ _))
+    invariant-loop decreases-loop (λ c κs. omega arith) (λ c. (omega arith, c.count-count.ensures.0, c.count-count.ensures.1, kinds-start _ _ _))
     (λ c κs. (omega arith, omega arith)) (λ c. omega arith) (λ c. omega arith)
-    (λ c. (omega arith, search rules, omega arith, search kinds-step)) (λ c. kinds-done _ _ _ _ _ (omega arith) c.before.loop.invariant.3))
+    (λ c. (omega arith, search rules, omega arith, search kinds-step)) (λ c. kinds-done _ _ _ _ _ (omega arith) c.before.loop-q.invariant.3))

@@ -6,10 +6,10 @@ use Rattle.fill_empty.proofs.Nothing.{EmptyReached, reached-start, reached-step,
 use Rattle.fill_empty.proofs.span.closure.Statement.{statement}
 use Rattle.fill_empty.proofs.span.closure.Tie as tie
 
-abbrev invariant-loop : tie.invariant-loop
+abbrev invariant-loop : tie.invariant-loop-own
 invariant-loop p rules lasts₀ own₀ lasts own = (own < 2 ^ 32) × EmptyReached p own lasts
 
-abbrev decreases-loop : tie.decreases-loop
+abbrev decreases-loop : tie.decreases-loop-own
 decreases-loop p rules lasts₀ own₀ lasts own = 2 ^ 32 - own
 
 pub closure_spec : {M : Type 1} → statement M

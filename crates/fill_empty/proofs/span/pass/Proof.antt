@@ -7,10 +7,10 @@ use Rattle.fill_empty.proofs.Nothing.{empty-start, empty-step, empty-done}
 use Rattle.fill_empty.proofs.span.pass.Statement.{statement}
 use Rattle.fill_empty.proofs.span.pass.Tie as tie
 
-abbrev invariant-loop : tie.invariant-loop
+abbrev invariant-loop : tie.invariant-loop-r
 invariant-loop p rules own lasts₀ v₀ r₀ lasts v r = (r ≤ rules) × EmptyPassed p r own v lasts
 
-abbrev decreases-loop : tie.decreases-loop
+abbrev decreases-loop : tie.decreases-loop-r
 decreases-loop p rules own lasts₀ v₀ r₀ lasts v r = rules - r
 
 pub pass_spec : {M : Type 1} → statement M

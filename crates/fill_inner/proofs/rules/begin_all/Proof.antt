@@ -6,19 +6,19 @@ use Rattle.fill_inner.proofs.Rule.{AllTo, all_start, all-step, all_done}
 use Rattle.fill_inner.proofs.rules.begin_all.Statement.{statement}
 use Rattle.fill_inner.proofs.rules.begin_all.Tie as tie
 
-abbrev invariant-loop : tie.invariant-loop
+abbrev invariant-loop : tie.invariant-loop-r
 invariant-loop p rules fits i n ends starts reach live lasts insides₀ r₀ insides r =
     (r ≤ rules) × AllTo p rules i n fits ends starts reach live lasts r insides
 
-abbrev decreases-loop : tie.decreases-loop
+abbrev decreases-loop : tie.decreases-loop-r
 decreases-loop p rules fits i n ends starts reach live lasts insides₀ r₀ insides r = rules - r
 
-loop-again : tie.Need-loop-preserved invariant-loop decreases-loop
+loop-again : tie.Need-loop-r-preserved invariant-loop decreases-loop
 loop-again c =
     let at-word = c.before.before.before in (
       omega arith,
-      all-step _ _ _ _ _ _ _ _ _ _ _ _ _ _ (omega arith) at-word.wide_word.ensures c.begins-near.ensures
-          at-word.before.before.before.loop.invariant.1,
+      all-step _ _ _ _ _ _ _ _ _ _ _ _ _ _ (omega arith) at-word.wide_word.ensures c.begins_near.ensures
+          at-word.before.before.before.loop-r.invariant.1,
     )
 
 pub begin_all_spec : {M : Type 1} → statement M

@@ -8,19 +8,19 @@ use Prim.Native.Nat.{◌≤◌}
 use Rattle.fill_rule.proofs.passes.rule_mask.Statement.{statement}
 use Rattle.fill_rule.proofs.passes.rule_mask.Tie as tie
 
-abbrev invariant-loop : tie.invariant-loop
+abbrev invariant-loop : tie.invariant-loop-q
 invariant-loop p r ended empty own inner last q₀ v₀ q v =
     (q ≤ place_count p r) × (place_count p r ≤ max_places) × MaskFrom p r ended empty own inner last q v
 
-abbrev decreases-loop : tie.decreases-loop
+abbrev decreases-loop : tie.decreases-loop-q
 decreases-loop p r ended empty own inner last q₀ v₀ q v = q
 
-loop-again : tie.Need-loop-preserved invariant-loop decreases-loop
+loop-again : tie.Need-loop-q-preserved invariant-loop decreases-loop
 loop-again c = (
   omega arith,
   omega arith,
-  mask-from-step _ _ _ _ _ _ _ _ _ _ _ _ (omega arith) (omega arith) c.before.place-cuts.ensures c.with-if2.ensures
-      c.before.before.before.loop.invariant.2,
+  mask-from-step _ _ _ _ _ _ _ _ _ _ _ _ (omega arith) (omega arith) c.before.place_cuts.ensures c.with_if-v-in-loop-q.ensures
+      c.before.before.before.loop-q.invariant.2,
 )
 
 pub rule_mask_spec : {M : Type 1} → statement M

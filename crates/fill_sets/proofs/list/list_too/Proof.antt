@@ -5,16 +5,16 @@ use Rattle.fill_sets.proofs.Listing.{too-same, apart_low, apart-high, too-both}
 use Rattle.fill_sets.proofs.list.list_too.Statement.{statement}
 use Rattle.fill_sets.proofs.list.list_too.Tie as tie
 
-returns : tie.Need-returns
+returns : tie.Need-returns-then-same
 returns c = search too-same
 
-list-word-requires : tie.Need-list-word-requires
+list-word-requires : tie.Need-list_word-low-requires
 list-word-requires c κs = (omega arith, search apart_low, search rules)
 
-list-word-requires-2 : tie.Need-list-word-requires-2
+list-word-requires-2 : tie.Need-list_word-requires
 list-word-requires-2 c κs = (omega arith, search apart-high, search rules)
 
-returns-2 : tie.Need-returns-2
+returns-2 : tie.Need-returns
 returns-2 c = search too-both
 
 pub list_too_spec : {M : Type 1} → statement M

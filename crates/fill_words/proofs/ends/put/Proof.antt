@@ -5,8 +5,8 @@ use Rattle.fill_words.proofs.Putting.{cell-put, cell-empty}
 use Rattle.fill_words.proofs.ends.put.Statement.{statement}
 use Rattle.fill_words.proofs.ends.put.Tie as tie
 
-returns : tie.Need-returns
-returns c = cell-put _ _ _ _ _ (search rules) _ _ (search rules) (search rules) c.before.before.with.ensures c.put-members.ensures
+returns : tie.Need-returns-then-word-ne0
+returns c = cell-put _ _ _ _ _ (search rules) _ _ (search rules) (search rules) c.before.before.with.ensures c.put_members.ensures
 
 pub put_spec : {M : Type 1} → statement M
 put_spec = tie.close (tie.spec

@@ -7,10 +7,10 @@ use Rattle.fill_words.proofs.Telling.{Steps, steps-start, steps-cell, steps-put}
 use Rattle.fill_words.proofs.ends.put_column.Statement.{statement}
 use Rattle.fill_words.proofs.ends.put_column.Tie as tie
 
-abbrev invariant-loop : tie.invariant-loop
+abbrev invariant-loop : tie.invariant-loop-i
 invariant-loop b chart ends₀ reach₀ i₀ ends reach i = (i ≤ b) × Steps chart b ends₀ reach₀ b i ends reach
 
-abbrev decreases-loop : tie.decreases-loop
+abbrev decreases-loop : tie.decreases-loop-i
 decreases-loop b chart ends₀ reach₀ i₀ ends reach i = b - i
 
 pub put_column_spec : {M : Type 1} → statement M

@@ -7,10 +7,10 @@ use Rattle.fill_words.proofs.Telling.{Steps, steps-start, steps-column, steps-do
 use Rattle.fill_words.proofs.ends.put_columns.Statement.{statement}
 use Rattle.fill_words.proofs.ends.put_columns.Tie as tie
 
-abbrev invariant-loop : tie.invariant-loop
+abbrev invariant-loop : tie.invariant-loop-b
 invariant-loop n chart ends₀ reach₀ b₀ ends reach b = (b ≤ n) × Steps chart 0 ends₀ reach₀ b 0 ends reach
 
-abbrev decreases-loop : tie.decreases-loop
+abbrev decreases-loop : tie.decreases-loop-b
 decreases-loop n chart ends₀ reach₀ b₀ ends reach b = n - b
 
 pub put_columns_spec : {M : Type 1} → statement M

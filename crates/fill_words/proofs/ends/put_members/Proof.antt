@@ -6,10 +6,10 @@ use Rattle.fill_words.proofs.Putting.{PutTo, put-start, put_step, put-done, rest
 use Rattle.fill_words.proofs.ends.put_members.Statement.{statement}
 use Rattle.fill_words.proofs.ends.put_members.Tie as tie
 
-abbrev invariant-loop : tie.invariant-loop
+abbrev invariant-loop : tie.invariant-loop-rest
 invariant-loop i b word ends₀ rest₀ ends rest = PutTo i b word ends₀ rest ends
 
-abbrev decreases-loop : tie.decreases-loop
+abbrev decreases-loop : tie.decreases-loop-rest
 decreases-loop i b word ends₀ rest₀ ends rest = rest
 
 pub put_members_spec : {M : Type 1} → statement M

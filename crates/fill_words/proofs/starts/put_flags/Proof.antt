@@ -7,10 +7,10 @@ use Rattle.fill_words.proofs.Starting.{FlagsTo, flags-start, flags-step, flags-d
 use Rattle.fill_words.proofs.starts.put_flags.Statement.{statement}
 use Rattle.fill_words.proofs.starts.put_flags.Tie as tie
 
-abbrev invariant-loop : tie.invariant-loop
+abbrev invariant-loop : tie.invariant-loop-r
 invariant-loop p rules i flags starts₀ live₀ r₀ starts live r = (r ≤ rules) × FlagsTo p rules i flags starts₀ live₀ r starts live
 
-abbrev decreases-loop : tie.decreases-loop
+abbrev decreases-loop : tie.decreases-loop-r
 decreases-loop p rules i flags starts₀ live₀ r₀ starts live r = rules - r
 
 pub put_flags_spec : {M : Type 1} → statement M

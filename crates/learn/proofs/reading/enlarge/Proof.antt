@@ -23,7 +23,7 @@ decreases-loop old bytes words₀ g₀ at₀ words g at = length bytes - at
 loop-holds : tie.Need-loop-init invariant-loop decreases-loop
 loop-holds c =
     let entry = c.before.before.before.before in
-    progress-first entry.args.old _ _ _ (rules-long entry.args.old _ entry.well-formed.0) entry.requires (omega arith) (search rules)
+    progress-first entry.args.old _ _ _ (rules-long entry.args.old _ entry.well_formed.0) entry.requires (omega arith) (search rules)
     c.before.words_of.ensures c.tidy.ensures
 
 empty : tie.Need-returns invariant-loop decreases-loop

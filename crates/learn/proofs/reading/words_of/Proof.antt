@@ -15,26 +15,26 @@ use Rattle.learn.proofs.NameWords.{words-next, words-done}
 use Rattle.learn.proofs.reading.words_of.Statement.{statement}
 use Rattle.learn.proofs.reading.words_of.Tie as tie
 
-abbrev invariant-loop : tie.invariant-loop
+abbrev invariant-loop : tie.invariant-loop-i
 invariant-loop g n words₀ i₀ words i =
     (i ≤ n) × (n ≤ max_rules) × (words ≡ take i (name_words (tidied g)) ++ drop i (replicate max_rules 0))
 
-abbrev decreases-loop : tie.decreases-loop
+abbrev decreases-loop : tie.decreases-loop-i
 decreases-loop g n words₀ i₀ words i = n - i
 
-loop-again : tie.Need-loop-preserved invariant-loop decreases-loop
+loop-again : tie.Need-loop-i-preserved invariant-loop decreases-loop
 loop-again c =
     let l = c.before.before.before.before in
     let entry = l.before in
-    let long = rules-long entry.args.t1 _ entry.well-formed.0 in
-    (omega arith, omega arith, words-next entry.args.t1 long entry.requires _ _ _ (omega arith) c.word.ensures l.loop.invariant.2)
+    let long = rules-long entry.args.g _ entry.well_formed.0 in
+    (omega arith, omega arith, words-next entry.args.g long entry.requires _ _ _ (omega arith) c.word.ensures l.loop-i.invariant.2)
 
 returns : tie.Need-returns invariant-loop decreases-loop
 returns c =
     let l = c.before in
     let entry = l.before in
-    let long = rules-long entry.args.t1 _ entry.well-formed.0 in
-    words-done entry.args.t1 long entry.requires l.loop.i _ (omega arith) (omega arith) l.loop.invariant.2
+    let long = rules-long entry.args.g _ entry.well_formed.0 in
+    words-done entry.args.g long entry.requires l.loop-i.i _ (omega arith) (omega arith) l.loop-i.invariant.2
 
 pub words_of_spec : {M : Type 1} → statement M
 words_of_spec = tie.close (tie.spec

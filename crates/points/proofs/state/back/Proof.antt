@@ -13,7 +13,7 @@ use Rattle.points.proofs.state.back.Tie as tie
 returns : tie.Need-returns
 returns c =
     let entry = c.before.before in
-    front-state _ (bytes-long entry.args.h _ entry.well-formed.0) _ _ _ _ entry.requires c.before.front.ensures
+    front-state _ (bytes-long entry.args.h _ entry.well_formed.0) _ _ _ _ entry.requires c.before.front.ensures
     ∙ ap (λ (points : List ℕ). hand_of (take entry.args.n entry.args.h.bytes) points entry.args.h.year)
     c.points-up-to.ensures
 

@@ -25,7 +25,7 @@ returns-2 c =
     let after-judge = passed.before.before in
     let entry = after-judge.before.before.before.before in
     input-begun _ _ _ _ _ after-judge.judge.ensures passed.enum_told.given.1 _ _ after-fill.fill-fits.ensures.0 _
-    after-start.wide-byte2.ensures.0 _ after-lengths.lengths-of.ensures (rules-long entry.args.g _ entry.well-formed.0) _ _ _ _ _
+    after-start.wide-byte2.ensures.0 _ after-lengths.lengths-of.ensures (rules-long entry.args.g _ entry.well_formed.0) _ _ _ _ _
     begun.begin-filled.ensures
 
 fill-fits-requires : tie.Need-fill-fits-requires

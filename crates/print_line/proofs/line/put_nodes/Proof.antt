@@ -11,13 +11,13 @@ use Rattle.print_line.proofs.Lines.{nodes-step, nodes-done}
 use Rattle.print_line.proofs.line.put_nodes.Statement.{statement}
 use Rattle.print_line.proofs.line.put_nodes.Tie as tie
 
-abbrev invariant-loop : tie.invariant-loop
+abbrev invariant-loop : tie.invariant-loop-i
 invariant-loop e m at out₀ end₀ i₀ out end i = (i ≤ m) × Put (parts (take (2 * i) e)) at end out₀ out × (end ≤ at + node_size * i)
 
-abbrev decreases-loop : tie.decreases-loop
+abbrev decreases-loop : tie.decreases-loop-i
 decreases-loop e m at out₀ end₀ i₀ out end i = m - i
 
-loop-holds : tie.Need-loop-init invariant-loop decreases-loop
+loop-holds : tie.Need-loop-i-init invariant-loop decreases-loop
 unfolding parts
 loop-holds c = (omega arith, put-none _ _ _ (omega arith), omega arith)
 

@@ -11,23 +11,23 @@ use Rattle.recognizer.specs.Recognizer.{state_in}
 use Rattle.recognizer.proofs.state.invalid.Statement.{statement}
 use Rattle.recognizer.proofs.state.invalid.Tie as tie
 
-abbrev invariant-loop : tie.invariant-loop
+abbrev invariant-loop : tie.invariant-loop-i
 invariant-loop h n i₀ i = (k : ℕ) → k < i → get_or h.points k 0 ≤ n + 1
 
-abbrev decreases-loop : tie.decreases-loop
+abbrev decreases-loop : tie.decreases-loop-i
 decreases-loop h n i₀ i = max_points - i
 
-loop-again : tie.Need-loop-preserved invariant-loop decreases-loop
+loop-again : tie.Need-loop-i-preserved invariant-loop decreases-loop
 loop-again c =
     let at-loop = c.before.before.before.before in
-    points-next (state_in at-loop.before.before.args.t1) at-loop.loop.i _ c.before.wide-byte.ensures.0 (omega arith)
-    at-loop.loop.invariant
+    points-next (state_in at-loop.before.before.args.h) at-loop.loop-i.i _ c.before.wide-byte.ensures.0 (omega arith)
+    at-loop.loop-i.invariant
 
 returns-3 : tie.Need-returns-3 invariant-loop decreases-loop
 returns-3 c =
     let entry = c.before.before.before in
-    all-within (state_in entry.args.t1) _ (points-long entry.args.t1 _ entry.well-formed.0) (omega arith) (omega arith)
-    c.before.loop.invariant
+    all-within (state_in entry.args.h) _ (points-long entry.args.h _ entry.well_formed.0) (omega arith) (omega arith)
+    c.before.loop-i.invariant
 
 pub invalid_spec : {M : Type 1} → statement M
 invalid_spec = tie.close (tie.spec

@@ -11,26 +11,26 @@ use Rattle.recognizer_arrays.proofs.Remaining.{points-step, points-done}
 use Rattle.recognizer_arrays.proofs.kept.points_up_to.Statement.{statement}
 use Rattle.recognizer_arrays.proofs.kept.points_up_to.Tie as tie
 
-abbrev invariant-loop : tie.invariant-loop
+abbrev invariant-loop : tie.invariant-loop-i
 invariant-loop n points kept₀ i₀ kept i = (i ≤ max_points) × (kept ≡ take i (points_up_to n points) ++ drop i (replicate max_points 0))
 
-abbrev decreases-loop : tie.decreases-loop
+abbrev decreases-loop : tie.decreases-loop-i
 decreases-loop n points kept₀ i₀ kept i = max_points - i
 
-loop-again : tie.Need-loop-preserved invariant-loop decreases-loop
+loop-again : tie.Need-loop-i-preserved invariant-loop decreases-loop
 loop-again c =
     let l = c.before.before in
     let entry = l.before in (
       omega arith,
-      points-step entry.args.n entry.args.t1 entry.well-formed.0.1.0.1 _ _ _ (omega arith) c.kept-point.ensures
-          l.loop.invariant.1,
+      points-step entry.args.n entry.args.points entry.well_formed.0.1.0.1 _ _ _ (omega arith) c.kept-point.ensures
+          l.loop-i.invariant.1,
     )
 
 returns : tie.Need-returns invariant-loop decreases-loop
 returns c =
     let l = c.before in
     let entry = l.before in
-    points-done entry.args.n entry.args.t1 entry.well-formed.0.1.0.1 l.loop.i _ (omega arith) (omega arith) l.loop.invariant.1
+    points-done entry.args.n entry.args.points entry.well_formed.0.1.0.1 l.loop-i.i _ (omega arith) (omega arith) l.loop-i.invariant.1
 
 pub points_up_to_spec : {M : Type 1} → statement M
 points_up_to_spec = tie.close (tie.spec

@@ -8,11 +8,11 @@ use Rattle.table_all.proofs.Ending.{end-start, end_back, end-put}
 use Rattle.table_all.proofs.ends.put_end.Statement.{statement}
 use Rattle.table_all.proofs.ends.put_end.Tie as tie
 
-abbrev invariant-loop : tie.invariant-loop
+abbrev invariant-loop : tie.invariant-loop-i
 invariant-loop p rules fits chart empty nothing reach j tables₀ rows₀ live₀ i₀ tables rows live i =
     (i ≤ j) × EndFrom p rules fits chart i j tables₀ rows₀ tables rows live
 
-abbrev decreases-loop : tie.decreases-loop
+abbrev decreases-loop : tie.decreases-loop-i
 decreases-loop p rules fits chart empty nothing reach j tables₀ rows₀ live₀ i₀ tables rows live i = i
 
 -- what `put_span` requires: the span is proper, and by `nothing` no nonterminal covers it

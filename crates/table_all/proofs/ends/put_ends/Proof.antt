@@ -9,11 +9,11 @@ use Rattle.table_all.proofs.Ending.{ends-start, ends-step, ends-end}
 use Rattle.table_all.proofs.ends.put_ends.Statement.{statement}
 use Rattle.table_all.proofs.ends.put_ends.Tie as tie
 
-abbrev invariant-loop : tie.invariant-loop
+abbrev invariant-loop : tie.invariant-loop-j
 invariant-loop p rules fits chart empty n tables₀ none reach rows₀ j₀ tables rows j =
     (j ≤ n + 1) × EndsDone p rules fits chart empty n j tables₀ tables rows
 
-abbrev decreases-loop : tie.decreases-loop
+abbrev decreases-loop : tie.decreases-loop-j
 decreases-loop p rules fits chart empty n tables₀ none reach rows₀ j₀ tables rows j = n + 1 - j
 
 pub put_ends_spec : {M : Type 1} → statement M

@@ -9,11 +9,11 @@ use Rattle.table_cut.proofs.Ends.{ends-start, ends-step, ends_last}
 use Rattle.table_cut.proofs.suffix.over_ends.Statement.{statement}
 use Rattle.table_cut.proofs.suffix.over_ends.Tie as tie
 
-abbrev invariant-loop : tie.invariant-loop
+abbrev invariant-loop : tie.invariant-loop-c
 invariant-loop tables k a from b last rests at best₀ c₀ best c =
     (a ≤ c) × (best ≤ too_many) × EndsBefore tables k a from b last rests at c best
 
-abbrev decreases-loop : tie.decreases-loop
+abbrev decreases-loop : tie.decreases-loop-c
 decreases-loop tables k a from b last rests at best₀ c₀ best c = b - c
 
 pub over_ends_spec : {M : Type 1} → statement M

@@ -10,10 +10,10 @@ use Rattle.table_live.proofs.Marking.{Above, above-start, above-back, above-all}
 use Rattle.table_live.proofs.mark.stands.Statement.{statement}
 use Rattle.table_live.proofs.mark.stands.Tie as tie
 
-abbrev invariant-loop : tie.invariant-loop
+abbrev invariant-loop : tie.invariant-loop-q
 invariant-loop p r i rows q₀ q = (q ≤ max_places) × Above p r i rows q
 
-abbrev decreases-loop : tie.decreases-loop
+abbrev decreases-loop : tie.decreases-loop-q
 decreases-loop p r i rows q₀ q = q
 
 pub stands_spec : {M : Type 1} → statement M

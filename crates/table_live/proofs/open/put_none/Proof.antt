@@ -13,10 +13,10 @@ use Rattle.table_live.proofs.Marking.{none-start, none-step, none_end}
 use Rattle.table_live.proofs.open.put_none.Statement.{statement}
 use Rattle.table_live.proofs.open.put_none.Tie as tie
 
-abbrev invariant-loop : tie.invariant-loop
+abbrev invariant-loop : tie.invariant-loop-q
 invariant-loop p r i rows₀ count q₀ rows q = (count ≤ max_places) × (q ≤ count + 1) × (length rows ≡ all_rows) × NoneBefore p r i q rows₀ rows
 
-abbrev decreases-loop : tie.decreases-loop
+abbrev decreases-loop : tie.decreases-loop-q
 decreases-loop p r i rows₀ count q₀ rows q = count + 1 - q
 
 pub put_none_spec : {M : Type 1} → statement M

@@ -9,10 +9,10 @@ use Rattle.table_rule.proofs.Filling.{filled-start, filled-step, filled-end}
 use Rattle.table_rule.proofs.alone.fill_alone.Statement.{statement}
 use Rattle.table_rule.proofs.alone.fill_alone.Tie as tie
 
-abbrev invariant-loop : tie.invariant-loop
+abbrev invariant-loop : tie.invariant-loop-r
 invariant-loop p empty tables₀ r₀ tables r = (r ≤ max_rules) × AlonesFilled p empty r tables
 
-abbrev decreases-loop : tie.decreases-loop
+abbrev decreases-loop : tie.decreases-loop-r
 decreases-loop p empty tables₀ r₀ tables r = max_rules - r
 
 pub fill_alone_spec : {M : Type 1} → statement M

@@ -9,10 +9,10 @@ use Rattle.table_rule.proofs.Filling.{alone-start, alone-step, alone-end}
 use Rattle.table_rule.proofs.alone.put_alone.Statement.{statement}
 use Rattle.table_rule.proofs.alone.put_alone.Tie as tie
 
-abbrev invariant-loop : tie.invariant-loop
+abbrev invariant-loop : tie.invariant-loop-q
 invariant-loop p r empty tables₀ sum q₀ tables q = (q ≤ max_places) × AloneBefore p r empty q tables₀ tables
 
-abbrev decreases-loop : tie.decreases-loop
+abbrev decreases-loop : tie.decreases-loop-q
 decreases-loop p r empty tables₀ sum q₀ tables q = max_places - q
 
 pub put_alone_spec : {M : Type 1} → statement M

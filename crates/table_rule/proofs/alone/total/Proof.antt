@@ -8,10 +8,10 @@ use Rattle.table_rule.proofs.Sums.{Summed, summed-start, summed-step, summed-end
 use Rattle.table_rule.proofs.alone.total.Statement.{statement}
 use Rattle.table_rule.proofs.alone.total.Tie as tie
 
-abbrev invariant-loop : tie.invariant-loop
+abbrev invariant-loop : tie.invariant-loop-q
 invariant-loop p r full count sum₀ q₀ sum q = (q ≤ count) × (sum ≤ 65536 * q) × Summed (full_in full) p r q sum
 
-abbrev decreases-loop : tie.decreases-loop
+abbrev decreases-loop : tie.decreases-loop-q
 decreases-loop p r full count sum₀ q₀ sum q = count - q
 
 pub total_spec : {M : Type 1} → statement M

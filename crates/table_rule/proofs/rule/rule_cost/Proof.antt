@@ -8,10 +8,10 @@ use Rattle.table_rule.proofs.Through.{through-start, through-step, through-end}
 use Rattle.table_rule.proofs.rule.rule_cost.Statement.{statement}
 use Rattle.table_rule.proofs.rule.rule_cost.Tie as tie
 
-abbrev invariant-loop : tie.invariant-loop
+abbrev invariant-loop : tie.invariant-loop-q
 invariant-loop p r full tables bare count best₀ q₀ best q = (q ≤ count) × PlacesBefore p r full tables bare q best
 
-abbrev decreases-loop : tie.decreases-loop
+abbrev decreases-loop : tie.decreases-loop-q
 decreases-loop p r full tables bare count best₀ q₀ best q = count - q
 
 pub rule_cost_spec : {M : Type 1} → statement M

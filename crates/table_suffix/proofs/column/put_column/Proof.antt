@@ -11,15 +11,15 @@ use Rattle.table_suffix.proofs.Starts.{column-start, column-back, column-end}
 use Rattle.table_suffix.proofs.column.put_column.Statement.{statement}
 use Rattle.table_suffix.proofs.column.put_column.Tie as tie
 
-abbrev invariant-loop : tie.invariant-loop
+abbrev invariant-loop : tie.invariant-loop-q
 invariant-loop p r word tables full part rows₀ at count a q₀ rows q =
     (q ≤ count) × (length rows ≡ length rows₀) × (at + rows_size ≤ length rows)
     × ColumnFrom p r word tables full part.i a part.from part.j at q rows₀ rows
 
-abbrev decreases-loop : tie.decreases-loop
+abbrev decreases-loop : tie.decreases-loop-q
 decreases-loop p r word tables full part rows₀ at count a q₀ rows q = q
 
-loop-again : tie.Need-loop-preserved invariant-loop decreases-loop
+loop-again : tie.Need-loop-q-preserved invariant-loop decreases-loop
 loop-again c = (
   search rules,
   search rules,
@@ -39,4 +39,4 @@ put_column_spec = tie.close (tie.spec
     -- rows[at + sizes::SIDE * q + a]
     (λ c. omega arith) (λ c. omega arith) (λ c. omega arith) (λ c. omega arith) (λ c. omega arith)
     -- a turn, and the end
-    (λ c. omega arith) loop-again (λ c. simp length-set at c.before.loop.invariant.1) (λ c. search (rules, column-end)))
+    (λ c. omega arith) loop-again (λ c. simp length-set at c.before.loop-q.invariant.1) (λ c. search (rules, column-end)))

@@ -8,10 +8,10 @@ use Rattle.table_suffix.proofs.AllStarts.{rows_start, rows_back, rows_end}
 use Rattle.table_suffix.proofs.rows.put_rows.Statement.{statement}
 use Rattle.table_suffix.proofs.rows.put_rows.Tie as tie
 
-abbrev invariant-loop : tie.invariant-loop
+abbrev invariant-loop : tie.invariant-loop-a
 invariant-loop p r fits tables full i j rows₀ a₀ rows a = (i ≤ a) × (a ≤ j + 1) × RowsFrom p r fits tables full i a j rows
 
-abbrev decreases-loop : tie.decreases-loop
+abbrev decreases-loop : tie.decreases-loop-a
 decreases-loop p r fits tables full i j rows₀ a₀ rows a = a
 
 pub put_rows_spec : {M : Type 1} → statement M

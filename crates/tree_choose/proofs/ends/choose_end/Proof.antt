@@ -8,26 +8,26 @@ use Rattle.tree_choose.proofs.Chosen.{ends_none, ends_more, end-found, end_none}
 use Rattle.tree_choose.proofs.ends.choose_end.Statement.{statement}
 use Rattle.tree_choose.proofs.ends.choose_end.Tie as tie
 
-abbrev invariant-loop : tie.invariant-loop
+abbrev invariant-loop : tie.invariant-loop-b
 invariant-loop tables full k rows at budget i a from j b₀ b =
     (from ≤ b) × (b ≤ j + 1) × EndsTooCostly tables full k i a from j rows at budget b
 
-abbrev decreases-loop : tie.decreases-loop
+abbrev decreases-loop : tie.decreases-loop-b
 decreases-loop tables full k rows at budget i a from j b₀ b = j + 1 - b
 
-loop-again : tie.Need-loop-preserved invariant-loop decreases-loop
+loop-again : tie.Need-loop-b-preserved invariant-loop decreases-loop
 loop-again c =
     let after-piece = c.before.before.before in (
       omega arith,
       omega arith,
-      ends_more after-piece.piece.ensures c.before.sum.ensures (omega arith) after-piece.before.before.loop.invariant.2,
+      ends_more after-piece.piece.ensures c.before.sum.ensures (omega arith) after-piece.before.before.loop-b.invariant.2,
     )
 
 returns : tie.Need-returns invariant-loop decreases-loop
 returns c =
     let after-piece = c.before.before.before in
     end-found after-piece.piece.ensures c.before.sum.ensures (omega arith) (omega arith)
-    after-piece.before.before.loop.invariant.2
+    after-piece.before.before.loop-b.invariant.2
 
 pub choose_end_spec : {M : Type 1} → statement M
 choose_end_spec = tie.close (tie.spec

@@ -8,10 +8,10 @@ use Rattle.tree_choose.proofs.Chosen.{passed_none, passed-more, rule_found, rule
 use Rattle.tree_choose.proofs.rule.choose_rule.Statement.{statement}
 use Rattle.tree_choose.proofs.rule.choose_rule.Tie as tie
 
-abbrev invariant-loop : tie.invariant-loop
+abbrev invariant-loop : tie.invariant-loop-r
 invariant-loop p rules from k full tables budget i j r₀ r = RulesPassed p rules from k full tables i j budget r
 
-abbrev decreases-loop : tie.decreases-loop
+abbrev decreases-loop : tie.decreases-loop-r
 decreases-loop p rules from k full tables budget i j r₀ r = rules - r
 
 pub choose_rule_spec : {M : Type 1} → statement M

@@ -9,10 +9,10 @@ use Rattle.tree_read.proofs.Leaves.{leaves_none, leaves-more, leaves-not, leaves
 use Rattle.tree_read.proofs.look.only_terminals.Statement.{statement}
 use Rattle.tree_read.proofs.look.only_terminals.Tie as tie
 
-abbrev invariant-loop : tie.invariant-loop
+abbrev invariant-loop : tie.invariant-loop-q
 invariant-loop p r from m q₀ q = (from ≤ q) × LeavesIn p r from q
 
-abbrev decreases-loop : tie.decreases-loop
+abbrev decreases-loop : tie.decreases-loop-q
 decreases-loop p r from m q₀ q = m - q
 
 found : tie.Need-returns invariant-loop decreases-loop
@@ -20,19 +20,19 @@ found c =
     let d = c.before.before.before in (
       λ e. absurd (false≢true e),
       λ e. leaves-not d.before.args.p.now d.before.args.r c.before.is-nonterminal.ensures (search rules)
-          d.loop.invariant.0 (omega arith),
+          d.loop-q.invariant.0 (omega arith),
     )
 
 none : tie.Need-returns-2 invariant-loop decreases-loop
 none c = (
-  λ e. leaves_all c.before.before.args.p.now c.before.before.args.r c.before.loop.invariant.1 (omega arith),
+  λ e. leaves_all c.before.before.args.p.now c.before.before.args.r c.before.loop-q.invariant.1 (omega arith),
   λ e. absurd (true≢false e),
 )
 
-loop-again : tie.Need-loop-preserved invariant-loop decreases-loop
+loop-again : tie.Need-loop-q-preserved invariant-loop decreases-loop
 loop-again c =
     let d = c.before.before.before in
-    let L = leaves-more d.before.args.p.now d.before.args.r d.loop.invariant.1 c.before.is-nonterminal.ensures in
+    let L = leaves-more d.before.args.p.now d.before.args.r d.loop-q.invariant.1 c.before.is-nonterminal.ensures in
     (omega arith, L (search rules))
 
 pub only_terminals_spec : {M : Type 1} → statement M

@@ -9,17 +9,17 @@ use Rattle.words.proofs.NameRow.{NamesTo, names-start, names-next, names-room, n
 use Rattle.words.proofs.row.names_of.Statement.{statement}
 use Rattle.words.proofs.row.names_of.Tie as tie
 
-abbrev invariant-loop : tie.invariant-loop
+abbrev invariant-loop : tie.invariant-loop-r
 invariant-loop g names₀ at₀ r₀ names at r = (r ≤ max_rules) × NamesTo g.rules names at r
 
-abbrev decreases-loop : tie.decreases-loop
+abbrev decreases-loop : tie.decreases-loop-r
 decreases-loop g names₀ at₀ r₀ names at r = max_rules - r
 
 pub names_of_spec : {M : Type 1} → statement M
 names_of_spec = tie.close (tie.spec
     invariant-loop decreases-loop (λ c. (omega arith, names-start _ _ (search rules))) (λ c. omega arith) (λ c. omega arith) (λ c. omega arith)
-    (λ c κs. names-room _ _ _ _ c.before.before.before.loop.invariant.1 (omega arith))
+    (λ c κs. names-room _ _ _ _ c.before.before.before.loop-r.invariant.1 (omega arith))
     (λ c. omega arith) (λ c. omega arith) (λ c. let put = c.before in
-    (omega arith, names-next _ _ _ _ put.before.before.before.before.loop.invariant.1 _ _ (omega arith) put.put-name.ensures))
+    (omega arith, names-next _ _ _ _ put.before.before.before.before.loop-r.invariant.1 _ _ (omega arith) put.put-name.ensures))
     (λ c. let entry = c.before.before in
-    names-done _ _ _ _ c.before.loop.invariant.1 (rules-long entry.args.t1 _ entry.well-formed.0) (omega arith)))
+    names-done _ _ _ _ c.before.loop-r.invariant.1 (rules-long entry.args.g _ entry.well_formed.0) (omega arith)))
