@@ -26,7 +26,7 @@ loop-again c =
       omega arith,
       omega arith,
       cleared-step entry.args.r (places-long entry.args.r _ entry.well_formed.0) entry.requires _ _ _
-          (omega arith) (omega arith) c.zero-place.ensures l.loop-q.invariant.2,
+          (omega arith) (omega arith) c.zero_place.ensures l.loop-q.invariant.2,
     )
 
 returns : tie.Need-returns invariant-loop decreases-loop

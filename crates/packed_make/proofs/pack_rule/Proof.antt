@@ -23,7 +23,7 @@ loop-again c =
       omega arith,
       omega arith,
       row_step _ _ in-loop.before.requires.0 _ _ _ _ _ _ (omega arith) in-loop.loop-q.invariant.2 at_tag.tag_of.ensures
-          at_value.value_of_lem.ensures c.high-of.ensures,
+          at_value.value_of.ensures c.high_of.ensures,
     )
 
 returns : tie.Need-returns invariant-loop decreases-loop

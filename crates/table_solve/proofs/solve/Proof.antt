@@ -6,10 +6,10 @@ use Rattle.table_solve.proofs.Passing.{numbers-none, reached-none, solved-nothin
 use Rattle.table_solve.proofs.solve.Statement.{statement}
 use Rattle.table_solve.proofs.solve.Tie as tie
 
-abbrev invariant-loop : tie.invariant-loop
+abbrev invariant-loop : tie.invariant-loop-full
 invariant-loop p rules cell mask tables i j full₀ full = Numbers full × AllReached p mask tables i j full
 
-abbrev decreases-loop : tie.decreases-loop
+abbrev decreases-loop : tie.decreases-loop-full
 decreases-loop p rules cell mask tables i j full₀ full = total full
 
 pub solve_spec : {M : Type 1} → statement M

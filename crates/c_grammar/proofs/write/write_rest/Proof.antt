@@ -10,4 +10,4 @@ write_rest_spec = tie.close (tie.spec
     -- the years are stored
     (λ c. omega arith) (λ c. omega arith) (λ c. omega arith) (λ c. omega arith) (λ c. omega arith)
     -- `write_name` after them
-    (λ c. omega arith) (λ c κs. search rules) (λ c. (search rest-done, c.write-name.ensures.1)))
+    (λ c. omega arith) (λ c κs. search rules) (λ c. (search rest-done, c.write_name.ensures.1)))

@@ -10,7 +10,7 @@ returns : tie.Need-returns
 returns c =
     let entry = c.before.before.before.before.before.before.before.before in
     let fits = length-fits entry.args.rule _ entry.well_formed.0 in
-    (search rule-done, c.write-rest.ensures.1)
+    (search rule-done, c.write_rest.ensures.1)
 
 pub write_rule_spec : {M : Type 1} → statement M
 write_rule_spec = tie.close (tie.spec

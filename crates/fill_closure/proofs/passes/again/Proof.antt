@@ -8,11 +8,11 @@ use Rattle.fill_closure.proofs.States.{again-start, again-step, again-done}
 use Rattle.fill_closure.proofs.passes.again.Statement.{statement}
 use Rattle.fill_closure.proofs.passes.again.Tie as tie
 
-abbrev invariant-loop : tie.invariant-loop
+abbrev invariant-loop : tie.invariant-loop-r
 invariant-loop p rules insides lasts kinds flags₀ made₀ start own v₀ r₀ flags made v r =
     (r ≤ rules) × PassMade p rules start insides lasts kinds r own v flags made
 
-abbrev decreases-loop : tie.decreases-loop
+abbrev decreases-loop : tie.decreases-loop-r
 decreases-loop p rules insides lasts kinds flags₀ made₀ start own v₀ r₀ flags made v r = rules - r
 
 pub again_spec : {M : Type 1} → statement M

@@ -8,11 +8,11 @@ use Rattle.fill_closure.proofs.States.{closed-now}
 use Rattle.fill_closure.proofs.passes.closure.Statement.{statement}
 use Rattle.fill_closure.proofs.passes.closure.Tie as tie
 
-abbrev invariant-loop : tie.invariant-loop
+abbrev invariant-loop : tie.invariant-loop-own
 invariant-loop p rules start insides lasts kinds flags₀ made₀ own₀ flags made own =
     (own < 2 ^ 32) × PassState p rules start insides lasts kinds rules own flags made
 
-abbrev decreases-loop : tie.decreases-loop
+abbrev decreases-loop : tie.decreases-loop-own
 decreases-loop p rules start insides lasts kinds flags₀ made₀ own₀ flags made own = 2 ^ 32 - own
 
 pub closure_spec : {M : Type 1} → statement M

@@ -8,11 +8,11 @@ use Rattle.fill_closure.proofs.States.{state-start, first_step, first_done}
 use Rattle.fill_closure.proofs.passes.first.Statement.{statement}
 use Rattle.fill_closure.proofs.passes.first.Tie as tie
 
-abbrev invariant-loop : tie.invariant-loop
+abbrev invariant-loop : tie.invariant-loop-r
 invariant-loop p rules start insides lasts kinds flags₀ made₀ own₀ r₀ flags made own r =
     (r ≤ rules) × PassState p rules start insides lasts kinds r own flags made
 
-abbrev decreases-loop : tie.decreases-loop
+abbrev decreases-loop : tie.decreases-loop-r
 decreases-loop p rules start insides lasts kinds flags₀ made₀ own₀ r₀ flags made own r = rules - r
 
 pub first_spec : {M : Type 1} → statement M

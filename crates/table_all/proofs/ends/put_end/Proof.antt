@@ -16,7 +16,7 @@ abbrev decreases-loop : tie.decreases-loop-i
 decreases-loop p rules fits chart empty nothing reach j tables₀ rows₀ live₀ i₀ tables rows live i = i
 
 -- what `put_span` requires: the span is proper, and by `nothing` no nonterminal covers it
-span-proper : tie.Need-put-span-requires invariant-loop decreases-loop
+span-proper : tie.Need-put_span-requires invariant-loop decreases-loop
 span-proper c κs =
     let entry = c.before.before.before.before.before.before.before.before.before.before.before in
     (omega arith, omega arith, omega arith, entry.requires.2, omega arith, omega arith, omega arith)

@@ -25,7 +25,7 @@ loop-again c = (
   search rules,
   search rules,
   column-back _ _ _ _ _ _ _ _ _ _ _ _ _ _ (omega arith) (omega arith) (omega arith) (omega arith) (omega arith)
-      (search rules) c.before.before.contains.ensures (search rules) c.suffix-at.ensures,
+      (search rules) c.before.contains.ensures (search rules) c.suffix_at.ensures,
 )
 
 pub put_column_spec : {M : Type 1} → statement M

@@ -23,7 +23,7 @@ loop-again c =
       ends_more after-piece.piece.ensures c.before.sum.ensures (omega arith) after-piece.before.before.loop-b.invariant.2,
     )
 
-returns : tie.Need-returns invariant-loop decreases-loop
+returns : tie.Need-returns-then-sum-budget invariant-loop decreases-loop
 returns c =
     let after-piece = c.before.before.before in
     end-found after-piece.piece.ensures c.before.sum.ensures (omega arith) (omega arith)

@@ -6,8 +6,8 @@ use Rattle.tree_choose.proofs.look.look.Statement.{statement}
 use Rattle.tree_choose.proofs.look.look.Tie as tie
 
 -- the places after the node cost no more than the budget
-rest-within : tie.Need-overflow-sub-share
-rest-within c = omega (arith, c.before.before.before.choose-end.ensures.fits (omega arith))
+rest-within : tie.Need-overflow_sub-share
+rest-within c = omega (arith, c.before.before.before.choose_end-b.ensures.fits (omega arith))
 
 pub look_spec : {M : Type 1} → statement M
 look_spec = tie.close (tie.spec

@@ -5,34 +5,34 @@ use Rattle.tree_read.proofs.Reading.{look-end, look-byte, look-short, look-no-ro
 use Rattle.tree_read.proofs.look.look.Statement.{statement}
 use Rattle.tree_read.proofs.look.look.Tie as tie
 
-beyond : tie.Need-returns-3
+beyond : tie.Need-returns-then-c-j
 beyond c =
     let in-node = c.before.before.before.before in
-    look-beyond in-node.before.before.before.count.ensures.0 (omega arith) in-node.before.is-nonterminal.ensures
-    in-node.if2.true c.before.wide.ensures (omega arith)
+    look-beyond in-node.before.before.before.count-m.ensures.0 (omega arith) in-node.before.is_nonterminal.ensures
+    in-node.if-is_nonterminal.true c.before.wide-c.ensures (omega arith)
 
-last : tie.Need-returns-4
+last : tie.Need-returns-then-only_terminals
 last c =
     let after-wide = c.before.before.before.before in
     let in-node = after-wide.before.before.before in
-    look-last in-node.before.before.before.count.ensures.0 (omega arith) in-node.before.is-nonterminal.ensures
-    in-node.if2.true after-wide.wide.ensures c.before.before.value.ensures.0 (omega arith)
-    c.before.only-terminals.ensures (search rules)
+    look-last in-node.before.before.before.count-m.ensures.0 (omega arith) in-node.before.is_nonterminal.ensures
+    in-node.if-is_nonterminal.true after-wide.wide-c.ensures c.before.before.value-k.ensures.0 (omega arith)
+    c.before.only_terminals.ensures (search rules)
 
-node : tie.Need-returns-5
+node : tie.Need-returns-then-s-budget
 node c =
     let after-only = c.before.before.before in
     let after-wide = after-only.before.before.before in
     let in-node = after-wide.before.before.before in
-    look-node in-node.before.before.before.count.ensures.0 (omega arith) in-node.before.is-nonterminal.ensures
-    in-node.if2.true after-wide.wide.ensures after-only.before.value.ensures.0 (omega arith)
-    after-only.only-terminals.ensures (search rules) c.before.size.ensures (omega arith)
+    look-node in-node.before.before.before.count-m.ensures.0 (omega arith) in-node.before.is_nonterminal.ensures
+    in-node.if-is_nonterminal.true after-wide.wide-c.ensures after-only.before.value-k.ensures.0 (omega arith)
+    after-only.only_terminals.ensures (search rules) c.before.size-s.ensures (omega arith)
 
-large : tie.Need-returns-6
+large : tie.Need-returns-then-is_nonterminal
 large c =
     let in-node = c.before.before.before.before.before.before.before.before.before in
-    look-large in-node.before.before.before.count.ensures.0 (omega arith) in-node.before.is-nonterminal.ensures
-    in-node.if2.true c.before.size.ensures (omega arith)
+    look-large in-node.before.before.before.count-m.ensures.0 (omega arith) in-node.before.is_nonterminal.ensures
+    in-node.if-is_nonterminal.true c.before.size-s.ensures (omega arith)
 
 pub look_spec : {M : Type 1} → statement M
 look_spec = tie.close (tie.spec

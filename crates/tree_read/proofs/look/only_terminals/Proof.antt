@@ -15,15 +15,15 @@ invariant-loop p r from m q₀ q = (from ≤ q) × LeavesIn p r from q
 abbrev decreases-loop : tie.decreases-loop-q
 decreases-loop p r from m q₀ q = m - q
 
-found : tie.Need-returns invariant-loop decreases-loop
+found : tie.Need-returns-then-is_nonterminal invariant-loop decreases-loop
 found c =
     let d = c.before.before.before in (
       λ e. absurd (false≢true e),
-      λ e. leaves-not d.before.args.p.now d.before.args.r c.before.is-nonterminal.ensures (search rules)
+      λ e. leaves-not d.before.args.p.now d.before.args.r c.before.is_nonterminal.ensures (search rules)
           d.loop-q.invariant.0 (omega arith),
     )
 
-none : tie.Need-returns-2 invariant-loop decreases-loop
+none : tie.Need-returns invariant-loop decreases-loop
 none c = (
   λ e. leaves_all c.before.before.args.p.now c.before.before.args.r c.before.loop-q.invariant.1 (omega arith),
   λ e. absurd (true≢false e),
@@ -32,7 +32,7 @@ none c = (
 loop-again : tie.Need-loop-q-preserved invariant-loop decreases-loop
 loop-again c =
     let d = c.before.before.before in
-    let L = leaves-more d.before.args.p.now d.before.args.r d.loop-q.invariant.1 c.before.is-nonterminal.ensures in
+    let L = leaves-more d.before.args.p.now d.before.args.r d.loop-q.invariant.1 c.before.is_nonterminal.ensures in
     (omega arith, L (search rules))
 
 pub only_terminals_spec : {M : Type 1} → statement M
