@@ -2,7 +2,7 @@
  * The proved plate reader, for C (C99 or later) and C++, on x86-64 Linux. To build the library and a program over it, at the top of the
  * repository:
  *
- *     rt staticlib filbozseg
+ *     tools/make library
  *     gcc -std=c11 -O2 -Iinclude program.c target/staticlib/libfilbozseg.a -o program
  *
  * examples/hello.c is such a program.

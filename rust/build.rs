@@ -1,5 +1,5 @@
-//! Links the static library that `rt staticlib filbozseg` writes. It takes the library from the folder that FILBOZSEG_LIB_DIR names, or
-//! from ../target/staticlib. If the library cannot be linked, the build ends here with a message that says why.
+//! Links the static library that `tools/make library` writes. It takes the library from the folder that FILBOZSEG_LIB_DIR names, or from
+//! ../target/staticlib. If the library cannot be linked, the build ends here with a message that says why.
 use std::env;
 use std::path::{Path, PathBuf};
 
@@ -14,7 +14,7 @@ pub fn trouble(target: [&str; 3], archive: &Path) -> Option<String> {
     }
     if !archive.is_file() {
         return Some(format!(
-            "the proved library {} is not there: run `rt staticlib filbozseg` at the top of the repository, which writes \
+            "the proved library {} is not there: run `tools/make library` at the top of the repository, which writes \
              target/staticlib/libfilbozseg.a, or set FILBOZSEG_LIB_DIR to the folder that holds libfilbozseg.a",
             archive.display()
         ));

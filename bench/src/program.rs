@@ -78,7 +78,7 @@ pub fn program() {
     let both = programs();
     if let Some(missing) = both.iter().find(|path| !path.is_file()) {
         println!(
-            "\nPROGRAM: {} is not there: `rt check list`, and `cargo build --release --offline` here",
+            "\nPROGRAM: {} is not there: `tools/make program`, and `cargo build --release --offline` here",
             missing.display()
         );
         return;

@@ -64,7 +64,7 @@ fn two_at_once_prove_once() {
     std::fs::remove_file(checkout.path("hold")).expect("it is held");
     lists(&first.wait_with_output().expect("the first ends"));
     lists(&second.wait_with_output().expect("the second ends"));
-    assert_eq!((&*checkout.held("said"), &*checkout.held("calls")), (waits, "rt check\n"));
+    assert_eq!((&*checkout.held("said"), &*checkout.held("calls")), (waits, "rt run\n"));
 }
 
 /// Two that start together in a checkout where nothing is built.
@@ -75,7 +75,7 @@ fn two_from_nothing_build_once() {
     let (one, other) = (start(), start());
     lists(&one.wait_with_output().expect("the one ends"));
     lists(&other.wait_with_output().expect("the other ends"));
-    assert_eq!(checkout.held("calls"), "cargo build\nrt check\n");
+    assert_eq!(checkout.held("calls"), "cargo build\nrt run\n");
 }
 
 /// Where programs and sources are of one state, neither rt nor cargo is called.
@@ -85,11 +85,11 @@ fn nothing_is_built_again() {
     lists(&checkout.list(&["b.txt", "A"]));
     let again = checkout.list(&["b.txt", "A"]);
     lists(&again);
-    assert_eq!((&again.stderr[..], &*checkout.held("calls")), (&b""[..], "cargo build\nrt check\n"));
+    assert_eq!((&again.stderr[..], &*checkout.held("calls")), (&b""[..], "cargo build\nrt run\n"));
     for name in ["crates/other/src/lib.rt", "crates/list/must-fail/a.edit", "README.md"] {
         checkout.put(name, "no source of the programs");
         lists(&checkout.list(&["b.txt", "A"]));
-        assert_eq!(checkout.held("calls"), "cargo build\nrt check\n", "{name}");
+        assert_eq!(checkout.held("calls"), "cargo build\nrt run\n", "{name}");
     }
 }
 
@@ -99,9 +99,9 @@ fn other_sources_are_built() {
     let checkout = checkout();
     lists(&checkout.list(&["b.txt", "A"]));
     for (name, call) in [
-        ("crates/sizes/src/lib.rt", "rt check\n"),
-        ("crates/list/proofs/New.antt", "rt check\n"),
-        (".ci/toolchain", "rt check\n"),
+        ("crates/sizes/src/lib.rt", "rt run\n"),
+        ("crates/list/proofs/New.antt", "rt run\n"),
+        (".ci/toolchain", "rt run\n"),
         ("book/src/lib.rs", "cargo build\n"),
         ("cargo/Cargo.lock", "cargo build\n"),
     ] {
@@ -113,7 +113,7 @@ fn other_sources_are_built() {
     checkout.put("calls", "");
     std::fs::remove_file(checkout.path("crates/list/proofs/New.antt")).expect("it is there");
     lists(&checkout.list(&["b.txt", "A"]));
-    assert_eq!(checkout.held("calls"), "rt check\n");
+    assert_eq!(checkout.held("calls"), "rt run\n");
 }
 
 /// What cannot be built is not kept: the command fails, and builds again when it is called again.

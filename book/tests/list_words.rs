@@ -51,18 +51,18 @@ fn words_and_a_summary() {
 fn the_library_is_proved_for_it_once() {
     let checkout = checkout();
     checkout.list(&["b.txt", "A"]);
-    assert_eq!(checkout.held("calls"), "cargo build\nrt check\n");
+    assert_eq!(checkout.held("calls"), "cargo build\nrt run\n");
     for (name, call) in [
-        ("README.md", "rt staticlib\ncargo build\n"),
+        ("README.md", "rt lib\ncargo build\n"),
         ("README.md", ""),
         ("crates/other/src/lib.rt", ""),
         ("crates/only/must-fail/a.edit", ""),
         ("rust/tests/new.rs", ""),
-        ("crates/only/src/lib.rt", "rt staticlib\ncargo build\n"),
-        ("crates/list/src/lib.rt", "rt check\n"),
-        ("crates/sizes/src/lib.rt", "rt check\nrt staticlib\ncargo build\n"),
-        ("rust/src/lib.rs", "rt staticlib\ncargo build\n"),
-        ("rust/examples/words.rs", "rt staticlib\ncargo build\n"),
+        ("crates/only/src/lib.rt", "rt lib\ncargo build\n"),
+        ("crates/list/src/lib.rt", "rt run\n"),
+        ("crates/sizes/src/lib.rt", "rt run\nrt lib\ncargo build\n"),
+        ("rust/src/lib.rs", "rt lib\ncargo build\n"),
+        ("rust/examples/words.rs", "rt lib\ncargo build\n"),
         ("book/src/lib.rs", "cargo build\n"),
     ] {
         checkout.put("calls", "");

@@ -11,7 +11,7 @@ const HERE: [&str; 3] = ["x86_64", "linux", "64"];
 fn a_missing_archive_is_named_with_how_to_build_it() {
     let message = build::trouble(HERE, Path::new("/nowhere/libfilbozseg.a")).unwrap();
     assert!(message.starts_with("the proved library /nowhere/libfilbozseg.a is not there"), "{message}");
-    assert!(message.contains("`rt staticlib filbozseg`") && message.contains("FILBOZSEG_LIB_DIR"), "{message}");
+    assert!(message.contains("`tools/make library`") && message.contains("FILBOZSEG_LIB_DIR"), "{message}");
     assert!(build::trouble(HERE, Path::new(env!("CARGO_MANIFEST_DIR"))).is_some(), "a folder is no archive");
     assert_eq!(build::trouble(HERE, Path::new("Cargo.toml")), None, "any file is one, for the linker to judge");
 }

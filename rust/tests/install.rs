@@ -1,17 +1,19 @@
-//! `tools/install` into a temporary folder, with the proved archive and a stand-in for rt: what is installed, and the examples over it.
+//! `tools/install` into a temporary folder, with the proved archive and a stand-in for tools/make: what is installed, and the examples over
+//! it.
 use filbozseg::{CELLS, OUTPUT, ROW};
 use std::fs;
 use std::io::ErrorKind;
 use std::path::{Path, PathBuf};
 use std::process::{Command, Output};
 
-/// rt: each call is a line in the file `calls`. It hands out the archive and a program, or proves nothing if there is a file `unproved`.
-const RT: &str = r#"#!/bin/sh
-cd "$CHECKOUT" && echo "rt $*" >>calls
+/// tools/make: each call is a line in the file `calls`. It hands out the archive and a program, or proves nothing if there is a file
+/// `unproved`.
+const MAKE: &str = r#"#!/bin/sh
+cd "$CHECKOUT" && echo "make $*" >>calls
 [ ! -e unproved ] || { echo "rt: sizes NOT PROVED"; exit 1; }
 case $1 in
-staticlib) mkdir -p target/staticlib && cp "$ARCHIVE" target/staticlib ;;
-check) mkdir -p target/bin && printf '#!/bin/sh\necho listed\n' >target/bin/list ;;
+library) mkdir -p target/staticlib && cp "$ARCHIVE" target/staticlib ;;
+program) mkdir -p target/bin && printf '#!/bin/sh\necho listed\n' >target/bin/list ;;
 esac
 "#;
 
@@ -35,11 +37,11 @@ impl Checkout {
     fn new(name: &str) -> Checkout {
         let folder = PathBuf::from(env!("CARGO_TARGET_TMPDIR")).join(format!("install-{}-{name}", std::process::id()));
         fs::create_dir_all(&folder).expect("a folder");
-        let rt = folder.join("rt.text");
-        fs::write(&rt, RT).expect("a file");
+        let make = folder.join("make.text");
+        fs::write(&make, MAKE).expect("a file");
         // another program writes what is run, for a process that another test starts must not inherit it open for writing
         for (from, to) in [
-            (rt, "bin/rt"),
+            (make, "tools/make"),
             (top().join("tools/install"), "tools/install"),
             (top().join("include/filbozseg.h"), "include/filbozseg.h"),
         ] {
@@ -55,9 +57,8 @@ impl Checkout {
     /// Runs the command with these words in the checkout.
     fn install(&self, words: &[&str]) -> Output {
         let archives = std::env::var_os("FILBOZSEG_LIB_DIR").map_or(top().join("target/staticlib"), PathBuf::from);
-        let path = format!("{}:{}", self.path("bin").display(), std::env::var("PATH").expect("a path"));
         let mut command = Command::new(self.path("tools/install"));
-        command.env("PATH", path).env("CHECKOUT", &self.0).env("ARCHIVE", archives.join("libfilbozseg.a"));
+        command.env("CHECKOUT", &self.0).env("ARCHIVE", archives.join("libfilbozseg.a"));
         command.args(words).current_dir(&self.0).output().expect("tools/install runs")
     }
 
@@ -123,7 +124,7 @@ fn installed(name: &str) -> Checkout {
 #[test]
 fn it_is_proved_first_and_then_all_is_there() {
     let checkout = installed("all");
-    assert_eq!(fs::read_to_string(checkout.path("calls")).unwrap(), "rt staticlib filbozseg\nrt check list\n");
+    assert_eq!(fs::read_to_string(checkout.path("calls")).unwrap(), "make library\nmake program\n");
     let version = env!("CARGO_PKG_VERSION");
     let compatible = version.rsplit_once('.').unwrap().0;
     let due = [

@@ -12,7 +12,7 @@ cd "$CHECKOUT" && echo "${0##*/} $1" >>calls
 mkdir busy 2>/dev/null || { echo "rt: sizes NOT PROVED"; exit 1; }
 while [ -e hold ]; do sleep 0.01; done
 case $0 in
-*/rt) mkdir -p target/bin && cp lister target/bin/list && echo "rt: sizes proved (unchanged)" && echo "rt: list proved (1 s)" ;;
+*/rt) mkdir -p crates/list/out crates/filbozseg/out && cp lister crates/list/out/list && cp lister crates/filbozseg/out/libfilbozseg.a && echo "logic=proved functions=1" ;;
 */cargo) mkdir -p cargo/target/debug/examples && cp "$BOOK" cargo/target/debug/book && cp writer cargo/target/debug/examples/words ;;
 esac
 status=$?
@@ -43,9 +43,10 @@ impl Checkout {
     pub fn new() -> Checkout {
         static NUMBER: AtomicUsize = AtomicUsize::new(0);
         let number = NUMBER.fetch_add(1, Ordering::Relaxed);
-        let path = PathBuf::from(env!("CARGO_TARGET_TMPDIR")).join(format!("checkout-{}-{number}", std::process::id()));
+        // not below the repository, where `rt ci` stops at another crates.txt
+        let path = std::env::temp_dir().join(format!("filbozseg-checkout-{}-{number}", std::process::id()));
         let checkout = Checkout(path);
-        checkout.put("crates.txt", "sizes:\nother:\nlist: sizes io # a comment\nonly:\nfilbozseg: sizes only\n");
+        checkout.put("crates.txt", "sizes:\nother:\nlist: sizes io # a comment\nonly:\nfilbozseg staticlib: sizes only\n");
         for name in ["sizes", "other", "list", "only", "filbozseg"] {
             checkout.put(&format!("crates/{name}/src/lib.rt"), name);
         }
@@ -58,8 +59,10 @@ impl Checkout {
         for (name, held) in [("bin/rt", BUILDER), ("bin/cargo", BUILDER), ("lister", LISTER), ("writer", WRITER)] {
             checkout.script(name, held);
         }
-        let list = Path::new(env!("CARGO_MANIFEST_DIR")).join("../tools/list");
-        checkout.script("tools/list", &fs::read_to_string(list).expect("tools/list"));
+        for name in ["tools/list", "tools/make", "tools/sources.sh"] {
+            let file = Path::new(env!("CARGO_MANIFEST_DIR")).join("..").join(name);
+            checkout.script(name, &fs::read_to_string(file).expect(name));
+        }
         checkout
     }
 

@@ -28,7 +28,7 @@ module _ (z : ℤ) (fits : SFits w16 z) where
   wide_fits = subst (SFits w32) (sym (to_z-of_z fits)) (sfits_widen tt fits)
 
   pub wide : to_z w32 (of_z w32 (to_z w16 (of_z w16 z))) ≡ z
-  wide = ap (λ (x : ℤ). to_z w32 (of_z w32 x)) (to_z-of_z fits) ∙ to_z-of_z (sfits_widen tt fits)
+  wide = ap (λ (x : ℤ). to_z w32 (of_z w32 x)) (to_z-of_z fits) ∙ to_z-of_z {w = w32} (sfits_widen {w = w16} {w' = w32} {z = z} tt fits)
 
   pub wide-size : mag (to_z w32 (of_z w32 (to_z w16 (of_z w16 z)))) < 32768
   wide-size = subst (λ (x : ℤ). mag x < 32768) (sym wide) fits.sfits

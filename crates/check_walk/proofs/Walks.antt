@@ -47,6 +47,8 @@ module _ {G : Cfg} {w e : List ℕ} {n cover mask : ℕ} where
     where
       go : (t : Forest) → Fits G [] t → yield t ≡ slice from to w → from ≡ to
       go end fits_end c = slice-nil from to w h l c
+      go (leaf _ _) x4 c = elim x4 [ ]
+      go (Rattle.cfg.specs.Tree.node _ _ _) x6 c = elim x6 [ ]
 
   -- ---- a byte before a row
 

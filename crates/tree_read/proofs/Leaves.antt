@@ -88,7 +88,8 @@ module _ {G : Cfg} {w : List ℕ} {cover mask k : ℕ} {places : List Symbol} {a
       }
     where
       go : (d : List ℕ) → d ≺ [] → ⊥
-      go d = elim [ ]
+      go [] h = elim h [ ]
+      go (a' ∷ d) h = elim h [ ]
 
   code_here : code x ++ code y ≡ code f
   code_here = sym o.coded

@@ -11,10 +11,10 @@ use std::time::{Duration, Instant};
 /// The longest time that a run may take: a program that hangs fails, and the test does not hang with it.
 const CAP: Duration = Duration::from_secs(60);
 
-/// The program that `rt check list` proves, compiles and links.
+/// The program that `tools/make program` proves, compiles and links.
 pub fn program() -> PathBuf {
     let path = Path::new(env!("CARGO_MANIFEST_DIR")).join("../target/bin/list");
-    assert!(path.is_file(), "{} is not there: build it with `rt check list`", path.display());
+    assert!(path.is_file(), "{} is not there: build it with `tools/make program`", path.display());
     path
 }
 

@@ -5,7 +5,7 @@ use native.Mathlib.Omega.{arith}
 use mathlib.Core.List.{map}
 use mathlib.Core.Path.{◌≡◌, ap, ◌∙◌}
 use lib.IntN.{ℤ}
-use lib.ListN.{length, take, set}
+use lib.ListN.{length, length-set, take, set}
 use mir.Facts.{to_z-of_z}
 use mir.Syntax.{w16}
 use Rattle.sizes.specs.Sizes.{max_rules}
@@ -27,9 +27,9 @@ loop-again c =
     let b = c.before.before.before in
     let rules = b.before.args.g.rules in
     let full = rules-long b.before.args.g _ b.before.well_formed.0 in
-    let read = to_z-of_z {w = w16} {z = c.length-of.result} (record { sfits = c.length-of.type-inv }) ∙ c.length-of.ensures in (
+    let read = to_z-of_z {w = w16} {z = c.length_of.result} (record { sfits = c.length_of.type_inv }) ∙ c.length_of.ensures in (
       omega arith,
-      search rules,
+      length-set b.loop-r.l b.loop-r.r _ ∙ b.loop-r.invariant.1,
       ap (λ (z : ℤ). take (b.loop-r.r + 1) (set b.loop-r.l b.loop-r.r z)) read
           ∙ lengths-step b.loop-r.l rules b.loop-r.r (omega arith) (omega arith) b.loop-r.invariant.2,
     )

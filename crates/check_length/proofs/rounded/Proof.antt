@@ -10,7 +10,7 @@ use Rattle.check_length.proofs.rounded.Tie as tie
 pub rounded_spec : {M : Type 1} → statement M
 rounded_spec = tie.close (tie.spec
     (λ c. negated_fits c.before.args.sum (omega arith))
-    (λ c. negated-casts c.before.args.sum (omega arith) c.if1.true w32 tt)
+    (λ c. negated-casts c.before.args.sum (omega arith) c.if-sum-lt0.true w32 tt)
     (λ c κs. search rules) (λ c. search (below-fits, rules)) (λ c. search (minus-fits, rules))
-    (λ c. natural_casts c.before.args.sum (omega arith) c.if1.false w32 tt)
+    (λ c. natural_casts c.before.args.sum (omega arith) c.if-sum-lt0.false w32 tt)
     (λ c κs. search rules) (λ c. search (above-fits, rules)) (λ c. search (round-below, rules)) (λ c. search (round-above, rules)))

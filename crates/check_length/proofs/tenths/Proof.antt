@@ -8,7 +8,7 @@ use Rattle.check_length.proofs.tenths.Statement.{statement}
 use Rattle.check_length.proofs.tenths.Tie as tie
 
 returns : tie.Need-returns
-returns c = through _ c.rounded.type-inv ∙ c.rounded.ensures ∙ ap rounded (through _ (omega arith) ∙ c.before.total.ensures.0)
+returns c = through _ c.rounded.type_inv ∙ c.rounded.ensures ∙ ap rounded (through _ (omega arith) ∙ c.before.total.ensures.0)
 
 pub tenths_spec : {M : Type 1} → statement M
 tenths_spec = tie.close (tie.spec (λ c κs. omega arith) (λ c κs. search rules) returns)

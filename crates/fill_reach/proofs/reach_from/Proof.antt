@@ -17,8 +17,9 @@ decreases-loop chart i n ends₀ c₀ ends c = n - c
 
 loop-again : tie.Need-loop-c-preserved invariant-loop decreases-loop
 loop-again c = elim c.if-chart-i-ne0.branch [
-    then-chart-i-ne0 w ↦ (search rules, search (rules, from-put))
-    | else-chart-i-ne0 w ↦ (search rules, search (rules, from-none)) ]
+  | then-chart-i-ne0 w ↦ (search rules, search (rules, from-put))
+  | else-chart-i-ne0 w ↦ (search rules, search (rules, from-none))
+]
 
 pub reach_from_spec : {M : Type 1} → statement M
 reach_from_spec = tie.close (tie.spec

@@ -43,15 +43,17 @@ loop-again c =
       simp length-set loop.invariant.4,
       words_more _ loop.words loop.i _ long loop.invariant.4 (omega arith) c.before.word-w.ensures loop.invariant.5,
       elim c.else-w-ne0.branch [
-          else-w-ne0-via-then-w-ne0+else-earlier w ↦ search next-named
-          | else-w-ne0-via-else-w-ne0 w ↦ search next-unnamed ],
+        | else-w-ne0-via-then-w-ne0+else-earlier w ↦ search next-named
+        | else-w-ne0-via-else-w-ne0 w ↦ search next-unnamed
+      ],
     )
 
 pub valid_spec : {M : Type 1} → statement M
 valid_spec = tie.close (tie.spec
     invariant-loop decreases-loop (λ c. elim c.then-g-gt31.branch [
-        then-g-gt31-via-then-g-gt31 w ↦ search grammar-start
-        | then-g-gt31-via-else-g-gt31+then-n-gt-MAX_RULES w ↦ grammar-count _ (omega (arith, ltb-true)) ]) loop-holds
+      | then-g-gt31-via-then-g-gt31 w ↦ search grammar-start
+      | then-g-gt31-via-else-g-gt31+then-n-gt-MAX_RULES w ↦ grammar-count _ (omega (arith, ltb-true))
+    ]) loop-holds
     -- a turn of the loop: the rule, its word, and the words before
     (λ c. omega arith) (λ c. omega arith) (λ c κs. omega arith) (λ c. search grammar-rule) (λ c κs. search rules) (λ c κs. search rules)
     (λ c. search name-refused) (λ c. search rules) (λ c. search rules) (λ c. omega arith) (λ c. omega arith) loop-again

@@ -16,7 +16,7 @@ invariant-loop h₀ n i₀ h i = (i ≤ max_rules) × (h ≡ cleared_up_to h₀ 
 abbrev decreases-loop : tie.decreases-loop-i
 decreases-loop h₀ n i₀ h i = max_rules - i
 
-tidy-rule-requires : tie.Need-tidy-rule-requires invariant-loop decreases-loop
+tidy-rule-requires : tie.Need-tidy_rule-requires invariant-loop decreases-loop
 tidy-rule-requires c κs =
     let l = c.before.before.before in
     let entry = l.before in
@@ -29,11 +29,11 @@ loop-again c =
     let entry = l.before in
     let long = rules-long entry.args.g _ entry.well_formed.0 in (
       omega arith,
-      elim c.if1.branch [
+      elim c.if-i-n.branch [
           then-i-n w ↦ w.h-is
-              ∙ used_step entry.args.g long entry.requires _ _ (omega arith) l.loop-i.invariant.1 w.if1.true _ w.tidy_rule.ensures
+              ∙ used_step entry.args.g long entry.requires _ _ (omega arith) l.loop-i.invariant.1 w.if-i-n.true _ w.tidy_rule.ensures
           | else-i-n w ↦ w.h-is
-              ∙ unused-step entry.args.g long entry.requires _ _ (omega arith) l.loop-i.invariant.1 w.if1.false _ w.zero_rule.ensures ],
+              ∙ unused-step entry.args.g long entry.requires _ _ (omega arith) l.loop-i.invariant.1 w.if-i-n.false _ w.zero_rule.ensures ],
     )
 
 returns : tie.Need-returns invariant-loop decreases-loop

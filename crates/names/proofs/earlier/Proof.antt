@@ -27,8 +27,9 @@ loop-again c =
     let pre = c.before.before.before.before.requires in (
       omega arith,
       elim c.if-words-i.branch [
-          then-words-i t ↦ t.found-is ∙ word-found _ _ loop.i _ loop.found loop.invariant.1 pre.1 pre.0 (omega arith) t.if-words-i.true
-          | else-words-i t ↦ t.found-is ∙ word-not _ _ loop.i _ loop.found loop.invariant.1 pre.1 pre.0 (omega arith) t.if-words-i.false ],
+        | then-words-i t ↦ t.found-is ∙ word-found _ _ loop.i _ loop.found loop.invariant.1 pre.1 pre.0 (omega arith) t.if-words-i.true
+        | else-words-i t ↦ t.found-is ∙ word-not _ _ loop.i _ loop.found loop.invariant.1 pre.1 pre.0 (omega arith) t.if-words-i.false
+      ],
     )
 
 pub earlier_spec : {M : Type 1} → statement M

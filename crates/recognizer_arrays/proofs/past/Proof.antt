@@ -14,20 +14,20 @@ invariant-loop n points i₀ i = (k : ℕ) → k < i → get_or points k 0 ≤ n
 abbrev decreases-loop : tie.decreases-loop-i
 decreases-loop n points i₀ i = max_points - i
 
-returns : tie.Need-returns invariant-loop decreases-loop
+returns : tie.Need-returns-then-wide_byte-n invariant-loop decreases-loop
 returns c =
     let l = c.before.before.before in
     let entry = l.before in
-    point-past entry.args.n entry.args.points entry.requires l.loop-i.i _ c.before.wide-byte.ensures.0 (omega arith)
+    point-past entry.args.n entry.args.points entry.requires l.loop-i.i _ c.before.wide_byte.ensures.0 (omega arith)
 
 loop-again : tie.Need-loop-i-preserved invariant-loop decreases-loop
 loop-again c =
     let l = c.before.before.before in
     let entry = l.before in
-    points-next entry.args.n entry.args.points entry.requires l.loop-i.i _ c.before.wide-byte.ensures.0 (omega arith)
+    points-next entry.args.n entry.args.points entry.requires l.loop-i.i _ c.before.wide_byte.ensures.0 (omega arith)
     l.loop-i.invariant
 
-returns-2 : tie.Need-returns-2 invariant-loop decreases-loop
+returns-2 : tie.Need-returns invariant-loop decreases-loop
 returns-2 c =
     let l = c.before in
     let entry = l.before in

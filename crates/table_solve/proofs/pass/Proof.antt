@@ -20,6 +20,7 @@ pub pass_spec : {M : Type 1} → statement M
 pass_spec = tie.close (tie.spec
     invariant-loop decreases-loop (λ c. search (rules, passed_start)) (λ c κs. search rules) (λ c. omega arith) (λ c. omega arith)
     (λ c. elim c.if-improve.branch [
-        then-improve w ↦ search (rules, passed-changed)
-        | else-improve w ↦ search (rules, passed-kept) ])
+      | then-improve w ↦ search (rules, passed-changed)
+      | else-improve w ↦ search (rules, passed-kept)
+    ])
     (λ c. search (rules, passed-end)))

@@ -5,7 +5,7 @@ use native.Mathlib.Omega.{arith}
 use borrow.Author.Rules.{rules}
 use Rattle.table_start.specs.Starts.{SuffixesPut}
 use Rattle.table_start.proofs.Again.{suffixes-none, suffixes-start, suffixes-take, suffixes-skip, suffixes-end}
-use Rattle.table_start.proofs.put_suffixes.Lts.Came-Joined-touched.{then-touched, else-touched}
+use Rattle.table_start.proofs.put_suffixes.Lts.Came-Joined-touched-unread.{then-touched, else-touched}
 use Rattle.table_start.proofs.put_suffixes.Statement.{statement}
 use Rattle.table_start.proofs.put_suffixes.Tie as tie
 
@@ -19,8 +19,9 @@ decreases-loop p rules fits tables full over rows₀ live₀ r₀ rows live r = 
 loop-again : tie.Need-loop-r-preserved invariant-loop decreases-loop
 loop-again c =
     elim c.if-touched.branch [
-        then-touched w ↦ (search rules, search (rules, suffixes-take))
-        | else-touched w ↦ (search rules, search (rules, suffixes-skip)) ]
+      | then-touched w ↦ (search rules, search (rules, suffixes-take))
+      | else-touched w ↦ (search rules, search (rules, suffixes-skip))
+    ]
 
 pub put_suffixes_spec : {M : Type 1} → statement M
 put_suffixes_spec = tie.close (tie.spec

@@ -5,7 +5,7 @@ use mathlib.Core.Bool.{true≢false}
 use native.Mathlib.Omega.{arith}
 use borrow.Author.Rules.{rules}
 use Rattle.table_start.proofs.Again.{Before, before-start, before-terminal, before-other, before-all}
-use Rattle.table_start.proofs.touched.Lts.Came-Joined-is_nonterminal.{then-is_nonterminal, else-is_nonterminal}
+use Rattle.table_start.proofs.touched.Lts.Came-Joined-is_nonterminal.{then-is_nonterminal+else-contains, else-is_nonterminal}
 use Rattle.table_start.proofs.touched.Statement.{statement}
 use Rattle.table_start.proofs.touched.Tie as tie
 
@@ -20,6 +20,7 @@ touched_spec = tie.close (tie.spec
     invariant-loop decreases-loop (λ c κs. search rules) (λ c. search (rules, before-start)) (λ c κs. search rules) (λ c κs. search rules)
     (λ c κs. search rules) (λ c e. absurd (true≢false e)) (λ c. omega arith) (λ c. omega arith)
     (λ c. elim c.if-is_nonterminal.branch [
-        then-is_nonterminal w ↦ search (rules, before-other)
-        | else-is_nonterminal w ↦ search (rules, before-terminal) ])
+      | then-is_nonterminal+else-contains w ↦ search (rules, before-other)
+      | else-is_nonterminal w ↦ search (rules, before-terminal)
+    ])
     (λ c. search (rules, before-all)))

@@ -6,5 +6,5 @@ use Rattle.check_walk.proofs.offered.number.Tie as tie
 
 pub number_spec : {M : Type 1} → statement M
 number_spec = tie.close (tie.spec
-    (λ c. omega arith) (λ c. omega arith) (λ c. omega (arith, c.shared-slice-known.given c.before.args.i))
-    (λ c. (refl, omega (arith, c.shared-slice-known.given c.before.args.i))))
+    (λ c. omega arith) (λ c. omega arith) (λ c. omega (arith, c.shared_slice_known-1.given c.before.args.i))
+    (λ c. (refl, omega (arith, c.shared_slice_known-1.given c.before.args.i))))

@@ -6,11 +6,11 @@ use Rattle.check_walk.proofs.walk.rule_at.Statement.{statement}
 use Rattle.check_walk.proofs.walk.rule_at.Tie as tie
 
 -- all tests are passed
-found : tie.Need-returns-7
+found : tie.Need-returns-else-has
 found c =
     let rule-read = c.before.before.before.before.before in
-    rule_found _ _ _ _ _ _ _ _ rule-read.number2.ensures.0 _ c.before.before.before.left.ensures _ c.before.has.ensures _
-    rule-read.before.before.number.ensures.0 (omega arith) (omega arith) (omega arith) (omega arith) (omega arith) c.if6.false
+    rule_found _ _ _ _ _ _ _ _ rule-read.number-r.ensures.0 _ c.before.before.before.left.ensures _ c.before.has.ensures _
+    rule-read.before.before.number.ensures.0 (omega arith) (omega arith) (omega arith) (omega arith) (omega arith) c.if-has.false
 
 pub rule_at_spec : {M : Type 1} → statement M
 rule_at_spec = tie.close (tie.spec

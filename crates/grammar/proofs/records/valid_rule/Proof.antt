@@ -27,8 +27,9 @@ loop-holds c = (omega arith, search rules, omega arith, refl)
 pub valid_rule_spec : {M : Type 1} → statement M
 valid_rule_spec = tie.close (tie.spec
     invariant-loop decreases-loop (λ c. elim c.then-rule-gt31.branch [
-        then-rule-gt31-via-then-rule-gt31 w ↦ search rule-left
-        | then-rule-gt31-via-else-rule-gt31+then-n-gt-MAX_PLACES w ↦ rule-count _ (omega (arith, ltb-true)) ]) loop-holds
+      | then-rule-gt31-via-then-rule-gt31 w ↦ search rule-left
+      | then-rule-gt31-via-else-rule-gt31+then-n-gt-MAX_PLACES w ↦ rule-count _ (omega (arith, ltb-true))
+    ]) loop-holds
     (λ c. omega arith) (λ c. omega arith) (λ c κs. omega arith) (λ c. search rule-place) (λ c. omega arith) (λ c. omega arith)
     (λ c. (omega arith, omega arith, omega arith, search all-next)) (λ c κs. search rules) (λ c. search rule-passes)
     (λ c. search rule-reversed))

@@ -22,7 +22,7 @@ loop-again c =
     let l = c.before.before in
     let entry = l.before in (
       omega arith,
-      points-step entry.args.n entry.args.points entry.well_formed.0.1.0.1 _ _ _ (omega arith) c.kept-point.ensures
+      points-step entry.args.n entry.args.points entry.well_formed.0.1.0.1 _ _ _ (omega arith) c.kept_point.ensures
           l.loop-i.invariant.1,
     )
 

@@ -64,107 +64,91 @@ row-calls t = (
 
 node-row-requires : (t : ℕ) → node-lts.Need-row-requires (node-calls t) (node_at t) node.Post
 node-row-requires t c κs =
-    let after-put = c.before.before.before.before.before in
-    let room = after-put.before.before.before.open-node.ensures.room (omega arith) in
-    let long = after-put.put-node.ensures.long in
+    let room = c.open_node-r.ensures.room (omega arith) in
+    let long = c.put_node.ensures.long in
     omega arith
 
-node-add-result : (t : ℕ) → node-lts.Need-overflow-add-result (node-calls t) (node_at t) node.Post
+node-add-result : (t : ℕ) → node-lts.Need-overflow_add-result (node-calls t) (node_at t) node.Post
 node-add-result t c =
-    let after-put = c.before.before.before.before.before.before.before.before in
-    let given = after-put.before.before.before.before.before.before.before.before.before.requires in
-    omega (arith, c.before.before.row.ensures.kept.few)
+    let given = c.requires in
+    omega (arith, c.row.ensures.kept.few)
 
-node-returns-2 : (t : ℕ) → node-lts.Need-returns-2 (node-calls t) (node_at t) node.Post
+node-returns-2 : (t : ℕ) → node-lts.Need-returns (node-calls t) (node_at t) node.Post
 node-returns-2 t c =
-    let after-put = c.before.before.before.before.before.before.before.before in
-    let after_open = after-put.before.before.before in
-    let given = after_open.before.before.before.before.before.before.requires in
-    let chosen = after-put.before.before.if1.false in
-    node-some (omega arith) (omega arith) after_open.before.before.before.own-set.ensures after_open.open-node.ensures
-    (omega arith) after-put.put-node.ensures c.before.before.row.ensures
+    let given = c.requires in
+    let chosen = c.if-r-ge-NO_RULE.false in
+    node-some (omega arith) (omega arith) c.own_set-mask.ensures c.open_node-r.ensures
+    (omega arith) c.put_node.ensures c.row.ensures
 
 -- ---- row
 
-row-node-requires : (t : ℕ) → row-lts.Need-node-requires (row-calls t) (row_at t) row.Post
+row-node-requires : (t : ℕ) → row-lts.Need-node-m-requires (row-calls t) (row_at t) row.Post
 row-node-requires t c κs =
-    let at-step = c.before.before.before in
-    let room = node-room (looked-as at-step.before.before.look.ensures at-step.step.given.1) in
+    let room = node-room (looked-as c.look-step.ensures c.step-1.given.1) in
     omega arith
 
-row-add-at : (t : ℕ) → row-lts.Need-overflow-add-at (row-calls t) (row_at t) row.Post
+row-add-at : (t : ℕ) → row-lts.Need-overflow_add-at (row-calls t) (row_at t) row.Post
 row-add-at t c =
-    let at-step = c.before.before.before.before.before.before in
-    let room = node-room (looked-as at-step.before.before.look.ensures at-step.step.given.1) in
-    omega (arith, c.before.before.node.ensures.kept.few)
+    let room = node-room (looked-as c.look-step.ensures c.step-1.given.1) in
+    omega (arith, c.node-m.ensures.kept.few)
 
-row-sub-budget : (t : ℕ) → row-lts.Need-overflow-sub-budget (row-calls t) (row_at t) row.Post
+row-sub-budget : (t : ℕ) → row-lts.Need-overflow_sub-budget (row-calls t) (row_at t) row.Post
 row-sub-budget t c =
-    let at-step = c.before.before.before.before.before.before in
-    let room = node-room (looked-as at-step.before.before.look.ensures at-step.step.given.1) in
-    omega (arith, c.before.before.node.ensures.kept.few)
+    let room = node-room (looked-as c.look-step.ensures c.step-1.given.1) in
+    omega (arith, c.node-m.ensures.kept.few)
 
-row-row-requires-2 : (t : ℕ) → row-lts.Need-row-requires-2 (row-calls t) (row_at t) row.Post
+row-row-requires-2 : (t : ℕ) → row-lts.Need-row-requires-in-Node (row-calls t) (row_at t) row.Post
 row-row-requires-2 t c κs =
-    let after-node = c.before.before.before in
-    let at-step = after-node.before.before.before.before in
-    let room = node-room (looked-as at-step.before.before.look.ensures at-step.step.given.1) in
-    let few = after-node.node.ensures.kept.few in
-    let long = after-node.node.ensures.kept.long in
+    let room = node-room (looked-as c.look-step.ensures c.step-1.given.1) in
+    let few = c.node-m.ensures.kept.few in
+    let long = c.node-m.ensures.kept.long in
     omega arith
 
-row-add-result : (t : ℕ) → row-lts.Need-overflow-add-result (row-calls t) (row_at t) row.Post
+row-add-result : (t : ℕ) → row-lts.Need-overflow_add-result (row-calls t) (row_at t) row.Post
 row-add-result t c =
-    let after-node = c.before.before.before.before.before.before in
-    let at-step = after-node.before.before.before.before in
-    let given = at-step.before.before.before.before.before.requires in
-    let room = node-room (looked-as at-step.before.before.look.ensures at-step.step.given.1) in
-    omega (arith, after-node.node.ensures.kept.few, c.before.before.row2.ensures.kept.few)
+    let given = c.requires in
+    let room = node-room (looked-as c.look-step.ensures c.step-1.given.1) in
+    omega (arith, c.node-m.ensures.kept.few, c.row-in-Node.ensures.kept.few)
 
-row-returns-3 : (t : ℕ) → row-lts.Need-returns-3 (row-calls t) (row_at t) row.Post
+row-returns-3 : (t : ℕ) → row-lts.Need-returns-in-Byte (row-calls t) (row_at t) row.Post
 row-returns-3 t c =
-    let at-step = c.before.before.before.before in
     row-byte _ _ _ (omega arith) (omega arith) (omega arith)
-    (looked-as at-step.before.before.look.ensures at-step.enum-told3.given.1) c.before.before.row.ensures
+    (looked-as c.look-step.ensures c.enum_told-in-Byte-1.given.1) c.row.ensures
 
-row-returns-4 : (t : ℕ) → row-lts.Need-returns-4 (row-calls t) (row_at t) row.Post
+row-returns-4 : (t : ℕ) → row-lts.Need-returns-in-Node (row-calls t) (row_at t) row.Post
 row-returns-4 t c =
-    let after-node = c.before.before.before.before.before.before in
-    let at-step = after-node.before.before.before.before in
-    let given = at-step.before.before.before.before.before.requires in
-    row-node _ _ _ (omega arith) (omega arith) (omega arith) after-node.before.before.child-set.ensures after-node.node.ensures
-    c.before.before.row2.ensures (looked-as at-step.before.before.look.ensures at-step.step.given.1)
+    let given = c.requires in
+    row-node _ _ _ (omega arith) (omega arith) (omega arith) c.child_set-mask.ensures c.node-m.ensures
+    c.row-in-Node.ensures (looked-as c.look-step.ensures c.step-1.given.1)
 
-pub +node-row-spec : {M : Type 1} → statement M
-+node-row-spec = close μ-node μ-row
+pub +node_row_spec : {M : Type 1} → statement M
++node_row_spec = close μ-node μ-row
     (λ t. node-lts.spec (node-calls t) (node_at t) node.Post
     -- `own_set`, `open_node`, and no rule
     (λ c κs. omega arith) (λ c κs. search (rules, maybe-unmade))
     (λ c.
-    let after_open = c.before in
-    node-none (omega arith) (omega arith) after_open.before.before.before.own-set.ensures after_open.open-node.ensures
+    node-none (omega arith) (omega arith) c.own_set-mask.ensures c.open_node-r.ensures
     (omega arith))
     -- `put_node`
-    (λ c. omega arith) (λ c κs. omega (arith, c.before.before.open-node.ensures.room (omega arith)))
+    (λ c. omega arith) (λ c κs. omega (arith, c.open_node-r.ensures.room (omega arith)))
     -- `row`
     (λ c. omega arith)
     (λ c.
-    let after-put = c.before.before in
-    omega (arith, after-put.before.before.before.open-node.ensures.room (omega arith)))
+    omega (arith, c.open_node-r.ensures.room (omega arith)))
     (node-row-requires t)
     -- the result
     (node-add-result t) (λ c. omega arith) (node-returns-2 t))
     λ t. row-lts.spec (row-calls t) (row_at t) row.Post
     -- `look`, and `row` after a byte
     (λ c κs. omega arith) (λ c. omega arith) (λ c. omega arith) (λ c. omega arith) (λ c. omega arith) (λ c. omega arith)
-    (λ c κs. omega (arith, byte-room (looked-as c.before.before.before.look.ensures c.before.enum-told3.given.1)))
+    (λ c κs. omega (arith, byte-room (looked-as c.look-step.ensures c.enum_told-in-Byte-1.given.1)))
     -- `child_set` and `node`
     (λ c. omega arith) (λ c. omega arith)
-    (λ c. omega (arith, node-room (looked-as c.before.before.before.look.ensures c.before.step.given.1)))
+    (λ c. omega (arith, node-room (looked-as c.look-step.ensures c.step-1.given.1)))
     (λ c κs. omega arith) (row-node-requires t)
     -- `row` after the node
     (row-add-at t) (row-sub-budget t) (λ c. omega arith) (row-row-requires-2 t) (row-add-result t)
     -- the results: nothing, the end, a byte, a node
-    (λ c. row-none _ _ _ (omega arith) (omega arith) (omega arith) (looked-as c.before.before.look.ensures c.enum_told.given.1))
-    (λ c. row-end _ _ _ (omega arith) (omega arith) (omega arith) (looked-as c.before.before.look.ensures c.enum-told2.given.1))
+    (λ c. row-none _ _ _ (omega arith) (omega arith) (omega arith) (looked-as c.look-step.ensures c.enum_told-1.given.1))
+    (λ c. row-end _ _ _ (omega arith) (omega arith) (omega arith) (looked-as c.look-step.ensures c.enum_told-in-End-1.given.1))
     (λ c. omega arith) (row-returns-3 t) (λ c. omega arith) (row-returns-4 t)

@@ -7,38 +7,33 @@ use Rattle.tree_later.proofs.later.later_rule.Tie as tie
 
 row-requires : tie.Need-row-requires
 row-requires c κs =
-    let after-put = c.before.before.before.before.before in
-    let room = after-put.before.before.before.open_node-s.ensures.room (omega arith) in
-    let long = after-put.put_node.ensures.long in
-    let given = after-put.before.before.before.before.before.before.before.before.before.before.requires in
+    let room = c.open_node-s.ensures.room (omega arith) in
+    let long = c.put_node.ensures.long in
+    let given = c.requires in
     omega arith
 
 add-result : tie.Need-overflow_add-result
 add-result c =
-    let after-put = c.before.before.before.before.before.before.before.before in
-    let given = after-put.before.before.before.before.before.before.before.before.before.before.requires in
-    omega (arith, c.before.before.row.ensures.kept.few)
+    let given = c.requires in
+    omega (arith, c.row.ensures.kept.few)
 
 returns-3 : tie.Need-returns
 returns-3 c =
-    let after-put = c.before.before.before.before.before.before.before.before in
-    let after_open = after-put.before.before.before in
-    let given = after_open.before.before.before.before.before.before.before.requires in
-    let chosen = after-put.before.before.if-s-ge-NO_RULE.false in
-    later-some (omega arith) (omega arith) after_open.open_node-s.ensures (omega arith) after-put.put_node.ensures
-    c.before.before.row.ensures
+    let given = c.requires in
+    let chosen = c.if-s-ge-NO_RULE.false in
+    later-some (omega arith) (omega arith) c.open_node-s.ensures (omega arith) c.put_node.ensures c.row.ensures
 
 pub later_rule_spec : {M : Type 1} → statement M
 later_rule_spec = tie.close (tie.spec
     -- `no_rule`
-    (λ c. omega arith) (λ c κs. omega arith) (λ c. later-absent (omega arith) (c.before.no_rule.ensures (search rules)))
+    (λ c. omega arith) (λ c κs. omega arith) (λ c. later-absent (omega arith) (c.no_rule.ensures (search rules)))
     -- `open_node`, and no rule within the budget
-    (λ c. omega arith) (λ c κs. search rules) (λ c. later-none (omega arith) (omega arith) c.before.open_node-s.ensures (omega arith))
+    (λ c. omega arith) (λ c κs. search rules) (λ c. later-none (omega arith) (omega arith) c.open_node-s.ensures (omega arith))
     -- `put_node`
-    (λ c. omega arith) (λ c κs. omega (arith, c.before.before.open_node-s.ensures.room (omega arith)))
+    (λ c. omega arith) (λ c κs. omega (arith, c.open_node-s.ensures.room (omega arith)))
     -- `row`
     (λ c. omega arith)
-    (λ c. let after-put = c.before.before in omega (arith, after-put.before.before.before.open_node-s.ensures.room (omega arith)))
+    (λ c. omega (arith, c.open_node-s.ensures.room (omega arith)))
     row-requires
     -- the result
     add-result (λ c. omega arith) returns-3)

@@ -23,27 +23,24 @@ abbrev reach-calls : ℕ → reach-lts.Claims
 reach-calls t =
     (look-reads.Asked, look-reads.Learnt, and 2 reach-kinds.ps (falls 2 reach-kinds.ps ◌<◌ μ-reach t) reach.Pre, reach.Post)
 
-pub +reach-spec : {M : Type 1} → statement M
-+reach-spec = close μ-reach λ t. reach-lts.spec (reach-calls t) (reach-at t) reach.Post
+pub +reach_spec : {M : Type 1} → statement M
++reach_spec = close μ-reach λ t. reach-lts.spec (reach-calls t) (reach-at t) reach.Post
     -- `look`, and `reach` after a byte
     (λ c κs. omega arith) (λ c. omega arith) (λ c. omega arith) (λ c. omega arith) (λ c. omega arith) (λ c. omega arith)
-    (λ c κs. omega (arith, byte-room (looked-as c.before.before.look.ensures c.enum-told3.given.1)))
+    (λ c κs. omega (arith, byte-room (looked-as c.look-step.ensures c.enum_told-in-Byte-1.given.1)))
     -- `reach` after a node
     (λ c. omega arith) (λ c. omega arith) (λ c. omega arith)
-    (λ c. omega (arith, node-room (looked-as c.before.before.before.look.ensures c.before.step2.given.1)))
-    (λ c. omega (arith, node-room (looked-as c.before.before.before.look.ensures c.before.step2.given.1)))
-    (λ c κs. omega (arith, node-room (looked-as c.before.before.before.look.ensures c.before.step2.given.1)))
+    (λ c. omega (arith, node-room (looked-as c.look-step.ensures c.step-in-Node-1.given.1)))
+    (λ c. omega (arith, node-room (looked-as c.look-step.ensures c.step-in-Node-1.given.1)))
+    (λ c κs. omega (arith, node-room (looked-as c.look-step.ensures c.step-in-Node-1.given.1)))
     -- the results: nothing, the end, a byte, the last node, another node
-    (λ c. reach-none (omega arith) (omega arith) (looked-as c.before.before.look.ensures c.enum_told.given.1))
-    (λ c. reach-end (omega arith) (omega arith) (looked-as c.before.before.look.ensures c.enum-told2.given.1))
+    (λ c. reach-none (omega arith) (omega arith) (looked-as c.look-step.ensures c.enum_told-1.given.1))
+    (λ c. reach-end (omega arith) (omega arith) (looked-as c.look-step.ensures c.enum_told-in-End-1.given.1))
     (λ c.
-    let at-step = c.before in
-    reach-byte (omega arith) (omega arith) (looked-as at-step.before.before.look.ensures at-step.enum-told3.given.1)
+    reach-byte (omega arith) (omega arith) (looked-as c.look-step.ensures c.enum_told-in-Byte-1.given.1)
     c.reach.ensures)
     (λ c.
-    let at-step = c.before in
-    reach-last (omega arith) (omega arith) (looked-as at-step.before.before.look.ensures at-step.step.given.1))
+    reach-last (omega arith) (omega arith) (looked-as c.look-step.ensures c.step-1.given.1))
     (λ c.
-    let at-step = c.before.before in
-    reach-node (omega arith) (omega arith) (looked-as at-step.before.before.look.ensures at-step.step2.given.1)
-    c.reach2.ensures)
+    reach-node (omega arith) (omega arith) (looked-as c.look-step.ensures c.step-in-Node-1.given.1)
+    c.reach-in-Node.ensures)
