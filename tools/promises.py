@@ -34,7 +34,7 @@ class State:
         """The paths of all files in a folder, sorted."""
         if self.rev is None:
             found = glob.glob(os.path.join(TOP, folder, "**", "*"), recursive=True)
-            return sorted(os.path.relpath(path, TOP) for path in found if os.path.isfile(path))
+            return sorted(os.path.relpath(path, TOP) for path in found if os.path.isfile(path) and "/out/" not in path)
         return sorted(git("ls-tree", "-r", "-z", "--name-only", self.rev, "--", folder).split("\0")[:-1])
 
 

@@ -61,8 +61,8 @@ fn the_library_is_proved_for_it_once() {
         ("crates/only/src/lib.rt", "rt lib\ncargo build\n"),
         ("crates/list/src/lib.rt", "rt run\n"),
         ("crates/sizes/src/lib.rt", "rt run\nrt lib\ncargo build\n"),
-        ("rust/src/lib.rs", "rt lib\ncargo build\n"),
-        ("rust/examples/words.rs", "rt lib\ncargo build\n"),
+        ("rust/src/lib.rs", "cargo build\n"),
+        ("rust/examples/words.rs", "cargo build\n"),
         ("book/src/lib.rs", "cargo build\n"),
     ] {
         checkout.put("calls", "");

@@ -30,6 +30,8 @@ module _ {A B C : Type 0} (refuse : A → B) (go : Unit {0} → B) (told : B →
       → Decided causes (λ a. told (refuse a)) passed (told (decide checks refuse go))
   unfolding decide Decided
   decided [] [] t = holds
+  decided [] (c ∷ causes) t = elim t [ ]
+  decided (k ∷ checks) [] t = elim t [ ]
   decided (k ∷ checks) (c ∷ causes) t = (
     λ a. rw (t.0.exact.1 a, t.0.same),
     λ f. rw (tells-passed t.0 f) (decided checks causes t.1),

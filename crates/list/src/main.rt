@@ -3,13 +3,17 @@
 #![tactic(auto)]
 
 ghost use Rattle.std.specs.Prelude.{◌≡◌, length};
-ghost use Rattle.io.specs.Counts.{IsPrefixLen};
+ghost use Rattle.std.specs.Counts.{IsPrefixLen};
 ghost use Rattle.text.specs.Front.{book_front, year_front, plate_front};
 ghost use Rattle.print_write.specs.Listed.{Listed};
 
 use packed::PACKED_SIZE;
 use print_begin::begin::begin;
 use print_write::{Written, write_pages};
+use std::fs;
+use std::io::Read;
+use std::process::ExitCode;
+use std::rt::Files;
 use table_layout::layout::TABLES_SIZE;
 
 // The most bytes of a book that are read: no further byte changes the text.
@@ -21,44 +25,55 @@ const YEAR: usize = 3;
 // The most bytes of a plate that are read, likewise: one more than a plate may have.
 const PLATE: usize = sizes::MAX_INPUT + 1;
 
+// The exit status if the text goes to a pipe that nobody reads: what a shell has for a program that the signal of such a pipe, 13, ends.
+const UNREAD: u8 = 128 + 13;
+
+// Reads until the buffer is full, the input ends or a read fails, and returns how many bytes are read to the front of the buffer.
+fn read_full(input: &mut impl Read, buf: &mut [u8]) -> usize
+    ensures { IsPrefixLen result buf.new }
+{
+    let mut done = 0;
+    while done < buf.len() {
+        match input.read(&mut buf[done..]) {
+            Ok(n) if n > 0 => done += n,
+            _ => break,
+        }
+    }
+    done
+}
+
 // Reads the front of the book. A file that can't be opened counts as empty. Of one that can't be read to its end, what was read counts.
-fn read_book(book: &mut [u8]) -> usize
+fn read_book(rt: &impl Files, book: &mut [u8]) -> usize
     requires { length book.old ≡ book_front }
     ensures { IsPrefixLen result book.new }
 {
-    let fd = os::open_read(b"book.bin");
-    if fd < 0 {
-        return 0;
+    match fs::open(rt, "book.bin") {
+        Ok(mut input) => read_full(&mut input, book),
+        Err(_) => 0,
     }
-    let n = io::read_full(fd, book);
-    libc::close(fd);
-    n
 }
 
 // Reads the front of the file with the year. A file that can't be opened or read counts as empty, so its year is 0.
-fn read_year(file: &mut [u8]) -> usize
+fn read_year(rt: &impl Files, file: &mut [u8]) -> usize
     requires { length file.old ≡ year_front }
     ensures { IsPrefixLen result file.new }
 {
-    let fd = os::open_read(b"year.bin");
-    if fd < 0 {
-        return 0;
+    match fs::open(rt, "year.bin") {
+        Ok(mut input) => read_full(&mut input, file),
+        Err(_) => 0,
     }
-    let n = io::read_full(fd, file);
-    libc::close(fd);
-    n
 }
 
 // Reads the front of the plate.
-fn read_plate(plate: &mut [u8]) -> usize
+fn read_plate(rt: &impl Input, plate: &mut [u8]) -> usize
     requires { length plate.old ≡ plate_front }
     ensures { IsPrefixLen result plate.new }
 {
-    io::read_full(libc::STDIN_FILENO, plate)
+    read_full(&mut rt.reader(), plate)
 }
 
 // Writes the text of book, file with the year and plate. The arrays that the steps need are locals of this function.
-fn list(book: &[u8], file: &[u8], plate: &[u8]) -> Written
+fn list(rt: &(impl Print + Eprint), book: &[u8], file: &[u8], plate: &[u8]) -> Written
     ensures { Listed book.now file.now plate.now result.bytes result.all }
 {
     let mut p = [0u8; PACKED_SIZE];
@@ -79,16 +94,21 @@ fn list(book: &[u8], file: &[u8], plate: &[u8]) -> Written
         &mut buf,
     );
     write_pages(
-        book, file, plate, due, &p, &lengths, &fits, &chart, &tables, &mut buf,
+        rt, book, file, plate, due, &p, &lengths, &fits, &chart, &tables, &mut buf,
     )
 }
 
-fn main() {
+fn main(rt: HostRuntime) -> ExitCode {
     let mut book = [0u8; BOOK];
-    let b = read_book(&mut book);
+    let b = read_book(&rt, &mut book);
     let mut file = [0u8; YEAR];
-    let y = read_year(&mut file);
+    let y = read_year(&rt, &mut file);
     let mut plate = [0u8; PLATE];
-    let n = read_plate(&mut plate);
-    list(&book[..b], &file[..y], &plate[..n]);
+    let n = read_plate(&rt, &mut plate);
+    let written = list(&rt, &book[..b], &file[..y], &plate[..n]);
+    if written.unread {
+        ExitCode::from(UNREAD)
+    } else {
+        ExitCode::SUCCESS
+    }
 }

@@ -14,36 +14,75 @@ use packed::Packed;
 use packed_fit::FitTable;
 use print_begin::Due;
 use print_page::{PAGE, fill_page, is_done};
+use std::io::{Cursor, Error, ErrorKind, Write};
 use table_layout::layout::Tables;
 
 // The most pages that there are: each has at least one line, and the last line follows those of the derivations.
 const PAGES: usize = sizes::MOST + 1;
 
-// How many bytes were handed to the write, and whether it wrote all of them.
+// The most bytes of the reason why standard output can't be written.
+const REASON: usize = 128;
+
+// How many bytes were handed to the write, whether it wrote all of them, and if not, whether they went to a pipe that nobody reads.
 #[derive(Clone, Copy)]
 pub struct Written {
     pub bytes: usize,
     pub all: bool,
+    pub unread: bool,
+}
+
+// Says on standard error why standard output can't be written: the reason that the error has, without the number after it.
+fn fail(rt: &impl Eprint, error: &Error) {
+    let mut text = Cursor::new([0u8; REASON]);
+    let _ = write!(text, "{error}");
+    let n = (text.position() as usize).min(REASON);
+    let bytes = text.into_inner();
+    let said = str::from_utf8(&bytes[..n]).unwrap_or("");
+    let reason = match said.split_once(" (os error ") {
+        Some((front, _)) => front,
+        None => said,
+    };
+    let _ = eprintln!(rt; "list: standard output: {reason}");
+}
+
+// Writes all bytes to standard output, or returns what kind of error there is. Standard error says so, unless it is a pipe that nobody reads.
+fn write_all(rt: &(impl Print + Eprint), bytes: &[u8]) -> Option<ErrorKind> {
+    match rt.write_all(bytes) {
+        Ok(()) => None,
+        Err(error) => {
+            let kind = error.kind();
+            if kind != ErrorKind::BrokenPipe {
+                fail(rt, &error);
+            }
+            Some(kind)
+        }
+    }
 }
 
 // Hands bytes to the write. The `requires` says that they are those of the text of book, file with the year and plate after the first
 // `before` bytes, and these three are parameters only for that. If the bytes can't be written, standard error says so.
-fn write(book: &[u8], file: &[u8], plate: &[u8], before: usize, bytes: &[u8]) -> Written
+fn write(
+    rt: &(impl Print + Eprint),
+    book: &[u8],
+    file: &[u8],
+    plate: &[u8],
+    before: usize,
+    bytes: &[u8],
+) -> Written
     requires { (before ≤ max_text) × (length bytes.now ≤ page_size) × Next book.now file.now plate.now before bytes.now }
     ensures { result.bytes ≡ before + length bytes.now }
 {
-    let all = io::write_all(libc::STDOUT_FILENO, bytes);
-    if !all {
-        os::fail(b"list: standard output");
-    }
+    let error = write_all(rt, bytes);
     Written {
         bytes: before + bytes.len(),
-        all,
+        all: error.is_none(),
+        unread: error == Some(ErrorKind::BrokenPipe),
     }
 }
 
 // Writes page after page until nothing is due, or until a page can't be written.
 pub fn write_pages(
+    rt: &(impl Print + Eprint),
     book: &[u8],
     file: &[u8],
     plate: &[u8],
@@ -68,7 +107,7 @@ pub fn write_pages(
     while left > 0 && !is_done(then) {
         let t = fill_page(then, p, lengths, fits, chart, tables, buf, &mut out);
         let n = t.bytes;
-        let w = write(book, file, plate, bytes, &out[..n]);
+        let w = write(rt, book, file, plate, bytes, &out[..n]);
         if !w.all {
             return w;
         }
@@ -76,5 +115,9 @@ pub fn write_pages(
         then = t.due;
         left -= 1;
     }
-    Written { bytes, all: true }
+    Written {
+        bytes,
+        all: true,
+        unread: false,
+    }
 }

@@ -1,12 +1,12 @@
 -- What opening and taking give, by the checks in the code: one law for each path through the code. Assumes nothing.
 use Prim.Native.Nat.{ℕ, ◌+◌, ◌≤◌, ◌<◌}
-use mathlib.Core.Bool.{Bool, true, false, not}
+use mathlib.Core.Bool.{Bool, true, false}
 use mathlib.Core.List.{List, [], ◌∷◌, ◌++◌}
 use mathlib.Core.Path.{◌≡◌, refl, sym, ap, ◌∙◌, subst}
 use native.Mathlib.Omega.{arith}
 use lib.ListN.{length, take}
 use lib.Seq.{length-take-le}
-use borrow.Author.Tests.{not-true, not-false, lt-ltb, le-ltb, eq-eqb, ne_eqb}
+use borrow.Author.Tests.{lt-ltb, le-ltb, eq-eqb, ne_eqb}
 use Rattle.sizes.specs.Sizes.{cells, max_input}
 use Rattle.sets.specs.Set.{has}
 use Rattle.cfg.specs.Grammar.{Cfg, rule}
@@ -44,11 +44,11 @@ unfolding cfg_in
 same-rules G s p same r = same r
 
 -- what the test of the grammar says
-pub was-invalid : (t v : Bool) → t ≡ v → not t ≡ true → v ≡ false
-was-invalid t v e f = sym e ∙ not-true t f
+pub was-invalid : (t v : Bool) → t ≡ v → t ≡ false → v ≡ false
+was-invalid t v e f = sym e ∙ f
 
-pub was-valid : (t v : Bool) → t ≡ v → not t ≡ false → v ≡ true
-was-valid t v e f = sym e ∙ not-false t f
+pub was-valid : (t v : Bool) → t ≡ v → t ≡ true → v ≡ true
+was-valid t v e f = sym e ∙ f
 
 -- the answer whether the input is complete
 pub says_same : (chart : List ℕ) (n k s : ℕ) (b t : Bool) → k ≡ s → b ≡ has k (cell chart 0 n) → b ≡ t

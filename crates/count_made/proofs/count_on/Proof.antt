@@ -14,10 +14,10 @@ invariant-loop p fits chart tables root buf₀ i₀ buf i =
 abbrev decreases-loop : tie.decreases-loop-i
 decreases-loop p fits chart tables root buf₀ i₀ buf i = most - i
 
-returns : tie.Need-returns invariant-loop decreases-loop
+returns : tie.Need-returns-then-m-eq0 invariant-loop decreases-loop
 returns c =
     let after_call = c.before.before.before in
-    counted-last _ _ _ _ _ _ _ _ _ _ _ _ after_call.before.before.before.loop-i.invariant.1 after_call.advance-root.ensures
+    counted-last _ _ _ _ _ _ _ _ _ _ _ _ after_call.before.before.before.loop-i.invariant.1 after_call.advance_root-m.ensures
     (omega arith) (omega arith)
 
 pub count_on_spec : {M : Type 1} → statement M

@@ -11,13 +11,13 @@ use Rattle.load_nullable.proofs.Depth.{heads_by, heads-first, heads-again, heads
 use Rattle.load_nullable.proofs.level_above.Statement.{statement}
 use Rattle.load_nullable.proofs.level_above.Tie as tie
 
-abbrev invariant-loop : tie.invariant-loop
+abbrev invariant-loop : tie.invariant-loop-i
 invariant-loop level g n s₀ i₀ s i = (i ≤ n) × (n ≤ max_rules) × (length g.rules ≡ max_rules) × (s ≡ heads_by level (take i g.rules) 0)
 
-abbrev decreases-loop : tie.decreases-loop
+abbrev decreases-loop : tie.decreases-loop-i
 decreases-loop level g n s₀ i₀ s i = n - i
 
-loop-holds : tie.Need-loop-init invariant-loop decreases-loop
+loop-holds : tie.Need-loop-i-init invariant-loop decreases-loop
 loop-holds c = (omega arith, valid-count _ c.requires, search rules-long, search heads-first)
 
 pub level_above_spec : {M : Type 1} → statement M

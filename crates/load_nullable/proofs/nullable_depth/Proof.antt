@@ -6,10 +6,10 @@ use Rattle.load_nullable.proofs.Depth.{Rising, rising-first, rising-valid, risin
 use Rattle.load_nullable.proofs.nullable_depth.Statement.{statement}
 use Rattle.load_nullable.proofs.nullable_depth.Tie as tie
 
-abbrev invariant-loop : tie.invariant-loop
+abbrev invariant-loop : tie.invariant-loop-level
 invariant-loop g nullable level₀ d₀ level d = Rising g nullable level d
 
-abbrev decreases-loop : tie.decreases-loop
+abbrev decreases-loop : tie.decreases-loop-level
 decreases-loop g nullable level₀ d₀ level d = 32 - d
 
 pub nullable_depth_spec : {M : Type 1} → statement M

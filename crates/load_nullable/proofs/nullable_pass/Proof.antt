@@ -12,13 +12,13 @@ use Rattle.load_nullable.proofs.Pass.{pass-first, pass-again, pass-last}
 use Rattle.load_nullable.proofs.nullable_pass.Statement.{statement}
 use Rattle.load_nullable.proofs.nullable_pass.Tie as tie
 
-abbrev invariant-loop : tie.invariant-loop
+abbrev invariant-loop : tie.invariant-loop-i
 invariant-loop known g n s₀ i₀ s i = (i ≤ n) × (n ≤ max_rules) × (length g.rules ≡ max_rules) × (s ≡ pass (take i g.rules) known)
 
-abbrev decreases-loop : tie.decreases-loop
+abbrev decreases-loop : tie.decreases-loop-i
 decreases-loop known g n s₀ i₀ s i = n - i
 
-loop-holds : tie.Need-loop-init invariant-loop decreases-loop
+loop-holds : tie.Need-loop-i-init invariant-loop decreases-loop
 loop-holds c = (omega arith, valid-count _ c.requires, search rules-long, search pass-first)
 
 pub nullable_pass_spec : {M : Type 1} → statement M

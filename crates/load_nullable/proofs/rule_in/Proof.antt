@@ -15,14 +15,14 @@ use Rattle.load_nullable.proofs.Pass.{rule-place-valid, rule-stops, rule-whole}
 use Rattle.load_nullable.proofs.rule_in.Statement.{statement}
 use Rattle.load_nullable.proofs.rule_in.Tie as tie
 
-abbrev invariant-loop : tie.invariant-loop
+abbrev invariant-loop : tie.invariant-loop-q
 invariant-loop known rule n q₀ q =
     (q ≤ n) × (n ≤ max_places) × (length rule.places ≡ max_places) × (all (place_known known) (take q rule.places) ≡ true)
 
-abbrev decreases-loop : tie.decreases-loop
+abbrev decreases-loop : tie.decreases-loop-q
 decreases-loop known rule n q₀ q = n - q
 
-loop-holds : tie.Need-loop-init invariant-loop decreases-loop
+loop-holds : tie.Need-loop-q-init invariant-loop decreases-loop
 unfolding all
 loop-holds c = (omega arith, (rule-parts _ c.requires).1, search places-long, refl)
 

@@ -7,10 +7,10 @@ use Rattle.load_nullable.proofs.Exact.{Searching, searching-first, searching-nex
 use Rattle.load_nullable.proofs.search.Statement.{statement}
 use Rattle.load_nullable.proofs.search.Tie as tie
 
-abbrev invariant-loop : tie.invariant-loop
+abbrev invariant-loop : tie.invariant-loop-next
 invariant-loop g known₀ next₀ passes₀ known next passes = Searching g known next passes
 
-abbrev decreases-loop : tie.decreases-loop
+abbrev decreases-loop : tie.decreases-loop-next
 decreases-loop g known₀ next₀ passes₀ known next passes = 34 - passes
 
 pub search_spec : {M : Type 1} → statement M

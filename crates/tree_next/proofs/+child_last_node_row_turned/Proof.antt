@@ -61,18 +61,18 @@ child-returns-2 t c =
 
 last-returns : (t : ℕ) → last-lts.Need-returns-then-n-eq0 (last-calls t) (last-at ◌≡◌ t) last.Post
 last-returns t c =
-    last-still (reached-as c.reach-there.ensures c.there-1.given.1)
+    last-still (reached-as c.reach-there.ensures c.in-There.is)
     c.child_set-mask.ensures c.node-n.ensures (omega arith)
 
 last-add-result : (t : ℕ) → last-lts.Need-overflow_add-result (last-calls t) (last-at ◌≡◌ t) last.Post
 last-add-result t c =
-    let room = reach-room (reached-as c.reach-there.ensures c.there-1.given.1) in
+    let room = reach-room (reached-as c.reach-there.ensures c.in-There.is) in
     let given = c.requires in
     omega (arith, c.node-n.ensures.kept.few)
 
 last-returns-3 : (t : ℕ) → last-lts.Need-returns-else-n-eq0 (last-calls t) (last-at ◌≡◌ t) last.Post
 last-returns-3 t c =
-    last-moves (reached-as c.reach-there.ensures c.there-1.given.1)
+    last-moves (reached-as c.reach-there.ensures c.in-There.is)
     c.child_set-mask.ensures c.node-n.ensures (omega arith)
 
 -- ---- node
@@ -103,32 +103,32 @@ node-returns-3 t c =
 
 row-row-requires : (t : ℕ) → row-lts.Need-row-requires (row-calls t) (row_at ◌≡◌ t) row.Post
 row-row-requires t c κs =
-    let room = byte-room (looked-as c.look-step.ensures c.enum_told-in-Byte-1.given.1) in
+    let room = byte-room (looked-as c.look-step.ensures c.in-Byte.is) in
     let given = c.requires in
     (omega arith, (omega arith, given.1.1))
 
 row-row-requires-2 : (t : ℕ) → row-lts.Need-row-n-requires (row-calls t) (row_at ◌≡◌ t) row.Post
 row-row-requires-2 t c κs =
-    let room = node-room (looked-as c.look-step.ensures c.step-1.given.1) in
+    let room = node-room (looked-as c.look-step.ensures c.in-Node.is) in
     let given = c.requires in
     (omega arith, (omega arith, given.1.1))
 
 row-add-result : (t : ℕ) → row-lts.Need-overflow_add-result (row-calls t) (row_at ◌≡◌ t) row.Post
 row-add-result t c =
     let given = c.requires in
-    let room = node-room (looked-as c.look-step.ensures c.step-1.given.1) in
+    let room = node-room (looked-as c.look-step.ensures c.in-Node.is) in
     omega (arith, c.row-n.ensures.kept.few)
 
 row-returns : (t : ℕ) → row-lts.Need-returns-then-n-gt0 (row-calls t) (row_at ◌≡◌ t) row.Post
 row-returns t c =
     let given = c.requires in
     row-rest (omega arith) (omega arith) c.row-n.ensures
-    (looked-as c.look-step.ensures c.step-1.given.1) (omega arith)
+    (looked-as c.look-step.ensures c.in-Node.is) (omega arith)
 
 row-child-requires : (t : ℕ) → row-lts.Need-child-requires (row-calls t) (row_at ◌≡◌ t) row.Post
 row-child-requires t c κs =
     let given = c.requires in
-    let room = node-room (looked-as c.look-step.ensures c.step-1.given.1) in
+    let room = node-room (looked-as c.look-step.ensures c.in-Node.is) in
     let long = c.row-n.ensures.kept.long in
     (omega arith, (omega arith, c.row-n.ensures.frame))
 
@@ -137,7 +137,7 @@ row-returns-6 t c =
     let given = c.requires in
     let still = c.if-n-gt0.false in
     row-child (omega arith) (omega arith) c.row-n.ensures
-    (looked-as c.look-step.ensures c.step-1.given.1) (omega arith) c.child.ensures
+    (looked-as c.look-step.ensures c.in-Node.is) (omega arith) c.child.ensures
 
 -- ---- turned
 
@@ -170,17 +170,17 @@ pub +child_last_node_row_turned_spec : {M : Type 1} → statement M
     (λ c κs. omega arith) (λ c. omega arith) (λ c. omega arith)
     -- `child_set` and `node`
     (λ c. omega arith)
-    (λ c. omega (arith, reach-room (reached-as c.reach-there.ensures c.there-1.given.1)))
+    (λ c. omega (arith, reach-room (reached-as c.reach-there.ensures c.in-There.is)))
     (λ c κs. omega arith)
     (λ c κs.
     let given = c.requires in
-    omega (arith, reach-room (reached-as c.reach-there.ensures c.there-1.given.1)))
+    omega (arith, reach-room (reached-as c.reach-there.ensures c.in-There.is)))
     -- the results: the node does not move, it moves, there is none
     (λ c. omega arith) (last-returns t)
     (λ c.
-    omega (arith, reach-room (reached-as c.reach-there.ensures c.there-1.given.1)))
+    omega (arith, reach-room (reached-as c.reach-there.ensures c.in-There.is)))
     (last-add-result t) (λ c. omega arith)
-    (λ c. last_none (reached-as c.reach-there.ensures c.enum_told-1.given.1))
+    (λ c. last_none (reached-as c.reach-there.ensures c.in-Nowhere.is))
     (λ c. omega arith) (last-returns-3 t))
     (λ t. node-lts.spec (node-calls t) (node_at ◌≡◌ t) node.Post
     -- `rule_at`, and no rule
@@ -198,28 +198,28 @@ pub +child_last_node_row_turned_spec : {M : Type 1} → statement M
     -- `row` after a node
     (λ c. omega arith) (λ c. omega arith) (λ c. omega arith)
     (λ c.
-    omega (arith, node-room (looked-as c.look-step.ensures c.step-1.given.1)))
+    omega (arith, node-room (looked-as c.look-step.ensures c.in-Node.is)))
     (λ c.
-    omega (arith, node-room (looked-as c.look-step.ensures c.step-1.given.1)))
+    omega (arith, node-room (looked-as c.look-step.ensures c.in-Node.is)))
     (row-row-requires-2 t) (row-add-result t) (λ c. omega arith) (row-returns t)
     -- `child`
     (row-child-requires t) (λ c. omega arith)
     -- the results: nothing, the end, a byte, the last node, another node
     (λ c.
     let given = c.requires in
-    row-none (omega arith) (omega arith) given.1.1 (looked-as c.look-step.ensures c.enum_told-1.given.1))
+    row-none (omega arith) (omega arith) given.1.1 (looked-as c.look-step.ensures c.in-No.is))
     (λ c. omega arith)
     (λ c.
     let given = c.requires in
-    row-end (omega arith) (omega arith) given.1.1 (looked-as c.look-step.ensures c.enum_told-in-End-1.given.1))
+    row-end (omega arith) (omega arith) given.1.1 (looked-as c.look-step.ensures c.in-End.is))
     (λ c. omega arith)
     (λ c.
-    row-byte (omega arith) (omega arith) (looked-as c.look-step.ensures c.enum_told-in-Byte-1.given.1)
+    row-byte (omega arith) (omega arith) (looked-as c.look-step.ensures c.in-Byte.is)
     c.row.ensures)
     (λ c. omega arith)
     (λ c.
     let given = c.requires in
-    row_last (omega arith) (omega arith) given.1.1 (looked-as c.look-step.ensures c.enum_told-in-Final-1.given.1))
+    row_last (omega arith) (omega arith) given.1.1 (looked-as c.look-step.ensures c.in-Final.is))
     (λ c. omega arith) (row-returns-6 t))
     λ t. turned-lts.spec (turned-calls t) (turned-at ◌≡◌ t) turned.Post
     (λ c. omega arith) (λ c. omega arith) (λ c κs. (omega arith, (omega arith, frame-unmade (omega arith))))

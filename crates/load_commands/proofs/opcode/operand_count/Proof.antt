@@ -11,6 +11,6 @@ operand_count_spec = tie.close (tie.spec
     (λ c. omega arith) (λ c. omega arith) (λ c. omega arith) (λ c. omega arith) (λ c. omega arith) (λ c. omega arith) (λ c. omega arith)
     (λ c. omega arith)
     -- what each arm returns
-    (λ c. rw c.enum_told.given.1) (λ c. rw c.enum-told2.given.1) (λ c. rw c.enum-told3.given.1)
-    (λ c. rw c.enum-told4.given.1) (λ c. rw c.enum-told5.given.1) (λ c. rw c.enum-told6.given.1)
-    (λ c. rw c.enum-told7.given.1) (λ c. rw c.enum-told8.given.1))
+    (λ c. rw c.enum_told-1.given.1) (λ c. rw c.enum_told-in-Rule-1.given.1) (λ c. rw c.enum_told-in-RuleWithYears-1.given.1)
+    (λ c. rw c.enum_told-in-Nonterminal-1.given.1) (λ c. rw c.enum_told-in-Terminal-1.given.1) (λ c. rw c.enum_told-in-Range-1.given.1)
+    (λ c. rw c.enum_told-in-Name-1.given.1) (λ c. rw c.enum_told-in-End-1.given.1))

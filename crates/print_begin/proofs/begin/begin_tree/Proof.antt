@@ -5,8 +5,8 @@ use Rattle.print_begin.proofs.Opening.{tree-refused, tree-begun}
 use Rattle.print_begin.proofs.begin.begin_tree.Statement.{statement}
 use Rattle.print_begin.proofs.begin.begin_tree.Tie as tie
 
-returns : tie.Need-returns
-returns c = tree-refused _ _ _ _ _ _ _ c.before.before.before.build.ensures _ c.before.exists.ensures (search rules) _
+returns : tie.Need-returns-then-not-exists
+returns c = tree-refused _ _ _ _ _ _ _ c.before.before.before.build-rules.ensures _ c.before.exists.ensures (search rules) _
 
 pub begin_tree_spec : {M : Type 1} → statement M
 begin_tree_spec = tie.close (tie.spec

@@ -7,4 +7,4 @@ use Rattle.print_begin.proofs.year.year_in.Tie as tie
 
 pub year_in_spec : {M : Type 1} → statement M
 year_in_spec = tie.close (tie.spec
-    (λ c. omega arith) (λ c. omega arith) (λ c κs. omega arith) (λ c. c.year-of.ensures ∙ search year-two) (λ c. search year-none))
+    (λ c. omega arith) (λ c. omega arith) (λ c κs. omega arith) (λ c. c.year_of.ensures ∙ search year-two) (λ c. search year-none))

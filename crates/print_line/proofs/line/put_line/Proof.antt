@@ -6,7 +6,7 @@ use Rattle.print_line.proofs.Lines.{through-size, room-place, room-colon, room-n
 use Rattle.print_line.proofs.line.put_line.Statement.{statement}
 use Rattle.print_line.proofs.line.put_line.Tie as tie
 
-put-end-requires : tie.Need-put-end-requires
+put-end-requires : tie.Need-put_end-requires
 put-end-requires c κs =
     let after-nodes = c.before.before.before in
     let after-colon = after-nodes.before.before.before.before in

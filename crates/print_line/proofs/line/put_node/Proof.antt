@@ -5,7 +5,7 @@ use Rattle.print_line.proofs.Lines.{room-cover, room-point, node_done, node-smal
 use Rattle.print_line.proofs.line.put_node.Statement.{statement}
 use Rattle.print_line.proofs.line.put_node.Tie as tie
 
-put-decimal-requires-2 : tie.Need-put-decimal-requires-2
+put-decimal-requires-2 : tie.Need-put_decimal-requires
 put-decimal-requires-2 c κs =
     let after-point = c.before.before.before in
     let after-cover = after-point.before.before.before.before in

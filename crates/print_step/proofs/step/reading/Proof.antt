@@ -5,9 +5,9 @@ use Rattle.print_step.proofs.Measured.{kept_small, tenths-small, line-put}
 use Rattle.print_step.proofs.step.reading.Statement.{statement}
 use Rattle.print_step.proofs.step.reading.Tie as tie
 
-put-line-requires : tie.Need-put-line-requires
+put-line-requires : tie.Need-put_line-requires
 put-line-requires c κs =
-    let small = tenths-small _ _ _ _ c.before.before.total.ensures c.before.rounded.ensures in
+    let small = tenths-small _ _ _ _ c.before.before.total.ensures c.before.rounded-z.ensures in
     (omega arith, omega arith, omega arith, small, omega arith)
 
 pub reading_spec : {M : Type 1} → statement M

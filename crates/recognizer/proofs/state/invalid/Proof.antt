@@ -20,10 +20,10 @@ decreases-loop h n i₀ i = max_points - i
 loop-again : tie.Need-loop-i-preserved invariant-loop decreases-loop
 loop-again c =
     let at-loop = c.before.before.before.before in
-    points-next (state_in at-loop.before.before.args.h) at-loop.loop-i.i _ c.before.wide-byte.ensures.0 (omega arith)
+    points-next (state_in at-loop.before.before.args.h) at-loop.loop-i.i _ c.before.wide_byte.ensures.0 (omega arith)
     at-loop.loop-i.invariant
 
-returns-3 : tie.Need-returns-3 invariant-loop decreases-loop
+returns-3 : tie.Need-returns invariant-loop decreases-loop
 returns-3 c =
     let entry = c.before.before.before in
     all-within (state_in entry.args.h) _ (points-long entry.args.h _ entry.well_formed.0) (omega arith) (omega arith)

@@ -84,22 +84,22 @@ node-returns-2 t c =
 
 row-node-requires : (t : ℕ) → row-lts.Need-node-m-requires (row-calls t) (row_at t) row.Post
 row-node-requires t c κs =
-    let room = node-room (looked-as c.look-step.ensures c.step-1.given.1) in
+    let room = node-room (looked-as c.look-step.ensures c.in-Node.is) in
     omega arith
 
 row-add-at : (t : ℕ) → row-lts.Need-overflow_add-at (row-calls t) (row_at t) row.Post
 row-add-at t c =
-    let room = node-room (looked-as c.look-step.ensures c.step-1.given.1) in
+    let room = node-room (looked-as c.look-step.ensures c.in-Node.is) in
     omega (arith, c.node-m.ensures.kept.few)
 
 row-sub-budget : (t : ℕ) → row-lts.Need-overflow_sub-budget (row-calls t) (row_at t) row.Post
 row-sub-budget t c =
-    let room = node-room (looked-as c.look-step.ensures c.step-1.given.1) in
+    let room = node-room (looked-as c.look-step.ensures c.in-Node.is) in
     omega (arith, c.node-m.ensures.kept.few)
 
 row-row-requires-2 : (t : ℕ) → row-lts.Need-row-requires-in-Node (row-calls t) (row_at t) row.Post
 row-row-requires-2 t c κs =
-    let room = node-room (looked-as c.look-step.ensures c.step-1.given.1) in
+    let room = node-room (looked-as c.look-step.ensures c.in-Node.is) in
     let few = c.node-m.ensures.kept.few in
     let long = c.node-m.ensures.kept.long in
     omega arith
@@ -107,19 +107,19 @@ row-row-requires-2 t c κs =
 row-add-result : (t : ℕ) → row-lts.Need-overflow_add-result (row-calls t) (row_at t) row.Post
 row-add-result t c =
     let given = c.requires in
-    let room = node-room (looked-as c.look-step.ensures c.step-1.given.1) in
+    let room = node-room (looked-as c.look-step.ensures c.in-Node.is) in
     omega (arith, c.node-m.ensures.kept.few, c.row-in-Node.ensures.kept.few)
 
 row-returns-3 : (t : ℕ) → row-lts.Need-returns-in-Byte (row-calls t) (row_at t) row.Post
 row-returns-3 t c =
     row-byte _ _ _ (omega arith) (omega arith) (omega arith)
-    (looked-as c.look-step.ensures c.enum_told-in-Byte-1.given.1) c.row.ensures
+    (looked-as c.look-step.ensures c.in-Byte.is) c.row.ensures
 
 row-returns-4 : (t : ℕ) → row-lts.Need-returns-in-Node (row-calls t) (row_at t) row.Post
 row-returns-4 t c =
     let given = c.requires in
     row-node _ _ _ (omega arith) (omega arith) (omega arith) c.child_set-mask.ensures c.node-m.ensures
-    c.row-in-Node.ensures (looked-as c.look-step.ensures c.step-1.given.1)
+    c.row-in-Node.ensures (looked-as c.look-step.ensures c.in-Node.is)
 
 pub +node_row_spec : {M : Type 1} → statement M
 +node_row_spec = close μ-node μ-row
@@ -141,14 +141,14 @@ pub +node_row_spec : {M : Type 1} → statement M
     λ t. row-lts.spec (row-calls t) (row_at t) row.Post
     -- `look`, and `row` after a byte
     (λ c κs. omega arith) (λ c. omega arith) (λ c. omega arith) (λ c. omega arith) (λ c. omega arith) (λ c. omega arith)
-    (λ c κs. omega (arith, byte-room (looked-as c.look-step.ensures c.enum_told-in-Byte-1.given.1)))
+    (λ c κs. omega (arith, byte-room (looked-as c.look-step.ensures c.in-Byte.is)))
     -- `child_set` and `node`
     (λ c. omega arith) (λ c. omega arith)
-    (λ c. omega (arith, node-room (looked-as c.look-step.ensures c.step-1.given.1)))
+    (λ c. omega (arith, node-room (looked-as c.look-step.ensures c.in-Node.is)))
     (λ c κs. omega arith) (row-node-requires t)
     -- `row` after the node
     (row-add-at t) (row-sub-budget t) (λ c. omega arith) (row-row-requires-2 t) (row-add-result t)
     -- the results: nothing, the end, a byte, a node
-    (λ c. row-none _ _ _ (omega arith) (omega arith) (omega arith) (looked-as c.look-step.ensures c.enum_told-1.given.1))
-    (λ c. row-end _ _ _ (omega arith) (omega arith) (omega arith) (looked-as c.look-step.ensures c.enum_told-in-End-1.given.1))
+    (λ c. row-none _ _ _ (omega arith) (omega arith) (omega arith) (looked-as c.look-step.ensures c.in-No.is))
+    (λ c. row-end _ _ _ (omega arith) (omega arith) (omega arith) (looked-as c.look-step.ensures c.in-End.is))
     (λ c. omega arith) (row-returns-3 t) (λ c. omega arith) (row-returns-4 t)

@@ -27,20 +27,20 @@ pub +reach_spec : {M : Type 1} → statement M
 +reach_spec = close μ-reach λ t. reach-lts.spec (reach-calls t) (reach-at t) reach.Post
     -- `look`, and `reach` after a byte
     (λ c κs. omega arith) (λ c. omega arith) (λ c. omega arith) (λ c. omega arith) (λ c. omega arith) (λ c. omega arith)
-    (λ c κs. omega (arith, byte-room (looked-as c.look-step.ensures c.enum_told-in-Byte-1.given.1)))
+    (λ c κs. omega (arith, byte-room (looked-as c.look-step.ensures c.in-Byte.is)))
     -- `reach` after a node
     (λ c. omega arith) (λ c. omega arith) (λ c. omega arith)
-    (λ c. omega (arith, node-room (looked-as c.look-step.ensures c.step-in-Node-1.given.1)))
-    (λ c. omega (arith, node-room (looked-as c.look-step.ensures c.step-in-Node-1.given.1)))
-    (λ c κs. omega (arith, node-room (looked-as c.look-step.ensures c.step-in-Node-1.given.1)))
+    (λ c. omega (arith, node-room (looked-as c.look-step.ensures c.in-Node.is)))
+    (λ c. omega (arith, node-room (looked-as c.look-step.ensures c.in-Node.is)))
+    (λ c κs. omega (arith, node-room (looked-as c.look-step.ensures c.in-Node.is)))
     -- the results: nothing, the end, a byte, the last node, another node
-    (λ c. reach-none (omega arith) (omega arith) (looked-as c.look-step.ensures c.enum_told-1.given.1))
-    (λ c. reach-end (omega arith) (omega arith) (looked-as c.look-step.ensures c.enum_told-in-End-1.given.1))
+    (λ c. reach-none (omega arith) (omega arith) (looked-as c.look-step.ensures c.in-No.is))
+    (λ c. reach-end (omega arith) (omega arith) (looked-as c.look-step.ensures c.in-End.is))
     (λ c.
-    reach-byte (omega arith) (omega arith) (looked-as c.look-step.ensures c.enum_told-in-Byte-1.given.1)
+    reach-byte (omega arith) (omega arith) (looked-as c.look-step.ensures c.in-Byte.is)
     c.reach.ensures)
     (λ c.
-    reach-last (omega arith) (omega arith) (looked-as c.look-step.ensures c.step-1.given.1))
+    reach-last (omega arith) (omega arith) (looked-as c.look-step.ensures c.in-Final.is))
     (λ c.
-    reach-node (omega arith) (omega arith) (looked-as c.look-step.ensures c.step-in-Node-1.given.1)
+    reach-node (omega arith) (omega arith) (looked-as c.look-step.ensures c.in-Node.is)
     c.reach-in-Node.ensures)
