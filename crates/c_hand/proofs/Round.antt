@@ -13,7 +13,7 @@ use borrow.Author.Tests.{lt-ltb, le-leb}
 use Rattle.grammar.specs.Valid.{all}
 use Rattle.results.specs.Recognize.{State, set_taken, state_check}
 use Rattle.results.proofs.State.{state-same}
-use Rattle.c_hand.specs.Declared.{DeclaredState}
+use Rattle.c_hand.specs.Ranges.{DeclaredState}
 use Rattle.sizes.specs.Sizes.{max_input}
 use Rattle.numbers.specs.Numbers.{byte_in, saturated}
 use Rattle.c_hand.specs.Hand.{is_byte, year_at, points_at, bytes_in, used_bytes, points_in, hand_points, state_of_row, row_of}

@@ -20,7 +20,7 @@ use Rattle.table_all.specs.Spans.{Tabulated}
 -- ---- forests over bytes at fewer positions
 
 module _ {bytes bytes' : ℕ → ℕ → Type 0} (to : (a m : ℕ) → bytes a m → bytes' a m) where
-  reads_more : {a b : ℕ} {u : List ℕ} → Reads bytes b a u → Reads bytes' b a u
+  reads_more : {b a : ℕ} {u : List ℕ} → Reads bytes b a u → Reads bytes' b a u
   reads_more (reads_end e) = reads_end e
   reads_more (reads_byte {a} {m} p r) = reads_byte (to a m p) (reads_more r)
 

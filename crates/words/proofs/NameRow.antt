@@ -20,7 +20,7 @@ use Rattle.words_text.specs.Names.{names_size, name_in}
 -- a name has eight bytes, since its type is declared
 module _ (r : Rule) (vs : List Val) (known : Is R.the_row r vs) where
   pub name-long : length r.name ≡ name_size
-  name-long = simp length-map at known.1.1.1.1.1.1.1.1.0.1.0.1
+  name-long = known.1.1.1.1.1.1.1.1.0.1.0.1
 
   pub name-room : (at m : ℕ) → at + name_size ≤ m → at + length r.name ≤ m
   name-room at m h = omega (arith, name-long)

@@ -8,8 +8,8 @@ returns : tie.Need-returns
 returns c =
     let at-points = c.before.before.before in
     let at-bytes = at-points.before in
-    read_of at-bytes.before.before.args.h.now _ _ _ at-bytes.read-bytes.ensures c.before.wide.ensures
-    at-points.hand-points.ensures
+    read_of at-bytes.before.before.args.h.now _ _ _ at-bytes.read_bytes-bytes.ensures c.before.wide.ensures
+    at-points.hand_points-points.ensures
 
 pub read_spec : {M : Type 1} → statement M
 read_spec = tie.close (tie.spec

@@ -29,11 +29,11 @@ returns : tie.Need-returns invariant-loop decreases-loop
 returns c =
     let at-loop = c.before.before.before.before in
     let entry = at-loop.before.before in
-    c.write-points.ensures
+    c.write_points.ensures
     ∙ write_done _ _ _ _ at-loop.loop-k.invariant (bytes-long entry.args.r _ entry.well_formed.0) (omega arith)
     c.before.before.saturate.ensures
 
-write-points-requires : tie.Need-write-points-requires invariant-loop decreases-loop
+write-points-requires : tie.Need-write_points-requires invariant-loop decreases-loop
 write-points-requires c κs =
     let at-loop = c.before.before.before in
     stored-long at-loop.loop-k.h c.before.saturate.result at-loop.before.before.args.r.year at-loop.loop-k.invariant.long

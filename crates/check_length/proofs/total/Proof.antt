@@ -25,14 +25,15 @@ loop-again c =
     let start = in-loop.before.before in
     let so_far = in-loop.loop-i.invariant.2 in
     elim c.if-r-lt-MAX_RULES.branch [
-      then-r-lt-MAX_RULES w ↦
-        let x = next-rule _ _ (omega arith) (omega arith) read.rule_number-r.ensures so_far _ w.if-r-lt-MAX_RULES.true
-            (w.widened-sum.ensures.0 ∙ to_z-of_z {w = w16} (record { sfits = w.widened-arg-1.given }), w.widened-sum.ensures.1) w.sum-is-bits in
-        (omega arith, refl, x)
+      | then-r-lt-MAX_RULES w ↦
+          let x = next-rule _ _ (omega arith) (omega arith) read.rule_number-r.ensures so_far _ w.if-r-lt-MAX_RULES.true
+          (w.widened-sum.ensures.0 ∙ to_z-of_z {w = w16} (record { sfits = w.widened-arg-1.given }), w.widened-sum.ensures.1) w.sum-is-bits in
+          (omega arith, refl, x)
       | else-r-lt-MAX_RULES w ↦
-        let x = next-none _ _ (omega arith) (omega arith) read.rule_number-r.ensures so_far
-            (lengths-beyond start.args.l.now start.requires.1) w.if-r-lt-MAX_RULES.false w.sum-is-bits in
-        (omega arith, refl, x) ]
+          let x = next-none _ _ (omega arith) (omega arith) read.rule_number-r.ensures so_far
+          (lengths-beyond start.args.l.now start.requires.1) w.if-r-lt-MAX_RULES.false w.sum-is-bits in
+          (omega arith, refl, x)
+    ]
 
 pub total_spec : {M : Type 1} → statement M
 total_spec = tie.close (tie.spec

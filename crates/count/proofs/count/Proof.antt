@@ -8,13 +8,11 @@ use Rattle.count.proofs.count.Tie as tie
 
 count-filled-requires : tie.Need-count_filled-requires
 count-filled-requires c κs =
-    let after-fill = c.before.before.before.before.before.before in
-    let passed = after-fill.before.before.before in
-    let filling = after-fill.fill_fits-p.ensures in
-    filled-ready _ _ _ _ _ passed.before.before.judge.ensures passed.enum_told-1.given.1 _ _ filling.0 filling.1
+    let filling = c.fill_fits-p.ensures in
+    filled-ready _ _ _ _ _ c.judge.ensures c.in-Passed.is _ _ filling.0 filling.1
 
 pub count_spec : {M : Type 1} → statement M
 count_spec = tie.close (tie.spec
     (λ c κs. omega arith) (λ c. omega arith) (λ c. omega arith)
-    (λ c κs. let passed = c.before.before in judged-ready _ _ _ _ passed.before.before.judge.ensures passed.enum_told-1.given.1)
+    (λ c κs. judged-ready _ _ _ _ c.judge.ensures c.in-Passed.is)
     (λ c κs. omega arith) count-filled-requires (λ c. search count-refused) (λ c. omega arith) (λ c. search count-answered))

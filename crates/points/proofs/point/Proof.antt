@@ -6,7 +6,7 @@ use Rattle.points.proofs.States.{no_name}
 use Rattle.points.proofs.point.Statement.{statement}
 use Rattle.points.proofs.point.Tie as tie
 
-returns-2 : tie.Need-returns-2
+returns-2 : tie.Need-returns
 returns-2 c =
     no_name c.before.args.h.points c.before.args.name (points-long c.before.args.h _ c.before.well_formed.0) (omega arith)
 

@@ -7,7 +7,7 @@ use Rattle.points.proofs.setting.Tie as tie
 returns : tie.Need-returns
 returns c =
     let entry = c.before.before.before in
-    set-right _ _ _ _ entry.requires.0 entry.requires.1 entry.requires.2 _ _ entry.requires.3 c.with-point.ensures
+    set-right _ _ _ _ entry.requires.0 entry.requires.1 entry.requires.2 _ _ entry.requires.3 c.with_point.ensures
     c.before.says.ensures
 
 pub setting_spec : {M : Type 1} → statement M

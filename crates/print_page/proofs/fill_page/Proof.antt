@@ -10,11 +10,11 @@ use Rattle.print_page.proofs.Paging.{Filled, filled_none, filled-step, filled-le
 use Rattle.print_page.proofs.fill_page.Statement.{statement}
 use Rattle.print_page.proofs.fill_page.Tie as tie
 
-abbrev invariant-loop : tie.invariant-loop-then
+abbrev invariant-loop : tie.invariant-loop-buf
 invariant-loop p lengths fits chart tables buf₀ out₀ then₀ at₀ buf out then at =
     Filled (lengths_in lengths) p fits chart tables then₀ buf₀ buf out₀ out at then × (at ≤ room)
 
-abbrev decreases-loop : tie.decreases-loop-then
+abbrev decreases-loop : tie.decreases-loop-buf
 decreases-loop p lengths fits chart tables buf₀ out₀ then₀ at₀ buf out then at = steps_left then
 
 pub fill_page_spec : {M : Type 1} → statement M

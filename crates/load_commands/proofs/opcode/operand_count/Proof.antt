@@ -11,6 +11,6 @@ operand_count_spec = tie.close (tie.spec
     (λ c. omega arith) (λ c. omega arith) (λ c. omega arith) (λ c. omega arith) (λ c. omega arith) (λ c. omega arith) (λ c. omega arith)
     (λ c. omega arith)
     -- what each arm returns
-    (λ c. rw c.enum_told-1.given.1) (λ c. rw c.enum_told-in-Rule-1.given.1) (λ c. rw c.enum_told-in-RuleWithYears-1.given.1)
-    (λ c. rw c.enum_told-in-Nonterminal-1.given.1) (λ c. rw c.enum_told-in-Terminal-1.given.1) (λ c. rw c.enum_told-in-Range-1.given.1)
-    (λ c. rw c.enum_told-in-Name-1.given.1) (λ c. rw c.enum_told-in-End-1.given.1))
+    (λ c. rw c.in-Start.is) (λ c. rw c.in-Rule.is) (λ c. rw c.in-RuleWithYears.is)
+    (λ c. rw c.in-Nonterminal.is) (λ c. rw c.in-Terminal.is) (λ c. rw c.in-Range.is)
+    (λ c. rw c.in-Name.is) (λ c. rw c.in-End.is))

@@ -15,7 +15,7 @@ returns c =
     let entry = c.before.before in
     front-state _ (bytes-long entry.args.h _ entry.well_formed.0) _ _ _ _ entry.requires c.before.front.ensures
     ∙ ap (λ (points : List ℕ). hand_of (take entry.args.n entry.args.h.bytes) points entry.args.h.year)
-    c.points-up-to.ensures
+    c.points_up_to.ensures
 
 pub back_spec : {M : Type 1} → statement M
 back_spec = tie.close (tie.spec (λ c κs. omega arith) (λ c κs. omega arith) returns)

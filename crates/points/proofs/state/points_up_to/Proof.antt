@@ -24,7 +24,7 @@ loop-again c =
     let entry = l.before in
     let h = entry.args.h in
     let long = points-long h _ entry.well_formed.0 in
-    (omega arith, points-step entry.args.n h.points long _ _ _ (omega arith) c.kept-point.ensures l.loop-i.invariant.1)
+    (omega arith, points-step entry.args.n h.points long _ _ _ (omega arith) c.kept_point.ensures l.loop-i.invariant.1)
 
 returns : tie.Need-returns invariant-loop decreases-loop
 returns c =

@@ -6,7 +6,7 @@ use Rattle.print_begin.proofs.begin.begin_tree.Statement.{statement}
 use Rattle.print_begin.proofs.begin.begin_tree.Tie as tie
 
 returns : tie.Need-returns-then-not-exists
-returns c = tree-refused _ _ _ _ _ _ _ c.before.before.before.build-rules.ensures _ c.before.exists.ensures (search rules) _
+returns c = tree-refused _ _ _ _ _ _ _ c.build-rules.ensures _ c.exists.ensures (search rules) _
 
 pub begin_tree_spec : {M : Type 1} → statement M
 begin_tree_spec = tie.close (tie.spec

@@ -7,4 +7,4 @@ use Rattle.print_line.proofs.fixed.put_more.Tie as tie
 
 pub put_more_spec : {M : Type 1} → statement M
 unfolding readings_line
-put_more_spec = tie.close (tie.spec (λ c. omega arith) (λ c κs. omega arith) (λ c. omega arith) (λ c. search rules))
+put_more_spec = tie.close (tie.spec (λ c κs. omega arith) (λ c. omega arith) (λ c. search rules))

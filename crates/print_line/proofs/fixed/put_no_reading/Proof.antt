@@ -7,4 +7,4 @@ use Rattle.print_line.proofs.fixed.put_no_reading.Tie as tie
 
 pub put_no_reading_spec : {M : Type 1} → statement M
 unfolding no_reading_line
-put_no_reading_spec = tie.close (tie.spec (λ c. omega arith) (λ c κs. omega arith) (λ c. omega arith) (λ c. search rules))
+put_no_reading_spec = tie.close (tie.spec (λ c κs. omega arith) (λ c. omega arith) (λ c. search rules))

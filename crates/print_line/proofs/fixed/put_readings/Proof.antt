@@ -6,5 +6,5 @@ use Rattle.print_line.proofs.fixed.put_readings.Tie as tie
 
 pub put_readings_spec : {M : Type 1} → statement M
 put_readings_spec = tie.close (tie.spec
-    (λ c. omega arith) (λ c κs. omega arith) (λ c κs. search room-number) (λ c κs. search newline-after-number) (λ c. omega arith)
+    (λ c κs. omega arith) (λ c κs. search room-number) (λ c κs. search newline-after-number) (λ c. omega arith)
     (λ c. search readings-done))

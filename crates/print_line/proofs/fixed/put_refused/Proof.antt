@@ -6,5 +6,5 @@ use Rattle.print_line.proofs.fixed.put_refused.Tie as tie
 
 pub put_refused_spec : {M : Type 1} → statement M
 put_refused_spec = tie.close (tie.spec
-    (λ c. omega arith) (λ c κs. omega arith) (λ c κs. search room-byte) (λ c κs. search newline-after-byte) (λ c. omega arith)
+    (λ c κs. omega arith) (λ c κs. search room-byte) (λ c κs. search newline-after-byte) (λ c. omega arith)
     (λ c. search refused-done))

@@ -7,4 +7,4 @@ use Rattle.print_line.proofs.line.put_end.Tie as tie
 
 pub put_end_spec : {M : Type 1} → statement M
 put_end_spec = tie.close (tie.spec
-    (λ c. omega arith) (λ c κs. omega arith) (λ c κs. search rules) (λ c κs. omega arith) (λ c. omega arith) (λ c. search end-done))
+    (λ c κs. omega arith) (λ c κs. search rules) (λ c κs. omega arith) (λ c. omega arith) (λ c. search end-done))
