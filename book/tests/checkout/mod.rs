@@ -46,7 +46,8 @@ impl Checkout {
         // not below the repository, where `rt ci` stops at another crates.txt
         let path = std::env::temp_dir().join(format!("filbozseg-checkout-{}-{number}", std::process::id()));
         let checkout = Checkout(path);
-        checkout.put("crates.txt", "sizes:\nother:\nlist: sizes io # a comment\nonly:\nfilbozseg staticlib: sizes only\n");
+        checkout
+            .put("crates.txt", "sizes:\nother:\nlist: sizes io # a comment\nonly:\nfilbozseg staticlib: sizes only\n");
         for name in ["sizes", "other", "list", "only", "filbozseg"] {
             checkout.put(&format!("crates/{name}/src/lib.rt"), name);
         }

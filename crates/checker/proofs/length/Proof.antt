@@ -10,7 +10,7 @@ pub length_spec : {M : Type 1} → statement M
 length_spec = tie.close (tie.spec
     -- the calls of `judge` and `fill`
     (λ c κs. omega arith) (λ c. omega arith) (λ c. omega arith)
-    (λ c κs. judged-ready _ _ _ _ c.before.before.before.judge.ensures c.before.enum_told.given.1)
+    (λ c κs. judged-ready _ _ _ _ c.judge.ensures c.in-Passed.is)
     -- the calls of `lengths_of`, `wide_byte` and `measure_offered`, and the returns
     (λ c κs. omega arith) (λ c. omega arith) (λ c κs. omega arith) (λ c κs. omega arith) (λ c. search length-refused) (λ c. omega arith)
     (λ c. search length-answered))

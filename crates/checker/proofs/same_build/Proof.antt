@@ -9,5 +9,5 @@ use Rattle.checker.proofs.same_build.Tie as tie
 pub same_build_spec : {M : Type 1} → statement M
 same_build_spec = tie.close (tie.spec
     (λ c κs. omega arith) (λ c. omega arith) (λ c. omega arith)
-    (λ c κs. judged-ready _ _ _ _ c.before.before.before.judge.ensures c.before.enum_told.given.1) (λ c κs. omega arith)
+    (λ c κs. judged-ready _ _ _ _ c.judge.ensures c.in-Passed.is) (λ c κs. omega arith)
     (λ c κs. omega arith) (λ c. search build-refused) (λ c. omega arith) (λ c. search build-answered))

@@ -30,10 +30,11 @@ loop-again c =
     let long = rules-long entry.args.g _ entry.well_formed.0 in (
       omega arith,
       elim c.if-i-n.branch [
-          then-i-n w ↦ w.h-is
-              ∙ used_step entry.args.g long entry.requires _ _ (omega arith) l.loop-i.invariant.1 w.if-i-n.true _ w.tidy_rule.ensures
-          | else-i-n w ↦ w.h-is
-              ∙ unused-step entry.args.g long entry.requires _ _ (omega arith) l.loop-i.invariant.1 w.if-i-n.false _ w.zero_rule.ensures ],
+        | then-i-n w ↦ w.h-is
+            ∙ used_step entry.args.g long entry.requires _ _ (omega arith) l.loop-i.invariant.1 w.if-i-n.true _ w.tidy_rule.ensures
+        | else-i-n w ↦ w.h-is
+            ∙ unused-step entry.args.g long entry.requires _ _ (omega arith) l.loop-i.invariant.1 w.if-i-n.false _ w.zero_rule.ensures
+      ],
     )
 
 returns : tie.Need-returns invariant-loop decreases-loop

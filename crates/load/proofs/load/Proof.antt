@@ -12,21 +12,17 @@ use Rattle.load.proofs.Progress.{moved-fits, moved-less, loads-name, loads-end, 
 use Rattle.load.proofs.load.Statement.{statement}
 use Rattle.load.proofs.load.Tie as tie
 
-abbrev invariant-loop : tie.invariant-loop
+abbrev invariant-loop : tie.invariant-loop-k
 invariant-loop bytes g₀ words₀ at₀ g words at = Progress bytes at words g
 
-abbrev decreases-loop : tie.decreases-loop
+abbrev decreases-loop : tie.decreases-loop-k
 decreases-loop bytes g₀ words₀ at₀ g words at = length bytes - at
 
 -- a name that is no earlier one: the facts, which are too many for a search
-named : tie.Need-loop-preserved-4 invariant-loop decreases-loop
+named : tie.Need-loop-k-preserved invariant-loop decreases-loop
 named c =
-    let compared = c.before.before in
-    let told = compared.before.before.before in
-    let read = told.before.before in
-    let last = read.before.before in
-    progress-name _ _ _ _ last.before.loop.invariant _ _ last.last_of.ensures read.command-at.ensures _ _
-    told.command4.given.1 _ compared.earlier.ensures c.before.if1.false _ c.named-at.ensures
+    progress-name _ _ _ _ c.loop-k.invariant _ _ c.last_of-q.ensures c.command_at-command.ensures _ _
+    c.in-Name.is _ c.earlier.ensures c.if-earlier.false _ c.named_at.ensures
 
 pub load_spec : {M : Type 1} → statement M
 load_spec = tie.close (tie.spec

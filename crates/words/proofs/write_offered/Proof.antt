@@ -9,7 +9,6 @@ use Rattle.words.proofs.write_offered.Tie as tie
 pub write_offered_spec : {M : Type 1} → statement M
 write_offered_spec = tie.close (tie.spec
     (λ c κs. omega arith) (λ c. search words-no) (λ c κs. search (offered-short, rules)) (λ c. search words_long)
-    (λ c κs. let measured = c.before.before in
-    let walked = measured.before.before in
-    root-writable _ _ _ _ _ _ walked.is-derivation.ensures (search rules) _ measured.text-length.ensures _
+    (λ c κs.
+    root-writable _ _ _ _ _ _ c.is_derivation.ensures (search rules) _ c.text_length-n.ensures _
     (omega arith) (omega arith) (omega arith)) (λ c. omega arith) (λ c. search words-yes))

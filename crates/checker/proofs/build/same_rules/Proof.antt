@@ -24,6 +24,6 @@ same_rules_spec = tie.close (tie.spec
     (λ c. omega arith) (λ c. omega arith) (λ c. omega arith) (λ c. omega arith) (λ c. search rules-differ)
     -- the calls of `next_used`, a turn
     (λ c. omega arith) (λ c κs. omega arith) (λ c. omega arith) (λ c κs. omega arith)
-    (λ c. omega (arith, c.before.next-used3.ensures.onward)) (λ c. (refl, refl, search rules-agree))
+    (λ c. omega (arith, c.before.next_used-i-in-loop-i.ensures.onward)) (λ c. (refl, refl, search rules-agree))
     -- the end
     (λ c. search first_ends))

@@ -18,8 +18,8 @@ decreases-loop g names₀ at₀ r₀ names at r = max_rules - r
 pub names_of_spec : {M : Type 1} → statement M
 names_of_spec = tie.close (tie.spec
     invariant-loop decreases-loop (λ c. (omega arith, names-start _ _ (search rules))) (λ c. omega arith) (λ c. omega arith) (λ c. omega arith)
-    (λ c κs. names-room _ _ _ _ c.before.before.before.loop-r.invariant.1 (omega arith))
-    (λ c. omega arith) (λ c. omega arith) (λ c. let put = c.before in
-    (omega arith, names-next _ _ _ _ put.before.before.before.before.loop-r.invariant.1 _ _ (omega arith) put.put-name.ensures))
-    (λ c. let entry = c.before.before in
-    names-done _ _ _ _ c.before.loop-r.invariant.1 (rules-long entry.args.g _ entry.well_formed.0) (omega arith)))
+    (λ c κs. names-room _ _ _ _ c.loop-r.invariant.1 (omega arith))
+    (λ c. omega arith) (λ c. omega arith) (λ c.
+    (omega arith, names-next _ _ _ _ c.loop-r.invariant.1 _ _ (omega arith) c.put_name-at.ensures))
+    (λ c.
+    names-done _ _ _ _ c.loop-r.invariant.1 (rules-long c.args.g _ c.well_formed.0) (omega arith)))
