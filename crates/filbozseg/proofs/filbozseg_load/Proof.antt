@@ -7,11 +7,8 @@ use Rattle.filbozseg.proofs.filbozseg_load.Tie as tie
 
 returns : tie.Need-returns
 returns c =
-    let after_write = c.before.before in
-    let after-load = after_write.before.before.before in
-    loads-of _ (λ i. omega (arith, after-load.before.shared-slice-known.given i)) after-load.load.result
-    after-load.load.ensures _ _ _ _ after_write.write.ensures
-    c.of-loading.ensures.0 c.of-loading.ensures.1
+    loads-of _ (λ i. omega (arith, c.shared_slice_known-1.given i)) c.load-l.result c.load-l.ensures _ _ _ _ c.write.ensures
+    c.of_loading.ensures.0 c.of_loading.ensures.1
 
 pub filbozseg_load_spec : {M : Type 1} → statement M
 filbozseg_load_spec = tie.close (tie.spec (λ c κs. search rules) (λ c κs. search rules) (λ c κs. search rules) returns)

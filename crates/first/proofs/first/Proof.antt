@@ -8,13 +8,11 @@ use Rattle.first.proofs.first.Tie as tie
 
 first-filled-requires : tie.Need-first_filled-requires
 first-filled-requires c κs =
-    filled-ready _ _ _ _ _ _ _ _ _ c.judge_output.ensures c.in-Passed.is
-    c.fill_fits-p.ensures
+    filled-ready _ _ _ _ _ _ _ _ _ c.judge_output.ensures c.in-Passed.is c.fill_fits-p.ensures
 
 pub first_spec : {M : Type 1} → statement M
 first_spec = tie.close (tie.spec
     (λ c κs. omega arith) (λ c. omega arith) (λ c. omega arith)
-    (λ c κs.
-    (output-ready _ _ _ _ _ c.judge_output.ensures c.in-Passed.is).0)
+    (λ c κs. (output-ready _ _ _ _ _ c.judge_output.ensures c.in-Passed.is).0)
     (λ c κs. omega arith) first-filled-requires (λ c. search first-refused) (λ c. omega arith) (λ c. omega arith)
     (λ c. search first-answered))

@@ -6,32 +6,23 @@ use Rattle.learn.proofs.Calls.{front_fits, front-part, filled-right}
 use Rattle.learn.proofs.filling.Statement.{statement}
 use Rattle.learn.proofs.filling.Tie as tie
 
-prefix : tie.Need-array-share-prefix-bytes
+prefix : tie.Need-slice_bounds-bytes-end
 prefix c =
-    let entry = c.before.before.before in
-    let copied = c.before.front in
-    front_fits (state_in entry.args.h) _ (bytes-long entry.args.h _ entry.well_formed.0) entry.requires.1 copied.ensures
+    front_fits (state_in c.args.h) _ (bytes-long c.args.h _ c.well_formed.0) c.requires.1 c.front-bytes.ensures
 
-slice : tie.Need-slice-aggregate-fill
+slice : tie.Need-slice_bounds-fill-end
 slice c =
-    let entry = c.before.before.before.before in
-    let copied = c.before.before.front in
-    front-part (state_in entry.args.h) _ (bytes-long entry.args.h _ entry.well_formed.0) entry.requires.1 copied.ensures
+    front-part (state_in c.args.h) _ (bytes-long c.args.h _ c.well_formed.0) c.requires.1 c.front-bytes.ensures
 
 fill-requires : tie.Need-fill-requires
 fill-requires c κs =
-    let entry = c.before.before.before.before.before in
-    let copied = c.before.before.before.front in
-    let part = front-part (state_in entry.args.h) _ (bytes-long entry.args.h _ entry.well_formed.0) entry.requires.1 copied.ensures in
-    (entry.requires.0, omega (arith, part, entry.requires.1), entry.requires.2)
+    let part = front-part (state_in c.args.h) _ (bytes-long c.args.h _ c.well_formed.0) c.requires.1 c.front-bytes.ensures in
+    (c.requires.0, omega (arith, part, c.requires.1), c.requires.2)
 
 returns : tie.Need-returns
 returns c =
-    let filled = c.before.before.before.before in
-    let entry = filled.before.before.before.before.before.before in
-    let copied = filled.before.before.before.before.front in
-    filled-right (state_in entry.args.h) _ (bytes-long entry.args.h _ entry.well_formed.0) entry.requires.1 copied.ensures _ _ _ _
-    filled.fill.ensures.0 c.says.ensures
+    filled-right (state_in c.args.h) _ (bytes-long c.args.h _ c.well_formed.0) c.requires.1 c.front-bytes.ensures _ _ _ _
+    c.fill.ensures.0 c.says.ensures
 
 pub filling_spec : {M : Type 1} → statement M
 filling_spec = tie.close (tie.spec

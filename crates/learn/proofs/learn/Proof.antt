@@ -8,33 +8,30 @@ use Rattle.learn.proofs.Calls.{learn-invalid, learn-over, learn-short}
 use Rattle.learn.proofs.learn.Statement.{statement}
 use Rattle.learn.proofs.learn.Tie as tie
 
-returns : tie.Need-returns
+returns : tie.Need-returns-then-not-valid
 returns c =
     let left = c.refused.ensures in
     learn-invalid _ _ _ _ _ _ _ _ left.1 left.2 (ap state_in left.3)
-    (was-invalid _ _ c.before.before.valid.ensures c.before.if1.true) left.0
+    (was-invalid _ _ c.valid.ensures c.if-not-valid.true) left.0
 
-returns-2 : tie.Need-returns-2
+returns-2 : tie.Need-returns-then-invalid
 returns-2 c =
-    let d = c.before.before in
-    let left = c.refused2.ensures in
-    let v = was-valid _ _ d.before.before.valid.ensures d.before.if1.false in
-    learn-over _ _ _ _ _ _ _ _ left.1 left.2 (ap state_in left.3) v (sym d.invalid.ensures ∙ c.before.if2.true) left.0
+    let left = c.refused-then-invalid.ensures in
+    let v = was-valid _ _ c.valid.ensures c.if-not-valid.false in
+    learn-over _ _ _ _ _ _ _ _ left.1 left.2 (ap state_in left.3) v (sym c.invalid.ensures ∙ c.if-invalid.true) left.0
 
-returns-3 : tie.Need-returns-3
+returns-3 : tie.Need-returns-then-room-lt-CELLS
 returns-3 c =
-    let d = c.before.before in
-    let left = c.refused3.ensures in
-    let v = was-valid _ _ d.before.before.before.valid.ensures d.before.before.if1.false in
-    let s = sym d.before.invalid.ensures ∙ d.if2.false in
-    learn-short _ _ _ _ _ _ _ _ left.1 left.2 (ap state_in left.3) v s c.before.if3.true left.0
+    let left = c.refused-then-room-lt-CELLS.ensures in
+    let v = was-valid _ _ c.valid.ensures c.if-not-valid.false in
+    let s = sym c.invalid.ensures ∙ c.if-invalid.false in
+    learn-short _ _ _ _ _ _ _ _ left.1 left.2 (ap state_in left.3) v s c.if-room-lt-CELLS.true left.0
 
 learning-requires : tie.Need-learning-requires
 learning-requires c κs =
-    let d = c.before.before in
-    let v = was-valid _ _ d.before.before.before.valid.ensures d.before.before.if1.false in
-    let s = sym d.before.invalid.ensures ∙ d.if2.false in
-    (v, s, c.before.if3.false)
+    let v = was-valid _ _ c.valid.ensures c.if-not-valid.false in
+    let s = sym c.invalid.ensures ∙ c.if-invalid.false in
+    (v, s, c.if-room-lt-CELLS.false)
 
 pub learn_spec : {M : Type 1} → statement M
 learn_spec = tie.close (tie.spec

@@ -61,8 +61,7 @@ child-returns-2 t c =
 
 last-returns : (t : ℕ) → last-lts.Need-returns-then-n-eq0 (last-calls t) (last-at ◌≡◌ t) last.Post
 last-returns t c =
-    last-still (reached-as c.reach-there.ensures c.in-There.is)
-    c.child_set-mask.ensures c.node-n.ensures (omega arith)
+    last-still (reached-as c.reach-there.ensures c.in-There.is) c.child_set-mask.ensures c.node-n.ensures (omega arith)
 
 last-add-result : (t : ℕ) → last-lts.Need-overflow_add-result (last-calls t) (last-at ◌≡◌ t) last.Post
 last-add-result t c =
@@ -72,8 +71,7 @@ last-add-result t c =
 
 last-returns-3 : (t : ℕ) → last-lts.Need-returns-else-n-eq0 (last-calls t) (last-at ◌≡◌ t) last.Post
 last-returns-3 t c =
-    last-moves (reached-as c.reach-there.ensures c.in-There.is)
-    c.child_set-mask.ensures c.node-n.ensures (omega arith)
+    last-moves (reached-as c.reach-there.ensures c.in-There.is) c.child_set-mask.ensures c.node-n.ensures (omega arith)
 
 -- ---- node
 
@@ -81,8 +79,7 @@ node-returns-2 : (t : ℕ) → node-lts.Need-returns-then-n-gt0 (node-calls t) (
 node-returns-2 t c =
     let given = c.requires in
     let has-rule = c.if-r-ge-NO_RULE.false in
-    node-last-moves (omega arith) c.rule_at-r.ensures c.own_set-mask.ensures (omega arith)
-    c.last-n.ensures (omega arith)
+    node-last-moves (omega arith) c.rule_at-r.ensures c.own_set-mask.ensures (omega arith) c.last-n.ensures (omega arith)
 
 node-turned-requires : (t : ℕ) → node-lts.Need-turned-requires (node-calls t) (node_at ◌≡◌ t) node.Post
 node-turned-requires t c κs =
@@ -96,8 +93,7 @@ node-returns-3 t c =
     let given = c.requires in
     let has-rule = c.if-r-ge-NO_RULE.false in
     let still = c.if-n-gt0.false in
-    node-turned (omega arith) c.rule_at-r.ensures c.own_set-mask.ensures (omega arith)
-    c.last-n.ensures (omega arith) c.turned.ensures
+    node-turned (omega arith) c.rule_at-r.ensures c.own_set-mask.ensures (omega arith) c.last-n.ensures (omega arith) c.turned.ensures
 
 -- ---- row
 
@@ -122,8 +118,7 @@ row-add-result t c =
 row-returns : (t : ℕ) → row-lts.Need-returns-then-n-gt0 (row-calls t) (row_at ◌≡◌ t) row.Post
 row-returns t c =
     let given = c.requires in
-    row-rest (omega arith) (omega arith) c.row-n.ensures
-    (looked-as c.look-step.ensures c.in-Node.is) (omega arith)
+    row-rest (omega arith) (omega arith) c.row-n.ensures (looked-as c.look-step.ensures c.in-Node.is) (omega arith)
 
 row-child-requires : (t : ℕ) → row-lts.Need-child-requires (row-calls t) (row_at ◌≡◌ t) row.Post
 row-child-requires t c κs =
@@ -136,8 +131,7 @@ row-returns-6 : (t : ℕ) → row-lts.Need-returns-else-n-gt0 (row-calls t) (row
 row-returns-6 t c =
     let given = c.requires in
     let still = c.if-n-gt0.false in
-    row-child (omega arith) (omega arith) c.row-n.ensures
-    (looked-as c.look-step.ensures c.in-Node.is) (omega arith) c.child.ensures
+    row-child (omega arith) (omega arith) c.row-n.ensures (looked-as c.look-step.ensures c.in-Node.is) (omega arith) c.child.ensures
 
 -- ---- turned
 
@@ -177,8 +171,7 @@ pub +child_last_node_row_turned_spec : {M : Type 1} → statement M
     omega (arith, reach-room (reached-as c.reach-there.ensures c.in-There.is)))
     -- the results: the node does not move, it moves, there is none
     (λ c. omega arith) (last-returns t)
-    (λ c.
-    omega (arith, reach-room (reached-as c.reach-there.ensures c.in-There.is)))
+    (λ c. omega (arith, reach-room (reached-as c.reach-there.ensures c.in-There.is)))
     (last-add-result t) (λ c. omega arith)
     (λ c. last_none (reached-as c.reach-there.ensures c.in-Nowhere.is))
     (λ c. omega arith) (last-returns-3 t))
@@ -197,10 +190,8 @@ pub +child_last_node_row_turned_spec : {M : Type 1} → statement M
     (row-row-requires t)
     -- `row` after a node
     (λ c. omega arith) (λ c. omega arith) (λ c. omega arith)
-    (λ c.
-    omega (arith, node-room (looked-as c.look-step.ensures c.in-Node.is)))
-    (λ c.
-    omega (arith, node-room (looked-as c.look-step.ensures c.in-Node.is)))
+    (λ c. omega (arith, node-room (looked-as c.look-step.ensures c.in-Node.is)))
+    (λ c. omega (arith, node-room (looked-as c.look-step.ensures c.in-Node.is)))
     (row-row-requires-2 t) (row-add-result t) (λ c. omega arith) (row-returns t)
     -- `child`
     (row-child-requires t) (λ c. omega arith)
@@ -213,9 +204,7 @@ pub +child_last_node_row_turned_spec : {M : Type 1} → statement M
     let given = c.requires in
     row-end (omega arith) (omega arith) given.1.1 (looked-as c.look-step.ensures c.in-End.is))
     (λ c. omega arith)
-    (λ c.
-    row-byte (omega arith) (omega arith) (looked-as c.look-step.ensures c.in-Byte.is)
-    c.row.ensures)
+    (λ c. row-byte (omega arith) (omega arith) (looked-as c.look-step.ensures c.in-Byte.is) c.row.ensures)
     (λ c. omega arith)
     (λ c.
     let given = c.requires in

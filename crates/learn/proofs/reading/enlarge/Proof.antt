@@ -14,62 +14,40 @@ use Rattle.learn.proofs.Progress.{progress-name, words-room, moved-fits, enlarge
 use Rattle.learn.proofs.reading.enlarge.Statement.{statement}
 use Rattle.learn.proofs.reading.enlarge.Tie as tie
 
-abbrev invariant-loop : tie.invariant-loop
+abbrev invariant-loop : tie.invariant-loop-k
 invariant-loop old bytes words₀ g₀ at₀ words g at = Progress old bytes at words g
 
-abbrev decreases-loop : tie.decreases-loop
+abbrev decreases-loop : tie.decreases-loop-k
 decreases-loop old bytes words₀ g₀ at₀ words g at = length bytes - at
 
-loop-holds : tie.Need-loop-init invariant-loop decreases-loop
+loop-holds : tie.Need-loop-k-init invariant-loop decreases-loop
 loop-holds c =
-    let entry = c.before.before.before.before in
-    progress-first entry.args.old _ _ _ (rules-long entry.args.old _ entry.well_formed.0) entry.requires (omega arith) (search rules)
-    c.before.words_of.ensures c.tidy.ensures
+    progress-first c.args.old _ _ _ (rules-long c.args.old _ c.well_formed.0) c.requires (omega arith) (search rules)
+    c.words_of-words.ensures c.tidy-g.ensures
 
-empty : tie.Need-returns invariant-loop decreases-loop
-empty c =
-    let entry = c.before.before.before in
-    joins-none entry.args.old _ c.before.if1.true entry.requires c.faulty.result c.faulty.ensures
+empty : tie.Need-returns-then-bytes-eq0 invariant-loop decreases-loop
+empty c = joins-none c.args.old _ c.if-bytes-eq0.true c.requires c.faulty.result c.faulty.ensures
 
 -- an earlier name, the end, a fault, and a name that is no earlier one: the facts, which are too many for a search
-refused : tie.Need-returns-2 invariant-loop decreases-loop
+refused : tie.Need-returns-then-earlier invariant-loop decreases-loop
 refused c =
-    let compared = c.before.before in
-    let told = compared.before.before.before in
-    let read = told.before.before in
-    let last = read.before.before in
-    let loop = last.before in
-    let entry = loop.before.before.before.before.before in
-    enlarges-name _ _ _ _ _ loop.loop.invariant _ _ last.last_of.ensures read.command-at.ensures _ _ told.command4.given.1 _
-    compared.earlier.ensures c.before.if2.true entry.requires c.faulty2.result
-    c.faulty2.ensures
+    enlarges-name _ _ _ _ _ c.loop-k.invariant _ _ c.last_of-q.ensures c.command_at-command.ensures _ _ c.in-Name.is _
+    c.earlier.ensures c.if-earlier.true c.requires c.faulty-then-earlier.result c.faulty-then-earlier.ensures
 
-ended : tie.Need-returns-3 invariant-loop decreases-loop
+ended : tie.Need-returns-in-End invariant-loop decreases-loop
 ended c =
-    let told = c.before in
-    let read = told.before.before in
-    let last = read.before.before in
-    enlarges-end _ _ _ _ _ last.before.loop.invariant _ _ last.last_of.ensures read.command-at.ensures told.enum_told.given.1
+    enlarges-end _ _ _ _ _ c.loop-k.invariant _ _ c.last_of-q.ensures c.command_at-command.ensures c.in-End.is
     c.deepened.result c.deepened.ensures
 
-fault : tie.Need-returns-4 invariant-loop decreases-loop
+fault : tie.Need-returns-in-Fault invariant-loop decreases-loop
 fault c =
-    let told = c.before.before in
-    let read = told.before.before in
-    let last = read.before.before in
-    let loop = last.before in
-    let entry = loop.before.before.before.before.before in
-    enlarges-fault _ _ _ _ _ loop.loop.invariant _ _ last.last_of.ensures read.command-at.ensures _ _ told.command5.given.1
-    entry.requires c.faulty3.result c.faulty3.ensures
+    enlarges-fault _ _ _ _ _ c.loop-k.invariant _ _ c.last_of-q.ensures c.command_at-command.ensures _ _ c.in-Fault.is
+    c.requires c.faulty-in-Fault.result c.faulty-in-Fault.ensures
 
-named : tie.Need-loop-preserved-4 invariant-loop decreases-loop
+named : tie.Need-loop-k-preserved invariant-loop decreases-loop
 named c =
-    let compared = c.before.before in
-    let told = compared.before.before.before in
-    let read = told.before.before in
-    let last = read.before.before in
-    progress-name _ _ _ _ _ last.before.loop.invariant _ _ last.last_of.ensures read.command-at.ensures _ _
-    told.command4.given.1 _ compared.earlier.ensures c.before.if2.false _ c.named-at.ensures
+    progress-name _ _ _ _ _ c.loop-k.invariant _ _ c.last_of-q.ensures c.command_at-command.ensures _ _
+    c.in-Name.is _ c.earlier.ensures c.if-earlier.false _ c.named_at.ensures
 
 pub enlarge_spec : {M : Type 1} → statement M
 enlarge_spec = tie.close (tie.spec

@@ -77,8 +77,7 @@ node-returns-2 : (t : ℕ) → node-lts.Need-returns (node-calls t) (node_at t) 
 node-returns-2 t c =
     let given = c.requires in
     let chosen = c.if-r-ge-NO_RULE.false in
-    node-some (omega arith) (omega arith) c.own_set-mask.ensures c.open_node-r.ensures
-    (omega arith) c.put_node.ensures c.row.ensures
+    node-some (omega arith) (omega arith) c.own_set-mask.ensures c.open_node-r.ensures (omega arith) c.put_node.ensures c.row.ensures
 
 -- ---- row
 
@@ -112,8 +111,7 @@ row-add-result t c =
 
 row-returns-3 : (t : ℕ) → row-lts.Need-returns-in-Byte (row-calls t) (row_at t) row.Post
 row-returns-3 t c =
-    row-byte _ _ _ (omega arith) (omega arith) (omega arith)
-    (looked-as c.look-step.ensures c.in-Byte.is) c.row.ensures
+    row-byte _ _ _ (omega arith) (omega arith) (omega arith) (looked-as c.look-step.ensures c.in-Byte.is) c.row.ensures
 
 row-returns-4 : (t : ℕ) → row-lts.Need-returns-in-Node (row-calls t) (row_at t) row.Post
 row-returns-4 t c =
@@ -126,15 +124,12 @@ pub +node_row_spec : {M : Type 1} → statement M
     (λ t. node-lts.spec (node-calls t) (node_at t) node.Post
     -- `own_set`, `open_node`, and no rule
     (λ c κs. omega arith) (λ c κs. search (rules, maybe-unmade))
-    (λ c.
-    node-none (omega arith) (omega arith) c.own_set-mask.ensures c.open_node-r.ensures
-    (omega arith))
+    (λ c. node-none (omega arith) (omega arith) c.own_set-mask.ensures c.open_node-r.ensures (omega arith))
     -- `put_node`
     (λ c. omega arith) (λ c κs. omega (arith, c.open_node-r.ensures.room (omega arith)))
     -- `row`
     (λ c. omega arith)
-    (λ c.
-    omega (arith, c.open_node-r.ensures.room (omega arith)))
+    (λ c. omega (arith, c.open_node-r.ensures.room (omega arith)))
     (node-row-requires t)
     -- the result
     (node-add-result t) (λ c. omega arith) (node-returns-2 t))

@@ -36,11 +36,6 @@ pub +reach_spec : {M : Type 1} → statement M
     -- the results: nothing, the end, a byte, the last node, another node
     (λ c. reach-none (omega arith) (omega arith) (looked-as c.look-step.ensures c.in-No.is))
     (λ c. reach-end (omega arith) (omega arith) (looked-as c.look-step.ensures c.in-End.is))
-    (λ c.
-    reach-byte (omega arith) (omega arith) (looked-as c.look-step.ensures c.in-Byte.is)
-    c.reach.ensures)
-    (λ c.
-    reach-last (omega arith) (omega arith) (looked-as c.look-step.ensures c.in-Final.is))
-    (λ c.
-    reach-node (omega arith) (omega arith) (looked-as c.look-step.ensures c.in-Node.is)
-    c.reach-in-Node.ensures)
+    (λ c. reach-byte (omega arith) (omega arith) (looked-as c.look-step.ensures c.in-Byte.is) c.reach.ensures)
+    (λ c. reach-last (omega arith) (omega arith) (looked-as c.look-step.ensures c.in-Final.is))
+    (λ c. reach-node (omega arith) (omega arith) (looked-as c.look-step.ensures c.in-Node.is) c.reach-in-Node.ensures)
