@@ -64,7 +64,9 @@ fn words_of(g: Grammar) -> [u64; sizes::MAX_RULES]
 }
 
 // The grammar without rubbish and with the rule of these bytes. Each turn of the loop reads one command and adds it to the grammar in
-// place, as loading does; no start is read, since it is misplaced everywhere.
+// place, as loading does; no start is read, since it is misplaced everywhere. Inlined, its copies of a grammar would be on the stack while
+// the chart is filled.
+#[inline(never)]
 pub fn enlarge(old: Grammar, bytes: &[u8]) -> Enlarged
     requires { valid_grammar old ≡ true }
     ensures { (reading_of result ≡ joined_to old (enlarged old bytes.now)) × (valid_grammar result.grammar ≡ true) }
