@@ -97,7 +97,12 @@ impl Checkout {
     pub fn command(&self, name: &str) -> Command {
         let mut command = Command::new(self.path(name));
         let path = format!("{}:{}", self.path("bin").display(), std::env::var("PATH").expect("a path"));
-        command.env("LC_ALL", "C").env("PATH", path).env("CHECKOUT", &self.0).env("BOOK", env!("CARGO_BIN_EXE_book"));
+        command
+            .env("LC_ALL", "C")
+            .env_remove("PROVED_SINCE")
+            .env("PATH", path)
+            .env("CHECKOUT", &self.0)
+            .env("BOOK", env!("CARGO_BIN_EXE_book"));
         command.current_dir(&self.0).stdin(Stdio::null()).stdout(Stdio::piped()).stderr(Stdio::piped());
         command
     }
