@@ -90,6 +90,8 @@ def refused(edit, said, top="."):
         raise Shape(f"{path}:{line}:{column}: {text[:200]}")
     lines = read(f"{crate}/{path}").splitlines(keepends=True)
     if path.startswith("src/"):
+        while lines[line - 1].lstrip().startswith("#["):  # an attribute of the function on the next line
+            line += 1
         function = re.findall(r"^\s*(?:pub )?(?:extern \S+ )?fn (\w+)", "".join(lines[:line]), re.M)[-1]
         module = re.sub(r"^(?:lib|main)::", "", f"{path[4:-3].replace('/', '::')}::{function}")
         goal = re.search(r"\(`([\w-]+)`\)", text)

@@ -5,15 +5,14 @@ ghost use Rattle.recognizer.specs.Recognizer.{state_in};
 ghost use Rattle.c_answer.specs.Code.{code_of, left_of, verdict_code, row_left, flat_left, fault_left};
 
 use super::of_verdict;
-use answers::Verdict;
+use answers::Refusal;
 use c_grammar::Flat;
 use grammar::Grammar;
 use recognizer::Recognizer;
 
-// Learning: the rows of the longer grammar and of the state are written unless the call is refused, and the offset only where it is. The
-// codes of refusals begin at 256.
+// Learning: the rows of the longer grammar and of the state are written unless the call is refused, and the offset only where it is.
 pub fn of_learning(
-    v: Verdict,
+    v: Result<bool, Refusal>,
     at: usize,
     longer: Grammar,
     next: Recognizer,
@@ -26,12 +25,11 @@ pub fn of_learning(
     ensures learnt { grammar.new ≡ left_of (flat_left longer) (verdict_of v) grammar.old }
     ensures left { hand.new ≡ left_of (row_left (state_in next)) (verdict_of v) hand.old }
 {
-    let code = of_verdict(v);
-    if code < 256 {
+    if v.is_ok() {
         c_grammar::write::write(longer, grammar);
         c_hand::write(next, hand);
     } else {
         *offset = at;
     }
-    code
+    of_verdict(v)
 }

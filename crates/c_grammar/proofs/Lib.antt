@@ -7,3 +7,4 @@ pub mod Named
 pub mod Judged
 pub mod Written
 pub mod Declared
+pub mod Tied

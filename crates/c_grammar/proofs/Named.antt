@@ -8,7 +8,7 @@ use mathlib.Core.List.{List, [], ◌∷◌, map}
 use mathlib.Core.Logic.{dite}
 use mathlib.Core.Path.{◌≡◌, refl, sym, ap, ap₂, ◌∙◌}
 use lib.Dec.{ltb, eqb}
-use lib.ListN.{length, get_or, length-map, get_or-map}
+use lib.ListN.{get_or, length-map, get_or-map}
 use lib.Pow.{are_bytes}
 use borrow.Author.Tests.{ltb-true, ne_eqb}
 use Rattle.laws.proofs.Bools.{and_parts}
@@ -19,7 +19,7 @@ use Rattle.grammar.specs.declared.Rule.{Rule}
 use Rattle.grammar.specs.Valid.{all, valid_rule}
 use Rattle.grammar.proofs.Bounds.{rule-parts}
 use Rattle.numbers.specs.Numbers.{byte_in}
-use Rattle.c_grammar.specs.Flat.{name_at, records_from, row_byte, row_name, row_rule}
+use Rattle.c_grammar.specs.Flat.{name_at, records_from, row_name, row_rule}
 use Rattle.c_grammar.specs.Valid.{name_numbers}
 
 -- ---- numbers read as bytes

@@ -67,12 +67,12 @@ pub places-done : (l : List Place) (at : ℕ) (f₀ f : List ℕ) (q : ℕ) → 
 places-done l at f₀ f q h r = written_all flat_place 2 at l max_places q (at + 2 * max_places) f₀ f h (omega arith) r
 
 -- one byte more of a name
-pub name-step : (l : List ℕ) (at k : ℕ) (f₀ f : List ℕ) → Written flat_byte 1 at l name_size f₀ k f → k < name_size → at + name_size ≤ flat_size
-    → Written flat_byte 1 at l name_size f₀ (k + 1) (set f (at + k) (get_or l k 0))
-name-step l at k f₀ f r h room =
+pub name-step : (l : List ℕ) (at k b : ℕ) (f₀ f : List ℕ) → Written flat_byte 1 at l name_size f₀ k f → k < name_size → at + name_size ≤ flat_size
+    → b ≡ get_or l k 0 → Written flat_byte 1 at l name_size f₀ (k + 1) (set f (at + k) b)
+name-step l at k b f₀ f r h room is =
     let e : at + 1 * k ≡ at + k = omega arith in
-    written_step flat_byte 1 at l name_size 0 k f₀ f (set f (at + k) (get_or l k 0)) r (length-set f (at + k) (get_or l k 0) ∙ r.long)
-    (put_one f (at + k) (at + 1 * k + 1) (get_or l k 0) (omega arith) (omega (arith, r.long)) ∙ rw e) h
+    written_step flat_byte 1 at l name_size 0 k f₀ f (set f (at + k) b) r (length-set f (at + k) b ∙ r.long)
+    (put_one f (at + k) (at + 1 * k + 1) b (omega arith) (omega (arith, r.long)) ∙ rw (e, is)) h
 
 pub name_done : (l : List ℕ) (at : ℕ) (f₀ f : List ℕ) (k : ℕ) → name_size ≤ k → Written flat_byte 1 at l name_size f₀ k f
     → take (at + name_size) f ≡ take at f₀ ++ l

@@ -7,9 +7,6 @@ pub mod read;
 pub mod symbol;
 pub mod write;
 
-ghost use Rattle.std.specs.Prelude.{◌≡◌};
-ghost use Rattle.c_grammar.specs.Flat.{flat_size};
-
 // At which of a rule's numbers its years are: after its left side, its length, its count, and two for each place.
 pub const YEARS_AT: usize = 3 + 2 * sizes::MAX_PLACES;
 
@@ -23,9 +20,3 @@ pub const RULE_NUMBERS: usize = NAME_AT + names::NAME;
 pub const FLAT_SIZE: usize = 3 + sizes::MAX_RULES * RULE_NUMBERS;
 
 pub type Flat = [u16; FLAT_SIZE];
-
-pub fn tied_size() -> usize
-    ensures { result ≡ flat_size }
-{
-    FLAT_SIZE
-}

@@ -22,10 +22,8 @@ fn read_places(f: &Flat, at: usize) -> [Place; sizes::MAX_PLACES]
     ensures { result ≡ row_places f.now at }
 {
     let mut places = [grammar::zero_place(); sizes::MAX_PLACES];
-    let mut q = 0;
-    while q < sizes::MAX_PLACES {
-        places[q] = read_place(f, at + 2 * q);
-        q += 1;
+    for (q, place) in places.iter_mut().enumerate() {
+        *place = read_place(f, at + 2 * q);
     }
     places
 }
@@ -36,10 +34,8 @@ fn read_name(f: &Flat, at: usize) -> [u8; names::NAME]
     ensures { result ≡ row_name f.now at }
 {
     let mut name = [0u8; names::NAME];
-    let mut k = 0;
-    while k < names::NAME {
-        name[k] = numbers::byte(f[at + k]);
-        k += 1;
+    for (k, byte) in name.iter_mut().enumerate() {
+        *byte = numbers::byte(f[at + k]);
     }
     name
 }
@@ -50,7 +46,7 @@ fn read_rule(f: &Flat, at: usize) -> Rule
 {
     let left = numbers::byte(f[at]);
     let length = numbers::signed(f[at + 1]);
-    let count = numbers::wide(f[at + 2]);
+    let count = usize::from(f[at + 2]);
     let places = read_places(f, at + 3);
     let name = read_name(f, at + NAME_AT);
     Rule {
@@ -69,7 +65,7 @@ pub fn read(f: &Flat) -> Grammar
     ensures { result ≡ grammar_in f.now }
 {
     let start = numbers::byte(f[0]);
-    let count = numbers::wide(f[1]);
+    let count = usize::from(f[1]);
     let depth = numbers::byte(f[2]);
     let mut g = Grammar {
         start: start,
@@ -77,10 +73,8 @@ pub fn read(f: &Flat) -> Grammar
         depth: depth,
         rules: [grammar::zero_rule(); sizes::MAX_RULES],
     };
-    let mut r = 0;
-    while r < sizes::MAX_RULES {
-        g.rules[r] = read_rule(f, 3 + RULE_NUMBERS * r);
-        r += 1;
+    for (r, rule) in g.rules.iter_mut().enumerate() {
+        *rule = read_rule(f, 3 + RULE_NUMBERS * r);
     }
     g
 }

@@ -25,11 +25,8 @@ fn write_places(rule: Rule, at: usize, f: &mut Flat)
     ensures f_after { take (at + 2 * max_places) f.new ≡ take at f.old ++ flat_map flat_place rule.places }
     ensures f_len { length f.new ≡ flat_size }
 {
-    let mut q = 0;
-    while q < sizes::MAX_PLACES {
-        let place = rule.places[q];
-        write_place(place, at + 2 * q, f);
-        q += 1;
+    for (q, place) in rule.places.iter().enumerate() {
+        write_place(*place, at + 2 * q, f);
     }
 }
 
@@ -39,10 +36,8 @@ fn write_name(name: [u8; names::NAME], at: usize, f: &mut Flat)
     ensures f_after { take (at + name_size) f.new ≡ take at f.old ++ name }
     ensures f_len { length f.new ≡ flat_size }
 {
-    let mut k = 0;
-    while k < names::NAME {
-        f[at + k] = name[k] as u16;
-        k += 1;
+    for (k, byte) in name.iter().enumerate() {
+        f[at + k] = u16::from(*byte);
     }
 }
 
@@ -80,10 +75,7 @@ pub fn write(g: Grammar, f: &mut Flat)
     f[0] = g.start as u16;
     f[1] = numbers::saturate(g.count);
     f[2] = g.depth as u16;
-    let mut r = 0;
-    while r < sizes::MAX_RULES {
-        let rule = g.rules[r];
-        write_rule(rule, 3 + RULE_NUMBERS * r, f);
-        r += 1;
+    for (r, rule) in g.rules.iter().enumerate() {
+        write_rule(*rule, 3 + RULE_NUMBERS * r, f);
     }
 }

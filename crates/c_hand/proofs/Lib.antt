@@ -3,3 +3,4 @@ pub mod Copies
 pub mod Counts
 pub mod Judged
 pub mod Round
+pub mod Tied

@@ -3,10 +3,10 @@
 // invalid. It refuses the row of a state exactly if it refuses the state.
 #![tactic(auto)]
 
-ghost use Rattle.std.specs.Prelude.{◌++◌, ◌≡◌, min, length, take};
-ghost use Rattle.sizes.specs.Sizes.{max_input};
+ghost use Rattle.std.specs.Prelude.{◌++◌, ◌≡◌, length, take};
+ghost use Rattle.std.specs.List.{list_all};
 ghost use Rattle.recognizer.specs.Recognizer.{state_in};
-ghost use Rattle.c_hand.specs.Hand.{hand_size, points_at, bytes_in, used_bytes, points_in, hand_points, state_of_row, row_of};
+ghost use Rattle.c_hand.specs.Hand.{hand_size, points_at, is_byte, bytes_in, used_bytes, points_in, hand_points, state_of_row, row_of};
 
 use recognizer::{POINTS, Recognizer};
 use sizes::MAX_INPUT;
@@ -23,21 +23,13 @@ const POINTS_AT: usize = MAX_INPUT + 2;
 // A point that is past every count, so that check 14 refuses it.
 const PAST: u8 = 255;
 
-pub fn tied_size() -> usize
-    ensures { result ≡ hand_size }
-{
-    HAND
-}
-
 // Reads the 64 bytes. The row is passed by value, so that its length is known.
 fn read_bytes(h: [u16; HAND]) -> [u8; MAX_INPUT]
     ensures { result ≡ bytes_in h }
 {
     let mut bytes = [0u8; MAX_INPUT];
-    let mut i = 0;
-    while i < MAX_INPUT {
-        bytes[i] = numbers::byte(h[i]);
-        i += 1;
+    for (i, byte) in bytes.iter_mut().enumerate() {
+        *byte = numbers::byte(h[i]);
     }
     bytes
 }
@@ -47,35 +39,25 @@ fn read_points(h: [u16; HAND]) -> [u8; POINTS]
     ensures { result ≡ points_in h }
 {
     let mut points = [0u8; POINTS];
-    let mut i = 0;
-    while i < POINTS {
-        points[i] = numbers::byte(h[POINTS_AT + i]);
-        i += 1;
+    for (i, point) in points.iter_mut().enumerate() {
+        *point = numbers::byte(h[POINTS_AT + i]);
     }
     points
 }
 
-// How many of the 64 numbers are used, by the count.
-fn used(n: usize) -> usize
-    ensures { result ≡ min n max_input }
+// Whether each number is a byte.
+fn all_bytes(numbers: &[u16]) -> bool
+    ensures { result ≡ list_all is_byte numbers.now }
 {
-    if n < MAX_INPUT { n } else { MAX_INPUT }
+    numbers.iter().all(|x| *x <= 255)
 }
 
 // Whether each used number is a byte.
 fn used_bytes(h: &[u16; HAND]) -> bool
     ensures { result ≡ used_bytes h.now }
 {
-    let n = numbers::wide(h[MAX_INPUT]);
-    let m = used(n);
-    let mut i = 0;
-    while i < m {
-        if h[i] > 255 {
-            return false;
-        }
-        i += 1;
-    }
-    true
+    let n = usize::from(h[MAX_INPUT]);
+    all_bytes(&h[..n.min(MAX_INPUT)])
 }
 
 // Reads the points; the first is past every count if a used number is not a byte.
@@ -98,7 +80,7 @@ pub fn read(h: &[u16; HAND]) -> Recognizer
     let points = hand_points(h);
     Recognizer {
         bytes,
-        count: numbers::wide(h[MAX_INPUT]),
+        count: usize::from(h[MAX_INPUT]),
         year: h[YEAR],
         points,
     }
@@ -109,10 +91,8 @@ fn write_points(r: Recognizer, h: &mut [u16; HAND])
     requires { length h.old ≡ hand_size }
     ensures { h.new ≡ take points_at h.old ++ r.points }
 {
-    let mut i = 0;
-    while i < POINTS {
-        h[POINTS_AT + i] = r.points[i] as u16;
-        i += 1;
+    for (i, point) in r.points.iter().enumerate() {
+        h[POINTS_AT + i] = u16::from(*point);
     }
 }
 
@@ -121,10 +101,8 @@ pub fn write(r: Recognizer, h: &mut [u16; HAND])
     ensures { h.new ≡ row_of (state_in r) }
 {
     *h = [0u16; HAND];
-    let mut k = 0;
-    while k < MAX_INPUT {
-        h[k] = r.bytes[k] as u16;
-        k += 1;
+    for (k, byte) in r.bytes.iter().enumerate() {
+        h[k] = u16::from(*byte);
     }
     h[MAX_INPUT] = numbers::saturate(r.count);
     h[YEAR] = r.year;

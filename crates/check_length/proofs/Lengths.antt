@@ -3,14 +3,14 @@ use Prim.Native.Nat.{ℕ, zero, suc, ◌+◌, ◌*◌, ◌/◌, ◌≤◌, ◌<�
 use mathlib.Core.List.{List, [], ◌∷◌, ◌++◌, map}
 use mathlib.Core.Path.{◌≡◌, refl, sym, ap, ap₂, subst, ◌∙◌}
 use native.Mathlib.Omega.{arith}
-use lib.IntN.{ℤ, pos, ◌+ℤ◌, +ℤ_assoc, +ℤ_idl, +ℤ_idr}
+use lib.IntN.{ℤ, pos, ◌+ℤ◌, +ℤ_assoc, +ℤ_idr}
 use lib.ListN.{length, get_or, drop, take, set, length-drop, length-map, get_or-eq_default}
 use lib.Seq.{take_all, take-suc, take-suc-set}
 use lib.Signed.{mag}
 use mir.Syntax.{w16, w32}
-use mir.Val.{SFits, to_z, of_z}
+use mir.Val.{to_z, of_z, SFits}
 use mir.Facts.{to_z-of_z, sfits_widen}
-use Rattle.sizes.specs.Sizes.{max_rules, max_nodes, output_size}
+use Rattle.sizes.specs.Sizes.{max_rules, max_nodes}
 use Rattle.grammar.specs.declared.Grammar.{Grammar}
 use Rattle.grammar.specs.declared.Rule.{Rule}
 use Rattle.grammar.specs.View.{lengths_of}
@@ -18,53 +18,35 @@ use Rattle.grammar.specs.Zero.{no_rule}
 use Rattle.results.specs.Measure.{sum, rounded, tenths_of}
 use Rattle.check_length.specs.Measure.{length_of_rule, lengths_in}
 use Rattle.check_walk.proofs.Nodes.{at-two}
-use Rattle.numbers.proofs.Signs.{fits-32, through}
+use Rattle.numbers.proofs.Signs.{through}
 use Rattle.check_length.proofs.Signed.{sum-size}
-
--- ---- a length of 16 bits in 32
-
-module _ (z : ℤ) (fits : SFits w16 z) where
-  pub wide_fits : SFits w32 (to_z w16 (of_z w16 z))
-  wide_fits = subst (SFits w32) (sym (to_z-of_z fits)) (sfits_widen tt fits)
-
-  pub wide : to_z w32 (of_z w32 (to_z w16 (of_z w16 z))) ≡ z
-  wide = ap (λ (x : ℤ). to_z w32 (of_z w32 x)) (to_z-of_z fits) ∙ to_z-of_z {w = w32} (sfits_widen {w = w16} {w' = w32} {z = z} tt fits)
-
-  pub wide-size : mag (to_z w32 (of_z w32 (to_z w16 (of_z w16 z)))) < 32768
-  wide-size = subst (λ (x : ℤ). mag x < 32768) (sym wide) fits.sfits
 
 -- ---- one length more
 
--- z is the length, and y what `widened` answers for it
-module _ (z y : ℤ) (is : y ≡ z) (little : mag y < 32768) (s i : ℕ) (small : mag (to_z w32 s) ≤ 32768 * i) where
-  size : mag z < 32768
-  size = subst (λ (x : ℤ). mag x < 32768) is little
+module _ (z s : ℤ) (i : ℕ) (little : mag z < 32768) (small : mag s ≤ 32768 * i) where
+  pub more-size : mag (s +ℤ z) ≤ 32768 * (i + 1)
+  more-size = omega (arith, sum-size s z)
 
-  handed : to_z w32 (of_z w32 y) ≡ z
-  handed = through y (omega arith) ∙ is
+  -- y is the length as it is added, in 32 bits
+  pub added : (y s' : ℤ) → i < max_nodes → y ≡ to_z w16 (of_z w16 z) → s' ≡ to_z w32 (of_z w32 (s +ℤ to_z w32 (of_z w32 y))) → s' ≡ s +ℤ z
+  added y s' h e d =
+      let same : y ≡ z = e ∙ to_z-of_z {w = w16} {z = z} (record { sfits = little }) in
+      d ∙ ap (λ (x : ℤ). to_z w32 (of_z w32 (s +ℤ to_z w32 (of_z w32 x)))) same
+      ∙ ap (λ (x : ℤ). to_z w32 (of_z w32 (s +ℤ x))) (through z (omega arith))
+      ∙ through (s +ℤ z) (omega (arith, more-size))
 
-  more-size : mag (to_z w32 s +ℤ z) ≤ 32768 * (i + 1)
-  more-size = omega (arith, size, sum-size (to_z w32 s) z)
-
-  pub more-fits : (l : ℕ) → i < l / 2 → l ≤ output_size → SFits w32 (to_z w32 s +ℤ to_z w32 (of_z w32 y))
-  more-fits l h short =
-      subst (λ (x : ℤ). SFits w32 (to_z w32 s +ℤ x)) (sym handed) (fits-32 (to_z w32 s +ℤ z) (omega (arith, more-size)))
-
-  more : (s' : ℕ) → i < max_nodes → s' ≡ of_z w32 (to_z w32 s +ℤ to_z w32 (of_z w32 y)) → to_z w32 s' ≡ to_z w32 s +ℤ z
-  more s' h e =
-      ap (to_z w32) (e ∙ ap (λ (x : ℤ). of_z w32 (to_z w32 s +ℤ x)) handed) ∙ through (to_z w32 s +ℤ z) (omega (arith, more-size))
+-- a length of 16 bits fits 32 bits
+pub wide_fits : (z : ℤ) → SFits w16 z → SFits w32 (to_z w16 (of_z w16 z))
+wide_fits z fits = subst (SFits w32) (sym (to_z-of_z fits)) (sfits_widen tt fits)
 
 -- ---- the sum
 
 -- s and the lengths of the nodes from i on make the whole sum, and s is at most 32768 for each node before i
-pub record SumTo (length_at : ℕ → ℤ) (e : List ℕ) (i s : ℕ) : Type 0 where
-  pub whole : to_z w32 s +ℤ sum length_at (drop (2 * i) e) ≡ sum length_at e
-  pub small : mag (to_z w32 s) ≤ 32768 * i
+pub record SumTo (length_at : ℕ → ℤ) (e : List ℕ) (i : ℕ) (s : ℤ) : Type 0 where
+  pub whole : s +ℤ sum length_at (drop (2 * i) e) ≡ sum length_at e
+  pub small : mag s ≤ 32768 * i
 
 module _ (length_at : ℕ → ℤ) (e : List ℕ) where
-  pub sum-start : SumTo length_at e 0 0
-  sum-start = record { whole = +ℤ_idl (sum length_at e); small = omega arith }
-
   sum_step : (i r : ℕ) → i < length e / 2 → r ≡ get_or e (2 * i + 1) 0
       → sum length_at (drop (2 * i) e) ≡ length_at r +ℤ sum length_at (drop (2 * (i + 1)) e)
   unfolding sum
@@ -83,33 +65,28 @@ module _ (length_at : ℕ → ℤ) (e : List ℕ) where
       go (a ∷ []) k = refl
       go (a ∷ b ∷ l) k = absurd (omega arith)
 
-  module _ {i s s' r : ℕ} (h : i < length e / 2) (short : length e ≤ output_size) (number : r ≡ min (get_or e (2 * i + 1) 0) max_rules)
-      (so_far : SumTo length_at e i s) where
-    next : (q : ℕ) → q ≡ get_or e (2 * i + 1) 0 → to_z w32 s' ≡ to_z w32 s +ℤ length_at q → mag (to_z w32 s') ≤ 32768 * (i + 1)
-        → SumTo length_at e (i + 1) s'
-    next q k d l = record {
+  module _ {i r : ℕ} {s : ℤ} (h : i < length e / 2) (number : r ≡ min (get_or e (2 * i + 1) 0) max_rules) (so_far : SumTo length_at e i s) where
+    next : (q : ℕ) → q ≡ get_or e (2 * i + 1) 0 → mag (length_at q) < 32768 → SumTo length_at e (i + 1) (s +ℤ length_at q)
+    next q k little = record {
       whole =
-          ap (λ (x : ℤ). x +ℤ sum length_at (drop (2 * (i + 1)) e)) d
-          ∙ +ℤ_assoc (to_z w32 s) (length_at q) (sum length_at (drop (2 * (i + 1)) e))
-          ∙ ap (λ (x : ℤ). to_z w32 s +ℤ x) (sym (sum_step i q h k))
+          +ℤ_assoc s (length_at q) (sum length_at (drop (2 * (i + 1)) e))
+          ∙ ap (λ (x : ℤ). s +ℤ x) (sym (sum_step i q h k))
           ∙ so_far.whole;
-      small = l;
+      small = more-size (length_at q) s i little so_far.small;
     }
 
-    pub next-rule : (y : ℤ) → r < max_rules → (y ≡ length_at r) × (mag y < 32768) → s' ≡ of_z w32 (to_z w32 s +ℤ to_z w32 (of_z w32 y))
-        → SumTo length_at e (i + 1) s'
-    next-rule y low (is, little) d =
-        let x = more (length_at r) y is little s i so_far.small s' (omega arith) d in
-        next r (omega arith) x (rw x (more-size (length_at r) y is little s i so_far.small))
+    pub next-rule : (s' : ℤ) → r < max_rules → mag (length_at r) < 32768 → s' ≡ s +ℤ length_at r → SumTo length_at e (i + 1) s'
+    next-rule s' low little d = rw d (next r (omega arith) little)
 
-    pub next-none : ((q : ℕ) → max_rules ≤ q → length_at q ≡ pos 0) → max_rules ≤ r → s' ≡ s → SumTo length_at e (i + 1) s'
-    next-none beyond high d =
+    pub next-none : ((q : ℕ) → max_rules ≤ q → length_at q ≡ pos 0) → max_rules ≤ r → SumTo length_at e (i + 1) s
+    next-none beyond high =
         let q = get_or e (2 * i + 1) 0 in
         let none : length_at q ≡ pos 0 = beyond q (omega arith) in
-        next q refl (ap (to_z w32) d ∙ sym (ap (λ (x : ℤ). to_z w32 s +ℤ x) none ∙ +ℤ_idr (to_z w32 s))) (rw d (omega (arith, so_far.small)))
+        let same : s +ℤ length_at q ≡ s = ap (λ (x : ℤ). s +ℤ x) none ∙ +ℤ_idr s in
+        subst (SumTo length_at e (i + 1)) same (next q refl (rw none (omega arith)))
 
-  pub sum_done : {i s : ℕ} → length e / 2 ≤ i → SumTo length_at e i s → to_z w32 s ≡ sum length_at e
-  sum_done {i} {s} h d = sym (+ℤ_idr (to_z w32 s)) ∙ ap (λ (x : ℤ). to_z w32 s +ℤ x) (sym (sum-end i h)) ∙ d.whole
+  pub sum_done : {i : ℕ} {s : ℤ} → length e / 2 ≤ i → SumTo length_at e i s → s ≡ sum length_at e
+  sum_done {i} {s} h d = sym (+ℤ_idr s) ∙ ap (λ (x : ℤ). s +ℤ x) (sym (sum-end i h)) ∙ d.whole
 
 -- ---- a row of lengths
 
@@ -133,11 +110,6 @@ lengths-step l rules r h k e =
     ∙ ap (λ (x : List ℤ). x ++ ((get_or rules r no_rule).length ∷ [])) e
     ∙ ap (λ (z : ℤ). take r (map length_of_rule rules) ++ (z ∷ [])) (sym (mapped rules r))
     ∙ sym (take-suc (map length_of_rule rules) r (pos 0) m))
-
-pub lengths-done : (l : List ℤ) (rules : List Rule) (r : ℕ) → length l ≡ max_rules → length rules ≡ max_rules → r ≤ max_rules → max_rules ≤ r
-    → take r l ≡ take r (map length_of_rule rules) → l ≡ map length_of_rule rules
-lengths-done l rules r n m h k e =
-    sym (take_all r l (omega arith)) ∙ e ∙ take_all r (map length_of_rule rules) (omega (arith, length-map rules length_of_rule))
 
 -- the sum by the row is the sum by the grammar
 sum_row : (g : Grammar) (l : List ℤ) → l ≡ map length_of_rule g.rules → (e : List ℕ) → sum (lengths_in l) e ≡ sum (lengths_of g) e

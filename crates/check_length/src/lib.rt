@@ -46,8 +46,7 @@ pub fn rounded(sum: i32) -> i32
 pub fn length_of(rule: Rule) -> i16
     ensures { result ≡ length_of_rule rule }
 {
-    let z = rule.length;
-    z
+    rule.length
 }
 
 // The lengths of a grammar's rules.
@@ -55,20 +54,10 @@ pub fn lengths_of(g: Grammar) -> Lengths
     ensures { result ≡ map length_of_rule g.rules }
 {
     let mut l = [0i16; sizes::MAX_RULES];
-    let mut r = 0;
-    while r < sizes::MAX_RULES {
-        let rule = g.rules[r];
-        l[r] = length_of(rule);
-        r += 1;
+    for (r, rule) in g.rules.iter().enumerate() {
+        l[r] = length_of(*rule);
     }
     l
-}
-
-// A length as a number of 32 bits.
-pub fn widened(z: i16) -> i32
-    ensures { (result ≡ z) × (mag result < 32768) }
-{
-    z as i32
 }
 
 // The sum of the rule lengths of all nodes of an offered derivation, the empty ones included.
@@ -76,15 +65,12 @@ pub fn total(l: &[i16], e: &[u16]) -> i32
     requires { (length e.now ≤ output_size) × (length l.now ≡ max_rules) }
     ensures { (result ≡ sum_of (lengths_in l.now) e.now) × (mag result ≤ 16777216) }
 {
-    let n = e.len() / 2;
     let mut sum: i32 = 0;
-    let mut i = 0;
-    while i < n {
+    for i in 0..e.len() / 2 {
         let r = rule_number(e, i);
         if r < sizes::MAX_RULES {
-            sum += widened(l[r]);
+            sum += i32::from(l[r]);
         }
-        i += 1;
     }
     sum
 }

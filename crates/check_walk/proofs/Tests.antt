@@ -17,53 +17,22 @@ use Rattle.check_walk.specs.Walk.{Answers, RuleOpens, OfferedLooked, at_end, not
 
 -- ---- the rule of a node
 
-module _ (p e : List ℕ) (n mask k c at : ℕ) where
-  -- the rules that fit
-  abbrev Rules : ℕ → Type 0
-  Rules = RuleOpens p e n mask k c at
-
-  none-fits : ((r : ℕ) → Rules r → ⊥) → Answers Rules max_rules max_rules
-  none-fits f = record { found = λ h. absurd (omega arith); none = λ _. f }
-
-  pub rule-high : nonterminals ≤ k → Answers Rules max_rules max_rules
-  rule-high h = none-fits (λ s o. let l = o.used in omega arith)
-
-  pub rule-late : n ≤ at → Answers Rules max_rules max_rules
-  rule-late h = none-fits (λ r o. let l = o.inside in omega arith)
-
-  pub rule-cover : (m : ℕ) → m ≡ get_or e (2 * at) 0 → (m ≡ c → ⊥) → Answers Rules max_rules max_rules
-  rule-cover m h d = none-fits (λ r o. d (h ∙ o.covers))
-
-  module _ (r : ℕ) (number : r ≡ get_or e (2 * at + 1) 0) where
-    same : (s : ℕ) → Rules s → r ≡ s
-    same s o = number ∙ o.number
-
-    pub rule-number : max_rules ≤ r → Answers Rules max_rules max_rules
-    rule-number h = none-fits (λ s o. let q = same s o in let l = o.low in omega arith)
-
-    module _ (l : ℕ) (left : l ≡ left_in p r) where
-      pub rule-left : (l ≡ k → ⊥) → Answers Rules max_rules max_rules
-      rule-left d = none-fits (λ s o. d (left ∙ ap (left_in p) (same s o) ∙ o.left))
-
-      module _ (b : Bool) (member : b ≡ has k mask) where
-        pub rule-barred : b ≡ true → Answers Rules max_rules max_rules
-        rule-barred h = none-fits (λ s o. true≢false (sym h ∙ member ∙ o.fresh))
-
-        pub rule_found : (m : ℕ) → m ≡ get_or e (2 * at) 0 → at < n → m ≡ c → r < max_rules → k < nonterminals → l ≡ k → b ≡ false
-            → Answers Rules max_rules r
-        rule_found m x early y low used z h =
-            record {
-              found = λ _. record {
-                inside = early;
-                covers = sym x ∙ y;
-                number = sym number;
-                low = low;
-                used = used;
-                left = sym left ∙ z;
-                fresh = sym member ∙ h;
-              };
-              none = λ q. absurd (omega arith);
-            }
+pub rule_found : (p e : List ℕ) (n mask k c at r : ℕ) → r ≡ get_or e (2 * at + 1) 0 → (l : ℕ) → l ≡ left_in p r → (b : Bool) → b ≡ has k mask
+    → (m : ℕ) → m ≡ get_or e (2 * at) 0 → at < n → m ≡ c → r < max_rules → k < nonterminals → l ≡ k → b ≡ false
+    → Answers (RuleOpens p e n mask k c at) max_rules r
+rule_found p e n mask k c at r number l left b member m x early y low used z h =
+    record {
+      found = λ _. record {
+        inside = early;
+        covers = sym x ∙ y;
+        number = sym number;
+        low = low;
+        used = used;
+        left = sym left ∙ z;
+        fresh = sym member ∙ h;
+      };
+      none = λ q. absurd (omega arith);
+    }
 
 -- ---- what comes next in a row
 

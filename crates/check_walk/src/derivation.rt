@@ -20,5 +20,5 @@ pub fn is_derivation(p: &Packed, start: usize, w: &[u8], e: &[u16]) -> bool
     }
     let n = m / 2;
     let cover = w.len();
-    node(p, w, e, n, cover, 0, start, 0, 0, cover) == n
+    node(p, w, e, n, cover, 0, start, 0, 0, cover) == Some(n)
 }

@@ -7,10 +7,11 @@ pub fn number(e: &[u16], i: usize) -> usize
     requires { i < length e.now }
     ensures { (result ≡ get_or e.now i 0) × (result < 65536) }
 {
-    e[i] as usize
+    usize::from(e[i])
 }
 
-// The rule of node i, or NO_RULE if no rule has that number.
+// The rule of node i, or NO_RULE if no rule has that number. It is a number: `words_write`, whose rows hold only rules, would unwrap an
+// Option at once.
 pub fn rule_number(e: &[u16], i: usize) -> usize
     requires { (2 * i + 1 < length e.now) × (i < max_nodes) }
     ensures { result ≡ min (get_or e.now (2 * i + 1) 0) max_rules }

@@ -1,5 +1,5 @@
 // The checker proper. `node` checks one node and calls `row` for the places of its rule; `row` calls `node` for each nonterminal.
-ghost use Rattle.std.specs.Prelude.{[], ◌∷◌, ◌*◌, ◌+◌, ◌-◌, ◌<◌, ◌≤◌, length};
+ghost use Rattle.std.specs.Prelude.{[], ◌∷◌, ◌*◌, ◌+◌, ◌-◌, ◌<◌, ◌≤◌, length, IfSome, unwrap_or};
 ghost use Rattle.cfg.specs.Grammar.{nonterminal};
 ghost use Rattle.packed.specs.Packed.{places_from, place_count, cfg_in};
 ghost use Rattle.check_walk.specs.Walk.{Walked, Answers, Room, RuleOpens, OfferedLooked};
@@ -26,32 +26,37 @@ struct Here {
     to: usize,
 }
 
-// The rule of node `at`, if the node covers c bytes, is a node of k, and the mask does not have k. Otherwise NO_RULE.
-fn rule_at(p: &Packed, e: &[u16], n: usize, mask: u32, k: usize, c: usize, at: usize) -> usize
+// The rule of node `at`, if the node covers c bytes, is a node of k, and the mask does not have k.
+fn rule_at(
+    p: &Packed,
+    e: &[u16],
+    n: usize,
+    mask: u32,
+    k: usize,
+    c: usize,
+    at: usize,
+) -> Option<usize>
     requires { (2 * n ≤ length e.now) × (n ≤ max_nodes) }
-    ensures { Answers (RuleOpens p.now e.now n mask k c at) max_rules result }
+    ensures rule { Answers (RuleOpens p.now e.now n mask k c at) max_rules (unwrap_or result max_rules) }
+    ensures is_rule { IfSome result (λ r. r < max_rules) }
 {
     if k >= sizes::NONTERMINALS {
-        return sizes::NO_RULE;
+        return None;
     }
     if at >= n {
-        return sizes::NO_RULE;
+        return None;
     }
     if number(e, 2 * at) != c {
-        return sizes::NO_RULE;
+        return None;
     }
     let r = number(e, 2 * at + 1);
     if r >= sizes::MAX_RULES {
-        return sizes::NO_RULE;
+        return None;
     }
     if packed::left(p, r) != k {
-        return sizes::NO_RULE;
+        return None;
     }
-    if sets::has(mask, k) {
-        sizes::NO_RULE
-    } else {
-        r
-    }
+    if sets::has(mask, k) { None } else { Some(r) }
 }
 
 // What comes next at place q of rule r.
@@ -83,8 +88,8 @@ fn look(p: &Packed, w: &[u8], e: &[u16], n: usize, r: usize, q: usize, here: Her
     Step::No
 }
 
-// Checks that a node of the nonterminal k over the bytes `from` to `to` begins at node `at`. The answer is the node after its subtree, or
-// TOO_MANY if no such node is there.
+// Checks that a node of the nonterminal k over the bytes `from` to `to` begins at node `at`. The answer is the node after its subtree, if
+// such a node is there.
 #[cycle(node_row)]
 pub fn node(
     p: &Packed,
@@ -97,21 +102,19 @@ pub fn node(
     at: usize,
     from: usize,
     to: usize,
-) -> usize
+) -> Option<usize>
     requires { Room w.now e.now n cover at from to }
-    ensures { Answers (Walked (cfg_in 0 p.now) w.now e.now n cover above
-        (nonterminal k ∷ []) at from to) too_many result }
+    ensures walked { Answers (Walked (cfg_in 0 p.now) w.now e.now n cover above
+        (nonterminal k ∷ []) at from to) too_many (unwrap_or result too_many) }
+    ensures inside { IfSome result (λ m. m ≤ max_nodes) }
 {
     let c = to - from;
     let mask = child_set(cover, above, c);
-    let r = rule_at(p, e, n, mask, k, c, at);
-    if r >= sizes::MAX_RULES {
-        return sizes::TOO_MANY;
-    }
+    let r = rule_at(p, e, n, mask, k, c, at)?;
     row(p, w, e, n, c, sets::with(mask, k), r, 0, at + 1, from, to)
 }
 
-// Checks the row for the places of rule r from place q on. The answer is the node after the row, or TOO_MANY if there is no such row.
+// Checks the row for the places of rule r from place q on. The answer is the node after the row, if there is such a row.
 #[cycle(node_row)]
 pub fn row(
     p: &Packed,
@@ -125,21 +128,19 @@ pub fn row(
     at: usize,
     from: usize,
     to: usize,
-) -> usize
+) -> Option<usize>
     requires { (r < max_rules) × Room w.now e.now n cover at from to }
-    ensures { Answers (Walked (cfg_in 0 p.now) w.now e.now n cover above
-        (places_from p.now r q (place_count p.now r - q)) at from to) too_many result }
+    ensures walked { Answers (Walked (cfg_in 0 p.now) w.now e.now n cover above
+        (places_from p.now r q (place_count p.now r - q)) at from to) too_many (unwrap_or result too_many) }
+    ensures inside { IfSome result (λ m. m ≤ max_nodes) }
 {
     let step = look(p, w, e, n, r, q, Here { at, from, to });
     match step {
-        Step::No => sizes::TOO_MANY,
-        Step::End => at,
+        Step::No => None,
+        Step::End => Some(at),
         Step::Byte => row(p, w, e, n, cover, above, r, q + 1, at, from + 1, to),
         Step::Node(k, c) => {
-            let next = node(p, w, e, n, cover, above, k, at, from, from + c);
-            if next > sizes::MAX_NODES {
-                return sizes::TOO_MANY;
-            }
+            let next = node(p, w, e, n, cover, above, k, at, from, from + c)?;
             row(p, w, e, n, cover, above, r, q + 1, next, from + c, to)
         }
     }

@@ -1,6 +1,7 @@
 -- What the three exported calls answer: over the list of the packed grammar's derivations, and over the grammar that the struct means.
 -- Assumes nothing.
 use Prim.Native.Nat.{ℕ, ◌≤◌}
+use Rattle.std.proofs.Common.{Ok, Err}
 use mathlib.Core.Bool.{Bool, true, false, not}
 use mathlib.Core.List.{List, [], ◌∷◌, map}
 use mathlib.Core.Path.{◌≡◌, sym, ap, ◌∙◌}
@@ -21,8 +22,6 @@ use Rattle.grammar.specs.View.{dated, grammar_of}
 use Rattle.answers.specs.declared.Refusal.{Refusal}
 use Rattle.answers.specs.Number.{number_of}
 use Rattle.packed.specs.Packed.{cfg_in}
-use Rattle.fill_input.specs.declared.Judged.{Judged}
-use Rattle.fill_input.specs.declared.Judged.TheVariants.{Passed, Refused}
 use Rattle.fill_input.specs.Given.{checking_of}
 use Rattle.fill_input.specs.Judging.{Judging}
 use Rattle.fill_input.proofs.Deciding.{call-refused, call-passed}
@@ -44,9 +43,6 @@ module _ (p w e : List ℕ) (s : ℕ) (b : Bool) (told : b ≡ listed e (L (cfg_
 -- ---- the answers over a list of derivations
 
 module _ (l : List (List ℕ)) (e : List ℕ) (b : Bool) (told : b ≡ listed e l) where
-  pub check-says : {v : Bool} → b ≡ v → answered v ≡ check_answer l e
-  check-says h = ap answered (sym h ∙ told)
-
   pub length-yes : (lengths : ℕ → ℤ) (z : ℤ) → b ≡ true → SFits w32 z → z ≡ tenths_of lengths e
       → answered (to_z w32 (of_z w32 z)) ≡ length_answer lengths l e
   unfolding decide
@@ -67,27 +63,27 @@ module _ (l : List (List ℕ)) (d e : List ℕ) (a : Bool) (first : a ≡ listed
     build-second k = rw (← first, ← second, not-false a h, not-true b k)
 
     module _ (k : not b ≡ false) (c : Bool) (compared : c ≡ same_built d e) where
-      pub build-says : {v : Bool} → c ≡ v → answered v ≡ build_answer l d e
+      pub build-says : answered c ≡ build_answer l d e
       unfolding decide
-      build-says m = rw (← first, ← second, ← compared, not-false a h, not-false b k, m)
+      build-says = rw (← first, ← second, ← compared, not-false a h, not-false b k)
 
 -- ---- the calls
 
-module _ (g : Grammar) (y : ℕ) (w chart : List ℕ) (j : Judged) (judging : Judging g (length w) (length chart) j) where
-  module _ (r : Refusal) (is : j ≡ Refused r) where
+module _ (g : Grammar) (y : ℕ) (w chart : List ℕ) where
+  module _ {r : Refusal} (judging : Judging g (length w) (length chart) (Err r)) where
     pub check-refused : (e : List ℕ) → checking_of (refused (number_of r)) chart ≡ check_of (dated g y) w e chart
     unfolding check_of
-    check-refused e = call-refused g y w chart _ j judging r is
+    check-refused e = call-refused g y w chart _ judging
 
     pub length-refused : (e : List ℕ) → checking_of (refused (number_of r)) chart ≡ length_of (dated g y) w e chart
     unfolding length_of
-    length-refused e = call-refused g y w chart _ j judging r is
+    length-refused e = call-refused g y w chart _ judging
 
     pub build-refused : (a b : List ℕ) → checking_of (refused (number_of r)) chart ≡ same_build_of (dated g y) w a b chart
     unfolding same_build_of
-    build-refused a b = call-refused g y w chart _ j judging r is
+    build-refused a b = call-refused g y w chart _ judging
 
-  module _ (is : j ≡ Passed) (p chart' : List ℕ) (s : ℕ) (start : s ≡ g.start)
+  module _ {u : Unit {0}} (judging : Judging g (length w) (length chart) (Ok u)) (p chart' : List ℕ) (s : ℕ) (start : s ≡ g.start)
       (filling : (chart' ≡ filled (grammar_of (dated g y)) w chart)
       × ((r : ℕ) → rule (cfg_in g.start p) r ≡ rule (grammar_of (dated g y)) r)) where
     same : L (cfg_in s p) w ≡ L (grammar_of (dated g y)) w
@@ -97,13 +93,13 @@ module _ (g : Grammar) (y : ℕ) (w chart : List ℕ) (j : Judged) (judging : Ju
         → checking_of a chart' ≡ check_of (dated g y) w e chart
     unfolding check_of check_in
     check-answered a e d =
-        call-passed g y w chart _ j judging chart' a is filling.0 (d ∙ ap (λ (l : List (List ℕ)). check_answer l e) same)
+        call-passed g y w chart _ chart' a judging filling.0 (d ∙ ap (λ (l : List (List ℕ)). check_answer l e) same)
 
     pub length-answered : (l : List ℤ) (a : Answer ℤ) (e : List ℕ) → l ≡ map length_of_rule g.rules
         → a ≡ length_answer (lengths_in l) (L (cfg_in s p) w) e → checking_of a chart' ≡ length_of (dated g y) w e chart
     unfolding length_of length_in unlisted
     length-answered l a e m d =
-        call-passed g y w chart _ j judging chart' a is filling.0
+        call-passed g y w chart _ chart' a judging filling.0
         (d ∙ ap (λ (x : List (List ℕ)). length_answer (lengths_in l) x e) same
         ∙ ap (λ (z : ℤ). decide (check (not (listed e (L (grammar_of (dated g y)) w))) 12 ∷ []) refused (λ _. answered z))
         (tenths-row g l m e))
@@ -112,4 +108,4 @@ module _ (g : Grammar) (y : ℕ) (w chart : List ℕ) (j : Judged) (judging : Ju
         → checking_of a chart' ≡ same_build_of (dated g y) w b c chart
     unfolding same_build_of same_build_in unlisted
     build-answered a b c d =
-        call-passed g y w chart _ j judging chart' a is filling.0 (d ∙ ap (λ (l : List (List ℕ)). build_answer l b c) same)
+        call-passed g y w chart _ chart' a judging filling.0 (d ∙ ap (λ (l : List (List ℕ)). build_answer l b c) same)

@@ -34,17 +34,11 @@ module _ (e : List ℕ) (i : ℕ) where
   used-end : length e / 2 ≤ i → used_from e i ≡ []
   used-end h = rules-end (drop (2 * i) e) (omega (arith, length-drop (2 * i) e))
 
--- ---- the next node that is used, by the tests of `next_used`
+-- ---- the next node that is used, past one that is not
 
 module _ (e : List ℕ) (i r : ℕ) (onward : i ≤ r) (left : used_from e i ≡ used_from e r) where
   pub used-passed : r < length e / 2 → get_or e (2 * r) 0 ≡ 0 → used_from e i ≡ used_from e (r + 1)
   used-passed h z = left ∙ used-not e r h z
-
-  pub next-found : get_or e (2 * r) 0 ≢ 0 → NextUsed e i r
-  next-found some = record { onward = onward; covers = λ _. some; left = left }
-
-  pub next-none : length e / 2 ≤ r → NextUsed e i r
-  next-none done = record { onward = onward; covers = λ h. absurd (omega arith); left = left }
 
 -- ---- two lists, by the tests of `same_rules`
 

@@ -8,14 +8,12 @@ fn next_used(e: &[u16], i: usize) -> usize
     ensures { NextUsed e.now i result }
 {
     let n = e.len() / 2;
-    let mut r = i;
-    while r < n {
+    for r in i..n {
         if e[2 * r] != 0 {
             return r;
         }
-        r += 1;
     }
-    r
+    i.max(n)
 }
 
 // Whether the nodes that cover something have the same rules, one by one.

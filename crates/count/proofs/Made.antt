@@ -1,19 +1,18 @@
 -- What is counted once the tables are made, and over the filled chart, by the tests that the code makes. Assumes nothing.
-use Prim.Native.Nat.{ℕ, ◌≤◌, ◌<◌}
+use Prim.Native.Nat.{ℕ, ◌<◌}
 use mathlib.Core.Bool.{Bool, true, false}
 use mathlib.Core.List.{List, []}
-use mathlib.Core.Path.{◌≡◌, refl, sym, ◌∙◌}
+use mathlib.Core.Path.{◌≡◌, sym, ◌∙◌}
 use native.Mathlib.Omega.{arith}
 use lib.Dec.{leb}
 use lib.ListN.{length}
 use borrow.Author.Tests.{leb-true, ne_eqb}
-use Rattle.sizes.specs.Sizes.{max_rules, max_nodes}
+use Rattle.sizes.specs.Sizes.{max_nodes}
 use Rattle.sets.specs.Set.{has}
 use Rattle.cfg.specs.Listing.{L}
 use Rattle.chart.specs.Cell.{cell}
 use Rattle.chart.specs.Column.{complete}
 use Rattle.theory_costs.specs.Span.{bytes_of}
-use Rattle.tree_first.specs.Descend.{InputGiven}
 use Rattle.packed.specs.Packed.{cfg_in}
 use Rattle.results.specs.Answer.{Answer, Figure, refused, answered, counted}
 use Rattle.results.specs.Enumerate.{figure}
@@ -51,13 +50,6 @@ module _ (p : List ℕ) (rules : ℕ) (fits chart tables : List ℕ) (s n : ℕ)
     exact = λ w to given.
         counted_none (L (cfg_in s p) w) (empty-larger p rules fits chart tables s n w to given (sym told ∙ h)) (refused 13);
   }
-
--- ---- the tables of an input are right for it
-
-pub made-tree : (p w : List ℕ) (s rules : ℕ) (fits chart tables : List ℕ) (a : Answer Figure)
-    → (rules ≤ max_rules) × InputGiven p rules fits chart tables w → CountedMade p rules fits chart tables s (length w) a
-    → a ≡ count_tree (L (cfg_in s p) w)
-made-tree p w s rules fits chart tables a (few, given) M = M.exact w refl given
 
 -- ---- over the filled chart
 

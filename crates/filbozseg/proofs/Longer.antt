@@ -9,14 +9,14 @@ use mathlib.Core.Logic.{dite}
 use mathlib.Core.Path.{◌≡◌, refl, sym, subst}
 use lib.ListN.{length, get_or}
 use borrow.Author.Tests.{not-false}
-use Rattle.sizes.specs.Sizes.{max_rules, max_places}
+use Rattle.sizes.specs.Sizes.{max_places}
 use Rattle.theory_shrinking.proofs.Depth.{depth_small}
 use Rattle.grammar.specs.declared.Place.{Place}
 use Rattle.grammar.specs.declared.Rule.{Rule}
 use Rattle.grammar.specs.declared.Grammar.{Grammar}
 use Rattle.grammar.specs.Valid.{valid_grammar}
 use Rattle.grammar.specs.View.{whole_of}
-use Rattle.grammar.specs.Zero.{zero_place, zero_rule, no_rule}
+use Rattle.grammar.specs.Zero.{zero_place, no_rule}
 use Rattle.grammar.proofs.Bounds.{rule-parts, valid-count, valid-each}
 use Rattle.theory_tidying.specs.Tidying.{tidied_rule, tidied}
 use Rattle.theory_tidying.proofs.Tidied.{tidied-rule-size, tidied-rule-at, tidied-rule-past, tidied-size, tidied-used, tidied-unused}

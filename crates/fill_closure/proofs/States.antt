@@ -99,10 +99,6 @@ module _ (p : List ℕ) (rules start : ℕ) (insides lasts kinds : List ℕ) whe
 
   -- ---- again
 
-  pub again-start : (own : ℕ) (flags made : List ℕ) → PassState p rules start insides lasts kinds rules own flags made
-      → PassMade p rules start insides lasts kinds 0 own own flags made
-  again-start own flags made state = record { state = state; grows = omega arith; fresh = λ e r l. absurd (omega arith) }
-
   pub again-step : (r own v v' : ℕ) (flags made flags' made' : List ℕ) → rules ≤ max_rules → r < rules
       → PassMade p rules start insides lasts kinds r own v flags made
       → Again p r start (get_or insides r 0) (get_or lasts r 0) (get_or kinds r 0) v flags made flags' made' v'

@@ -3,7 +3,7 @@
 
 pub mod passes;
 
-ghost use Rattle.std.specs.Prelude.{◌≡◌, ◌<◌, length};
+ghost use Rattle.std.specs.Prelude.{◌<◌};
 ghost use Rattle.sizes.specs.Sizes.{max_rules};
 ghost use Rattle.fill_closure.specs.Looks.{RuleLooked, Again};
 
@@ -28,7 +28,7 @@ fn look(
     flags: &mut [u32; sizes::MAX_RULES],
     made: &mut [u32; sizes::MAX_RULES],
 ) -> u32
-    requires { (r < max_rules) × (length flags.old ≡ max_rules) × (length made.old ≡ max_rules) }
+    requires { r < max_rules }
     ensures { RuleLooked p.now r known.start inside last kinds known.own
         flags.old made.old flags.new made.new result }
 {
@@ -49,7 +49,7 @@ pub fn look_first(
     flags: &mut [u32; sizes::MAX_RULES],
     made: &mut [u32; sizes::MAX_RULES],
 ) -> u32
-    requires { (r < max_rules) × (length flags.old ≡ max_rules) × (length made.old ≡ max_rules) }
+    requires { r < max_rules }
     ensures { RuleLooked p.now r known.start inside last kinds known.own
         flags.old made.old flags.new made.new result }
 {
@@ -74,7 +74,7 @@ pub fn look_again(
     flags: &mut [u32; sizes::MAX_RULES],
     made: &mut [u32; sizes::MAX_RULES],
 ) -> u32
-    requires { (r < max_rules) × (length flags.old ≡ max_rules) × (length made.old ≡ max_rules) }
+    requires { r < max_rules }
     ensures { Again p.now r known.start inside last kinds known.own
         flags.old made.old flags.new made.new result }
 {

@@ -1,5 +1,5 @@
 // All rules at one cell, until nothing is added.
-ghost use Rattle.std.specs.Prelude.{◌≡◌, ◌≤◌, length};
+ghost use Rattle.std.specs.Prelude.{◌≤◌};
 ghost use Rattle.sizes.specs.Sizes.{max_rules};
 ghost use Rattle.fill_closure.specs.Looks.{PassState, PassMade, LeastClosed};
 
@@ -17,13 +17,12 @@ fn first(
     flags: &mut [u32; sizes::MAX_RULES],
     made: &mut [u32; sizes::MAX_RULES],
 ) -> u32
-    requires { (rules ≤ max_rules) × (length flags.old ≡ max_rules) × (length made.old ≡ max_rules) }
+    requires { rules ≤ max_rules }
     ensures { PassState p.now rules start insides.now lasts.now kinds.now
         rules result flags.new made.new }
 {
     let mut own: u32 = 0;
-    let mut r = 0;
-    while r < rules {
+    for r in 0..rules {
         own = look_first(
             p,
             r,
@@ -34,7 +33,6 @@ fn first(
             flags,
             made,
         );
-        r += 1;
     }
     own
 }
@@ -57,8 +55,7 @@ fn again(
 {
     let Known { start, own } = known;
     let mut v = own;
-    let mut r = 0;
-    while r < rules {
+    for r in 0..rules {
         v = look_again(
             p,
             r,
@@ -69,7 +66,6 @@ fn again(
             flags,
             made,
         );
-        r += 1;
     }
     v
 }
@@ -85,7 +81,7 @@ pub fn closure(
     flags: &mut [u32; sizes::MAX_RULES],
     made: &mut [u32; sizes::MAX_RULES],
 ) -> u32
-    requires { (rules ≤ max_rules) × (length flags.old ≡ max_rules) × (length made.old ≡ max_rules) }
+    requires { rules ≤ max_rules }
     ensures { LeastClosed p.now rules start insides.now lasts.now kinds.now
         result flags.new made.new }
 {

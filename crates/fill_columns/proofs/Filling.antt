@@ -2,11 +2,10 @@
 use Prim.Native.Nat.{ℕ, suc, ◌+◌, ◌^◌, ◌≤◌, ◌<◌}
 use mathlib.Core.List.{List, [], ◌∷◌, ◌++◌}
 use mathlib.Core.Path.{◌≡◌, refl, sym, ap, ◌∙◌, subst}
-use native.Mathlib.Nat.{le_antisymm}
 use native.Mathlib.Numerals.{add-one}
 use native.Mathlib.Omega.{arith}
-use lib.ListN.{length, get_or, take, drop, set, replicate, length-append, length-drop, length-replicate, replicate-append-replicate}
-use lib.Seq.{append_snoc, set_at, drop-cons, take-suc, take_all, length-take-le, get_or-take}
+use lib.ListN.{length, get_or, take, drop, set, replicate, length-append, length-drop, length-replicate}
+use lib.Seq.{append_snoc, set_at, drop-cons, take-suc, length-take-le, get_or-take}
 use borrow.Author.Tests.{lt-ltb}
 use Rattle.sizes.specs.Sizes.{cells, max_input}
 use Rattle.cfg.specs.Grammar.{Terminal}
@@ -32,17 +31,6 @@ set_next pre l i b e h =
     ∙ ap (λ (x : ℕ). (pre ++ (b ∷ [])) ++ drop x l) (sym (add-one i))
 
 -- ---- clearing
-
-pub clear_step : (l chart : List ℕ) (i : ℕ) → i < length l → chart ≡ replicate i 0 ++ drop i l
-    → set chart i 0 ≡ replicate (i + 1) 0 ++ drop (i + 1) l
-clear_step l chart i h e =
-    ap (λ (x : List ℕ). set x i 0) e
-    ∙ set_next (replicate i 0) l i 0 (length-replicate {A = ℕ} i 0) h
-    ∙ ap (λ (x : List ℕ). x ++ drop (i + 1) l) (replicate-append-replicate {A = ℕ} i 1 0)
-
-pub clear-done : (l chart : List ℕ) (i : ℕ) → i ≤ cells → cells ≤ i → chart ≡ replicate i 0 ++ drop i l
-    → chart ≡ replicate cells 0 ++ drop cells l
-clear-done l chart i h m e = subst (λ (x : ℕ). chart ≡ replicate x 0 ++ drop x l) (le_antisymm h m) e
 
 cleared-length : (n : ℕ) (l : List ℕ) → n ≤ length l → length (replicate n 0 ++ drop n l) ≡ length l
 cleared-length n l h = simp (length-append, length-replicate, length-drop) (omega arith)
@@ -130,13 +118,6 @@ module _ (p t : List ℕ) (n : ℕ) (start : List ℕ) where
           let f = column.exact (fits_at (take m' w)) (told-take p t w m' n (omega arith) d tells) z in
           let g = told-on p (fits_at (take m' w)) chart chart' m' ends' reach' (omega arith) f z in
           (fill_step p w start m m' chart chart' e (omega arith) x f, g)
-
-  pub fill-taken : (m : ℕ) (chart ends reach : List ℕ) → n ≤ m → FillTo m chart ends reach → PositionsTaken p t n start chart
-  fill-taken m chart ends reach h to = record {
-    long = to.long;
-    exact = λ w d tells.
-        (to.taken w d tells).0 ∙ ap (λ (x : List ℕ). extended_by (cfg_in 0 p) [] x start) (take_all m w (omega arith));
-  }
 
 -- ---- opening and taking
 

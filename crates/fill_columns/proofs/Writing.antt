@@ -1,5 +1,5 @@
 -- A column, written cell by cell from the last start down: one more cell, the first cell, and the end. Assumes nothing.
-use Prim.Native.Nat.{ℕ, ◌+◌, ◌*◌, ◌-◌, ◌^◌, ◌≤◌, ◌<◌}
+use Prim.Native.Nat.{ℕ, ◌+◌, ◌*◌, ◌^◌, ◌≤◌, ◌<◌}
 use mathlib.Core.Bool.{true}
 use mathlib.Core.List.{List}
 use mathlib.Core.Logic.{◌≢◌, inl, dite}
@@ -173,23 +173,8 @@ module _ (p t : List ℕ) (rules n : ℕ) (ends reach lasts chart₀ starts₀ l
   -- the cells of the starts from i on are written
   pub record LowerTo (i : ℕ) (chart starts live : List ℕ) : Type 0 where
     pub long : length chart ≡ length chart₀
-    pub room : length starts ≡ starts_size
-    pub live_room : length live ≡ max_rules
     pub from : (fit : Fit) (found : List ℕ) → cells ≤ length found → Around p fit t found rules n ends reach lasts
         → WrittenFrom p fit found rules n n chart₀ starts₀ live₀ → WrittenFrom p fit found rules n i chart starts live
-
-  pub lower-start : length starts₀ ≡ starts_size → length live₀ ≡ max_rules → LowerTo n chart₀ starts₀ live₀
-  lower-start room live_room = record { long = refl; room = room; live_room = live_room; from = λ fit found big around from. from }
-
-  pub lower-step : (i j : ℕ) (chart starts live chart' starts' live' : List ℕ) → 0 < j → i ≡ j - 1
-      → CellWritten p t rules n i ends reach lasts chart starts live chart' starts' live' → LowerTo j chart starts live
-      → LowerTo i chart' starts' live'
-  lower-step i j chart starts live chart' starts' live' some less cell to = record {
-    long = cell.long ∙ to.long;
-    room = cell.room;
-    live_room = cell.live_room;
-    from = λ fit found big around from. cell.step fit found big around j (omega arith) (to.from fit found big around from);
-  }
 
 pub lower-done : (p t : List ℕ) (rules n i : ℕ) (ends reach lasts chart₀ chart starts live : List ℕ) → i ≤ 0
     → LowerTo p t rules n ends reach lasts chart₀ (replicate starts_size 0) (replicate max_rules 0) i chart starts live

@@ -43,11 +43,7 @@ fn clear(chart: &mut [u32])
     requires { cells ≤ length chart.old }
     ensures { chart.new ≡ replicate cells 0 ++ drop cells chart.old }
 {
-    let mut i = 0;
-    while i < sizes::CELLS {
-        chart[i] = 0;
-        i += 1;
-    }
+    chart[..sizes::CELLS].fill(0);
 }
 
 // Opens the chart. The set of the empty span is own.
@@ -86,11 +82,20 @@ fn take_all(
 {
     let mut ends = [0u64; ENDS_SIZE];
     let mut reach = [0u64; sizes::MAX_INPUT];
-    let mut m = 0;
-    while m < n {
+    for m in 0..n {
         put_column(m, chart, &mut ends, &mut reach);
-        m += 1;
-        column(p, rules, fits, m, own, lasts, kinds, &ends, &reach, chart);
+        column(
+            p,
+            rules,
+            fits,
+            m + 1,
+            own,
+            lasts,
+            kinds,
+            &ends,
+            &reach,
+            chart,
+        );
     }
 }
 

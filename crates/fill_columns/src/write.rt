@@ -2,7 +2,6 @@
 ghost use Rattle.std.specs.Prelude.{◌≡◌, ◌<◌, ◌≤◌, length};
 ghost use Rattle.sizes.specs.Sizes.{cells, max_rules, max_input};
 ghost use Rattle.packed.specs.Packed.{Used};
-ghost use Rattle.fill_words.specs.Spans.{starts_size};
 ghost use Rattle.fill_empty.specs.Empty.{KindsAll, EmptyTold};
 ghost use Rattle.fill_columns.specs.Columns.{CellWritten, LowerWritten, ColumnWritten};
 
@@ -33,8 +32,7 @@ fn close_cell(
     made: &mut [u32; sizes::MAX_RULES],
 )
     requires { (rules ≤ max_rules) × Used p.now rules × (i < n) × (n ≤ max_input) × KindsAll p.now rules lasts.now kinds.now
-        × (cells ≤ length chart.old) × (length starts.old ≡ starts_size) × (length live.old ≡ max_rules)
-        × (length insides.old ≡ max_rules) × (length flags.old ≡ max_rules) × (length made.old ≡ max_rules) }
+        × (cells ≤ length chart.old) }
     ensures { CellWritten p.now fits.now rules n i ends.now reach.now lasts.now
         chart.old starts.old live.old chart.new starts.new live.new
         × (length insides.new ≡ max_rules) × (length flags.new ≡ max_rules) × (length made.new ≡ max_rules) }
@@ -78,9 +76,7 @@ fn lower_cells(
     let mut insides = [0u32; sizes::MAX_RULES];
     let mut flags = [0u32; sizes::MAX_RULES];
     let mut made = [0u32; sizes::MAX_RULES];
-    let mut i = n;
-    while i > 0 {
-        i -= 1;
+    for i in (0..n).rev() {
         close_cell(
             p,
             rules,

@@ -4,14 +4,13 @@ use mathlib.Core.Bool.{Bool, true, false}
 use mathlib.Core.List.{List}
 use mathlib.Core.Path.{◌≡◌, sym, ap, ◌∙◌, subst}
 use native.Mathlib.Omega.{arith}
-use lib.ListN.{length, get_or, set, length-set}
+use lib.ListN.{length, get_or}
 use Rattle.sizes.specs.Sizes.{max_rules}
 use Rattle.laws.proofs.Bools.{true-false, clash}
-use Rattle.laws.proofs.Lists.{set_below, below_step}
 use Rattle.sets.specs.Set.{has, insert}
 use Rattle.sets.proofs.Laws.{has-insert, has-insert-same}
 use Rattle.cfg.specs.Grammar.{nonterminal}
-use Rattle.packed.specs.Packed.{place_count, symbol_in, is_nonterminal_in, value_in}
+use Rattle.packed.specs.Packed.{symbol_in, is_nonterminal_in, value_in}
 use Rattle.packed.proofs.Fitting.{symbol-nonterminal, symbol-terminal}
 use Rattle.fill_empty.specs.Empty.{Kinds, KindAt, KindsAll}
 
@@ -44,32 +43,11 @@ module _ (p : List ℕ) (r last : ℕ) where
   pub record KindsTo (m v : ℕ) : Type 0 where
     pub done : (q k : ℕ) → q < m → symbol_in p r q ≡ nonterminal k → k < 32 → has (q + 1) last ≡ true → has k v ≡ true
 
-  pub kinds-start : KindsTo 0 0
-  kinds-start = record { done = λ q k l. absurd (omega arith) }
-
-  pub kinds-step : (m v x : ℕ) → KindAt p r m last v x → KindsTo m v → KindsTo (m + 1) x
-  kinds-step m v x at to = record {
-    done = λ q k. below_step (λ (q : ℕ). symbol_in p r q ≡ nonterminal k → k < 32 → has (q + 1) last ≡ true → has k x ≡ true) m
-        (λ q l e b h. at.keeps k (to.done q k l e b h)) (at.here k) q;
-  }
-
-  pub kinds-done : (m v : ℕ) → place_count p r ≤ m → KindsTo m v → Kinds p r last v
-  kinds-done m v h to = record { all = λ q k l. to.done q k (omega arith) }
-
 module _ (p : List ℕ) (rules : ℕ) (lasts : List ℕ) where
   -- the kinds of the rules below m
   pub record AllTo (m : ℕ) (kinds : List ℕ) : Type 0 where
     pub long : length kinds ≡ max_rules
     pub done : (r : ℕ) → r < m → Kinds p r (get_or lasts r 0) (get_or kinds r 0)
-
-  pub all_start : (kinds : List ℕ) → length kinds ≡ max_rules → AllTo 0 kinds
-  all_start kinds e = record { long = e; done = λ r l. absurd (omega arith) }
-
-  pub all-step : (m v : ℕ) (kinds : List ℕ) → m < max_rules → Kinds p m (get_or lasts m 0) v → AllTo m kinds → AllTo (m + 1) (set kinds m v)
-  all-step m v kinds b one to = record {
-    long = length-set kinds m v ∙ to.long;
-    done = set_below (λ (r x : ℕ). Kinds p r (get_or lasts r 0) x) 0 kinds m v (omega (arith, to.long)) one to.done;
-  }
 
   pub all_done : (m : ℕ) (kinds : List ℕ) → rules ≤ m → AllTo m kinds → KindsAll p rules lasts kinds
   all_done m kinds h to = record { long = to.long; each = λ r l. to.done r (omega arith) }

@@ -3,7 +3,6 @@ use Prim.Native.Nat.{ℕ, ◌+◌, ◌≤◌, ◌<◌}
 use mathlib.Core.Bool.{true}
 use mathlib.Core.List.{List}
 use mathlib.Core.Path.{◌≡◌, refl, sym, ap, ◌∙◌, subst}
-use native.Mathlib.Nat.{le_antisymm}
 use native.Mathlib.Omega.{arith}
 use lib.ListN.{length, get_or, set, length-set}
 use borrow.Author.Tests.{eq-eqb}
@@ -37,14 +36,6 @@ module _ (p : List ℕ) where
     none = λ l. refl;
   })
 
-  pub empty-start : (own : ℕ) (lasts : List ℕ) → length lasts ≡ max_rules → EmptyPassed p 0 own own lasts
-  empty-start own lasts long = record {
-    long = long;
-    grows = omega arith;
-    sound = λ fit sets n T c s. s;
-    settled = λ e fit sets n r l. absurd (omega arith);
-  }
-
   pub empty-step : (rules r own v m v' : ℕ) (lasts : List ℕ) → r < rules → rules ≤ max_rules → RuleMask p r true v v 0 0 m
       → v' ≡ added_in p r m v
       → EmptyPassed p r own v lasts → EmptyPassed p (r + 1) own v' (set lasts r m)
@@ -75,10 +66,6 @@ module _ (p : List ℕ) where
           rw f (set_below (λ (s x : ℕ). RuleSettled fit sets p s n n v x) 0 lasts r m (omega (arith, passed.long))
           (record { exact = mask-exact r v m mask fit sets n; closed = added-same p r m v (sym result ∙ f) })
           (passed.settled h fit sets n) s l)
-
-  pub empty-done : (r rules own v : ℕ) (lasts : List ℕ) → r ≤ rules → rules ≤ r → EmptyPassed p r own v lasts
-      → EmptyPassed p rules own v lasts
-  empty-done r rules own v lasts h l passed = subst (λ (x : ℕ). EmptyPassed p x own v lasts) (le_antisymm h l) passed
 
   -- own has nothing that a closed set lacks
   pub record EmptyReached (own : ℕ) (lasts : List ℕ) : Type 0 where

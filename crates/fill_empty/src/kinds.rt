@@ -1,5 +1,5 @@
 // On which nonterminals of a cell's set the flags of a rule depend.
-ghost use Rattle.std.specs.Prelude.{◌≡◌, ◌<◌, ◌≤◌, length};
+ghost use Rattle.std.specs.Prelude.{◌<◌, ◌≤◌};
 ghost use Rattle.sizes.specs.Sizes.{max_rules, max_places};
 ghost use Rattle.fill_empty.specs.Empty.{Kinds, KindAt, KindsAll};
 
@@ -26,12 +26,9 @@ fn kinds_of(p: &Packed, r: usize, last: u32) -> u32
     requires { r < max_rules }
     ensures { Kinds p.now r last result }
 {
-    let count = packed::count(p, r);
     let mut v: u32 = 0;
-    let mut q = 0;
-    while q < count {
+    for q in 0..packed::count(p, r) {
         v = kind_at(p, r, q, last, v);
-        q += 1;
     }
     v
 }
@@ -43,12 +40,10 @@ pub fn all_kinds(
     lasts: &[u32; sizes::MAX_RULES],
     kinds: &mut [u32; sizes::MAX_RULES],
 )
-    requires { (rules ≤ max_rules) × (length kinds.old ≡ max_rules) }
+    requires { rules ≤ max_rules }
     ensures { KindsAll p.now rules lasts.now kinds.new }
 {
-    let mut r = 0;
-    while r < rules {
+    for r in 0..rules {
         kinds[r] = kinds_of(p, r, lasts[r]);
-        r += 1;
     }
 }

@@ -5,7 +5,7 @@
 pub mod kinds;
 pub mod span;
 
-ghost use Rattle.std.specs.Prelude.{◌≡◌, ◌≤◌, length};
+ghost use Rattle.std.specs.Prelude.{◌≤◌};
 ghost use Rattle.sizes.specs.Sizes.{max_rules};
 ghost use Rattle.fill_empty.specs.Empty.{EmptyTold};
 
@@ -20,7 +20,7 @@ pub fn tell(
     lasts: &mut [u32; sizes::MAX_RULES],
     kinds: &mut [u32; sizes::MAX_RULES],
 ) -> u32
-    requires { (rules ≤ max_rules) × (length lasts.old ≡ max_rules) × (length kinds.old ≡ max_rules) }
+    requires { rules ≤ max_rules }
     ensures { EmptyTold p.now rules result lasts.new kinds.new }
 {
     let own = closure(p, rules, lasts);

@@ -1,5 +1,5 @@
 -- Each rule is held by its kinds, one after the other: what each step gives. Assumes nothing.
-use Prim.Native.Nat.{ℕ, ◌+◌, ◌≤◌}
+use Prim.Native.Nat.{ℕ, ◌+◌}
 use mathlib.Core.Bool.{true}
 use mathlib.Core.List.{List}
 use mathlib.Core.Logic.{◌⊎◌, inl, inr, ⊎_elim, dite}
@@ -84,11 +84,4 @@ all-step r kinds holders holders' held to = record {
   all = λ x k l. below_step (λ (y : ℕ). has k (get_or kinds y 0) ≡ true → has_rule y (set_at holders' k) ≡ true) r
       (λ y m h. held.keeps k y (to.all y k m h)) (held.all k) x l;
   below = λ k. held.below (r + 1) k (omega arith) (λ x h. omega (arith, to.below k x h));
-}
-
-pub all_done : (r rules : ℕ) (kinds holders : List ℕ) → r ≤ rules → rules ≤ r → HeldAll r kinds holders → HeldAll rules kinds holders
-all_done r rules kinds holders l m to = record {
-  long = to.long;
-  all = λ x k h. to.all x k (omega arith);
-  below = λ k x h. omega (arith, to.below k x h);
 }

@@ -29,10 +29,8 @@ pub fn hold_all(rules: usize, kinds: &[u32; sizes::MAX_RULES], holders: &mut Row
     requires { (rules ≤ max_rules) × (holders.old ≡ replicate row_size 0) }
     ensures { HeldAll rules kinds.now holders.new }
 {
-    let mut r = 0;
-    while r < rules {
-        hold(r, kinds[r], holders);
-        r += 1;
+    for (r, k) in kinds[..rules].iter().enumerate() {
+        hold(r, *k, holders);
     }
 }
 
@@ -52,13 +50,10 @@ fn ends(p: &Packed, r: usize, last: u32) -> bool
     requires { r < max_rules }
     ensures { EndsInTerminal p.now r last result }
 {
-    let count = packed::count(p, r);
-    let mut q = 0;
-    while q < count {
+    for q in 0..packed::count(p, r) {
         if ends_at(p, r, q, last) {
             return true;
         }
-        q += 1;
     }
     false
 }
@@ -77,10 +72,8 @@ pub fn ending_rules(p: &Packed, rules: usize, lasts: &[u32; sizes::MAX_RULES]) -
     ensures { EndingRules p.now rules lasts.now result }
 {
     let mut s = none();
-    let mut r = 0;
-    while r < rules {
-        s = with_if(s, r, ends(p, r, lasts[r]));
-        r += 1;
+    for (r, last) in lasts[..rules].iter().enumerate() {
+        s = with_if(s, r, ends(p, r, *last));
     }
     s
 }

@@ -95,9 +95,6 @@ module _ (p : List ℕ) (rules i n : ℕ) (t ends starts : List ℕ) (reach : �
     pub long : length insides ≡ max_rules
     pub done : (r : ℕ) → r < m → BeginsNear p r i n (entry_in t i r) ends starts reach (get_or live r 0) (get_or lasts r 0) (get_or insides r 0)
 
-  pub all_start : (insides : List ℕ) → length insides ≡ max_rules → AllTo 0 insides
-  all_start insides e = record { long = e; done = λ r l. absurd (omega arith) }
-
   pub all-step : (m v word : ℕ) (insides : List ℕ) → m < max_rules → word ≡ entry_in t i m
       → BeginsNear p m i n word ends starts reach (get_or live m 0) (get_or lasts m 0) v → AllTo m insides → AllTo (m + 1) (set insides m v)
   all-step m v word insides b f near to = record {

@@ -88,12 +88,9 @@ pub fn begins(p: &Packed, r: usize, window: Window, ends: &Ends, starts: &Starts
     ensures { Begins p.now r window.i window.n window.fits ends.now starts.now
         window.last result }
 {
-    let count = packed::count(p, r);
     let mut v: u32 = 0;
-    let mut q = 0;
-    while q < count {
+    for q in 0..packed::count(p, r) {
         v = with_if(v, q, begins_at(p, r, q, window, ends, starts));
-        q += 1;
     }
     v
 }

@@ -1,5 +1,5 @@
 // Where inner cuts begin, for every rule. Rules that can have none are passed over.
-ghost use Rattle.std.specs.Prelude.{◌≡◌, ◌<◌, ◌≤◌, length};
+ghost use Rattle.std.specs.Prelude.{◌<◌, ◌≤◌};
 ghost use Rattle.sizes.specs.Sizes.{max_rules, max_input};
 ghost use Rattle.fill_inner.specs.Begins.{BeginsNear, AllBegin};
 
@@ -7,7 +7,7 @@ use super::places::{Window, begins};
 use fill_reach::{Live, can_begin};
 use fill_words::words::{Ends, Starts};
 use packed::Packed;
-use packed_fit::{FitTable, wide_word};
+use packed_fit::FitTable;
 
 // The places of rule r at which an inner cut begins. If the sets of all ends and all starts show that it has none, it is passed over.
 fn begins_near(
@@ -44,19 +44,17 @@ pub fn begin_all(
     lasts: &[u32; sizes::MAX_RULES],
     insides: &mut [u32; sizes::MAX_RULES],
 )
-    requires { (rules ≤ max_rules) × (i < n) × (n ≤ max_input) × (length insides.old ≡ max_rules) }
+    requires { (rules ≤ max_rules) × (i < n) × (n ≤ max_input) }
     ensures { AllBegin p.now rules i n fits.now ends.now starts.now reach
         live.now lasts.now insides.new }
 {
-    let mut r = 0;
-    while r < rules {
+    for r in 0..rules {
         let window = Window {
             i,
             n,
-            fits: wide_word(fits[sizes::MAX_RULES * i + r]),
+            fits: u32::from(fits[sizes::MAX_RULES * i + r]),
             last: lasts[r],
         };
         insides[r] = begins_near(p, r, window, ends, starts, reach, live[r]);
-        r += 1;
     }
 }

@@ -14,43 +14,31 @@ use grammar::Grammar;
 use packed::Packed;
 use packed_fit::FitTable;
 
-// Whether the checks are passed.
-#[derive(Clone, Copy)]
-pub enum Judged {
-    Passed,
-    Refused(Refusal),
-}
-
 // Checks 8, 9 and 10, for an input of n bytes and a chart of m cells.
-pub fn judge(g: Grammar, n: usize, m: usize) -> Judged
+pub fn judge(g: Grammar, n: usize, m: usize) -> Result<(), Refusal>
     ensures { Judging g n m result }
 {
     if !grammar::valid(g) {
-        return Judged::Refused(Refusal::InvalidGrammar);
+        return Err(Refusal::InvalidGrammar);
     }
     if n > sizes::MAX_INPUT {
-        return Judged::Refused(Refusal::InputLength);
+        return Err(Refusal::InputLength);
     }
     if m < sizes::CELLS {
-        return Judged::Refused(Refusal::ChartTooShort);
+        return Err(Refusal::ChartTooShort);
     }
-    Judged::Passed
+    Ok(())
 }
 
 // Checks 8 to 11, for an input of n bytes, a chart of m cells and an output of k numbers.
-pub fn judge_output(g: Grammar, n: usize, m: usize, k: usize) -> Judged
+pub fn judge_output(g: Grammar, n: usize, m: usize, k: usize) -> Result<(), Refusal>
     ensures { JudgingOutput g n m k result }
 {
-    match judge(g, n, m) {
-        Judged::Refused(r) => Judged::Refused(r),
-        Judged::Passed => {
-            if k < sizes::OUTPUT {
-                Judged::Refused(Refusal::OutputTooShort)
-            } else {
-                Judged::Passed
-            }
-        }
+    judge(g, n, m)?;
+    if k < sizes::OUTPUT {
+        return Err(Refusal::OutputTooShort);
     }
+    Ok(())
 }
 
 // The packed grammar. The chart is filled for the input, and the fit table is made, which the caller needs after this.

@@ -4,8 +4,8 @@ use mathlib.Core.Bool.{false}
 use mathlib.Core.List.{List}
 use mathlib.Core.Path.{◌≡◌, sym, ◌∙◌}
 use native.Mathlib.Omega.{arith}
-use lib.ListN.{length, set, get_or, length-set}
-use Rattle.sizes.specs.Sizes.{max_input, side}
+use lib.ListN.{set, get_or, length-set}
+use Rattle.sizes.specs.Sizes.{side}
 use Rattle.laws.proofs.Bools.{true-false}
 use Rattle.laws.proofs.Lists.{set_below, below_step}
 use Rattle.sets.specs.Set.{has, insert}
@@ -37,9 +37,6 @@ module _ (chart : List ℕ) (i : ℕ) where
   from_end h S = record { empty = λ c l k f. S.empty c l (omega arith) f }
 
 module _ (chart : List ℕ) (n : ℕ) where
-  pub reaches-start : (reach : List ℕ) → length reach ≡ max_input → ReachesBefore chart n 0 reach
-  reaches-start reach e = record { long = e; from = λ i h. absurd (omega arith) }
-
   pub reaches_step : {m : ℕ} (reach : List ℕ) {w : ℕ} → m < n → n < side → ReachesBefore chart n m reach → ReachFrom chart m n w
       → ReachesBefore chart n (m + 1) (set reach m w)
   reaches_step {m} reach {w} h l S P = record {

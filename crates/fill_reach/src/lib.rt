@@ -17,12 +17,10 @@ fn reach_from(chart: &[u32], i: usize, n: usize) -> u64
     ensures { ReachFrom chart.now i n result }
 {
     let mut ends: u64 = 0;
-    let mut c = i + 1;
-    while c < n {
+    for c in i + 1..n {
         if chart[sizes::SIDE * i + c] != 0 {
             ends = sets::wide::with(ends, c);
         }
-        c += 1;
     }
     ends
 }
@@ -33,10 +31,8 @@ pub fn reaches(chart: &[u32], n: usize) -> Reach
     ensures { Reaches chart.now n result }
 {
     let mut reach = [0u64; sizes::MAX_INPUT];
-    let mut i = 0;
-    while i < n {
-        reach[i] = reach_from(chart, i, n);
-        i += 1;
+    for (i, ends) in reach[..n].iter_mut().enumerate() {
+        *ends = reach_from(chart, i, n);
     }
     reach
 }

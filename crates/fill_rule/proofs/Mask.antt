@@ -16,7 +16,7 @@ use Rattle.chart.specs.Cell.{Fit, cuts}
 use Rattle.packed.specs.Packed.{place_count, symbol_in}
 use Rattle.packed.proofs.Laws.{places-step, places-end}
 use Rattle.fill_rule.specs.Flags.{Sets, tail}
-use Rattle.fill_rule.specs.Passes.{place_cuts, Words, RuleMask}
+use Rattle.fill_rule.specs.Passes.{place_cuts, Words}
 use Rattle.fill_rule.proofs.Bits.{has-if-same, has-if-other}
 use Rattle.fill_rule.proofs.First.{FirstCut, first_inner, first-empty, first-whole, cuts_first, first-cuts}
 
@@ -113,7 +113,3 @@ module _ (p : List ℕ) (r : ℕ) (ended : Bool) (empty own inner last : ℕ) wh
 
       rest : (j : ℕ) → j < q → has j x ≡ false
       rest j l = other j (omega arith) ∙ mask.rest j (omega arith)
-
-  pub mask-from-done : (q v : ℕ) → q ≤ 0 → MaskFrom q v → RuleMask p r ended empty own inner last v
-  mask-from-done q v h mask =
-      record { exact = λ fit sets i n order end words j l. mask.done fit sets i n order end words j (omega arith) l }

@@ -47,10 +47,9 @@ pub fn rule_mask(
     requires { r < max_rules }
     ensures { RuleMask p.now r ended empty own inner last result }
 {
-    let mut q = packed::count(p, r);
-    let mut v = with_if(0, q, ended);
-    while q > 0 {
-        q -= 1;
+    let count = packed::count(p, r);
+    let mut v = with_if(0, count, ended);
+    for q in (0..count).rev() {
         v = with_if(v, q, place_cuts(p, r, q, empty, own, inner, last, v));
     }
     v

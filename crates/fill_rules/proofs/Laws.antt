@@ -1,4 +1,4 @@
--- Membership in a set of rules: by halves, in the empty set, and in sets of the same words. Assumes nothing.
+-- Membership in a set of rules: by halves, in the empty set, and in rows of zeros. Assumes nothing.
 use Prim.Native.Nat.{ℕ, ◌*◌, ◌+◌, ◌-◌, ◌^◌, ◌≤◌, ◌<◌}
 use mathlib.Core.Bool.{Bool, cond}
 use mathlib.Core.Logic.{dite}
@@ -37,10 +37,6 @@ pub in-high-at : (b : ℕ) (s : Rules) → has_rule (word_bits + b) s ≡ has b 
 in-high-at b s =
     let e : word_bits + b - word_bits ≡ b = omega arith in
     in-high (word_bits + b) s (omega arith) ∙ ap (λ (x : ℕ). has x s.high) e
-
--- sets of the same words have the same members
-pub same-words : (s t : Rules) → s.low ≡ t.low → s.high ≡ t.high → (r : ℕ) → has_rule r s ≡ has_rule r t
-same-words s t e f r = ap₂ (in_words r) e f
 
 -- a set of empty words has no member
 pub no-rule : (s : Rules) → s.low ≡ 0 → s.high ≡ 0 → NoRule s

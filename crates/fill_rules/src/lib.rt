@@ -2,7 +2,7 @@
 #![tactic(auto)]
 
 // A set of rules: a bit of the first word for each rule below 64, and of the second for the others.
-#[derive(Clone, Copy)]
+#[derive(Clone, Copy, PartialEq, Eq)]
 pub struct Rules {
     pub low: u64,
     pub high: u64,

@@ -2,3 +2,4 @@
 pub mod Making
 pub mod Words
 pub mod Listing
+pub mod Tied

@@ -6,9 +6,6 @@ use mathlib.Core.Logic.{◌⊎◌, ◌≢◌, inl, inr, ⊎_elim, dite}
 use mathlib.Core.Path.{◌≡◌, refl, sym, ap, ap₂, ◌∙◌}
 use native.Mathlib.Decide.{ℕ_discrete}
 use native.Mathlib.Omega.{arith}
-use lib.Dec.{eqb}
-use borrow.Author.Tests.{eqb-true}
-use Rattle.laws.proofs.Bools.{true-false}
 use lib.ListN.{length, get_or, set, length-set}
 use lib.Seq.{get_or-set_same, get_or-set_other}
 use Rattle.sizes.specs.Sizes.{max_input}
@@ -16,8 +13,8 @@ use Rattle.sets.specs.Set.{has, insert}
 use Rattle.sets.specs.Pairs.{Union}
 use Rattle.sets.proofs.Laws.{has-insert-same, has-insert-other, has-insert}
 use Rattle.fill_rules.specs.declared.Rules.{Rules}
-use Rattle.fill_rules.specs.Rules.{word_bits, has_rule, RuleAdded, RulesJoined, SameRules, row_size, SetPut}
-use Rattle.fill_rules.proofs.Laws.{by-half, in-low, in-high, same-words}
+use Rattle.fill_rules.specs.Rules.{word_bits, has_rule, RuleAdded, RulesJoined, row_size, SetPut}
+use Rattle.fill_rules.proofs.Laws.{by-half, in-low, in-high}
 
 -- ---- a rule is added
 
@@ -103,11 +100,3 @@ module _ (i : ℕ) (s : Rules) (row : List ℕ) (small : i < max_input) (long : 
     where
       made : ℕ → ℕ → Rules
       made low high = record { low = low; high = high }
-
--- ---- the same set
-
-pub same-is : (s t : Rules) → s.low ≡ t.low → SameRules s t (eqb s.high t.high)
-same-is s t e h = same-words s t e (eqb-true s.high t.high h)
-
-pub same_not : (s t : Rules) → SameRules s t false
-same_not s t h = absurd (true-false h refl)

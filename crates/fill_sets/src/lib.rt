@@ -4,20 +4,14 @@
 pub mod list;
 pub mod row;
 
-ghost use Rattle.std.specs.Prelude.{◌≡◌, ◌<◌};
+ghost use Rattle.std.specs.Prelude.{◌<◌};
 ghost use Rattle.sizes.specs.Sizes.{max_rules};
-ghost use Rattle.fill_rules.specs.Rules.{word_bits, NoRule, SameRules, RuleAdded, RulesJoined};
+ghost use Rattle.fill_rules.specs.Rules.{NoRule, SameRules, RuleAdded, RulesJoined};
 
 use fill_rules::Rules;
 
 // How many rules a word has.
 pub const WORD: usize = 64;
-
-pub fn tied_word() -> usize
-    ensures { result ≡ word_bits }
-{
-    WORD
-}
 
 // The set without members.
 pub fn none() -> Rules
@@ -30,10 +24,7 @@ pub fn none() -> Rules
 pub fn same(s: Rules, t: Rules) -> bool
     ensures { SameRules s t result }
 {
-    if s.low == t.low {
-        return s.high == t.high;
-    }
-    false
+    s == t
 }
 
 // The set with rule r in it.

@@ -9,12 +9,6 @@ pub const ROW_SIZE: usize = 2 * sizes::MAX_INPUT;
 
 pub type Row = [u64; ROW_SIZE];
 
-pub fn tied_row() -> usize
-    ensures { result ≡ row_size }
-{
-    ROW_SIZE
-}
-
 // Set i of the row.
 pub fn set_at(row: &Row, i: usize) -> Rules
     requires { i < max_input }

@@ -1,5 +1,5 @@
 -- Adding the flags of one start to the starts: what the steps of the code give. Assumes nothing.
-use Prim.Native.Nat.{ℕ, ◌+◌, ◌*◌, ◌≤◌, ◌<◌}
+use Prim.Native.Nat.{ℕ, ◌+◌, ◌*◌, ◌<◌}
 use mathlib.Core.Bool.{Bool, true, cond}
 use mathlib.Core.List.{List}
 use mathlib.Core.Logic.{◌⊎◌, inl, inr, ⊎_elim}
@@ -11,7 +11,6 @@ use Rattle.laws.proofs.Bools.{true-false}
 use Rattle.laws.proofs.Lists.{below_step}
 use Rattle.sets.specs.Set.{has, insert}
 use Rattle.sets.proofs.Laws.{has-empty}
-use Rattle.packed.specs.Packed.{place_count}
 use Rattle.fill_words.specs.Spans.{starts_size, starts_of}
 use Rattle.fill_words.specs.Ends.{StartAdded}
 use Rattle.fill_words.proofs.Rows.{row-if-keeps, row-if-has, row-if-sound}
@@ -37,17 +36,6 @@ module _ (p : List ℕ) (r i flags : ℕ) (starts₀ live₀ : List ℕ) where
     pub sound : (x j : ℕ) → has j (get_or starts x 0) ≡ true → In m x j
     pub live_keeps : (x j : ℕ) → has j (get_or live₀ x 0) ≡ true → has j (get_or live x 0) ≡ true
     pub lives : (q : ℕ) → 0 < q → q < m → has q flags ≡ true → has i (get_or live r 0) ≡ true
-
-  pub places-start : length starts₀ ≡ starts_size → length live₀ ≡ max_rules → PlacesTo 1 starts₀ live₀
-  places-start long live_long = record {
-    long = long;
-    live_long = live_long;
-    keeps = λ x j h. h;
-    all = λ q z l h. absurd (omega arith);
-    sound = λ x j h. inl h;
-    live_keeps = λ x j h. h;
-    lives = λ q z l h. absurd (omega arith);
-  }
 
   module _ (m : ℕ) (starts live : List ℕ) (t : Bool) (v u : ℕ) (below : r < max_rules) (small : m < max_places) (first : 0 < m)
       (e : t ≡ has m flags)
@@ -75,19 +63,6 @@ module _ (p : List ℕ) (r i flags : ℕ) (starts₀ live₀ : List ℕ) where
           (λ q l z h. row-if-keeps live r i live_room t u g r i (to.lives q z l h))
           (λ z h. row-if-has live r i live_room t u g (e ∙ h)) q l z h;
     }
-
-  pub places-done : (m c : ℕ) (starts live : List ℕ) → c ≡ place_count p r → c ≤ m → (m ≤ c) ⊎ (m ≡ 1) → PlacesTo m starts live
-      → StartAdded p r i flags starts₀ live₀ starts live
-  places-done m c starts live e l h to = record {
-    long = to.long;
-    live_long = to.live_long;
-    keeps = to.keeps;
-    all = λ q z b x. to.all q z (omega arith) x;
-    sound = λ x j y.
-        in-more m (place_count p r) x j (λ q z b. ⊎_elim (λ w. omega arith) (λ w. absurd (omega arith)) h) (to.sound x j y);
-    live_keeps = to.live_keeps;
-    lives = λ q z b x. to.lives q z (omega arith) x;
-  }
 
   pub places-none : flags ≡ 0 → length starts₀ ≡ starts_size → length live₀ ≡ max_rules → StartAdded p r i flags starts₀ live₀ starts₀ live₀
   places-none z long live_long = record {

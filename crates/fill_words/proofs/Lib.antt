@@ -4,3 +4,4 @@ pub mod Putting
 pub mod Telling
 pub mod Adding
 pub mod Starting
+pub mod Tied

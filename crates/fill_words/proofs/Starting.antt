@@ -72,15 +72,6 @@ module _ (p : List ℕ) (rules i : ℕ) (flags starts₀ live₀ : List ℕ) whe
     pub lives : (fit : Fit) (sets : Sets) (n : ℕ) → Given fit sets n → (r q a : ℕ) → r < rules → 0 < q → q < place_count p r
         → has a (starts_of starts r q) ≡ true → has a (get_or live r 0) ≡ true
 
-  pub flags-start : length starts₀ ≡ starts_size → length live₀ ≡ max_rules → FlagsTo 0 starts₀ live₀
-  flags-start long live_long = record {
-    long = long;
-    live_long = live_long;
-    done = λ fit sets n given r l. absurd (omega arith);
-    rest = λ fit sets n given r h l. given.2.told r l;
-    lives = λ fit sets n given. given.2.lives;
-  }
-
   pub flags-step : (m : ℕ) (starts live starts' live' : List ℕ) → m < rules → StartAdded p m i (get_or flags m 0) starts live starts' live'
       → FlagsTo m starts live → FlagsTo (m + 1) starts' live'
   flags-step m starts live starts' live' below put to = record {

@@ -1,7 +1,6 @@
 // The ends of spans: those of one cell and those of a column of the chart are added.
-ghost use Rattle.std.specs.Prelude.{◌≡◌, ◌+◌, ◌<◌, ◌≤◌, length};
+ghost use Rattle.std.specs.Prelude.{◌+◌, ◌<◌, ◌≤◌, length};
 ghost use Rattle.sizes.specs.Sizes.{cells, max_input};
-ghost use Rattle.fill_words.specs.Spans.{ends_size};
 ghost use Rattle.fill_words.specs.Ends.{EndAdded, CellPut, ColumnsPut};
 
 use super::words::Ends;
@@ -9,7 +8,7 @@ use fill_reach::Reach;
 
 // Adds b to the ends of spans from i, for each nonterminal in the word.
 fn put_members(i: usize, b: usize, word: u32, ends: &mut Ends)
-    requires { (i < max_input) × (b < max_input) × (length ends.old ≡ ends_size) }
+    requires { (i < max_input) × (b < max_input) }
     ensures { EndAdded i b word ends.old ends.new }
 {
     let mut rest = word;
@@ -22,7 +21,7 @@ fn put_members(i: usize, b: usize, word: u32, ends: &mut Ends)
 
 // The same, and adds b to the reach of i.
 fn put(i: usize, b: usize, word: u32, ends: &mut Ends, reach: &mut Reach)
-    requires { (i < max_input) × (b < max_input) × (length ends.old ≡ ends_size) × (length reach.old ≡ max_input) }
+    requires { (i < max_input) × (b < max_input) }
     ensures { CellPut i b word ends.old reach.old ends.new reach.new }
 {
     if word != 0 {
@@ -33,26 +32,22 @@ fn put(i: usize, b: usize, word: u32, ends: &mut Ends, reach: &mut Reach)
 
 // Adds the ends of the cells of column b.
 pub fn put_column(b: usize, chart: &[u32], ends: &mut Ends, reach: &mut Reach)
-    requires { (b < max_input) × (cells ≤ length chart.now) × (length ends.old ≡ ends_size) × (length reach.old ≡ max_input) }
+    requires { (b < max_input) × (cells ≤ length chart.now) }
     ensures { ColumnsPut chart.now b (b + 1)
         ends.old reach.old ends.new reach.new }
 {
-    let mut i = 0;
-    while i < b {
+    for i in 0..b {
         put(i, b, chart[sizes::SIDE * i + b], ends, reach);
-        i += 1;
     }
 }
 
 // Adds the ends of the cells of the columns before n.
 pub fn put_columns(n: usize, chart: &[u32], ends: &mut Ends, reach: &mut Reach)
-    requires { (n ≤ max_input) × (cells ≤ length chart.now) × (length ends.old ≡ ends_size) × (length reach.old ≡ max_input) }
+    requires { (n ≤ max_input) × (cells ≤ length chart.now) }
     ensures { ColumnsPut chart.now 0 n
         ends.old reach.old ends.new reach.new }
 {
-    let mut b = 0;
-    while b < n {
+    for b in 0..n {
         put_column(b, chart, ends, reach);
-        b += 1;
     }
 }

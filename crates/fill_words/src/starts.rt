@@ -1,8 +1,7 @@
 // The starts of spans: the flags of one start are added.
-ghost use Rattle.std.specs.Prelude.{cond, ◌≡◌, ◌<◌, ◌≤◌, length};
+ghost use Rattle.std.specs.Prelude.{cond, ◌≡◌, ◌<◌, ◌≤◌};
 ghost use Rattle.sizes.specs.Sizes.{max_rules, max_input};
 ghost use Rattle.sets.specs.Set.{insert};
-ghost use Rattle.fill_words.specs.Spans.{starts_size};
 ghost use Rattle.fill_words.specs.Ends.{StartAdded, FlagsPut};
 
 use super::words::Starts;
@@ -19,23 +18,20 @@ fn with_if(w: u64, k: usize, test: bool) -> u64
 
 // Adds i to the starts of rule r at the places from 1 on that its flags have.
 fn put_places(p: &Packed, r: usize, i: usize, flags: u32, starts: &mut Starts, live: &mut Live)
-    requires { (r < max_rules) × (i < max_input) × (length starts.old ≡ starts_size) × (length live.old ≡ max_rules) }
+    requires { (r < max_rules) × (i < max_input) }
     ensures { StartAdded p.now r i flags
         starts.old live.old starts.new live.new }
 {
-    let count = packed::count(p, r);
-    let mut q = 1;
-    while q < count {
+    for q in 1..packed::count(p, r) {
         let test = packed::contains(flags, q);
         starts[sizes::MAX_PLACES * r + q] = with_if(starts[sizes::MAX_PLACES * r + q], i, test);
         live[r] = with_if(live[r], i, test);
-        q += 1;
     }
 }
 
 // The same, but a rule without flags is passed over.
 fn put_rule(p: &Packed, r: usize, i: usize, flags: u32, starts: &mut Starts, live: &mut Live)
-    requires { (r < max_rules) × (i < max_input) × (length starts.old ≡ starts_size) × (length live.old ≡ max_rules) }
+    requires { (r < max_rules) × (i < max_input) }
     ensures { StartAdded p.now r i flags
         starts.old live.old starts.new live.new }
 {
@@ -53,13 +49,11 @@ pub fn put_flags(
     starts: &mut Starts,
     live: &mut Live,
 )
-    requires { (rules ≤ max_rules) × (i < max_input) × (length starts.old ≡ starts_size) × (length live.old ≡ max_rules) }
+    requires { (rules ≤ max_rules) × (i < max_input) }
     ensures { FlagsPut p.now rules i flags.now
         starts.old live.old starts.new live.new }
 {
-    let mut r = 0;
-    while r < rules {
-        put_rule(p, r, i, flags[r], starts, live);
-        r += 1;
+    for (r, word) in flags[..rules].iter().enumerate() {
+        put_rule(p, r, i, *word, starts, live);
     }
 }

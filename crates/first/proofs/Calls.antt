@@ -1,5 +1,6 @@
 -- What `first` answers, from the checks and from the answer over the filled chart. Assumes nothing.
 use Prim.Native.Nat.{ℕ, ◌≤◌}
+use Rattle.std.proofs.Common.{Ok, Err}
 use mathlib.Core.List.{List}
 use mathlib.Core.Path.{◌≡◌, sym, ◌∙◌}
 use lib.ListN.{length}
@@ -12,8 +13,6 @@ use Rattle.grammar.specs.View.{dated, grammar_of}
 use Rattle.answers.specs.declared.Refusal.{Refusal}
 use Rattle.answers.specs.Number.{number_of}
 use Rattle.packed.specs.Packed.{cfg_in}
-use Rattle.fill_input.specs.declared.Judged.{Judged}
-use Rattle.fill_input.specs.declared.Judged.TheVariants.{Passed, Refused}
 use Rattle.fill_input.specs.Judging.{JudgingOutput}
 use Rattle.fill_input.proofs.Deciding.{output-refused, output-passed}
 use Rattle.fill_input.proofs.Judging.{output-ready}
@@ -26,21 +25,22 @@ use Rattle.first.specs.Answer.{first_filled}
 use Rattle.first.proofs.Chart.{Filling, filled-chart}
 
 -- what the function over the filled chart needs
-pub filled-ready : (g : Grammar) (y : ℕ) (p w fits chart chart' : List ℕ) (k : ℕ) (j : Judged)
-    → JudgingOutput g (length w) (length chart) k j → j ≡ Passed → Filling g y p w chart chart' × Told p w fits
+pub filled-ready : (g : Grammar) (y : ℕ) (p w fits chart chart' : List ℕ) (k : ℕ) {u : Unit {0}}
+    → JudgingOutput g (length w) (length chart) k (Ok u) → Filling g y p w chart chart' × Told p w fits
     → (length w ≤ max_input) × (cells ≤ length chart') × (output_size ≤ k) × Told p w fits × ChartTrue p (bytes_of w) chart' (length w)
-filled-ready g y p w fits chart chart' k j judging is (filling, told) =
-    let (ready, c) = output-ready g (length w) (length chart) k j judging is in
+filled-ready g y p w fits chart chart' k judging (filling, told) =
+    let (ready, c) = output-ready judging in
     let (a, b, t) = filled-chart g y p w chart chart' ready filling in
     (a, b, c, told, t)
 
-module _ (g : Grammar) (y : ℕ) (w chart out : List ℕ) (j : Judged)
-    (judging : JudgingOutput g (length w) (length chart) (length out) j) where
-  pub first-refused : (r : Refusal) → j ≡ Refused r → enumeration_of (refused (number_of r)) chart out ≡ first_of (dated g y) w chart out
+module _ (g : Grammar) (y : ℕ) (w chart out : List ℕ) where
+  pub first-refused : {r : Refusal} → JudgingOutput g (length w) (length chart) (length out) (Err r)
+      → enumeration_of (refused (number_of r)) chart out ≡ first_of (dated g y) w chart out
   unfolding first_of on_output
-  first-refused r h = sym (output-refused g y w chart _ _ out j judging r h)
+  first-refused judging = sym (output-refused g y w chart _ _ out judging)
 
-  module _ (is : j ≡ Passed) (p chart' : List ℕ) (filling : Filling g y p w chart chart') (s : ℕ) (start : s ≡ g.start) where
+  module _ {u : Unit {0}} (judging : JudgingOutput g (length w) (length chart) (length out) (Ok u)) (p chart' : List ℕ)
+      (filling : Filling g y p w chart chart') (s : ℕ) (start : s ≡ g.start) where
     -- over the grammar that was packed
     over-packed : first_filled (cfg_in s p) w chart' out ≡ first_in (grammar_of (dated g y)) w chart out
     unfolding first_in tree_in complete cfg_in
@@ -49,4 +49,4 @@ module _ (g : Grammar) (y : ℕ) (w chart out : List ℕ) (j : Judged)
     pub first-answered : (a : Answer Handing) (out' : List ℕ) → enumeration_of a chart' out' ≡ first_filled (cfg_in s p) w chart' out
         → enumeration_of a chart' out' ≡ first_of (dated g y) w chart out
     unfolding first_of on_output
-    first-answered a out' d = d ∙ over-packed ∙ sym (output-passed g y w chart _ _ out j judging is)
+    first-answered a out' d = d ∙ over-packed ∙ sym (output-passed g y w chart _ _ out judging)

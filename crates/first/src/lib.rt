@@ -13,12 +13,12 @@ ghost use Rattle.first_made.specs.Written.{enumeration_of, first_tree};
 ghost use Rattle.answers.specs.Answers.{handing_of};
 ghost use Rattle.first.specs.Answer.{first_filled};
 
-use answers::Handed;
-use fill_input::Judged;
+use answers::Refusal;
 use grammar::Grammar;
-use numbers::wide_byte;
+use made::first_made;
 use packed::Packed;
 use packed_fit::FitTable;
+use table_all::made::Made;
 use table_layout::layout::TABLES_SIZE;
 use tree_node::Root;
 
@@ -32,7 +32,7 @@ fn first_tree(
     fits: &FitTable,
     chart: &[u32],
     out: &mut [u16],
-) -> Handed
+) -> Result<Option<usize>, Refusal>
     requires { (length input.now ≤ max_input) × (cells ≤ length chart.now) × (output_size ≤ length out.old)
         × Told p.now input.now fits.now × ChartTrue p.now (bytes_of input.now) chart.now (length input.now) }
     ensures { enumeration_of (handing_of result) chart.now out.new
@@ -40,8 +40,17 @@ fn first_tree(
 {
     let mut tables = [0u16; TABLES_SIZE];
     let rules = first_made::build(p, input, fits, chart, &mut tables);
+    let tables = &tables;
+    let made = Made {
+        p,
+        rules,
+        fits,
+        chart,
+        tables,
+    };
     let n = input.len();
-    made::first_made(p, fits, chart, &tables, Root { rules, start, n }, out)
+    let root = Root { start, n };
+    first_made(&made, root, out)
 }
 
 // The first derivation, if the chart is filled and the fit table is made.
@@ -52,7 +61,7 @@ fn first_filled(
     fits: &FitTable,
     chart: &[u32],
     out: &mut [u16],
-) -> Handed
+) -> Result<Option<usize>, Refusal>
     requires { (length input.now ≤ max_input) × (cells ≤ length chart.now) × (output_size ≤ length out.old)
         × Told p.now input.now fits.now × ChartTrue p.now (bytes_of input.now) chart.now (length input.now) }
     ensures { enumeration_of (handing_of result) chart.now out.new
@@ -61,23 +70,25 @@ fn first_filled(
     if fill_columns::complete(start, input.len(), chart) {
         first_tree(p, start, input, fits, chart, out)
     } else {
-        Handed::Nothing
+        Ok(None)
     }
 }
 
 // ---- the exported call
 
 // The first derivation of the input, written to the front of the output. Refusals 8 to 11 and 13.
-pub fn first(g: Grammar, input: &[u8], year: u16, chart: &mut [u32], out: &mut [u16]) -> Handed
+pub fn first(
+    g: Grammar,
+    input: &[u8],
+    year: u16,
+    chart: &mut [u32],
+    out: &mut [u16],
+) -> Result<Option<usize>, Refusal>
     ensures { enumeration_of (handing_of result) chart.new out.new
         ≡ first_of (dated g year) input.now chart.old out.old }
 {
-    match fill_input::judge_output(g, input.len(), chart.len(), out.len()) {
-        Judged::Refused(r) => Handed::Refused(r),
-        Judged::Passed => {
-            let mut fits = [0u8; packed_fit::FIT_SIZE];
-            let p = fill_input::fill_fits(g, input, year, &mut fits, chart);
-            first_filled(&p, wide_byte(g.start), input, &fits, chart, out)
-        }
-    }
+    fill_input::judge_output(g, input.len(), chart.len(), out.len())?;
+    let mut fits = [0u8; packed_fit::FIT_SIZE];
+    let p = fill_input::fill_fits(g, input, year, &mut fits, chart);
+    first_filled(&p, usize::from(g.start), input, &fits, chart, out)
 }

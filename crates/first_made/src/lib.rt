@@ -10,10 +10,10 @@ ghost use Rattle.table_layout.specs.Exact.{ChartTrue};
 ghost use Rattle.table_layout.specs.Layout.{cost_in, tables_size};
 ghost use Rattle.first_made.specs.Written.{FirstWritten};
 
-use numbers::wide;
 use packed::Packed;
 use packed_fit::FitTable;
 use table_all::ends::tabulate;
+use table_all::made::Made;
 use table_layout::layout::{Tables, cost};
 use tree_first::first::node;
 use tree_node::{Root, Span};
@@ -35,35 +35,20 @@ pub fn exists(tables: &Tables, start: usize, n: usize) -> bool
     requires { n < side }
     ensures { result ≡ leb (cost_in tables.now start 0 n) max_nodes }
 {
-    wide(cost(tables, start, 0, n)) <= sizes::MAX_NODES
+    usize::from(cost(tables, start, 0, n)) <= sizes::MAX_NODES
 }
 
 // Writes the first derivation to the front of the output. The result is the number of its nodes.
-pub fn write_first(
-    p: &Packed,
-    fits: &FitTable,
-    chart: &[u32],
-    tables: &Tables,
-    root: Root,
-    out: &mut [u16],
-) -> usize
-    requires { (root.rules ≤ max_rules) × (root.n < side) × (cells ≤ length chart.now) × (output_size ≤ length out.old) }
-    ensures { FirstWritten p.now root.rules fits.now chart.now tables.now
-        root.start root.n
-        out.old out.new result }
+pub fn write_first(made: &Made, root: Root, out: &mut [u16]) -> usize
+    requires { output_size ≤ length out.old }
+    ensures { FirstWritten made.now.p.now made.now.rules made.now.fits.now made.now.chart.now made.now.tables.now
+        root.start root.n out.old out.new result }
 {
-    let Root { rules, start, n } = root;
-    let mask = 0;
-    node(
-        p,
-        rules,
-        fits,
-        chart,
-        tables,
-        start,
-        Span { i: 0, j: n, mask },
-        sizes::MAX_NODES,
-        out,
-        0,
-    )
+    let Root { start, n } = root;
+    let whole = Span {
+        i: 0,
+        j: n,
+        mask: 0,
+    };
+    node(made, start, whole, sizes::MAX_NODES, out, 0).unwrap_or(0)
 }

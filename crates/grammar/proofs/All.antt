@@ -3,12 +3,19 @@ use Prim.Native.Nat.{ℕ, zero, suc, ◌+◌, ◌-◌, ◌<◌}
 use native.Mathlib.Nat.{le_of_suc-le-suc, not-suc-le-zero}
 use native.Mathlib.Numerals.{add-one}
 use native.Mathlib.Omega.{arith}
-use mathlib.Core.Bool.{Bool, true, false, and-false}
+use mathlib.Core.Bool.{Bool, true, false, ◌&&◌, and-false}
 use mathlib.Core.List.{List, [], ◌∷◌}
-use mathlib.Core.Path.{◌≡◌, refl}
+use mathlib.Core.Path.{◌≡◌, refl, ap}
 use lib.ListN.{take, get_or, set}
+use Rattle.std.specs.List.{list_all}
 use Rattle.laws.proofs.Bools.{true-false, by-test, and_parts, and_both}
 use Rattle.grammar.specs.Valid.{all}
+
+-- the same as std's test of a list
+pub all-list : {A : Type 0} (test : A → Bool) (l : List A) → all test l ≡ list_all test l
+unfolding all
+all-list test [] = refl
+all-list test (a ∷ l) = ap (λ (b : Bool). test a && b) (all-list test l)
 
 module _ {A : Type 0} (test : A → Bool) (d : A) where
   all-suc : (l : List A) (q : ℕ) → all test (take q l) ≡ true → test (get_or l q d) ≡ true → all test (take (suc q) l) ≡ true

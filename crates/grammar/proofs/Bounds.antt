@@ -9,7 +9,9 @@ use mathlib.Core.Logic.{⊎_elim}
 use mathlib.Core.Option.{Option, none, some, some-injective}
 use mathlib.Core.Path.{◌≡◌, sym, ap, subst, ◌∙◌}
 use lib.Dec.{leb}
-use lib.ListN.{take, get_or, get_elem?}
+use lib.ListN.{length, take, get_or, get_elem?}
+use lib.Seq.{get_or-take}
+use Rattle.std.proofs.lemmas.List.{length-take}
 use borrow.Author.Tests.{leb-true}
 use Rattle.sizes.specs.Sizes.{max_rules, max_places}
 use Rattle.laws.proofs.Bools.{and_parts, and-parts₃, clash}
@@ -59,6 +61,10 @@ module _ (g : Grammar) (valid : valid_grammar g ≡ true) where
   module _ (i : ℕ) (used : i < g.count) where
     pub valid-each : valid_rule (get_or g.rules i no_rule) ≡ true
     valid-each = all-at valid_rule no_rule no_rule-valid g.rules g.count i used (grammar-parts g valid).2
+
+  -- the same where the used rules are read one by one
+  pub valid-used : (i : ℕ) → i < length (take g.count g.rules) → valid_rule (get_or (take g.count g.rules) i no_rule) ≡ true
+  valid-used i h = let used : i < g.count = omega (arith, length-take g.count g.rules) in rw get_or-take (valid-each i used)
 
 -- ---- the abstract grammar
 

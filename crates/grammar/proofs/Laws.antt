@@ -1,13 +1,15 @@
 -- What the functions of check 8 need, with premises as their code gives them: check 8 refuses if one of its tests fails, and passes if
 -- all of them pass. Assumes nothing.
 use Prim.Native.Nat.{ℕ, ◌+◌, ◌≤◌, ◌<◌}
-use native.Mathlib.Nat.{le_antisymm}
 use mathlib.Core.Bool.{Bool, true, false, not, ◌&&◌, and-false}
 use mathlib.Core.List.{List, map}
 use mathlib.Core.Path.{◌≡◌, refl, sym, ap, ◌∙◌}
 use lib.Dec.{leb}
-use lib.ListN.{take, get_or}
+use lib.ListN.{length, take, get_or}
+use lib.Seq.{take-length}
 use borrow.Author.Tests.{lt-leb, le-leb, not-true, not-false}
+use Rattle.std.proofs.lemmas.List.{take_all}
+use Rattle.std.specs.List.{list_all}
 use Rattle.sizes.specs.Sizes.{max_rules, max_places}
 use Rattle.laws.proofs.Bools.{and_both}
 use Rattle.theory_words.specs.Name.{unnamed, allowed_name}
@@ -16,8 +18,8 @@ use Rattle.grammar.specs.declared.Place.{Place}
 use Rattle.grammar.specs.declared.Rule.{Rule}
 use Rattle.grammar.specs.declared.Grammar.{Grammar}
 use Rattle.grammar.specs.Valid.{all, valid_symbol, valid_place, valid_rule, names_of, distinct_names, valid_grammar}
-use Rattle.grammar.specs.Zero.{zero_place, no_rule}
-use Rattle.grammar.proofs.All.{all_more, all-refuses}
+use Rattle.grammar.specs.Zero.{no_rule}
+use Rattle.grammar.proofs.All.{all-list, all_more, all-refuses}
 
 pub place-nonterminal : (p : Place) (k : ℕ) → p.symbol ≡ Nonterminal k → leb k 31 ≡ valid_place p
 place-nonterminal p k e = sym (ap valid_symbol e)
@@ -54,20 +56,24 @@ module _ (r : Rule) where
   unfolding valid_rule
   rule-count h = simp (lt-leb r.count 8 h, and-false)
 
-  pub rule-place : (q : ℕ) (b : Bool) → b ≡ valid_place (get_or r.places q zero_place) → not b ≡ true → q < r.count → false ≡ valid_rule r
-  unfolding valid_rule
-  rule-place q b e t h = simp (all-refuses valid_place zero_place refl r.places r.count q h (sym e ∙ not-true b t), and-false)
+  -- b is what the test of the used places says
+  module _ (b : Bool) (e : b ≡ list_all valid_place (take r.count r.places)) where
+    places-read : all valid_place (take r.count r.places) ≡ b
+    places-read = all-list valid_place (take r.count r.places) ∙ sym e
 
-  module _ (q : ℕ) (h : q ≤ r.count) (k : r.count ≤ max_places) (l : r.left ≤ 31) (e : all valid_place (take q r.places) ≡ true)
-      (m : r.count ≤ q) where
-    rule-read : valid_rule r ≡ (leb r.first r.last && allowed_name r.name)
-    rule-read = rule-years l k (rw (le_antisymm m h) e)
+    pub rule-places : not b ≡ true → false ≡ valid_rule r
+    unfolding valid_rule
+    rule-places t = simp (places-read ∙ not-true b t, and-false)
 
-    pub rule-reversed : r.last < r.first → leb r.first r.last ≡ valid_rule r
-    rule-reversed y = sym (rule-read ∙ rw (lt-leb r.first r.last y))
+    module _ (t : not b ≡ false) (k : r.count ≤ max_places) (l : r.left ≤ 31) where
+      rule-read : valid_rule r ≡ (leb r.first r.last && allowed_name r.name)
+      rule-read = rule-years l k (places-read ∙ not-false b t)
 
-    pub rule-passes : r.first ≤ r.last → (b : Bool) → b ≡ allowed_name r.name → b ≡ valid_rule r
-    rule-passes y b n = sym (rule-read ∙ rw (le-leb r.first r.last y) (sym n))
+      pub rule-reversed : r.last < r.first → leb r.first r.last ≡ valid_rule r
+      rule-reversed y = sym (rule-read ∙ rw (lt-leb r.first r.last y))
+
+      pub rule-passes : r.first ≤ r.last → (c : Bool) → c ≡ allowed_name r.name → c ≡ valid_rule r
+      rule-passes y c n = sym (rule-read ∙ rw (le-leb r.first r.last y) (sym n))
 
 module _ (g : Grammar) where
   -- once all else is checked, the names together decide
@@ -88,15 +94,21 @@ module _ (g : Grammar) where
   unfolding valid_grammar
   grammar-count h = simp (lt-leb g.count max_rules h, and-false)
 
-  pub grammar-rule : (i : ℕ) (b : Bool) → b ≡ valid_rule (get_or g.rules i no_rule) → not b ≡ true → i < g.count → false ≡ valid_grammar g
+  pub grammar-rule : (i : ℕ) (b : Bool) → b ≡ valid_rule (get_or (take g.count g.rules) i no_rule) → not b ≡ true
+      → i < length (take g.count g.rules) → false ≡ valid_grammar g
   unfolding valid_grammar
-  grammar-rule i b e t h = simp (all-refuses valid_rule no_rule no_rule-valid g.rules g.count i h (sym e ∙ not-true b t), and-false)
+  grammar-rule i b e t h =
+      let f = all-refuses valid_rule no_rule no_rule-valid (take g.count g.rules) _ i h (sym e ∙ not-true b t) in
+      simp (rw take-length at f, and-false)
 
   -- two used rules of the same name
   pub grammar-same-names : distinct_names (names_of g) ≡ false → false ≡ valid_grammar g
   unfolding valid_grammar
   grammar-same-names e = simp (e, and-false)
 
-  pub grammar-passes : (i : ℕ) → i ≤ g.count → g.count ≤ max_rules → g.start ≤ 31 → all valid_rule (take i g.rules) ≡ true
-      → distinct_names (map (λ (r : Rule). r.name) (take i g.rules)) ≡ true → g.count ≤ i → true ≡ valid_grammar g
-  grammar-passes i h k l e d m = sym (valid-grammar-of l k (rw (le_antisymm m h) e) (rw (le_antisymm m h) d))
+  pub grammar-passes : (i : ℕ) → g.count ≤ max_rules → g.start ≤ 31 → all valid_rule (take i (take g.count g.rules)) ≡ true
+      → distinct_names (map (λ (r : Rule). r.name) (take i (take g.count g.rules))) ≡ true → length (take g.count g.rules) ≤ i
+      → true ≡ valid_grammar g
+  grammar-passes i k l e d m =
+      let w : take i (take g.count g.rules) ≡ take g.count g.rules = take_all i (take g.count g.rules) m in
+      sym (valid-grammar-of l k (rw w at e) (rw w at d))

@@ -8,3 +8,4 @@ pub mod RuleAt
 pub mod Years
 pub mod Setters
 pub mod Declared
+pub mod Tied

@@ -1,5 +1,5 @@
 -- The names of the used rules: after a rule is set, as words, and that check 8 keeps them apart. Assumes nothing.
-use Prim.Native.Nat.{ℕ, zero, suc, ◌+◌, ◌-◌, ◌≤◌, ◌<◌}
+use Prim.Native.Nat.{ℕ, zero, suc, ◌+◌, ◌-◌, ◌<◌}
 use native.Mathlib.Decide.{dec_lt, ℕ_discrete}
 use native.Mathlib.Nat.{le_of_suc-le-suc, not-suc-le-zero}
 use native.Mathlib.Numerals.{add-one}
@@ -9,11 +9,10 @@ use mathlib.Core.List.{List, [], ◌∷◌, map, head-eq_of_cons-eq, tail-eq_of_
 use mathlib.Core.Logic.{◌≢◌, dite}
 use mathlib.Core.Path.{◌≡◌, refl, sym, ap, ap₂, ◌∙◌}
 use lib.Dec.{eqb}
-use lib.ListN.{length, take, get_or, set, get_or-map}
-use lib.Seq.{get_or-take, set-get_or, map-set_same}
+use lib.ListN.{length, take, get_or, set, get_or-map, length-map}
+use lib.Seq.{take-length, get_or-take, set-get_or, map-set_same}
 use borrow.Author.Tests.{eq-eqb, ne_eqb, not-false}
-use Rattle.sizes.specs.Sizes.{max_rules}
-use Rattle.laws.proofs.Bools.{true-false, by-test, bool_false, and_parts}
+use Rattle.laws.proofs.Bools.{and_parts}
 use Rattle.theory_words.specs.Name.{valid_name, unnamed, allowed_name, has_name}
 use Rattle.theory_words.specs.Telling.{DistinctNames}
 use Rattle.names.specs.Word.{word_of, has_word}
@@ -103,10 +102,9 @@ distinct-names g v = record {
 -- ---- names as words
 
 -- a row that has the words of the first i names, and one more
-pub words_more : (l : List Rule) (row : List ℕ) (i w : ℕ) → length l ≡ max_rules → length row ≡ max_rules → i < max_rules
-    → w ≡ word_of (get_or l i no_rule).name → take i row ≡ map word_of (first_names i l)
-    → take (i + 1) (set row i w) ≡ map word_of (first_names (i + 1) l)
-words_more l row i w m n h e t = rw (add-one, e) (go l row i (omega arith) (omega arith) t)
+pub words_more : (l : List Rule) (row : List ℕ) (i w : ℕ) → i < length l → i < length row → w ≡ word_of (get_or l i no_rule).name
+    → take i row ≡ map word_of (first_names i l) → take (i + 1) (set row i w) ≡ map word_of (first_names (i + 1) l)
+words_more l row i w m n e t = rw (add-one, e) (go l row i m n t)
   where
     go : (l : List Rule) (row : List ℕ) (i : ℕ) → i < length l → i < length row → take i row ≡ map word_of (first_names i l)
         → take (suc i) (set row i (word_of (get_or l i no_rule).name)) ≡ map word_of (first_names (suc i) l)
@@ -128,41 +126,47 @@ pub names-compared : (l : List Rule) (n : ℕ) (row : List ℕ) (x : List ℕ) �
 names-compared l n row x v t e =
     ap (has_word (word_of x)) t ∙ words-compared x (first_names n l) e (allowed-each (take n l) v)
 
--- what the loop over the rules needs: the rules up to i are valid, the row has the words of those before i, and w is the word of rule i
-module _ (g : Grammar) (i w : ℕ) (row : List ℕ) (b : Bool) (v : all valid_rule (take i g.rules) ≡ true)
-    (p : b ≡ valid_rule (get_or g.rules i no_rule)) (q : not b ≡ false) (e : w ≡ word_of (get_or g.rules i no_rule).name)
-    (t : take i row ≡ map word_of (first_names i g.rules)) where
+-- what the loop over the used rules l needs: the rules up to i are valid, the row has the words of those before i, and w is the word of rule i
+module _ (l : List Rule) (i w : ℕ) (row : List ℕ) (b : Bool) (v : all valid_rule (take i l) ≡ true)
+    (p : b ≡ valid_rule (get_or l i no_rule)) (q : not b ≡ false) (e : w ≡ word_of (get_or l i no_rule).name)
+    (t : take i row ≡ map word_of (first_names i l)) where
   abbrev here : List ℕ
-  here = (get_or g.rules i no_rule).name
+  here = (get_or l i no_rule).name
 
   unnamed_here : eqb w 0 ≡ unnamed here
   unnamed_here = ap (λ (x : ℕ). eqb x 0) e ∙ word-unnamed here
 
   -- a word that is not 0 is among those before exactly if the name is
-  compared : (w ≡ 0 → ⊥) → has_word w (take i row) ≡ has_name here (first_names i g.rules)
+  compared : (w ≡ 0 → ⊥) → has_word w (take i row) ≡ has_name here (first_names i l)
   compared z =
       let u : unnamed here ≡ false = sym unnamed_here ∙ ne_eqb w 0 z in
-      let a = (rule-parts (get_or g.rules i no_rule) (sym p ∙ not-false b q)).4 in
-      ap (λ (x : ℕ). has_word x (take i row)) e ∙ names-compared g.rules i row here v t (rw u at a)
+      let a = (rule-parts (get_or l i no_rule) (sym p ∙ not-false b q)).4 in
+      ap (λ (x : ℕ). has_word x (take i row)) e ∙ names-compared l i row here v t (rw u at a)
 
-  pub name-refused : (c : Bool) → i < g.count → (w ≡ 0 → ⊥) → c ≡ has_word w (take i row) → c ≡ true → false ≡ valid_grammar g
-  name-refused c h z f y =
-      let l = map name g.rules in
-      let k = get_or-map name g.rules i no_rule in
-      let u : unnamed (get_or l i []) ≡ false = ap unnamed k ∙ sym unnamed_here ∙ ne_eqb w 0 z in
-      let m : has_name (get_or l i []) (take i l) ≡ true =
-      ap₂ has_name k (sym (map-take name g.rules i)) ∙ sym (compared z) ∙ sym f ∙ y in
-      grammar-same-names g (rw (map-take name g.rules g.count) (distinct-refuses l g.count i h u m))
+  names-refused : (c : Bool) → i < length l → (w ≡ 0 → ⊥) → c ≡ has_word w (take i row) → c ≡ true → distinct_names (map name l) ≡ false
+  names-refused c h z f y =
+      let k = get_or-map name l i no_rule in
+      let u : unnamed (get_or (map name l) i []) ≡ false = ap unnamed k ∙ sym unnamed_here ∙ ne_eqb w 0 z in
+      let m : has_name (get_or (map name l) i []) (take i (map name l)) ≡ true =
+      ap₂ has_name k (sym (map-take name l i)) ∙ sym (compared z) ∙ sym f ∙ y in
+      rw take-length at (distinct-refuses (map name l) (length (map name l)) i (simp length-map h) u m)
 
-  name_free : free here (first_names i g.rules) ≡ true → distinct_names (first_names i g.rules) ≡ true
-      → distinct_names (first_names (i + 1) g.rules) ≡ true
+  name_free : free here (first_names i l) ≡ true → distinct_names (first_names i l) ≡ true → distinct_names (first_names (i + 1) l) ≡ true
   name_free f d =
-      let s : set g.rules i (get_or g.rules i no_rule) ≡ g.rules = set-get_or g.rules i no_rule in
-      rw add-one (rw s at (names-set g.rules i (get_or g.rules i no_rule) d f))
+      let s : set l i (get_or l i no_rule) ≡ l = set-get_or l i no_rule in
+      rw add-one (rw s at (names-set l i (get_or l i no_rule) d f))
 
-  pub next-unnamed : w ≡ 0 → distinct_names (first_names i g.rules) ≡ true → distinct_names (first_names (i + 1) g.rules) ≡ true
+  pub next-unnamed : w ≡ 0 → distinct_names (first_names i l) ≡ true → distinct_names (first_names (i + 1) l) ≡ true
   next-unnamed z = name_free (rw (sym unnamed_here ∙ eq-eqb w 0 z))
 
-  pub next-named : (c : Bool) → (w ≡ 0 → ⊥) → c ≡ has_word w (take i row) → c ≡ false → distinct_names (first_names i g.rules) ≡ true
-      → distinct_names (first_names (i + 1) g.rules) ≡ true
-  next-named c z f y = name_free (not_free here (first_names i g.rules) (sym (compared z) ∙ sym f ∙ y))
+  pub next-named : (c : Bool) → (w ≡ 0 → ⊥) → c ≡ has_word w (take i row) → c ≡ false → distinct_names (first_names i l) ≡ true
+      → distinct_names (first_names (i + 1) l) ≡ true
+  next-named c z f y = name_free (not_free here (first_names i l) (sym (compared z) ∙ sym f ∙ y))
+
+-- a used rule has the name of a rule before it
+pub name-refused : (g : Grammar) (i w : ℕ) (row : List ℕ) (b : Bool) → all valid_rule (take i (take g.count g.rules)) ≡ true
+    → b ≡ valid_rule (get_or (take g.count g.rules) i no_rule) → not b ≡ false → w ≡ word_of (get_or (take g.count g.rules) i no_rule).name
+    → take i row ≡ map word_of (first_names i (take g.count g.rules)) → (c : Bool) → i < length (take g.count g.rules) → (w ≡ 0 → ⊥)
+    → c ≡ has_word w (take i row) → c ≡ true → false ≡ valid_grammar g
+name-refused g i w row b v p q e t c h z f y =
+    grammar-same-names g (names-refused (take g.count g.rules) i w row b v p q e t c h z f y)

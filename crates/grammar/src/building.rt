@@ -3,19 +3,12 @@
 ghost use Rattle.std.specs.Prelude.{◌+◌, ◌*◌, ◌-◌, ◌<◌, ◌≡◌};
 ghost use Rattle.sizes.specs.Sizes.{max_places};
 ghost use Rattle.numbers.specs.Numbers.{signed_in};
-ghost use Rattle.grammar.specs.Setters.{last_year, opened_rule, placed_rule};
+ghost use Rattle.grammar.specs.Setters.{opened_rule, placed_rule};
 
 use super::{Place, Rule, Symbol, zero_place};
 
 // The last year there is.
 pub const LAST_YEAR: u16 = 65535;
-
-// A must-fail edit of the constant is checked in this crate only, so its twin in specs/ is named here.
-pub fn tied_last_year() -> u16
-    ensures { result ≡ last_year }
-{
-    LAST_YEAR
-}
 
 // A rule of these years, with no places and no name yet; its length is the signed number of a low and a high byte. It is written out
 // whole: a copy of the zero rule with fields set costs 6 ns more a rule.
@@ -50,5 +43,5 @@ pub fn placed(rule: Rule, symbol: Symbol) -> Rule
 pub fn last_of(n: usize) -> usize
     ensures { result ≡ n - 1 }
 {
-    if n == 0 { 0 } else { n - 1 }
+    n.saturating_sub(1)
 }

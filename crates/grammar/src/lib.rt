@@ -92,19 +92,15 @@ pub fn valid(g: Grammar) -> bool
         return false;
     }
     let mut words = [0u64; sizes::MAX_RULES];
-    let mut i = 0;
-    while i < n {
-        let rule = g.rules[i];
-        if !valid_rule(rule) {
+    for (i, rule) in g.rules[..n].iter().enumerate() {
+        if !valid_rule(*rule) {
             return false;
         }
-        let name = rule.name;
-        let w = names::word(name);
+        let w = names::word(rule.name);
         if w != 0 && names::earlier(&words, i, w) {
             return false;
         }
         words[i] = w;
-        i += 1;
     }
     true
 }

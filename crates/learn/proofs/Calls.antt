@@ -16,9 +16,8 @@ use Rattle.grammar.specs.declared.Grammar.{Grammar}
 use Rattle.grammar.specs.Setters.{set_depth}
 use Rattle.grammar.specs.Valid.{valid_grammar}
 use Rattle.grammar.specs.View.{dated, whole_of, grammar_of}
-use Rattle.answers.specs.declared.Refusal.{Refusal}
-use Rattle.answers.specs.declared.Outcome.{Outcome}
-use Rattle.answers.specs.declared.Outcome.TheVariants.{Accepted, Refused}
+use Rattle.answers.specs.declared.Fault.{Fault}
+use Rattle.std.specs.Prelude.{Result, Ok, Err}
 use Rattle.answers.specs.Number.{number_of}
 use Rattle.answers.specs.Answers.{outcome_of}
 use Rattle.results.specs.Answer.{Answer, refused, answered, refused_at, loaded, decide}
@@ -30,13 +29,13 @@ use Rattle.learn.specs.Reading.{reading_of, joined_to}
 
 -- ---- the longer grammar
 
-abbrev joined : Outcome → Grammar → Loading
+abbrev joined : Result (Unit {0}) Fault → Grammar → Loading
 joined o g = record { answer = outcome_of o; grammar = g }
 
 pub deepens : (g : Grammar) (d : ℕ) → d ≡ depth_of (whole_of g)
-    → reading_of (record { outcome = Accepted; grammar = set_depth g d }) ≡ accepted_load g
+    → reading_of (record { outcome = Ok tt; grammar = set_depth g d }) ≡ accepted_load g
 unfolding accepted_load
-deepens g d e = ap (λ (n : ℕ). reading_of (record { outcome = Accepted; grammar = set_depth g n })) e
+deepens g d e = ap (λ (n : ℕ). reading_of (record { outcome = Ok tt; grammar = set_depth g n })) e
 
 -- ---- the five parts of what the call gives
 
@@ -57,9 +56,6 @@ module _ (h : State) (bytes : List ℕ) (long : length h.bytes ≡ max_input) (f
   same =
       ap (take h.count) copied
       ∙ take_at (take h.count h.bytes) (replicate (max_input - h.count) 0) h.count front-size
-
-  pub front-part : h.count ≡ length (take h.count bytes)
-  front-part = sym (ap length same ∙ front-size)
 
   pub front_fits : h.count ≤ length bytes
   front_fits =
@@ -110,16 +106,17 @@ module _ (g : Grammar) (h : State) (bytes chart : List ℕ) where
   joined-after (faulty f) = refl
   joined-after (longer g') = refl
 
-  module _ (valid : valid_grammar g ≡ true) (state : (state_check h).fails ≡ false) (room : cells ≤ length chart) (o : Outcome) (g' : Grammar)
+  module _ (valid : valid_grammar g ≡ true) (state : (state_check h).fails ≡ false)
+      (room : cells ≤ length chart) (o : Result (Unit {0}) Fault) (g' : Grammar)
       (read : joined o g' ≡ joined_to g (enlarged g bytes)) where
     passed : after (joined o g') ≡ learn_of g h bytes chart
     unfolding learn_of decide
     passed = rw (valid, state, le-ltb (length chart) cells room) (ap after read ∙ joined-after (enlarged g bytes))
 
-    pub learns-longer : o ≡ Accepted → (l : Learning) → l ≡ learn_in g' h chart → l ≡ learn_of g h bytes chart
-    learns-longer e l s = s ∙ ap (λ (x : Outcome). after (joined x g')) (sym e) ∙ passed
+    pub learns-longer : o ≡ Ok tt → (l : Learning) → l ≡ learn_in g' h chart → l ≡ learn_of g h bytes chart
+    learns-longer e l s = s ∙ ap (λ (x : Result (Unit {0}) Fault). after (joined x g')) (sym e) ∙ passed
 
-    pub learns-faulty : (r : Refusal) (at : ℕ) → o ≡ Refused r at → (a : Answer Bool) (at' : ℕ) (g'' : Grammar) (k : State)
-        → a ≡ refused (number_of r) → at' ≡ at → g'' ≡ g' → k ≡ h → learned a at' g'' k chart ≡ learn_of g h bytes chart
-    learns-faulty r at e a at' g'' k f p q s =
-        (λ i. learned (f i) (p i) (q i) (s i) chart) ∙ ap (λ (x : Outcome). after (joined x g')) (sym e) ∙ passed
+    pub learns-faulty : (x : Fault) → o ≡ Err x → (a : Answer Bool) (at' : ℕ) (g'' : Grammar) (k : State)
+        → a ≡ refused (number_of x.refusal) → at' ≡ x.at → g'' ≡ g' → k ≡ h → learned a at' g'' k chart ≡ learn_of g h bytes chart
+    learns-faulty x e a at' g'' k f p q s =
+        (λ i. learned (f i) (p i) (q i) (s i) chart) ∙ ap (λ (x : Result (Unit {0}) Fault). after (joined x g')) (sym e) ∙ passed

@@ -1,15 +1,14 @@
 -- The loop of learning: what holds after each command, why the next command keeps it, and what follows from it at the end and at a fault.
 -- The laws are those of loading, for a rule that is added to an old grammar. Assumes nothing.
-use Prim.Native.Nat.{ℕ, suc, ◌+◌, ◌*◌, ◌-◌, ◌^◌, ◌≤◌, ◌<◌}
+use Prim.Native.Nat.{ℕ, suc, ◌+◌, ◌*◌, ◌-◌, ◌≤◌, ◌<◌}
 use native.Mathlib.Omega.{arith}
 use mathlib.Core.Bool.{Bool, true, false}
 use mathlib.Core.List.{List, map}
 use mathlib.Core.Path.{◌≡◌, refl, sym, ap, ◌∙◌, subst}
+use Rattle.std.specs.Prelude.{Result, Ok, Err}
 use lib.IntN.{ℤ}
-use lib.ListN.{length, get_or, take, set, length-map}
-use mir.Syntax.{w64}
-use mir.Val.{Fits}
-use Rattle.sizes.specs.Sizes.{max_rules, max_places}
+use lib.ListN.{length, get_or, take, set}
+use Rattle.sizes.specs.Sizes.{max_rules}
 use Rattle.numbers.specs.Numbers.{signed_in}
 use Rattle.theory_words.specs.Name.{has_name}
 use Rattle.names.specs.Word.{word_of, has_word}
@@ -20,7 +19,7 @@ use Rattle.grammar.specs.Setters.{opened_rule, placed_rule, set_name, set_start,
 use Rattle.grammar.specs.Valid.{names_of, valid_grammar}
 use Rattle.grammar.specs.Zero.{no_rule}
 use Rattle.grammar.proofs.Bounds.{valid-count}
-use Rattle.answers.specs.declared.Refusal.{Refusal}
+use Rattle.answers.specs.declared.Fault as Declared
 use Rattle.answers.specs.Number.{number_of}
 use Rattle.theory_tidying.specs.Tidying.{tidied}
 use Rattle.theory_tidying.proofs.Tidied.{tidied-size}
@@ -41,39 +40,6 @@ use Rattle.learn.specs.Reading.{reading_of, fault_in, name_words}
 use Rattle.learn.specs.declared.reading.Enlarged.{Enlarged}
 use Rattle.learn.proofs.Joined.{Enlarges, joins-fault, joins-end}
 
--- ---- the bounds of a command that was read
-
-module _ (bytes : List ℕ) (at rules places word : ℕ) (c : Command) (R : LearnRead bytes at rules places word c) where
-  abbrev bounds : (m : Command) → c ≡ m → Bounded bytes at rules places m
-  bounds m e = subst (Bounded bytes at rules places) e R.bounded
-
-  pub start-room : (k : ℕ) → c ≡ C.Start k → at + 2 ≤ length bytes
-  start-room k e = bounds (C.Start k) e
-
-  pub rule-some : (o : Header) (n : ℕ) → c ≡ C.Rule o n → 0 < n
-  rule-some o n e = (bounds (C.Rule o n) e).0
-
-  pub rule-room : (o : Header) (n : ℕ) → c ≡ C.Rule o n → at + n ≤ length bytes
-  rule-room o n e = (bounds (C.Rule o n) e).1
-
-  pub rule-few : (o : Header) (n : ℕ) → c ≡ C.Rule o n → rules < max_rules
-  rule-few o n e = (bounds (C.Rule o n) e).2
-
-  pub place-some : (s : Symbol) (n : ℕ) → c ≡ C.Place s n → 0 < n
-  place-some s n e = (bounds (C.Place s n) e).0
-
-  pub place-room : (s : Symbol) (n : ℕ) → c ≡ C.Place s n → at + n ≤ length bytes
-  place-room s n e = (bounds (C.Place s n) e).1
-
-  pub place-few : (s : Symbol) (n : ℕ) → c ≡ C.Place s n → places < max_places
-  place-few s n e = (bounds (C.Place s n) e).2
-
-  pub name-room : (first w : ℕ) → c ≡ C.Name first w → at + 9 ≤ length bytes
-  name-room first w e = (bounds (C.Name first w) e).1
-
-  pub name-bytes : (first w : ℕ) → c ≡ C.Name first w → first + 8 ≤ length bytes
-  name-bytes first w e = let b = bounds (C.Name first w) e in omega (arith, b.0, b.1)
-
 -- ---- the loop
 
 -- before the command at an offset: reading on from here gives what the bytes make of the old grammar, the grammar read so far is valid, it
@@ -86,11 +52,10 @@ pub record Progress (old : Grammar) (bytes : List ℕ) (at : ℕ) (row : List �
   pub size : length g.rules ≡ max_rules
   pub opened : 0 < at → 0 < g.count
   pub words : row ≡ map rule_word g.rules
-  pub fits : length bytes < 2 ^ 64
 
 pub progress-first : (old : Grammar) (bytes row : List ℕ) (g : Grammar) → length old.rules ≡ max_rules → valid_grammar old ≡ true
-    → 0 < length bytes → length bytes < 2 ^ 64 → row ≡ name_words (tidied old) → g ≡ tidied old → Progress old bytes 0 row g
-progress-first old bytes row g long v z f w e = subst (Progress old bytes 0 row) (sym e) (record {
+    → 0 < length bytes → row ≡ name_words (tidied old) → g ≡ tidied old → Progress old bytes 0 row g
+progress-first old bytes row g long v z w e = subst (Progress old bytes 0 row) (sym e) (record {
   within = omega arith;
   reached = learn-fuel bytes (suc (length bytes - 0)) (length bytes) 0 (tidied old) (omega arith) (omega arith)
       ∙ sym (enlarged-some old bytes z);
@@ -99,7 +64,6 @@ progress-first old bytes row g long v z f w e = subst (Progress old bytes 0 row)
   size = tidied-size old (omega (arith, valid-count old v)) (valid-count old v);
   opened = λ p. absurd (omega arith);
   words = w;
-  fits = f;
 })
   where
     valid : valid_grammar (tidied old) ≡ true
@@ -111,25 +75,30 @@ unfolding signed signed_in
 signed-bytes low high = refl
 
 module _ (old : Grammar) (bytes : List ℕ) (at : ℕ) (row : List ℕ) (g : Grammar) (P : Progress old bytes at row g) where
-  -- what comparing a word requires
-  pub words-room : (g.count ≤ max_rules) × (length row ≡ max_rules)
-  words-room = (P.few, ap length P.words ∙ length-map g.rules rule_word ∙ P.size)
+  -- a fault
+  faults : (e : Enlarged) (x : Fault) → learn_step bytes at g ≡ stop x → valid_grammar old ≡ true → reading_of e ≡ fault_in old x
+      → Enlarges old bytes e
+  faults e x k v r = joins-fault old bytes v e x (sym (learn-stop (length bytes - at) bytes at g x k) ∙ P.reached) r
 
-  -- an offset that moves on within the bytes fits
-  pub moved-fits : (n : ℕ) → at + n ≤ length bytes → Fits w64 (at + n)
-  moved-fits n h = let f = P.fits in record { fits = omega arith }
-
-  -- the command c that was read, where q is the number of the last rule
-  module _ (q : ℕ) (c : Command) (f : q ≡ g.count - 1)
-      (R : LearnRead bytes at g.count (get_or g.rules q no_rule).count (get_or row q 0) c) where
-    means : step_of bytes c at g ≡ learn_step bytes at g
+  -- what was read, where q is the number of the last rule
+  module _ (q : ℕ) (f : q ≡ g.count - 1) where
+    means : (r : Result Command Declared.Fault)
+        → LearnRead bytes at g.count (get_or g.rules q no_rule).count (get_or row q 0) r → step_of bytes r at g ≡ learn_step bytes at g
     unfolding open_rule
-    means = R.means g refl (ap (λ (i : ℕ). (get_or g.rules i no_rule).count) (sym f)) (sym (word-open g row P.words q f))
+    means r R = R.means g refl (ap (λ (i : ℕ). (get_or g.rules i no_rule).count) (sym f)) (sym (word-open g row P.words q f))
 
-    goes : (m : Command) (s : Step) → c ≡ m → step_of bytes m at g ≡ s → learn_step bytes at g ≡ s
-    goes m s e k = sym means ∙ ap (λ (n : Command). step_of bytes n at g) e ∙ k
+    pub enlarges-fault : (x : Declared.Fault) → LearnRead bytes at g.count (get_or g.rules q no_rule).count (get_or row q 0) (Err x)
+        → valid_grammar old ≡ true → (l : Enlarged)
+        → reading_of l ≡ fault_in old (record { number = number_of x.refusal; offset = x.at }) → Enlarges old bytes l
+    enlarges-fault x R v l F = faults l _ (sym (means (Err x) R)) v F
 
-    progress-next : (m : Command) (at' : ℕ) (row' : List ℕ) (g' h : Grammar) → c ≡ m → step_of bytes m at g ≡ next at' g'
+  -- the command c that was read
+  module _ (q : ℕ) (c : Command) (f : q ≡ g.count - 1)
+      (R : LearnRead bytes at g.count (get_or g.rules q no_rule).count (get_or row q 0) (Ok c)) where
+    goes : (m : Command) (s : Step) → c ≡ m → step_of bytes (Ok m) at g ≡ s → learn_step bytes at g ≡ s
+    goes m s e k = sym (means q f (Ok c) R) ∙ ap (λ (n : Command). step_of bytes (Ok n) at g) e ∙ k
+
+    progress-next : (m : Command) (at' : ℕ) (row' : List ℕ) (g' h : Grammar) → c ≡ m → step_of bytes (Ok m) at g ≡ next at' g'
         → at' ≤ length bytes → row' ≡ map rule_word h.rules → h ≡ g' → Progress old bytes at' row' h
     progress-next m at' row' g' h e s l W i =
         subst (λ (x : Grammar). row' ≡ map rule_word x.rules → Progress old bytes at' row' x) (sym i)
@@ -142,7 +111,6 @@ module _ (old : Grammar) (bytes : List ℕ) (at : ℕ) (row : List ℕ) (g : Gra
           size = (learn-kept (learn-invariant (size-invariant bytes)) at g (P.size, P.opened) at' g' k).0;
           opened = valid.1;
           words = U;
-          fits = P.fits;
         }) W
       where
         k : learn_step bytes at g ≡ next at' g'
@@ -154,8 +122,8 @@ module _ (old : Grammar) (bytes : List ℕ) (at : ℕ) (row : List ℕ) (g : Gra
         valid : (valid_grammar g' ≡ true) × (0 < at' → 0 < g'.count)
         valid = learn-kept (learn-invariant (valid-invariant bytes)) at g (P.valid, P.opened) at' g' k
 
-    abbrev bounded : (m : Command) → c ≡ m → Bounded bytes at g.count (get_or g.rules q no_rule).count m
-    bounded m e = bounds bytes at g.count (get_or g.rules q no_rule).count (get_or row q 0) c R m e
+    abbrev bounded : (m : Command) → c ≡ m → Bounded bytes at g.count (get_or g.rules q no_rule).count (Ok m)
+    bounded m e = subst (λ (x : Command). Bounded bytes at g.count (get_or g.rules q no_rule).count (Ok x)) e R.bounded
 
     pub progress_start : (k : ℕ) → c ≡ C.Start k → Progress old bytes (at + 2) row (set_start g k)
     progress_start k e = progress-next (C.Start k) _ _ _ _ e refl (bounded (C.Start k) e) P.words (start-set g k)
@@ -180,12 +148,6 @@ module _ (old : Grammar) (bytes : List ℕ) (at : ℕ) (row : List ℕ) (g : Gra
         (word_kept g.rules row P.words q r (ap (λ (x : Rule). x.name) o))
         (ap (set_rule g q) o ∙ ap (λ (i : ℕ). set_rule g i (placed_rule (get_or g.rules i no_rule) s)) f ∙ place_set g s)
 
-    -- a fault
-    faults : (e : Enlarged) (m : Command) (x : Fault) → c ≡ m → step_of bytes m at g ≡ stop x → valid_grammar old ≡ true
-        → reading_of e ≡ fault_in old x → Enlarges old bytes e
-    faults e m x k s v r =
-        joins-fault old bytes v e x (sym (learn-stop (length bytes - at) bytes at g x (goes m (stop x) k s)) ∙ P.reached) r
-
     -- a name: whether its word w is among those of the used rules
     module _ (first w : ℕ) (e : c ≡ C.Name first w) (b : Bool) (B : b ≡ has_word w (take g.count row)) where
       compared : has_name (name_from bytes first) (names_of g) ≡ b
@@ -203,12 +165,8 @@ module _ (old : Grammar) (bytes : List ℕ) (at : ℕ) (row : List ℕ) (g : Gra
 
       pub enlarges-name : b ≡ true → valid_grammar old ≡ true → (l : Enlarged)
           → reading_of l ≡ fault_in old (record { number = 17; offset = at }) → Enlarges old bytes l
-      enlarges-name y v l F = faults l (C.Name first w) (record { number = 17; offset = at }) e (rw (compared, y)) v F
+      enlarges-name y v l F = faults l (record { number = 17; offset = at }) (goes (C.Name first w) _ e (rw (compared, y))) v F
 
     pub enlarges-end : c ≡ C.End → (l : Enlarged) → reading_of l ≡ accepted_load g → Enlarges old bytes l
     enlarges-end e l A =
         joins-end old bytes l g P.valid (sym (learn-done (length bytes - at) bytes at g g (goes C.End _ e refl)) ∙ P.reached) A
-
-    pub enlarges-fault : (r : Refusal) (o : ℕ) → c ≡ C.Fault r o → valid_grammar old ≡ true → (l : Enlarged)
-        → reading_of l ≡ fault_in old (record { number = number_of r; offset = o }) → Enlarges old bytes l
-    enlarges-fault r o e v l F = faults l (C.Fault r o) (record { number = number_of r; offset = o }) e refl v F

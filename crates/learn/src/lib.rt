@@ -2,7 +2,6 @@
 // state.
 #![tactic(auto)]
 
-mod operands;
 mod reading;
 mod turn;
 
@@ -17,15 +16,16 @@ ghost use Rattle.results.specs.Learn.{learn_in, learn_of};
 ghost use Rattle.recognizer.specs.Recognizer.{state_in};
 ghost use Rattle.learn.specs.Learnt.{learning_of};
 
-use answers::{Outcome, Refusal, Verdict};
+use answers::Refusal;
 use grammar::Grammar;
 use recognizer::state::{front, invalid};
 use recognizer::{Recognizer, says};
 
-// What learning gives: whether the input so far is complete, the offset of a fault, the grammar and the state.
+// What learning gives: whether the input so far is complete, the offset of a fault, the grammar and the state. These stand beside the
+// answer, and not in its Ok, since the contract of `learn` says what they are after a refusal too.
 #[derive(Clone, Copy)]
 pub struct Learnt {
-    pub accepted: Verdict,
+    pub accepted: Result<bool, Refusal>,
     pub offset: usize,
     pub grammar: Grammar,
     pub recognizer: Recognizer,
@@ -36,7 +36,7 @@ fn refused(h: Recognizer, g: Grammar, r: Refusal, at: usize) -> Learnt
     ensures { (verdict_of result.accepted ≡ refused_with (number_of r)) × (result.offset ≡ at) × (result.grammar ≡ g) × (result.recognizer ≡ h) }
 {
     Learnt {
-        accepted: Verdict::Refused(r),
+        accepted: Err(r),
         offset: at,
         grammar: g,
         recognizer: h,
@@ -71,10 +71,9 @@ fn learning(h: Recognizer, g: Grammar, bytes: &[u8], chart: &mut [u32]) -> Learn
     ensures { learning_of result chart.new ≡ learn_of g (state_in h) bytes.now chart.old }
 {
     let read = reading::enlarge(g, bytes);
-    let outcome = read.outcome;
-    match outcome {
-        Outcome::Accepted => filling(h, read.grammar, chart),
-        Outcome::Refused(r, at) => refused(h, read.grammar, r, at),
+    match read.outcome {
+        Ok(()) => filling(h, read.grammar, chart),
+        Err(fault) => refused(h, read.grammar, fault.refusal, fault.at),
     }
 }
 

@@ -8,24 +8,25 @@ ghost use Rattle.results.specs.Learn.{enlarged};
 ghost use Rattle.learn.specs.Reading.{reading_of, fault_in, joined_to, name_words};
 
 use super::turn;
-use answers::{Outcome, Refusal};
+use answers::{Fault, Refusal};
 use grammar::{Grammar, building};
 use load_commands::opcode::Command;
 use load_commands::scan;
 
-// What reading gives, and the grammar: the longer one, or the old one at a fault.
+// What reading gives, and the grammar: the longer one, or the old one at a fault. The grammar stands beside the answer, and not in its Ok,
+// since the contract of `enlarge` says which grammar is handed back with a refusal.
 #[derive(Clone, Copy)]
 pub struct Enlarged {
-    pub outcome: Outcome,
+    pub outcome: Result<(), Fault>,
     pub grammar: Grammar,
 }
 
 // A fault at an offset. It gives back the old grammar, so that the caller needs no second copy.
-fn faulty(r: Refusal, at: usize, old: Grammar) -> Enlarged
-    ensures { reading_of result ≡ fault_in old (record { number = number_of r; offset = at }) }
+fn faulty(refusal: Refusal, at: usize, old: Grammar) -> Enlarged
+    ensures { reading_of result ≡ fault_in old (record { number = number_of refusal; offset = at }) }
 {
     Enlarged {
-        outcome: Outcome::Refused(r, at),
+        outcome: Err(Fault { refusal, at }),
         grammar: old,
     }
 }
@@ -41,7 +42,7 @@ fn deepened(g: Grammar) -> Enlarged
     let depth = load_nullable::nullable_depth(h, found.set);
     h.depth = depth;
     Enlarged {
-        outcome: Outcome::Accepted,
+        outcome: Ok(()),
         grammar: h,
     }
 }
@@ -51,14 +52,9 @@ fn words_of(g: Grammar) -> [u64; sizes::MAX_RULES]
     requires { valid_grammar g ≡ true }
     ensures { result ≡ name_words (tidied g) }
 {
-    let n = g.count;
     let mut words = [0u64; sizes::MAX_RULES];
-    let mut i = 0;
-    while i < n {
-        let rule = g.rules[i];
-        let name = rule.name;
-        words[i] = names::word(name);
-        i += 1;
+    for i in 0..g.count {
+        words[i] = names::word(g.rules[i].name);
     }
     words
 }
@@ -81,23 +77,22 @@ pub fn enlarge(old: Grammar, bytes: &[u8]) -> Enlarged
         let n = g.count;
         let q = building::last_of(n);
         let open = g.rules[q];
-        let command = turn::command_at(bytes, at, n, open.count, words[q]);
-        match command {
-            Command::Start(k) => {
+        match turn::command_at(bytes, at, n, open.count, words[q]) {
+            Ok(Command::Start(k)) => {
                 g.start = k;
                 at += 2;
             }
-            Command::Rule(h, bytes) => {
+            Ok(Command::Rule(h, bytes)) => {
                 g.rules[n] = building::opened(h.left, h.low, h.high, h.first, h.last);
                 g.count = n + 1;
                 words[n] = 0;
                 at += bytes;
             }
-            Command::Place(s, bytes) => {
+            Ok(Command::Place(s, bytes)) => {
                 g.rules[q] = building::placed(open, s);
                 at += bytes;
             }
-            Command::Name(first, word) => {
+            Ok(Command::Name(first, word)) => {
                 if names::earlier(&words, n, word) {
                     return faulty(Refusal::InvalidName, at, old);
                 }
@@ -105,8 +100,8 @@ pub fn enlarge(old: Grammar, bytes: &[u8]) -> Enlarged
                 words[q] = word;
                 at += 9;
             }
-            Command::End => return deepened(g),
-            Command::Fault(r, o) => return faulty(r, o, old),
+            Ok(Command::End) => return deepened(g),
+            Err(fault) => return faulty(fault.refusal, fault.at, old),
         }
     }
 }

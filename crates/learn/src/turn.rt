@@ -5,24 +5,18 @@ ghost use Rattle.results.specs.Learn.{misplaced as misplaced_in};
 ghost use Rattle.load_commands.specs.Class.{byte_of};
 ghost use Rattle.learn.specs.Command.{LearnRead};
 
-use super::operands::operands_at;
-use answers::Refusal;
-use load_commands::opcode;
-use load_commands::opcode::{Class, Command, Opcode};
+use answers::{Fault, Refusal};
+use load_commands::opcode::{Command, Opcode};
+use load_commands::scan::operands_at;
 
 // Check 20: the first command opens the rule, and a later one adds to it.
 fn misplaced(k: Opcode, at: usize) -> bool
     ensures { result ≡ misplaced_in (byte_of k) at }
 {
     match k {
-        Opcode::Start => true,
-        Opcode::Rule => at != 0,
-        Opcode::RuleWithYears => at != 0,
-        Opcode::Nonterminal => at == 0,
-        Opcode::Terminal => at == 0,
-        Opcode::Range => at == 0,
-        Opcode::Name => at == 0,
-        Opcode::End => true,
+        Opcode::Start | Opcode::End => true,
+        Opcode::Rule | Opcode::RuleWithYears => at != 0,
+        Opcode::Nonterminal | Opcode::Terminal | Opcode::Range | Opcode::Name => at == 0,
     }
 }
 
@@ -30,35 +24,40 @@ fn misplaced(k: Opcode, at: usize) -> bool
 fn second_name(k: Opcode, word: u64) -> bool
     ensures { result ≡ (eqb (byte_of k) 0x60 && not (eqb word 0)) }
 {
-    match k {
-        Opcode::Start => false,
-        Opcode::Rule => false,
-        Opcode::RuleWithYears => false,
-        Opcode::Nonterminal => false,
-        Opcode::Terminal => false,
-        Opcode::Range => false,
-        Opcode::Name => word != 0,
-        Opcode::End => false,
-    }
+    matches!(k, Opcode::Name) && word != 0
 }
 
 // The command at an offset; the rule ends where the bytes end. What has been read before it is a grammar of this many rules, the last with
 // this many places and a name of this word, which is 0 if it has none.
-pub fn command_at(bytes: &[u8], at: usize, rules: usize, places: usize, word: u64) -> Command
+pub fn command_at(
+    bytes: &[u8],
+    at: usize,
+    rules: usize,
+    places: usize,
+    word: u64,
+) -> Result<Command, Fault>
     ensures { LearnRead bytes.now at rules places word result }
 {
     if at >= bytes.len() {
-        return Command::End;
+        return Ok(Command::End);
     }
-    let c = bytes[at];
-    let Class::Known(k) = opcode::classify(c) else {
-        return Command::Fault(Refusal::UnknownCommand, at);
+    let Ok(k) = Opcode::try_from(bytes[at]) else {
+        return Err(Fault {
+            refusal: Refusal::UnknownCommand,
+            at,
+        });
     };
     if misplaced(k, at) {
-        return Command::Fault(Refusal::NotOneRule, at);
+        return Err(Fault {
+            refusal: Refusal::NotOneRule,
+            at,
+        });
     }
     if second_name(k, word) {
-        return Command::Fault(Refusal::OutOfTurn, at);
+        return Err(Fault {
+            refusal: Refusal::OutOfTurn,
+            at,
+        });
     }
     operands_at(bytes, at, k, rules, places)
 }

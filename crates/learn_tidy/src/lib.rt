@@ -1,9 +1,10 @@
 // Clears what is unused in a grammar (document 02, U8): a longer grammar that is handed back has no rubbish of the one handed in.
 #![tactic(auto)]
 
-ghost use Rattle.std.specs.Prelude.{true, ◌≡◌, ◌≤◌};
+ghost use Rattle.std.specs.Prelude.{ℕ, true, ◌≡◌, ◌≤◌, ◌<◌, map, length, get_or};
 ghost use Rattle.sizes.specs.Sizes.{max_places};
 ghost use Rattle.grammar.specs.Valid.{valid_grammar};
+ghost use Rattle.grammar.specs.Zero.{no_rule};
 ghost use Rattle.theory_tidying.specs.Tidying.{tidied_rule, tidied};
 
 use grammar::{Grammar, Rule};
@@ -14,12 +15,18 @@ fn tidy_rule(r: Rule) -> Rule
     ensures { result ≡ tidied_rule r }
 {
     let mut t = r;
-    let mut q = t.count;
-    while q < sizes::MAX_PLACES {
-        t.places[q] = grammar::zero_place();
-        q += 1;
-    }
+    t.places[r.count..].fill(grammar::zero_place());
     t
+}
+
+// Tidies each of these rules.
+fn tidy_rules(rules: &mut [Rule])
+    requires { (i : ℕ) → i < length rules.old → (get_or rules.old i no_rule).count ≤ max_places }
+    ensures { rules.new ≡ map tidied_rule rules.old }
+{
+    for r in rules.iter_mut() {
+        *r = tidy_rule(*r);
+    }
 }
 
 // The grammar with zeros in its unused records, and in the unused places of the others. It is changed in place: each copy of a grammar
@@ -29,16 +36,8 @@ pub fn tidy(g: Grammar) -> Grammar
     ensures { result ≡ tidied g }
 {
     let mut h = g;
-    let n = h.count;
-    let mut i = 0;
-    while i < sizes::MAX_RULES {
-        if i < n {
-            let r = h.rules[i];
-            h.rules[i] = tidy_rule(r);
-        } else {
-            h.rules[i] = grammar::zero_rule();
-        }
-        i += 1;
-    }
+    let (used, unused) = h.rules.split_at_mut(g.count);
+    tidy_rules(used);
+    unused.fill(grammar::zero_rule());
     h
 }

@@ -2,16 +2,16 @@
 // to standard output.
 #![tactic(auto)]
 
-ghost use Rattle.std.specs.Prelude.{◌≡◌, length};
+ghost use Rattle.std.specs.Prelude.{◌≡◌, length, IfOk};
 ghost use Rattle.std.specs.Counts.{IsPrefixLen};
 ghost use Rattle.text.specs.Front.{book_front, year_front, plate_front};
 ghost use Rattle.print_write.specs.Listed.{Listed};
 
 use packed::PACKED_SIZE;
 use print_begin::begin::begin;
-use print_write::{Written, write_pages};
+use print_write::write_pages;
 use std::fs;
-use std::io::Read;
+use std::io::{ErrorKind, Read};
 use std::process::ExitCode;
 use std::rt::Files;
 use table_layout::layout::TABLES_SIZE;
@@ -72,9 +72,15 @@ fn read_plate(rt: &impl Input, plate: &mut [u8]) -> usize
     read_full(&mut rt.reader(), plate)
 }
 
-// Writes the text of book, file with the year and plate. The arrays that the steps need are locals of this function.
-fn list(rt: &(impl Print + Eprint), book: &[u8], file: &[u8], plate: &[u8]) -> Written
-    ensures { Listed book.now file.now plate.now result.bytes result.all }
+// Writes the text of book, file with the year and plate, and returns how many bytes it has. The arrays that the steps need are locals of
+// this function.
+fn list(
+    rt: &(impl Print + Eprint),
+    book: &[u8],
+    file: &[u8],
+    plate: &[u8],
+) -> Result<usize, ErrorKind>
+    ensures { IfOk result (λ n. Listed book.now file.now plate.now n) }
 {
     let mut p = [0u8; PACKED_SIZE];
     let mut lengths = [0i16; sizes::MAX_RULES];
@@ -105,10 +111,9 @@ fn main(rt: HostRuntime) -> ExitCode {
     let y = read_year(&rt, &mut file);
     let mut plate = [0u8; PLATE];
     let n = read_plate(&rt, &mut plate);
-    let written = list(&rt, &book[..b], &file[..y], &plate[..n]);
-    if written.unread {
-        ExitCode::from(UNREAD)
-    } else {
-        ExitCode::SUCCESS
+    match list(&rt, &book[..b], &file[..y], &plate[..n]) {
+        Err(ErrorKind::BrokenPipe) => ExitCode::from(UNREAD),
+        // of another error standard error has been told
+        _ => ExitCode::SUCCESS,
     }
 }

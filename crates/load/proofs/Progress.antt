@@ -1,15 +1,14 @@
 -- The loop of loading: what holds after each command, why the next command keeps it, and what follows from it at the end and at a fault.
 -- Assumes nothing.
-use Prim.Native.Nat.{ℕ, suc, ◌+◌, ◌*◌, ◌-◌, ◌^◌, ◌≤◌, ◌<◌}
+use Prim.Native.Nat.{ℕ, suc, ◌+◌, ◌*◌, ◌-◌, ◌≤◌}
 use native.Mathlib.Omega.{arith}
 use mathlib.Core.Bool.{Bool, true, false}
 use mathlib.Core.List.{List, map}
 use mathlib.Core.Path.{◌≡◌, refl, sym, ap, ◌∙◌, subst}
+use Rattle.std.specs.Prelude.{Result, Ok, Err}
 use lib.IntN.{ℤ}
-use lib.ListN.{length, get_or, take, replicate, set, length-map}
-use mir.Syntax.{w64}
-use mir.Val.{Fits}
-use Rattle.sizes.specs.Sizes.{max_rules, max_places}
+use lib.ListN.{length, get_or, take, replicate, set}
+use Rattle.sizes.specs.Sizes.{max_rules}
 use Rattle.numbers.specs.Numbers.{signed_in}
 use Rattle.theory_words.specs.Name.{has_name}
 use Rattle.names.specs.Word.{word_of, has_word}
@@ -20,9 +19,9 @@ use Rattle.grammar.specs.Setters.{opened_rule, placed_rule, set_name, set_start,
 use Rattle.grammar.specs.Valid.{names_of, valid_grammar}
 use Rattle.grammar.specs.Zero.{zero_grammar, no_rule}
 use Rattle.grammar.proofs.Bounds.{valid-count}
-use Rattle.answers.specs.declared.Refusal.{Refusal}
+use Rattle.answers.specs.declared.Fault.{Fault}
 use Rattle.answers.specs.Number.{number_of}
-use Rattle.results.specs.Load.{signed, next, step, refused_load, accepted_load, run, load_of, open_rule, with_name}
+use Rattle.results.specs.Load.{Step, signed, next, step, refused_load, accepted_load, run, load_of, open_rule, with_name}
 use Rattle.results.proofs.Loading.Run.{run-stop, run-next, run-done, step-forward, run-fuel}
 use Rattle.results.proofs.Loading.Changes.{start-set, rule-set, place_set, name_set}
 use Rattle.results.proofs.Loading.Commands.{step_kept}
@@ -34,46 +33,6 @@ use Rattle.load_commands.specs.declared.opcode.Command.{Command}
 use Rattle.load_commands.specs.declared.opcode.Command.TheVariants as C
 use Rattle.load_commands.specs.declared.opcode.Header.{Header}
 use Rattle.load.proofs.Words.{rule_word, word_set, word_kept, word-open, word-compared}
-
--- ---- the bounds of a command that was read
-
-module _ (bytes : List ℕ) (at rules places word : ℕ) (c : Command) (R : CommandRead bytes at rules places word c) where
-  abbrev bounds : (m : Command) → c ≡ m → Bounded bytes at rules places m
-  bounds m e = subst (Bounded bytes at rules places) e R.bounded
-
-  pub start-room : (k : ℕ) → c ≡ C.Start k → at + 2 ≤ length bytes
-  start-room k e = bounds (C.Start k) e
-
-  pub rule-some : (o : Header) (n : ℕ) → c ≡ C.Rule o n → 0 < n
-  rule-some o n e = (bounds (C.Rule o n) e).0
-
-  pub rule-room : (o : Header) (n : ℕ) → c ≡ C.Rule o n → at + n ≤ length bytes
-  rule-room o n e = (bounds (C.Rule o n) e).1
-
-  pub rule-few : (o : Header) (n : ℕ) → c ≡ C.Rule o n → rules < max_rules
-  rule-few o n e = (bounds (C.Rule o n) e).2
-
-  pub place-some : (s : Symbol) (n : ℕ) → c ≡ C.Place s n → 0 < n
-  place-some s n e = (bounds (C.Place s n) e).0
-
-  pub place-room : (s : Symbol) (n : ℕ) → c ≡ C.Place s n → at + n ≤ length bytes
-  place-room s n e = (bounds (C.Place s n) e).1
-
-  pub place-few : (s : Symbol) (n : ℕ) → c ≡ C.Place s n → places < max_places
-  place-few s n e = (bounds (C.Place s n) e).2
-
-  pub name-room : (first w : ℕ) → c ≡ C.Name first w → at + 9 ≤ length bytes
-  name-room first w e = (bounds (C.Name first w) e).1
-
-  pub name-bytes : (first w : ℕ) → c ≡ C.Name first w → first + 8 ≤ length bytes
-  name-bytes first w e = let b = bounds (C.Name first w) e in omega (arith, b.0, b.1)
-
--- an offset that moves on within the bytes fits, and leaves fewer of them
-pub moved-fits : (len at n : ℕ) → at + n ≤ len → len < 2 ^ 64 → Fits w64 (at + n)
-moved-fits len at n h l = record { fits = omega arith }
-
-pub moved-less : (len at n : ℕ) → 0 < n → at + n ≤ len → len - (at + n) < len - at
-moved-less len at n z h = omega arith
 
 -- ---- the loop
 
@@ -104,41 +63,48 @@ unfolding signed signed_in
 signed-bytes low high = refl
 
 module _ (bytes : List ℕ) (at : ℕ) (row : List ℕ) (g : Grammar) (P : Progress bytes at row g) where
-  -- what comparing a word requires
-  pub words-room : (g.count ≤ max_rules) × (length row ≡ max_rules)
-  words-room = (P.few, ap length P.words ∙ length-map g.rules rule_word ∙ P.size)
-
-  -- the command c that was read, where q is the number of the last rule
-  module _ (q : ℕ) (c : Command) (f : q ≡ g.count - 1)
-      (R : CommandRead bytes at g.count (get_or g.rules q no_rule).count (get_or row q 0) c) where
-    means : step_of bytes c at g ≡ step bytes at g
+  -- what was read, where q is the number of the last rule
+  module _ (q : ℕ) (f : q ≡ g.count - 1) where
+    means : (r : Result Command Fault) → CommandRead bytes at g.count (get_or g.rules q no_rule).count (get_or row q 0) r
+        → step_of bytes r at g ≡ step bytes at g
     unfolding open_rule
-    means = R.means g refl (ap (λ (i : ℕ). (get_or g.rules i no_rule).count) (sym f)) (sym (word-open g row P.words q f))
+    means r R = R.means g refl (ap (λ (i : ℕ). (get_or g.rules i no_rule).count) (sym f)) (sym (word-open g row P.words q f))
 
-    progress-next : (m : Command) (at' : ℕ) (row' : List ℕ) (g' h : Grammar) → c ≡ m → step_of bytes m at g ≡ next at' g'
+    pub loads-fault : (x : Fault) → CommandRead bytes at g.count (get_or g.rules q no_rule).count (get_or row q 0) (Err x)
+        → (l : Loaded) → loading_of l ≡ refused_load (record { number = number_of x.refusal; offset = x.at })
+        → loading_of l ≡ load_of bytes
+    loads-fault x R l F = let s = run-stop (length bytes - at) bytes at g _ (sym (means (Err x) R)) in F ∙ sym s ∙ P.reached
+
+  -- the command c that was read
+  module _ (q : ℕ) (c : Command) (f : q ≡ g.count - 1)
+      (R : CommandRead bytes at g.count (get_or g.rules q no_rule).count (get_or row q 0) (Ok c)) where
+    goes : (m : Command) (s : Step) → c ≡ m → step_of bytes (Ok m) at g ≡ s → step bytes at g ≡ s
+    goes m s e k = sym (means q f (Ok c) R) ∙ ap (λ (n : Command). step_of bytes (Ok n) at g) e ∙ k
+
+    progress-next : (m : Command) (at' : ℕ) (row' : List ℕ) (g' h : Grammar) → c ≡ m → step_of bytes (Ok m) at g ≡ next at' g'
         → at' ≤ length bytes → row' ≡ map rule_word h.rules → h ≡ g' → Progress bytes at' row' h
     progress-next m at' row' g' h e s l W i = subst (λ (x : Grammar). row' ≡ map rule_word x.rules → Progress bytes at' row' x) (sym i)
         (λ U. record {
           within = l;
           reached = run-fuel bytes (suc (length bytes - at')) (length bytes - at) at' g' (omega arith) fewer
-              ∙ sym (run-next (length bytes - at) bytes at g at' g' goes) ∙ P.reached;
+              ∙ sym (run-next (length bytes - at) bytes at g at' g' k) ∙ P.reached;
           valid = valid;
           few = valid-count g' valid;
-          size = step_kept (size-invariant bytes) at g P.size at' g' goes;
+          size = step_kept (size-invariant bytes) at g P.size at' g' k;
           words = U;
         }) W
       where
-        goes : step bytes at g ≡ next at' g'
-        goes = sym means ∙ ap (λ (n : Command). step_of bytes n at g) e ∙ s
+        k : step bytes at g ≡ next at' g'
+        k = goes m (next at' g') e s
 
         fewer : length bytes - at' ≤ length bytes - at
-        fewer = let f = step-forward bytes at g at' g' goes in omega arith
+        fewer = let f = step-forward bytes at g at' g' k in omega arith
 
         valid : valid_grammar g' ≡ true
-        valid = step_kept (valid-invariant bytes) at g P.valid at' g' goes
+        valid = step_kept (valid-invariant bytes) at g P.valid at' g' k
 
-    abbrev bounded : (m : Command) → c ≡ m → Bounded bytes at g.count (get_or g.rules q no_rule).count m
-    bounded m e = bounds bytes at g.count (get_or g.rules q no_rule).count (get_or row q 0) c R m e
+    abbrev bounded : (m : Command) → c ≡ m → Bounded bytes at g.count (get_or g.rules q no_rule).count (Ok m)
+    bounded m e = subst (λ (x : Command). Bounded bytes at g.count (get_or g.rules q no_rule).count (Ok x)) e R.bounded
 
     pub progress_start : (k : ℕ) → c ≡ C.Start k → Progress bytes (at + 2) row (set_start g k)
     progress_start k e = progress-next (C.Start k) _ _ _ _ e refl (bounded (C.Start k) e) P.words (start-set g k)
@@ -182,16 +148,10 @@ module _ (bytes : List ℕ) (at : ℕ) (row : List ℕ) (g : Grammar) (P : Progr
           → loading_of l ≡ load_of bytes
       loads-name y l F =
           let s = run-stop (length bytes - at) bytes at g (record { number = 17; offset = at })
-          (sym means ∙ ap (λ (m : Command). step_of bytes m at g) e ∙ rw (compared, y)) in
+          (goes (C.Name first w) _ e (rw (compared, y))) in
           F ∙ sym s ∙ P.reached
 
     pub loads-end : (l : Loaded) → c ≡ C.End → loading_of l ≡ accepted_load g → loading_of l ≡ load_of bytes
     loads-end l e A =
-        let r = run-done (length bytes - at) bytes at g g (sym means ∙ ap (λ (m : Command). step_of bytes m at g) e) in
+        let r = run-done (length bytes - at) bytes at g g (goes C.End _ e refl) in
         A ∙ sym r ∙ P.reached
-
-    pub loads-fault : (l : Loaded) (r : Refusal) (o : ℕ) → c ≡ C.Fault r o
-        → loading_of l ≡ refused_load (record { number = number_of r; offset = o }) → loading_of l ≡ load_of bytes
-    loads-fault l r o e F =
-        let s = run-stop (length bytes - at) bytes at g _ (sym means ∙ ap (λ (m : Command). step_of bytes m at g) e) in
-        F ∙ sym s ∙ P.reached

@@ -7,24 +7,25 @@ ghost use Rattle.answers.specs.Number.{number_of};
 ghost use Rattle.results.specs.Load.{refused_load, accepted_load, load_of};
 ghost use Rattle.load.specs.Answer.{loading_of};
 
-use answers::{Outcome, Refusal};
+use answers::{Fault, Refusal};
 use grammar::{Grammar, building};
 use load_commands::opcode::Command;
 use load_commands::scan;
 
-// What loading answers, and the grammar: that of the book, or zeros if the book is refused.
+// What loading answers, and the grammar: that of the book, or zeros if the book is refused. The grammar stands beside the answer, and not
+// in its Ok, since the contract of `load` says which grammar is handed back with a refusal.
 #[derive(Clone, Copy)]
 pub struct Loaded {
-    pub outcome: Outcome,
+    pub outcome: Result<(), Fault>,
     pub grammar: Grammar,
 }
 
 // The answer for a book that is refused at an offset.
-fn refused(r: Refusal, at: usize) -> Loaded
-    ensures { loading_of result ≡ refused_load (record { number = number_of r; offset = at }) }
+fn refused(refusal: Refusal, at: usize) -> Loaded
+    ensures { loading_of result ≡ refused_load (record { number = number_of refusal; offset = at }) }
 {
     Loaded {
-        outcome: Outcome::Refused(r, at),
+        outcome: Err(Fault { refusal, at }),
         grammar: grammar::zero_grammar(),
     }
 }
@@ -38,7 +39,7 @@ fn accepted(g: Grammar) -> Loaded
     let mut h = g;
     h.depth = load_nullable::nullable_depth(g, found.set);
     Loaded {
-        outcome: Outcome::Accepted,
+        outcome: Ok(()),
         grammar: h,
     }
 }
@@ -55,23 +56,22 @@ pub fn load(bytes: &[u8]) -> Loaded
         let n = g.count;
         let q = building::last_of(n);
         let open = g.rules[q];
-        let command = scan::command_at(bytes, at, n, open.count, words[q]);
-        match command {
-            Command::Start(k) => {
+        match scan::command_at(bytes, at, n, open.count, words[q]) {
+            Ok(Command::Start(k)) => {
                 g.start = k;
                 at += 2;
             }
-            Command::Rule(h, bytes) => {
+            Ok(Command::Rule(h, bytes)) => {
                 g.rules[n] = building::opened(h.left, h.low, h.high, h.first, h.last);
                 g.count = n + 1;
                 words[n] = 0;
                 at += bytes;
             }
-            Command::Place(s, bytes) => {
+            Ok(Command::Place(s, bytes)) => {
                 g.rules[q] = building::placed(open, s);
                 at += bytes;
             }
-            Command::Name(first, word) => {
+            Ok(Command::Name(first, word)) => {
                 if names::earlier(&words, n, word) {
                     return refused(Refusal::InvalidName, at);
                 }
@@ -79,8 +79,8 @@ pub fn load(bytes: &[u8]) -> Loaded
                 words[q] = word;
                 at += 9;
             }
-            Command::End => return accepted(g),
-            Command::Fault(r, o) => return refused(r, o),
+            Ok(Command::End) => return accepted(g),
+            Err(fault) => return refused(fault.refusal, fault.at),
         }
     }
 }

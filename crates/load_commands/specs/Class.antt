@@ -1,11 +1,10 @@
--- The class of a command byte: a known command, or none. Assumes nothing.
-use Rattle.std.specs.Prelude.{ℕ, true, ◌≡◌}
+-- The command that a byte stands for, if any. Assumes nothing.
+use Rattle.std.specs.Prelude.{ℕ, true, ◌≡◌, Result, Ok, Err}
 use Rattle.results.specs.Load.{unknown}
 use Rattle.load_commands.specs.declared.opcode.Opcode.{Opcode}
 use Rattle.load_commands.specs.declared.opcode.Opcode.TheVariants.{Start, Rule, RuleWithYears, Nonterminal, Terminal, Range}
 use Rattle.load_commands.specs.declared.opcode.Opcode.TheVariants.{Name, End}
-use Rattle.load_commands.specs.declared.opcode.Class.{Class}
-use Rattle.load_commands.specs.declared.opcode.Class.TheVariants.{Known, Unknown}
+use Rattle.load_commands.specs.declared.opcode.UnknownByte.{UnknownByte}
 
 -- the byte of a command
 abbrev pub byte_of : Opcode → ℕ
@@ -18,7 +17,7 @@ byte_of Range = 0x41
 byte_of Name = 0x60
 byte_of End = 0x50
 
--- the class is that of the byte c: the command that has this byte, or none where c is unknown
-abbrev pub Classified : ℕ → Class → Type 0
-Classified c (Known k) = byte_of k ≡ c
-Classified c Unknown = unknown c ≡ true
+-- the result is the command that has the byte c, or an error where c is unknown
+abbrev pub Classified : ℕ → Result Opcode UnknownByte → Type 0
+Classified c (Ok k) = byte_of k ≡ c
+Classified c (Err e) = unknown c ≡ true

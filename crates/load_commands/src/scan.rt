@@ -8,8 +8,8 @@ ghost use Rattle.load_commands.specs.Class.{byte_of};
 ghost use Rattle.load_commands.specs.Command.{header_with, name_from, ChecksPassed, CommandRead};
 
 use super::opcode;
-use super::opcode::{Class, Command, Header, Opcode};
-use answers::Refusal;
+use super::opcode::{Command, Header, Opcode};
+use answers::{Fault, Refusal};
 use grammar::{Rule, Symbol, building};
 
 // Operand i, counted from 0, of the command at an offset, or 0 past the end of the book.
@@ -32,7 +32,7 @@ pub fn word_at(bytes: &[u8], at: usize, i: usize) -> u16
 {
     let low = operand_at(bytes, at, i);
     let high = operand_at(bytes, at, i + 1);
-    (low as u16) + 256 * (high as u16)
+    u16::from(low) + 256 * u16::from(high)
 }
 
 // What the command at an offset opens a rule with, in these years. Operands 1 and 2 are the length.
@@ -77,14 +77,23 @@ pub fn named_at(bytes: &[u8], first: usize, rule: Rule) -> Rule
     r
 }
 
-// Check 5, 6, 17 or 7 of the command k at an offset, with 21 before 5 and 16 before 6. All its operands are there, and the first is a.
-pub fn limits_at(bytes: &[u8], at: usize, k: Opcode, a: u8, rules: usize, places: usize) -> Command
+// Check 5, 6, 17 or 7 of the command k at an offset, with 21 before 5 and 16 before 6. All its operands are there, and the first is a. The
+// loader and learning both come here by `operands_at`. Where the two are not inlined, loading takes half as long again.
+#[inline(always)]
+pub fn limits_at(
+    bytes: &[u8],
+    at: usize,
+    k: Opcode,
+    a: u8,
+    rules: usize,
+    places: usize,
+) -> Result<Command, Fault>
     requires k_in_bounds { at + 1 + operands (byte_of k) ≤ length bytes.now }
     requires a_value { a ≡ operand bytes.now at 0 }
     ensures { ChecksPassed 2 bytes.now at (byte_of k) rules places result }
 {
     match k {
-        Opcode::Start => Command::Start(a),
+        Opcode::Start => Ok(Command::Start(a)),
         Opcode::Rule => {
             let header = header_at(bytes, at, a, 0, building::LAST_YEAR);
             opcode::rule(at, rules, header, 4)
@@ -112,7 +121,14 @@ pub fn limits_at(bytes: &[u8], at: usize, k: Opcode, a: u8, rules: usize, places
 }
 
 // The command k at an offset with its operands: check 1, then 4, then its limits.
-pub fn operands_at(bytes: &[u8], at: usize, k: Opcode, rules: usize, places: usize) -> Command
+#[inline(always)]
+pub fn operands_at(
+    bytes: &[u8],
+    at: usize,
+    k: Opcode,
+    rules: usize,
+    places: usize,
+) -> Result<Command, Fault>
     requires { at < length bytes.now }
     ensures { ChecksPassed 0 bytes.now at (byte_of k) rules places result }
 {
@@ -122,30 +138,51 @@ pub fn operands_at(bytes: &[u8], at: usize, k: Opcode, rules: usize, places: usi
     let a = operand_at(bytes, at, 0);
     let large = opcode::too_large(k, a);
     if left < n {
-        return Command::Fault(Refusal::UnexpectedEnd, bytes.len());
+        return Err(Fault {
+            refusal: Refusal::UnexpectedEnd,
+            at: bytes.len(),
+        });
     }
     if large {
-        return Command::Fault(Refusal::NonterminalTooLarge, at);
+        return Err(Fault {
+            refusal: Refusal::NonterminalTooLarge,
+            at,
+        });
     }
     limits_at(bytes, at, k, a, rules, places)
 }
 
 // The command at an offset. What has been read before it is a grammar of this many rules, the last with this many places and a name of
 // this word, which is 0 if it has none.
-pub fn command_at(bytes: &[u8], at: usize, rules: usize, places: usize, word: u64) -> Command
+pub fn command_at(
+    bytes: &[u8],
+    at: usize,
+    rules: usize,
+    places: usize,
+    word: u64,
+) -> Result<Command, Fault>
     ensures { CommandRead bytes.now at rules places word result }
 {
     let len = bytes.len();
     if at >= len {
-        return Command::Fault(Refusal::UnexpectedEnd, len);
+        return Err(Fault {
+            refusal: Refusal::UnexpectedEnd,
+            at: len,
+        });
     }
     let c = bytes[at];
-    let Class::Known(k) = opcode::classify(c) else {
-        return Command::Fault(Refusal::UnknownCommand, at);
+    let Ok(k) = Opcode::try_from(c) else {
+        return Err(Fault {
+            refusal: Refusal::UnknownCommand,
+            at,
+        });
     };
     let turn = opcode::turn_at(at, rules, word);
     if opcode::out_of_turn(k, turn) {
-        return Command::Fault(Refusal::OutOfTurn, at);
+        return Err(Fault {
+            refusal: Refusal::OutOfTurn,
+            at,
+        });
     }
     operands_at(bytes, at, k, rules, places)
 }

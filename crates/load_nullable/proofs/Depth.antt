@@ -2,7 +2,6 @@
 -- code gives. Assumes nothing.
 use Prim.Native.Nat.{ℕ, suc, ◌+◌, ◌-◌, ◌≤◌, ◌<◌}
 use native.Mathlib.Decide.{dec_lt}
-use native.Mathlib.Nat.{le_antisymm}
 use native.Mathlib.Numerals.{add-one}
 use native.Mathlib.Omega.{arith}
 use mathlib.Core.Bool.{Bool, true, cond}
@@ -10,7 +9,7 @@ use mathlib.Core.List.{List, ◌∷◌, map}
 use mathlib.Core.Logic.{dite}
 use mathlib.Core.Path.{◌≡◌, refl, sym, ap, ap₂, ◌∙◌}
 use lib.ListN.{length, take, get_or}
-use Rattle.sizes.specs.Sizes.{max_rules}
+use Rattle.std.proofs.lemmas.List.{take_all}
 use Rattle.laws.proofs.Bools.{bool-ext}
 use Rattle.sets.specs.Set.{insert}
 use Rattle.sets.proofs.Laws.{set-ext}
@@ -39,21 +38,17 @@ unfolding heads add_head rule_known
 heads-one known r l found =
     ap (λ (b : Bool). heads_by known l (cond b (insert r.left found) found)) (places-known known (take r.count r.places))
 
--- the steps of the loop over the rules of g
-pub heads-first : (l : List Rule) (known : ℕ) → 0 ≡ heads_by known (take 0 l) 0
+-- the steps of the loop over the used rules
+pub heads-again : (l : List Rule) (i known s t : ℕ) → s ≡ heads_by known (take i l) 0 → t ≡ add_head (get_or l i no_rule) known s
+    → i < length l → t ≡ heads_by known (take (i + 1) l) 0
 unfolding heads
-heads-first l known = refl
-
-pub heads-again : (l : List Rule) (i n known s t : ℕ) → s ≡ heads_by known (take i l) 0 → t ≡ add_head (get_or l i no_rule) known s → i < n
-    → n ≤ max_rules → length l ≡ max_rules → t ≡ heads_by known (take (i + 1) l) 0
-unfolding heads
-heads-again l i n known s t e f h m k =
+heads-again l i known s t e f h =
     f ∙ ap (add_head (get_or l i no_rule) known) e
-    ∙ sym (rules-next (heads_by known) (λ r x. add_head r known x) (λ x. refl) (heads-one known) l i 0 (omega arith))
+    ∙ sym (rules-next (heads_by known) (λ r x. add_head r known x) (λ x. refl) (heads-one known) l i 0 h)
 
-pub heads-last : (g : Grammar) (i n known s : ℕ) → n ≡ g.count → s ≡ heads_by known (take i g.rules) 0 → i ≤ n → n ≤ i
+pub heads-last : (g : Grammar) (i known s : ℕ) → s ≡ heads_by known (take i (take g.count g.rules)) 0 → length (take g.count g.rules) ≤ i
     → s ≡ level_above (whole_of g) known
-heads-last g i n known s e f h k = f ∙ ap (λ (m : ℕ). heads_by known (take m g.rules) 0) (le_antisymm h k ∙ e)
+heads-last g i known s e h = e ∙ ap (λ (l : List Rule). heads_by known l 0) (take_all i (take g.count g.rules) h)
 
 -- ---- up to the depth
 

@@ -1,16 +1,18 @@
 -- The search for nullable nonterminals as numbers. A pass keeps the members and the width; it adds nothing, and then no rule adds anything,
 -- or the set has more members. Then the steps of the loops, with the premises that the code gives. Assumes nothing.
 use Prim.Native.Nat.{ℕ, zero, suc, ◌+◌, ◌^◌, ◌≤◌, ◌<◌}
-use native.Mathlib.Nat.{le_refl, le_trans, le_antisymm, le_of_suc-le-suc, not-suc-le-zero}
+use native.Mathlib.Nat.{le_refl, le_trans, le_of_suc-le-suc, not-suc-le-zero}
 use native.Mathlib.Numerals.{add-one}
 use native.Mathlib.Omega.{arith}
-use mathlib.Core.Bool.{Bool, true, false, cond, not, and-false}
+use mathlib.Core.Bool.{Bool, true, false, cond, not}
 use mathlib.Core.List.{List, [], ◌∷◌}
 use mathlib.Core.Logic.{◌⊎◌, inl, inr}
 use mathlib.Core.Path.{◌≡◌, refl, sym, ap, ◌∙◌, subst}
 use lib.ListN.{length, take, get_or}
+use lib.Seq.{take-length}
 use borrow.Author.Tests.{not-true, leb-true}
-use Rattle.sizes.specs.Sizes.{max_rules, max_places}
+use Rattle.std.proofs.lemmas.List.{take_all}
+use Rattle.std.proofs.lemmas.List.Folds.{list_all_at}
 use Rattle.laws.proofs.Bools.{by-test, and_parts}
 use Rattle.sets.specs.Set.{has, insert, card}
 use Rattle.sets.proofs.Laws.{has-insert, has-insert-same, insert-old, insert-le, insert-lt, insert-same→has}
@@ -22,7 +24,7 @@ use Rattle.grammar.specs.declared.Rule.{Rule}
 use Rattle.grammar.specs.Valid.{all, valid_symbol, valid_place, valid_rule}
 use Rattle.grammar.specs.View.{symbol_of}
 use Rattle.grammar.specs.Zero.{zero_place, no_rule}
-use Rattle.grammar.proofs.All.{all-at}
+use Rattle.grammar.proofs.All.{all-list, all-at}
 use Rattle.grammar.proofs.Bounds.{rule-parts}
 use Rattle.load_nullable.specs.Nullable.{symbol_known, place_known, rule_known, add_head, widen, pass}
 
@@ -36,29 +38,26 @@ place-member known p k b e h = h ∙ sym (ap (λ (s : Symbol). symbol_known know
 
 -- ---- the places of a rule
 
--- an element of the list that does not pass the test
-all-stops : {A : Type 0} (test : A → Bool) (d : A) (l : List A) (n q : ℕ) → q < n → q < length l → test (get_or l q d) ≡ false
-    → all test (take n l) ≡ false
-unfolding all
-all-stops test d [] n q h k e = absurd (not-suc-le-zero k)
-all-stops test d (a ∷ l) zero q h k e = absurd (not-suc-le-zero h)
-all-stops test d (a ∷ l) (suc n) zero h k e = rw e
-all-stops test d (a ∷ l) (suc n) (suc q) h k e =
-    rw (all-stops test d l n q (le_of_suc-le-suc h) (le_of_suc-le-suc k) e) (and-false (test a))
+-- the used places are read one by one
+module _ (r : Rule) where
+  abbrev used : List Place
+  used = take r.count r.places
 
-pub rule-place-valid : (r : Rule) (q : ℕ) → valid_rule r ≡ true → q < r.count → valid_place (get_or r.places q zero_place) ≡ true
-rule-place-valid r q v h = all-at valid_place zero_place refl r.places r.count q h (rule-parts r v).2
+  pub used-place-valid : (q : ℕ) → valid_rule r ≡ true → q < length used → valid_place (get_or used q zero_place) ≡ true
+  used-place-valid q v h =
+      let all_of : all valid_place (take (length used) used) ≡ true = rw take-length (rule-parts r v).2 in
+      all-at valid_place zero_place refl used (length used) q h all_of
 
 module _ (known : ℕ) (r : Rule) where
-  pub rule-stops : (q : ℕ) (b : Bool) → b ≡ place_known known (get_or r.places q zero_place) → not b ≡ true → q < r.count
-      → r.count ≤ max_places → length r.places ≡ max_places → false ≡ rule_known known r
+  pub rule-stops : (q : ℕ) (b : Bool) → b ≡ place_known known (get_or (used r) q zero_place) → not b ≡ true → q < length (used r)
+      → false ≡ rule_known known r
   unfolding rule_known
-  rule-stops q b e t h m k =
-      sym (all-stops (place_known known) zero_place r.places r.count q h (omega arith) (sym e ∙ not-true b t))
+  rule-stops q b e t h =
+      sym (all-list (place_known known) (used r) ∙ list_all_at (place_known known) (used r) q zero_place h (sym e ∙ not-true b t))
 
-  pub rule-whole : (q : ℕ) → q ≤ r.count → r.count ≤ q → all (place_known known) (take q r.places) ≡ true → true ≡ rule_known known r
+  pub rule-whole : (q : ℕ) → length (used r) ≤ q → all (place_known known) (take q (used r)) ≡ true → true ≡ rule_known known r
   unfolding rule_known
-  rule-whole q h k e = rw (le_antisymm k h) (sym e)
+  rule-whole q h e = sym (rw (take_all q (used r) h) at e)
 
   module _ (found : ℕ) (b : Bool) (e : b ≡ rule_known known r) where
     head_in : b ≡ true → insert r.left found ≡ add_head r known found
@@ -124,17 +123,13 @@ pub pass-next : (l : List Rule) (i known : ℕ) → i < length l → pass (take 
 unfolding pass
 pass-next = rules-next pass widen (λ x. refl) (λ r l x. refl)
 
--- the steps of the loop over the rules of g
-pub pass-first : (l : List Rule) (known : ℕ) → known ≡ pass (take 0 l) known
-unfolding pass
-pass-first l known = refl
+-- the steps of the loop over the used rules
+pub pass-again : (l : List Rule) (i known s t : ℕ) → s ≡ pass (take i l) known → t ≡ widen (get_or l i no_rule) s → i < length l
+    → t ≡ pass (take (i + 1) l) known
+pass-again l i known s t e f h = f ∙ ap (widen (get_or l i no_rule)) e ∙ sym (pass-next l i known h)
 
-pub pass-again : (l : List Rule) (i n known s t : ℕ) → s ≡ pass (take i l) known → t ≡ widen (get_or l i no_rule) s → i < n → n ≤ max_rules
-    → length l ≡ max_rules → t ≡ pass (take (i + 1) l) known
-pass-again l i n known s t e f h m k = f ∙ ap (widen (get_or l i no_rule)) e ∙ sym (pass-next l i known (omega arith))
-
-pub pass-last : (l : List Rule) (i n known s : ℕ) → s ≡ pass (take i l) known → i ≤ n → n ≤ i → s ≡ pass (take n l) known
-pass-last l i n known s e h k = e ∙ ap (λ (m : ℕ). pass (take m l) known) (le_antisymm h k)
+pub pass-last : (l : List Rule) (i known s : ℕ) → s ≡ pass (take i l) known → length l ≤ i → s ≡ pass l known
+pass-last l i known s e h = e ∙ ap (λ (x : List Rule). pass x known) (take_all i l h)
 
 -- if a pass adds nothing, no rule adds anything
 pub pass_same : (l : List Rule) (known : ℕ) → pass l known ≡ known → (i : ℕ) → i < length l → widen (get_or l i no_rule) known ≡ known

@@ -27,14 +27,10 @@ pub fn rule_in(rule: Rule, known: u32) -> bool
     requires { valid_rule rule ≡ true }
     ensures { result ≡ rule_known known rule }
 {
-    let n = rule.count;
-    let mut q = 0;
-    while q < n {
-        let p = rule.places[q];
-        if !place_in(p, known) {
+    for p in &rule.places[..rule.count] {
+        if !place_in(*p, known) {
             return false;
         }
-        q += 1;
     }
     true
 }
@@ -57,13 +53,9 @@ pub fn nullable_pass(g: Grammar, known: u32) -> u32
     requires { valid_grammar g ≡ true }
     ensures { result ≡ pass (take g.count g.rules) known }
 {
-    let n = g.count;
     let mut s = known;
-    let mut i = 0;
-    while i < n {
-        let rule = g.rules[i];
-        s = with_head(rule, s, s);
-        i += 1;
+    for rule in &g.rules[..g.count] {
+        s = with_head(*rule, s, s);
     }
     s
 }
@@ -100,13 +92,9 @@ pub fn level_above(g: Grammar, level: u32) -> u32
     requires { valid_grammar g ≡ true }
     ensures { result ≡ level_above (whole_of g) level }
 {
-    let n = g.count;
     let mut s = 0;
-    let mut i = 0;
-    while i < n {
-        let rule = g.rules[i];
-        s = with_head(rule, level, s);
-        i += 1;
+    for rule in &g.rules[..g.count] {
+        s = with_head(*rule, level, s);
     }
     s
 }

@@ -2,14 +2,13 @@
 use Prim.Native.Nat.{ℕ, ◌+◌, ◌-◌, ◌^◌, ◌≤◌, ◌<◌}
 use native.Mathlib.Omega.{arith}
 use mathlib.Core.List.{List}
+use Rattle.std.specs.Prelude.{Option, Some, None, Result, Ok, Err}
 use mathlib.Core.Path.{◌≡◌, sym, ap, ◌∙◌, subst}
 use lib.ListN.{length, take, drop}
 use mir.Syntax.{w64}
 use mir.Val.{Fits}
 use Rattle.theory_words.specs.Name.{name_size, unfilled}
-use Rattle.answers.specs.declared.Refusal.{Refusal}
-use Rattle.answers.specs.declared.Outcome.{Outcome}
-use Rattle.answers.specs.declared.Outcome.TheVariants.{Accepted, Refused}
+use Rattle.answers.specs.declared.Fault.{Fault}
 use Rattle.answers.specs.Answers.{outcome_of}
 use Rattle.results.specs.Answer.{loaded}
 use Rattle.results.specs.Load.{Loading, load_of}
@@ -18,8 +17,6 @@ use Rattle.results.specs.Name.{empty_part, name_offset, part_from, name_part, na
 use Rattle.results.proofs.Loading.Named.{Told, name-told, part-loaded, part-refused, part-within}
 use Rattle.load.specs.declared.Loaded.{Loaded}
 use Rattle.load.specs.Answer.{loading_of}
-use Rattle.lookup.specs.declared.Found.{Found}
-use Rattle.lookup.specs.declared.Found.TheVariants.{At, Nowhere}
 use Rattle.lookup.specs.declared.Part.{Part}
 use Rattle.lookup.specs.Found.{found_of, part_of}
 
@@ -27,30 +24,30 @@ module _ (bytes : List ℕ) (r : ℕ) where
   -- ---- where the part is
 
   module _ (l : Loaded) (loads : loading_of l ≡ load_of bytes) where
-    answers : (o : Outcome) → l.outcome ≡ o → (load_of bytes).answer ≡ outcome_of o
+    answers : (o : Result (Unit {0}) Fault) → l.outcome ≡ o → (load_of bytes).answer ≡ outcome_of o
     answers o e = sym (ap (λ (x : Loading). x.answer) loads) ∙ ap outcome_of e
 
-    pub not-loaded : (f : Refusal) (at : ℕ) → l.outcome ≡ Refused f at → empty_part ≡ name_part bytes r
-    not-loaded f at e = sym (part-refused bytes r _ at (answers (Refused f at) e))
+    pub not-loaded : (f : Fault) → l.outcome ≡ Err f → empty_part ≡ name_part bytes r
+    not-loaded f e = sym (part-refused bytes r _ f.at (answers (Err f) e))
 
-    pub is-loaded : l.outcome ≡ Accepted → (load_of bytes).answer ≡ loaded
-    is-loaded e = answers Accepted e
+    pub is-loaded : l.outcome ≡ Ok tt → (load_of bytes).answer ≡ loaded
+    is-loaded e = answers (Ok tt) e
 
-    module _ (accepted : l.outcome ≡ Accepted) (f : Found) (found : found_of f ≡ name_offset bytes r) where
+    module _ (accepted : l.outcome ≡ Ok tt) (f : Option ℕ) (found : found_of f ≡ name_offset bytes r) where
       -- the part, by where the name begins
-      part_by : (m : Found) → f ≡ m → name_part bytes r ≡ part_from bytes (found_of m)
+      part_by : (m : Option ℕ) → f ≡ m → name_part bytes r ≡ part_from bytes (found_of m)
       part_by m e = part-loaded bytes r (is-loaded accepted) ∙ ap (part_from bytes) (sym found ∙ ap found_of e)
 
-      pub not_found : f ≡ Nowhere → empty_part ≡ name_part bytes r
-      not_found e = sym (part_by Nowhere e)
+      pub not_found : f ≡ None → empty_part ≡ name_part bytes r
+      not_found e = sym (part_by None e)
 
-      pub found-room : (at : ℕ) → f ≡ At at → at + name_size ≤ length bytes
+      pub found-room : (at : ℕ) → f ≡ Some at → at + name_size ≤ length bytes
       found-room at e =
           (subst (Told bytes r (load_of bytes).grammar) (sym found ∙ ap found_of e) (name-told bytes r (is-loaded accepted))).whole
 
-      pub found_part : (at n : ℕ) → f ≡ At at → (n ≡ length (unfilled (take name_size (drop at bytes)))) × (n ≤ name_size)
+      pub found_part : (at n : ℕ) → f ≡ Some at → (n ≡ length (unfilled (take name_size (drop at bytes)))) × (n ≤ name_size)
           → part_of (record { offset = at; length = n }) ≡ name_part bytes r
-      found_part at n e p = sym (part_by (At at) e ∙ ap (λ (k : ℕ). record { offset = at; length = k }) (sym p.0))
+      found_part at n e p = sym (part_by (Some at) e ∙ ap (λ (k : ℕ). record { offset = at; length = k }) (sym p.0))
 
   -- ---- the bytes of the part
 

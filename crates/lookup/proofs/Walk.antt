@@ -24,9 +24,7 @@ use Rattle.results.proofs.Loading.Run.{run-stop, run-next, step_past}
 use Rattle.results.proofs.Loading.Commands.{step-done, step_kept}
 use Rattle.results.proofs.Loading.Renamed.{step-moved}
 use Rattle.results.proofs.Loading.Named.{Room, room-invariant, from_next, from-done}
-use Rattle.load_commands.specs.Class.{byte_of, Classified}
-use Rattle.load_commands.specs.declared.opcode.Class.{Class}
-use Rattle.load_commands.specs.declared.opcode.Class.TheVariants.{Known, Unknown}
+use Rattle.load_commands.specs.Class.{byte_of}
 use Rattle.load_commands.specs.declared.opcode.Opcode.{Opcode}
 
 -- ---- the open rule
@@ -83,9 +81,6 @@ walk_first bytes r a = walk_of bytes r 0 0 (record {
   same = refl;
 })
 
-pub walk-ended : (bytes : List ℕ) (r at rules : ℕ) → Walk bytes r at rules → length bytes ≤ at → none ≡ name_offset bytes r
-walk-ended bytes r at rules W h = sym (W.ended h)
-
 -- ---- one command
 
 -- the command at an offset of a book that loads: it is the last one, or the book goes on after it
@@ -128,19 +123,16 @@ module _ (bytes : List ℕ) (r at : ℕ) where
       go zero a m = clash cc
       go (suc n) a m = onward-step G.grammar G.room n a m (step bytes at G.grammar) refl
 
-  -- by the class c of the command's byte
-  module _ (rules : ℕ) (W : Walk bytes r at rules) (h : at < length bytes) (c : Class) (C : Classified (get_or bytes at 0) c) where
-    pub never-unknown : c ≡ Unknown → none ≡ name_offset bytes r
-    never-unknown e = go (onward-of rules (W.going h))
+  -- by the command's byte
+  module _ (rules : ℕ) (W : Walk bytes r at rules) (h : at < length bytes) where
+    pub never-unknown : unknown (get_or bytes at 0) ≡ true → none ≡ name_offset bytes r
+    never-unknown u = go (onward-of rules (W.going h))
       where
         go : Onward bytes r at rules → none ≡ name_offset bytes r
         go (last b l m) = m
-        go (onward b w f o) = absurd (true-false (subst (Classified (get_or bytes at 0)) e C) b)
+        go (onward b w f o) = absurd (true-false u b)
 
-    module _ (k : Opcode) (i : c ≡ Known k) where
-      e : byte_of k ≡ get_or bytes at 0
-      e = subst (Classified (get_or bytes at 0)) i C
-
+    module _ (k : Opcode) (e : byte_of k ≡ get_or bytes at 0) where
       pub walk-room : (n : ℕ) → n ≡ operands (byte_of k) → at + (1 + n) ≤ length bytes
       unfolding operands
       walk-room n p = go (onward-of rules (W.going h))
@@ -157,9 +149,6 @@ module _ (bytes : List ℕ) (r at : ℕ) where
 
       pub size_fits : (n : ℕ) → n ≡ operands (byte_of k) → length bytes < 2 ^ 64 → Fits w64 (1 + n)
       size_fits n p l = record { fits = omega (arith, walk-room n p) }
-
-      pub walk-less : (n : ℕ) → n ≡ operands (byte_of k) → length bytes - (at + (1 + n)) < length bytes - at
-      walk-less n p = omega (arith, walk-room n p)
 
       pub walk-found : (b : Bool) → b ≡ (eqb (byte_of k) 0x60 && eqb rules (suc r)) → b ≡ true → some (at + 1) ≡ name_offset bytes r
       walk-found b p t = go (onward-of rules (W.going h))

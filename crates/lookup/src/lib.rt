@@ -10,9 +10,8 @@ ghost use Rattle.results.specs.Name.{name_offset, name_part, name_of};
 ghost use Rattle.load_commands.specs.Class.{byte_of};
 ghost use Rattle.lookup.specs.Found.{found_of, part_of};
 
-use answers::Outcome;
 use load_commands::opcode;
-use load_commands::opcode::{Class, Opcode};
+use load_commands::opcode::Opcode;
 
 // A part of the bytes: where it begins, and how many bytes it has.
 #[derive(Clone, Copy)]
@@ -21,27 +20,19 @@ pub struct Part {
     pub length: usize,
 }
 
-// Where a name begins, if anywhere.
-#[derive(Clone, Copy)]
-pub enum Found {
-    At(usize),
-    Nowhere,
-}
-
 // How many rules there are after a command.
 fn rules_after(k: Opcode, rules: usize) -> usize
     requires { rules ≤ max_rules }
     ensures { result ≡ cond (opens_rule (byte_of k)) (rules + 1) rules }
 {
     match k {
-        Opcode::Start => rules,
-        Opcode::Rule => rules + 1,
-        Opcode::RuleWithYears => rules + 1,
-        Opcode::Nonterminal => rules,
-        Opcode::Terminal => rules,
-        Opcode::Range => rules,
-        Opcode::Name => rules,
-        Opcode::End => rules,
+        Opcode::Rule | Opcode::RuleWithYears => rules + 1,
+        Opcode::Start
+        | Opcode::Nonterminal
+        | Opcode::Terminal
+        | Opcode::Range
+        | Opcode::Name
+        | Opcode::End => rules,
     }
 }
 
@@ -56,51 +47,40 @@ fn is_open(rules: usize, rule: usize) -> bool
 fn names_rule(k: Opcode, rules: usize, rule: usize) -> bool
     ensures { result ≡ (eqb (byte_of k) 0x60 && eqb rules (suc rule)) }
 {
-    match k {
-        Opcode::Start => false,
-        Opcode::Rule => false,
-        Opcode::RuleWithYears => false,
-        Opcode::Nonterminal => false,
-        Opcode::Terminal => false,
-        Opcode::Range => false,
-        Opcode::Name => is_open(rules, rule),
-        Opcode::End => false,
-    }
+    matches!(k, Opcode::Name) && is_open(rules, rule)
 }
 
 // Where the name of a rule begins in a book that loads: after the 60 that gives it.
-fn find(bytes: &[u8], rule: usize) -> Found
+fn find(bytes: &[u8], rule: usize) -> Option<usize>
     requires { (load_of bytes.now).answer ≡ loaded }
     ensures { found_of result ≡ name_offset bytes.now rule }
 {
     let mut at = 0;
     let mut rules = 0;
     while at < bytes.len() {
-        let Class::Known(k) = opcode::classify(bytes[at]) else {
-            return Found::Nowhere;
+        let Ok(k) = Opcode::try_from(bytes[at]) else {
+            return None;
         };
         if names_rule(k, rules, rule) {
-            return Found::At(at + 1);
+            return Some(at + 1);
         }
         rules = rules_after(k, rules);
         at += 1 + opcode::operand_count(k);
     }
-    Found::Nowhere
+    None
 }
 
 // The part that is the name of a rule, without its filling. It is empty if the book does not load, or if no command names the rule.
 pub fn name_part(bytes: &[u8], rule: usize) -> Part
     ensures { part_of result ≡ name_part bytes.now rule }
 {
-    let l = load::load(bytes);
-    let outcome = l.outcome;
-    let Outcome::Accepted = outcome else {
+    let Ok(()) = load::load(bytes).outcome else {
         return Part {
             offset: 0,
             length: 0,
         };
     };
-    let Found::At(at) = find(bytes, rule) else {
+    let Some(at) = find(bytes, rule) else {
         return Part {
             offset: 0,
             length: 0,

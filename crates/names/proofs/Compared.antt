@@ -1,6 +1,6 @@
 -- Words of names are equal exactly if the names are, and the word of no name is 0. Assumes nothing.
-use Prim.Native.Nat.{ℕ, zero, suc, ◌+◌, ◌*◌, ◌≤◌, ◌<◌}
-use native.Mathlib.Nat.{le_antisymm, le_of_suc-le-suc, not-suc-le-zero}
+use Prim.Native.Nat.{ℕ, zero, suc, ◌+◌, ◌*◌, ◌<◌}
+use native.Mathlib.Nat.{le_of_suc-le-suc, not-suc-le-zero}
 use native.Mathlib.Numerals.{add-one}
 use native.Mathlib.Omega.{arith}
 use mathlib.Core.Bool.{Bool, true, false, ◌&&◌, ◌||◌, or-true, or-false, or_assoc}
@@ -10,9 +10,8 @@ use lib.Dec.{leb, ltb, eqb}
 use lib.ListN.{length, get_or, take, drop, replicate, drop_of_length-le}
 use lib.Pow.{are_bytes}
 use borrow.Author.Tests.{leb-true, ltb-true, lt-ltb, eqb-true, eq-eqb, ne_eqb}
-use Rattle.laws.proofs.Bools.{true-false, by-test, bool_false, bool-ext, and_parts, and-parts₃, and_both}
-use Rattle.sizes.specs.Sizes.{max_rules}
-use Rattle.theory_words.specs.Name.{name_size, blank, name_byte, filled_up, valid_name, unnamed, allowed_name, same_name, has_name}
+use Rattle.laws.proofs.Bools.{true-false, by-test, bool_false, bool-ext, and_parts, and_both}
+use Rattle.theory_words.specs.Name.{name_size, blank, name_byte, valid_name, unnamed, allowed_name, same_name, has_name}
 use Rattle.theory_words.proofs.Filled.{Filled, filled-end, filled_more, valid-name}
 use Rattle.theory_words.proofs.SameName.{same-name, same-name-refl, valid-named}
 use Rattle.names.specs.Word.{word_of, has_word}
@@ -134,7 +133,7 @@ words-compared name (other ∷ names) v h =
 -- ---- a row of words
 
 -- the loop over a row: b says whether w is among the first i words
-module _ (w n i : ℕ) (l : List ℕ) (b : Bool) (e : b ≡ has_word w (take i l)) where
+module _ (w i : ℕ) (l : List ℕ) (b : Bool) (e : b ≡ has_word w (take i l)) (h : i < length l) where
   one_more : (l : List ℕ) (i : ℕ) → i < length l → has_word w (take (suc i) l) ≡ (has_word w (take i l) || eqb (get_or l i 0) w)
   unfolding has_word
   one_more [] i h = absurd (not-suc-le-zero h)
@@ -143,15 +142,11 @@ module _ (w n i : ℕ) (l : List ℕ) (b : Bool) (e : b ≡ has_word w (take i l
       ap (λ (x : Bool). eqb v w || x) (one_more l i (le_of_suc-le-suc h))
       ∙ sym (or_assoc (eqb v w) (has_word w (take i l)) (eqb (get_or l i 0) w))
 
-  module _ (long : length l ≡ max_rules) (few : n ≤ max_rules) (h : i < n) where
-    word_more : has_word w (take (i + 1) l) ≡ (has_word w (take i l) || eqb (get_or l i 0) w)
-    word_more = rw add-one (one_more l i (omega arith))
+  word_more : has_word w (take (i + 1) l) ≡ (has_word w (take i l) || eqb (get_or l i 0) w)
+  word_more = rw add-one (one_more l i h)
 
-    pub word-found : get_or l i 0 ≡ w → true ≡ has_word w (take (i + 1) l)
-    word-found t = sym (word_more ∙ rw (eq-eqb (get_or l i 0) w t) (or-true (has_word w (take i l))))
+  pub word-found : get_or l i 0 ≡ w → true ≡ has_word w (take (i + 1) l)
+  word-found t = sym (word_more ∙ rw (eq-eqb (get_or l i 0) w t) (or-true (has_word w (take i l))))
 
-    pub word-not : (get_or l i 0 ≡ w → ⊥) → b ≡ has_word w (take (i + 1) l)
-    word-not t = e ∙ sym (word_more ∙ rw (ne_eqb (get_or l i 0) w t) (or-false (has_word w (take i l))))
-
-  pub word-done : i ≤ n → n ≤ i → b ≡ has_word w (take n l)
-  word-done h k = rw (le_antisymm k h) e
+  pub word-not : (get_or l i 0 ≡ w → ⊥) → b ≡ has_word w (take (i + 1) l)
+  word-not t = e ∙ sym (word_more ∙ rw (ne_eqb (get_or l i 0) w t) (or-false (has_word w (take i l))))

@@ -1,3 +1,4 @@
 -- The laws of valid names and of their words.
 pub mod Valid
 pub mod Compared
+pub mod Tied

@@ -3,12 +3,13 @@ use Prim.Native.Nat.{ℕ, suc, ◌+◌, ◌≤◌, ◌<◌}
 use native.Mathlib.Numerals.{add-one}
 use native.Mathlib.Omega.{arith}
 use mathlib.Core.Bool.{Bool, true, false, not, cond, ◌&&◌, ◌||◌, and-true, and-false, or-false}
-use mathlib.Core.List.{List, [], ◌∷◌}
+use mathlib.Core.List.{List, ◌∷◌}
 use mathlib.Core.Path.{◌≡◌, refl, sym, ap, ◌∙◌}
 use lib.Dec.{leb, eqb}
-use lib.ListN.{length, get_or, drop, drop_of_length-le}
+use lib.ListN.{length, get_or, take, drop, drop_of_length-le, length-drop}
 use lib.Seq.{drop-cons}
 use borrow.Author.Tests.{eqb-true, eq-eqb, ne_eqb, le-leb, lt-leb, not-true, not-false}
+use Rattle.std.proofs.lemmas.List.{take_all}
 use Rattle.laws.proofs.Bools.{by-test, bool_false}
 use Rattle.theory_words.specs.Name.{name_size, blank, name_byte, filling, filled_up, valid_name}
 use Rattle.theory_words.proofs.Filled.{name-byte}
@@ -64,33 +65,39 @@ rest-cons ended b l = go ended (name_byte b) (eqb b blank) refl refl
     go false false true p q = rw (p, q)
     go false false false p q = rw (p, q)
 
-module _ (name : List ℕ) (size : length name ≡ name_size) where
-  -- a read byte of the name
-  rest_at : (ended : Bool) (i : ℕ) → i < name_size → rest_of ended (drop i name)
-      ≡ ((eqb (get_or name i 0) blank || (not ended && name_byte (get_or name i 0))) && rest_of (eqb (get_or name i 0) blank) (drop (i + 1) name))
-  rest_at ended i k = rw (drop-cons name i 0 (omega arith), add-one) (rest-cons ended (get_or name i 0) (drop (suc i) name))
+-- a read byte of what is left
+rest_at : (ended : Bool) (l : List ℕ) (i : ℕ) → i < length l → rest_of ended (drop i l)
+    ≡ ((eqb (get_or l i 0) blank || (not ended && name_byte (get_or l i 0))) && rest_of (eqb (get_or l i 0) blank) (drop (i + 1) l))
+rest_at ended l i k = rw (drop-cons l i 0 k, add-one) (rest-cons ended (get_or l i 0) (drop (suc i) l))
 
-  pub first-refused : (b : Bool) → b ≡ name_byte (get_or name 0 0) → not b ≡ true → false ≡ valid_name name
+module _ (name : List ℕ) where
+  pub first-refused : length name ≡ name_size → (b : Bool) → b ≡ name_byte (get_or name 0 0) → not b ≡ true → false ≡ valid_name name
   unfolding valid_name
-  first-refused b e t = sym (rw (size, ← e, not-true b t))
+  first-refused size b e t = sym (rw (size, ← e, not-true b t))
 
-  pub first_passes : (b : Bool) → b ≡ name_byte (get_or name 0 0) → not b ≡ false → valid_name name ≡ rest_of false (drop 1 name)
+  pub first_passes : length name ≡ name_size → (b : Bool) → b ≡ name_byte (get_or name 0 0) → not b ≡ false
+      → valid_name name ≡ rest_of false (drop 1 name)
   unfolding valid_name
-  first_passes b e t =
+  first_passes size b e t =
       let n : name_byte (get_or name 0 0) ≡ true = sym e ∙ not-false b t in
       let f : eqb (get_or name 0 0) blank ≡ false = bool_false (eqb (get_or name 0 0) blank) (no-blank (get_or name 0 0) n) in
-      let r : filled_up name ≡ rest_of false (drop 1 name) = rest_at false 0 (omega arith) ∙ rw (n, f) in
+      let r : filled_up name ≡ rest_of false (drop 1 name) = rest_at false name 0 (omega arith) ∙ rw (n, f) in
       rw (size, n) r
 
-  module _ (ended : Bool) (i : ℕ) (h : valid_name name ≡ rest_of ended (drop i name)) (k : i < name_size) (b : Bool)
-      (e : b ≡ (eqb (get_or name i 0) blank || (not ended && name_byte (get_or name i 0)))) where
-    pub byte-refused : not b ≡ true → false ≡ valid_name name
-    byte-refused t = sym (h ∙ rest_at ended i k ∙ rw (← e, not-true b t))
+  -- what is left are seven bytes
+  pub seven-left : length name ≡ name_size → (b : Bool) → b ≡ name_byte (get_or name 0 0) → not b ≡ false
+      → valid_name name ≡ rest_of false (take 7 (drop 1 name))
+  seven-left size b e t = rw (take_all 7 (drop 1 name) (omega (arith, length-drop 1 name))) (first_passes size b e t)
 
-    pub byte-passes : not b ≡ false → valid_name name ≡ rest_of (eqb (get_or name i 0) blank) (drop (i + 1) name)
-    byte-passes t = h ∙ rest_at ended i k ∙ rw (← e, not-false b t)
+  -- the loop over the bytes after the first, l
+  module _ (l : List ℕ) (ended : Bool) (i : ℕ) (h : valid_name name ≡ rest_of ended (drop i l)) where
+    module _ (k : i < length l) (b : Bool) (e : b ≡ (eqb (get_or l i 0) blank || (not ended && name_byte (get_or l i 0)))) where
+      pub byte-refused : not b ≡ true → false ≡ valid_name name
+      byte-refused t = sym (h ∙ rest_at ended l i k ∙ rw (← e, not-true b t))
 
-  pub name-read : (ended : Bool) (i : ℕ) → valid_name name ≡ rest_of ended (drop i name) → name_size ≤ i → true ≡ valid_name name
-  unfolding filling filled_up
-  name-read ended i h k =
-      sym (h ∙ ap (rest_of ended) (drop_of_length-le name {i = i} (omega arith)) ∙ by-test ended (λ t. rw t) (λ t. rw t))
+      pub byte-passes : not b ≡ false → valid_name name ≡ rest_of (eqb (get_or l i 0) blank) (drop (i + 1) l)
+      byte-passes t = h ∙ rest_at ended l i k ∙ rw (← e, not-false b t)
+
+    pub name-read : length l ≤ i → true ≡ valid_name name
+    unfolding filling filled_up
+    name-read k = sym (h ∙ ap (rest_of ended) (drop_of_length-le l {i = i} k) ∙ by-test ended (λ t. rw t) (λ t. rw t))

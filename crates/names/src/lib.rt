@@ -3,7 +3,7 @@
 
 ghost use Rattle.std.specs.Prelude.{◌≤◌, ◌<◌, not, ◌&&◌, ◌||◌, [], ◌∷◌, ◌≡◌, eqb, length, take};
 ghost use Rattle.sizes.specs.Sizes.{max_rules};
-ghost use Rattle.theory_words.specs.Name.{name_size, blank, name_byte, valid_name, allowed_name};
+ghost use Rattle.theory_words.specs.Name.{blank, name_byte, valid_name, allowed_name};
 ghost use Rattle.names.specs.Word.{word_of, has_word};
 
 // The bytes of a name with its filling.
@@ -11,13 +11,6 @@ pub const NAME: usize = 8;
 
 // A word for each rule.
 pub type Words = [u64; sizes::MAX_RULES];
-
-// A must-fail edit of the constant is checked in this crate only, so its twin in specs/ is named here.
-pub fn tied_name() -> usize
-    ensures { result ≡ name_size }
-{
-    NAME
-}
 
 // A capital or a digit.
 fn name_byte(b: u8) -> bool
@@ -47,14 +40,11 @@ pub fn valid_name(name: [u8; NAME]) -> bool
         return false;
     }
     let mut ended = false;
-    let mut i = 1;
-    while i < NAME {
-        let b = name[i];
-        if !follows(ended, b) {
+    for b in &name[1..] {
+        if !follows(ended, *b) {
             return false;
         }
-        ended = b == 0x20;
-        i += 1;
+        ended = *b == 0x20;
     }
     true
 }
@@ -88,12 +78,10 @@ pub fn earlier(words: &Words, n: usize, w: u64) -> bool
     ensures { result ≡ has_word w (take n words.now) }
 {
     let mut found = false;
-    let mut i = 0;
-    while i < n {
-        if words[i] == w {
+    for word in &words[..n] {
+        if *word == w {
             found = true;
         }
-        i += 1;
     }
     found
 }

@@ -1,6 +1,7 @@
 -- What `next` answers, from the checks, from whether the offered row is a derivation, and from the answer over the filled chart.
 -- Assumes nothing.
 use Prim.Native.Nat.{ℕ}
+use Rattle.std.proofs.Common.{Ok, Err}
 use mathlib.Core.Bool.{Bool, true, false, not}
 use mathlib.Core.List.{List, [], ◌∷◌}
 use mathlib.Core.Path.{◌≡◌, sym, ap, ◌∙◌}
@@ -11,8 +12,6 @@ use Rattle.grammar.specs.View.{dated, grammar_of}
 use Rattle.answers.specs.declared.Refusal.{Refusal}
 use Rattle.answers.specs.Number.{number_of}
 use Rattle.packed.specs.Packed.{cfg_in}
-use Rattle.fill_input.specs.declared.Judged.{Judged}
-use Rattle.fill_input.specs.declared.Judged.TheVariants.{Passed, Refused}
 use Rattle.fill_input.specs.Judging.{JudgingOutput}
 use Rattle.fill_input.proofs.Deciding.{output-refused, output-passed}
 use Rattle.fill_input.proofs.Packing.{list-packed}
@@ -45,13 +44,14 @@ module _ (p w : List ℕ) (s : ℕ) (offered chart out : List ℕ) (b : Bool) (t
 
 -- ---- the call
 
-module _ (g : Grammar) (y : ℕ) (w offered chart out : List ℕ) (j : Judged)
-    (judging : JudgingOutput g (length w) (length chart) (length out) j) where
-  pub next-refused : (r : Refusal) → j ≡ Refused r → enumeration_of (refused (number_of r)) chart out ≡ next_of (dated g y) w offered chart out
+module _ (g : Grammar) (y : ℕ) (w offered chart out : List ℕ) where
+  pub next-refused : {r : Refusal} → JudgingOutput g (length w) (length chart) (length out) (Err r)
+      → enumeration_of (refused (number_of r)) chart out ≡ next_of (dated g y) w offered chart out
   unfolding next_of on_output
-  next-refused r h = sym (output-refused g y w chart _ _ out j judging r h)
+  next-refused judging = sym (output-refused g y w chart _ _ out judging)
 
-  module _ (is : j ≡ Passed) (p chart' : List ℕ) (filling : Filling g y p w chart chart') (s : ℕ) (start : s ≡ g.start) where
+  module _ {u : Unit {0}} (judging : JudgingOutput g (length w) (length chart) (length out) (Ok u)) (p chart' : List ℕ)
+      (filling : Filling g y p w chart chart') (s : ℕ) (start : s ≡ g.start) where
     -- over the grammar that was packed
     over-packed : next_filled (cfg_in s p) w offered chart' out ≡ next_in (grammar_of (dated g y)) w offered chart out
     unfolding next_in unlisted
@@ -60,4 +60,4 @@ module _ (g : Grammar) (y : ℕ) (w offered chart out : List ℕ) (j : Judged)
     pub next-answered : (a : Answer Handing) (out' : List ℕ) → enumeration_of a chart' out' ≡ next_filled (cfg_in s p) w offered chart' out
         → enumeration_of a chart' out' ≡ next_of (dated g y) w offered chart out
     unfolding next_of on_output
-    next-answered a out' d = d ∙ over-packed ∙ sym (output-passed g y w chart _ _ out j judging is)
+    next-answered a out' d = d ∙ over-packed ∙ sym (output-passed g y w chart _ _ out judging)

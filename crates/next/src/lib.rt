@@ -16,15 +16,14 @@ ghost use Rattle.table_layout.specs.Exact.{ChartTrue};
 ghost use Rattle.next_made.specs.Made.{next_tree};
 ghost use Rattle.next.specs.Answer.{next_filled};
 
-use answers::{Handed, Refusal};
+use answers::Refusal;
 use check_walk::derivation::is_derivation;
-use fill_input::Judged;
 use first_made::build;
 use grammar::Grammar;
 use next_made::offered::next_made;
-use numbers::wide_byte;
 use packed::Packed;
 use packed_fit::FitTable;
+use table_all::made::Made;
 use table_layout::layout::TABLES_SIZE;
 use tree_node::Root;
 
@@ -37,7 +36,7 @@ fn next_tree(
     fits: &FitTable,
     chart: &[u32],
     out: &mut [u16],
-) -> Handed
+) -> Result<Option<usize>, Refusal>
     requires { (length input.now ≤ max_input) × (cells ≤ length chart.now) × (output_size ≤ length out.old)
         × Told p.now input.now fits.now × ChartTrue p.now (bytes_of input.now) chart.now (length input.now)
         × (listed offered.now (L (cfg_in start p.now) input.now) ≡ true) }
@@ -46,16 +45,17 @@ fn next_tree(
 {
     let mut tables = [0u16; TABLES_SIZE];
     let rules = build(p, input, fits, chart, &mut tables);
-    let n = input.len();
-    next_made(
+    let tables = &tables;
+    let made = Made {
         p,
+        rules,
         fits,
         chart,
-        &tables,
-        Root { rules, start, n },
-        offered,
-        out,
-    )
+        tables,
+    };
+    let n = input.len();
+    let root = Root { start, n };
+    next_made(&made, root, offered, out)
 }
 
 // The derivation after the offered row, or refusal 12 if that is no derivation. The chart is filled.
@@ -67,7 +67,7 @@ fn next_filled(
     fits: &FitTable,
     chart: &[u32],
     out: &mut [u16],
-) -> Handed
+) -> Result<Option<usize>, Refusal>
     requires { (length input.now ≤ max_input) × (cells ≤ length chart.now) × (output_size ≤ length out.old)
         × Told p.now input.now fits.now × ChartTrue p.now (bytes_of input.now) chart.now (length input.now) }
     ensures { enumeration_of (handing_of result) chart.now out.new
@@ -76,7 +76,7 @@ fn next_filled(
     if is_derivation(p, start, input, offered) {
         next_tree(p, start, input, offered, fits, chart, out)
     } else {
-        Handed::Refused(Refusal::NotADerivation)
+        Err(Refusal::NotADerivation)
     }
 }
 
@@ -90,16 +90,12 @@ pub fn next(
     offered: &[u16],
     chart: &mut [u32],
     out: &mut [u16],
-) -> Handed
+) -> Result<Option<usize>, Refusal>
     ensures { enumeration_of (handing_of result) chart.new out.new
         ≡ next_of (dated g year) input.now offered.now chart.old out.old }
 {
-    match fill_input::judge_output(g, input.len(), chart.len(), out.len()) {
-        Judged::Refused(r) => Handed::Refused(r),
-        Judged::Passed => {
-            let mut fits = [0u8; packed_fit::FIT_SIZE];
-            let p = fill_input::fill_fits(g, input, year, &mut fits, chart);
-            next_filled(&p, wide_byte(g.start), input, offered, &fits, chart, out)
-        }
-    }
+    fill_input::judge_output(g, input.len(), chart.len(), out.len())?;
+    let mut fits = [0u8; packed_fit::FIT_SIZE];
+    let p = fill_input::fill_fits(g, input, year, &mut fits, chart);
+    next_filled(&p, usize::from(g.start), input, offered, &fits, chart, out)
 }

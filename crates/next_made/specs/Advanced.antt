@@ -1,5 +1,5 @@
--- The element of L after the one in a buffer, once the tables are made, and copied numbers. Assumes nothing.
-use Rattle.std.specs.Prelude.{ℕ, ◌*◌, ◌≤◌, ◌<◌, ◌≡◌, length, get_or}
+-- The element of L after the one in a buffer, once the tables are made. Assumes nothing.
+use Rattle.std.specs.Prelude.{ℕ, ◌*◌, ◌<◌, ◌≡◌, length, get_or}
 use mathlib.Core.List.{List, Memᴰ}
 use Rattle.std.proofs.Math.Option.{none, some}
 use Rattle.sizes.specs.Sizes.{max_nodes}
@@ -7,12 +7,6 @@ use Rattle.cfg.specs.Listing.{L}
 use Rattle.tree_first.specs.Descend.{InputGiven, Kept}
 use Rattle.packed.specs.Packed.{cfg_in}
 use Rattle.results.specs.Enumerate.{after_in}
-
--- the first n numbers are those of `from`, and all others are kept
-pub record Copied (n : ℕ) (from to₀ to : List ℕ) : Type 0 where
-  pub long : length to ≡ length to₀
-  pub front : (x : ℕ) → x < n → get_or to x 0 ≡ get_or from x 0
-  pub behind : (x : ℕ) → n ≤ x → get_or to x 0 ≡ get_or to₀ x 0
 
 -- the numbers of the buffer begin with e
 abbrev pub StartsWith : List ℕ → List ℕ → Type 0

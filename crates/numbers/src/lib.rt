@@ -1,35 +1,21 @@
 // Small functions that several crates need: a number of one width as a number of another. None cuts a number to its low bits.
 #![tactic(auto)]
 
-ghost use Rattle.std.specs.Prelude.{◌≡◌, ◌<◌};
+ghost use Rattle.std.specs.Prelude.{◌≡◌};
 ghost use Rattle.numbers.specs.Numbers.{byte_in, saturated, signed_in, unsigned_of};
-
-// A byte as a number.
-pub fn wide_byte(x: u8) -> usize
-    ensures { (result ≡ x) × (result < 256) }
-{
-    x as usize
-}
-
-// A number of 16 bits as a count.
-pub fn wide(n: u16) -> usize
-    ensures { result ≡ n }
-{
-    n as usize
-}
 
 // A number where a byte is due, or 255 if that is less.
 pub fn byte(n: u16) -> u8
     ensures { result ≡ byte_in n }
 {
-    if n < 255 { n as u8 } else { 255 }
+    u8::try_from(n).unwrap_or(255)
 }
 
 // A count, or 65535 if that is less.
 pub fn saturate(n: usize) -> u16
     ensures { result ≡ saturated n }
 {
-    if n < 65535 { n as u16 } else { 65535 }
+    u16::try_from(n).unwrap_or(65535)
 }
 
 // The signed number that 16 bits mean in two's complement.

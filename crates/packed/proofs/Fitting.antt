@@ -1,13 +1,11 @@
--- Whether a byte of the input fits a place, and membership in a set, by the tests in the code. Assumes nothing.
-use Prim.Native.Nat.{ℕ, ◌^◌, ◌≤◌, ◌<◌}
+-- Whether a byte of the input fits a place, by the tests in the code. Assumes nothing.
+use Prim.Native.Nat.{ℕ, ◌≤◌, ◌<◌}
 use mathlib.Core.Bool.{Bool, true, false, cond}
 use mathlib.Core.List.{List}
 use mathlib.Core.Path.{◌≡◌, sym, ap, ◌∙◌}
-use lib.Dec.{eqb, leb}
+use lib.Dec.{eqb}
 use lib.ListN.{length, get_or}
-use borrow.Author.Tests.{lt-ltb, le-ltb, lt-leb, le-leb}
-use Rattle.sets.specs.Set.{has}
-use Rattle.sets.proofs.Laws.{has-high}
+use borrow.Author.Tests.{lt-ltb, le-ltb}
 use Rattle.cfg.specs.Grammar.{Symbol, nonterminal, terminal, Terminal, byte, range, fits}
 use Rattle.chart.specs.Cell.{fits_at}
 use Rattle.packed.specs.Packed.{is_nonterminal_in, is_range_in, value_in, high_in, terminal_in, symbol_in, fits_place}
@@ -48,17 +46,3 @@ module _ (p : List ℕ) (r q : ℕ) where
     pub fits-past : b ≡ false → length w ≤ i → false ≡ fits_place w (symbol_in p r q) i
     unfolding fits_place fits_at
     fits-past t h = sym (ap (λ (s : Symbol). fits_place w s i) (symbol-terminal (sym e ∙ t)) ∙ rw (le-ltb i (length w) h))
-
-pub contains-high : (k w : ℕ) → w < 2 ^ 32 → 32 ≤ k → false ≡ has k w
-contains-high k w l h = sym (has-high k w l h)
-
--- ---- the test of a range
-
-module _ (low high m : ℕ) where
-  pub range-from : low ≤ m → leb m high ≡ fits (range low high) m
-  unfolding fits
-  range-from h = rw (le-leb low m h)
-
-  pub range-below : m < low → false ≡ fits (range low high) m
-  unfolding fits
-  range-below h = rw (lt-leb low m h)

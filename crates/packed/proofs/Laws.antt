@@ -31,13 +31,10 @@ count-unused p r h = rw (le-ltb (left_in p r) 32 h)
 pub count-le : (p : List ℕ) (r : ℕ) → place_count p r ≤ max_places
 count-le p r = dite (dec_lt (left_in p r) 32) (λ h. omega (arith, count-used p r h)) (λ h. omega (arith, count-unused p r (omega arith)))
 
--- what `count` answers: the byte of a rule that exists, or 8 if the byte is larger; 0 for a rule that does not exist
+-- k is the left side: a rule that exists has the count in its byte if that is below 8; a rule that does not exist has no places
 module _ (p : List ℕ) (r k : ℕ) (e : k ≡ left_in p r) where
   pub count_small : (n : ℕ) → k < 32 → n ≡ get_or p (rule_bytes * r + 1) 0 → n < max_places → n ≡ place_count p r
   count_small n h f l = omega (arith, count-used p r (omega arith))
-
-  pub count-large : (n : ℕ) → k < 32 → n ≡ get_or p (rule_bytes * r + 1) 0 → max_places ≤ n → 8 ≡ place_count p r
-  count-large n h f l = omega (arith, count-used p r (omega arith))
 
   pub count_none : 32 ≤ k → 0 ≡ place_count p r
   count_none h = omega (arith, count-unused p r (omega arith))

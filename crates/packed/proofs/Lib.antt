@@ -2,3 +2,4 @@
 pub mod Laws
 pub mod Fitting
 pub mod Used
+pub mod Tied

@@ -6,9 +6,6 @@ ghost use Rattle.sizes.specs.Sizes.{max_rules, max_places};
 ghost use Rattle.sets.specs.Set.{has as in_set};
 ghost use Rattle.cfg.specs.Grammar.{range, fits};
 ghost use Rattle.packed.specs.Packed.{left_in, Used, place_count, is_nonterminal_in, is_range_in, value_in, high_in, symbol_in, fits_place};
-ghost use Rattle.packed.specs.Packed.{packed_size};
-
-use numbers::wide_byte;
 
 // The bytes of a rule (its left side, its count, two for each place, and one more for each), and of a packed grammar.
 pub const RULE_BYTES: usize = 2 + 3 * sizes::MAX_PLACES;
@@ -20,33 +17,25 @@ pub const HIGHS: usize = 2 + 2 * sizes::MAX_PLACES;
 
 pub type Packed = [u8; PACKED_SIZE];
 
-pub fn tied_size() -> usize
-    ensures { result ≡ packed_size }
-{
-    PACKED_SIZE
-}
-
 // The left side of rule r, or a number from 32 on if there is no such rule.
+#[tactic(auto, unfolding(crate::specs::Packed::left_in))]
 pub fn left(p: &Packed, r: usize) -> usize
     requires { r < max_rules }
     ensures { result ≡ left_in p.now r }
 {
-    wide_byte(p[RULE_BYTES * r])
+    usize::from(p[RULE_BYTES * r])
 }
 
 // A number above that of every used rule: one past the last of them.
 pub fn rule_count(p: &Packed) -> usize
     ensures { (result ≤ max_rules) × Used p.now result }
 {
-    let mut m = sizes::MAX_RULES;
-    while m > 0 {
-        let k = left(p, m - 1);
-        if k < sizes::NONTERMINALS {
-            return m;
+    for r in (0..sizes::MAX_RULES).rev() {
+        if left(p, r) < sizes::NONTERMINALS {
+            return r + 1;
         }
-        m -= 1;
     }
-    m
+    0
 }
 
 // How many places rule r has: none if there is no such rule, so that loops pass over it.
@@ -55,12 +44,7 @@ pub fn count(p: &Packed, r: usize) -> usize
     ensures { (result ≡ place_count p.now r) × (result ≤ 8) }
 {
     if left(p, r) < sizes::NONTERMINALS {
-        let n = wide_byte(p[RULE_BYTES * r + 1]);
-        if n < sizes::MAX_PLACES {
-            n
-        } else {
-            sizes::MAX_PLACES
-        }
+        usize::from(p[RULE_BYTES * r + 1]).min(sizes::MAX_PLACES)
     } else {
         0
     }
@@ -75,11 +59,12 @@ pub fn is_nonterminal(p: &Packed, r: usize, q: usize) -> bool
 }
 
 // The number that place q of rule r holds.
+#[tactic(auto, unfolding(crate::specs::Packed::value_in))]
 pub fn value(p: &Packed, r: usize, q: usize) -> usize
     requires { (r < max_rules) × (q < max_places) }
     ensures { (result ≡ value_in p.now r q) × (result < 256) }
 {
-    wide_byte(p[RULE_BYTES * r + 3 + 2 * q])
+    usize::from(p[RULE_BYTES * r + 3 + 2 * q])
 }
 
 // Whether place q of rule r holds a range.
@@ -91,29 +76,27 @@ pub fn is_range(p: &Packed, r: usize, q: usize) -> bool
 }
 
 // The high end of the range that place q of rule r holds.
+#[tactic(auto, unfolding(crate::specs::Packed::high_in))]
 pub fn high(p: &Packed, r: usize, q: usize) -> usize
     requires { (r < max_rules) × (q < max_places) }
     ensures { result ≡ high_in p.now r q }
 {
-    wide_byte(p[RULE_BYTES * r + HIGHS + q])
+    usize::from(p[RULE_BYTES * r + HIGHS + q])
 }
 
 // Whether a byte is in the range from low to high, both ends included.
+#[tactic(auto, unfolding(cfg::specs::Grammar::fits))]
 pub fn in_range(low: usize, high: usize, m: usize) -> bool
     ensures { result ≡ fits (range low high) m }
 {
-    if low <= m { m <= high } else { false }
+    low <= m && m <= high
 }
 
 // Whether k is in the set, for every k.
 pub fn contains(word: u32, k: usize) -> bool
     ensures { result ≡ in_set k word }
 {
-    if k < sizes::NONTERMINALS {
-        sets::has(word, k)
-    } else {
-        false
-    }
+    k < sizes::NONTERMINALS && sets::has(word, k)
 }
 
 // Whether the byte at position i of the input fits place q of rule r. Only this function reads the input.
@@ -125,7 +108,7 @@ pub fn fits_at(p: &Packed, r: usize, q: usize, w: &[u8], i: usize) -> bool
         return false;
     }
     if i < w.len() {
-        let m = wide_byte(w[i]);
+        let m = usize::from(w[i]);
         if is_range(p, r, q) {
             return in_range(value(p, r, q), high(p, r, q), m);
         }

@@ -16,16 +16,10 @@ use Rattle.packed_fit.specs.Fit.{fit_size, entry_in, fit_in, Asked, FitPut, At}
 
 -- a byte with one of 8 members is a byte
 module _ (q x n v : ℕ) (f : n ≡ x) (g : v ≡ insert q n) where
-  pub byte-with : v ≡ insert q x
-  byte-with = g ∙ ap (insert q) f
-
   pub byte_small : q < max_places → x < 256 → v < 256
-  byte_small h l = omega (arith, byte-with, insert-below 8 q x h l)
+  byte_small h l = omega (arith, g ∙ ap (insert q) f, insert-below 8 q x h l)
 
 module _ (p w : List ℕ) where
-  pub put-none : (asked : Asked) (t : List ℕ) → length t ≡ fit_size → ((i r q : ℕ) → asked i r q → ⊥) → FitPut p w asked t t
-  put-none asked t long none = record { long = long; here = λ i r q l m a. absurd (none i r q a); other = λ i r q l m n. refl }
-
   -- one write and then another of other entries; split says for each entry in which of the two it is
   pub put_then : (first second both : Asked) (t t' t'' : List ℕ) → FitPut p w first t t' → FitPut p w second t' t''
       → ((i r q : ℕ) → both i r q → (first i r q × (second i r q → ⊥)) ⊎ (second i r q × (first i r q → ⊥)))
@@ -37,8 +31,6 @@ module _ (p w : List ℕ) where
         (λ y. b.here i r q l m y.0 (a.other i r q l m y.1 ∙ e)) (split i r q x);
     other = λ i r q l m n. b.other i r q l m (λ x. n (right i r q x)) ∙ a.other i r q l m (λ x. n (left i r q x));
   }
-
-  -- ---- one entry
 
   module _ (r q i : ℕ) (below : r < max_rules) (low : i < max_input) (t : List ℕ) (long : length t ≡ fit_size) where
     pub unfit : (b : Bool) → b ≡ fits_place w (symbol_in p r q) i → b ≡ false → FitPut p w (At i r q) t t

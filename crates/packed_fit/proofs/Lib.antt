@@ -2,3 +2,4 @@
 pub mod Entries
 pub mod Tables
 pub mod Reading
+pub mod Tied

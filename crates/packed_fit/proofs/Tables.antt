@@ -1,13 +1,12 @@
--- The fit table, place by place and rule by rule: what the steps of the code give. Assumes nothing.
+-- The fit table: a place that holds a nonterminal, and what is written with all rules. Assumes nothing.
 use Prim.Native.Nat.{ℕ, ◌+◌, ◌*◌, ◌≤◌, ◌<◌}
 use mathlib.Core.Bool.{Bool, true, false}
 use mathlib.Core.List.{List}
 use mathlib.Core.Logic.{◌≢◌, inl, inr, dite}
 use mathlib.Core.Path.{◌≡◌, refl, sym, ap, ◌∙◌, subst}
 use native.Mathlib.Decide.{ℕ_discrete, dec_lt}
-use native.Mathlib.Nat.{le_antisymm}
 use native.Mathlib.Omega.{arith}
-use lib.ListN.{length, replicate, length-replicate}
+use lib.ListN.{length, replicate}
 use borrow.Author.Tests.{le-ltb}
 use Rattle.sizes.specs.Sizes.{max_rules, max_input}
 use Rattle.laws.proofs.Lists.{zeros-at}
@@ -18,27 +17,12 @@ use Rattle.chart.specs.Cell.{fits_at}
 use Rattle.packed.specs.Packed.{left_in, place_count, Used, is_nonterminal_in, symbol_in, fits_place}
 use Rattle.packed.proofs.Fitting.{fits-nonterminal}
 use Rattle.packed.proofs.Laws.{count-unused}
-use Rattle.packed_fit.specs.Fit.{fit_size, fit_in, Asked, FitPut, At, AtPlace, AtRule, Positions, Told}
-use Rattle.packed_fit.proofs.Entries.{put-none, put_then}
+use Rattle.packed_fit.specs.Fit.{fit_size, fit_in, Asked, FitPut, AtPlace, AtRule, Positions, Told}
+use Rattle.packed_fit.proofs.Entries.{put_then}
 
 -- ---- one place
 
 module _ (p w : List ℕ) (r q : ℕ) (t₀ : List ℕ) where
-  pub place-start : length t₀ ≡ fit_size → FitPut p w (AtPlace 0 r q) t₀ t₀
-  place-start long = put-none p w (AtPlace 0 r q) t₀ long (λ i s j x. omega (arith, x.0))
-
-  -- one position more
-  pub place-step : (i : ℕ) (t t' : List ℕ) → FitPut p w (AtPlace i r q) t₀ t → FitPut p w (At i r q) t t'
-      → FitPut p w (AtPlace (i + 1) r q) t₀ t'
-  place-step i t t' a b = put_then p w (AtPlace i r q) (At i r q) (AtPlace (i + 1) r q) t₀ t t' a b
-      (λ c s j x. dite (ℕ_discrete c i)
-      (λ e. inr ((e, x.1, x.2), λ y. omega (arith, y.0)))
-      (λ e. let d : c ≢ i = e in inl ((omega (arith, x.0), x.1, x.2), λ y. e y.0)))
-      (λ c s j x. (omega (arith, x.0), x.1, x.2)) (λ c s j x. (omega (arith, x.0), x.1, x.2))
-
-  pub place-done : (i n : ℕ) (t : List ℕ) → i ≤ n → n ≤ i → FitPut p w (AtPlace i r q) t₀ t → FitPut p w (AtPlace n r q) t₀ t
-  place-done i n t l h to = subst (λ (x : ℕ). FitPut p w (AtPlace x r q) t₀ t) (le_antisymm l h) to
-
   -- a nonterminal fits no position
   pub place-node : (n : ℕ) (b : Bool) → length t₀ ≡ fit_size → b ≡ is_nonterminal_in p r q → b ≡ true → FitPut p w (AtPlace n r q) t₀ t₀
   place-node n b long e f = record {
@@ -46,24 +30,6 @@ module _ (p w : List ℕ) (r q : ℕ) (t₀ : List ℕ) where
     here = λ i s j l m x z. z ∙ fits-nonterminal p r q w i b e f ∙ rw (x.1, x.2);
     other = λ i s j l m x. refl;
   }
-
--- ---- one rule
-
-module _ (p w : List ℕ) (n r : ℕ) (t₀ : List ℕ) where
-  pub rule-start : length t₀ ≡ fit_size → FitPut p w (AtRule n r 0) t₀ t₀
-  rule-start long = put-none p w (AtRule n r 0) t₀ long (λ i s j x. omega (arith, x.2))
-
-  pub rule-step : (q : ℕ) (t t' : List ℕ) → FitPut p w (AtRule n r q) t₀ t → FitPut p w (AtPlace n r q) t t'
-      → FitPut p w (AtRule n r (q + 1)) t₀ t'
-  rule-step q t t' a b = put_then p w (AtRule n r q) (AtPlace n r q) (AtRule n r (q + 1)) t₀ t t' a b
-      (λ i s j x. dite (ℕ_discrete j q)
-      (λ e. inr ((x.0, x.1, e), λ y. omega (arith, y.2)))
-      (λ e. let d : j ≢ q = e in inl ((x.0, x.1, omega (arith, x.2)), λ y. e y.2)))
-      (λ i s j x. (x.0, x.1, omega (arith, x.2))) (λ i s j x. (x.0, x.1, omega (arith, x.2)))
-
-  pub rule-done : (q c : ℕ) (t : List ℕ) → q ≤ c → c ≤ q → c ≡ place_count p r → FitPut p w (AtRule n r q) t₀ t
-      → FitPut p w (AtRule n r (place_count p r)) t₀ t
-  rule-done q c t l h e to = subst (λ (x : ℕ). FitPut p w (AtRule n r x) t₀ t) (le_antisymm l h ∙ e) to
 
 -- ---- all rules
 
@@ -89,14 +55,6 @@ module _ (p w : List ℕ) (n : ℕ) where
   -- the rules below r are written. The table has any number k of bytes, so that nothing computes
   pub record TableTo (k r : ℕ) (t : List ℕ) : Type 0 where
     pub put : FitPut p w (Below r) (replicate k 0) t
-
-  table_of : (k : ℕ) → k ≡ fit_size → TableTo k 0 (replicate k 0)
-  table_of k e = record {
-    put = put-none p w (Below 0) (replicate k 0) (length-replicate {A = ℕ} k 0 ∙ e) (λ i s j x. omega (arith, x.1));
-  }
-
-  pub table-start : TableTo fit_size 0 (replicate fit_size 0)
-  table-start = table_of fit_size refl
 
   pub table_step : (k r : ℕ) (t t' : List ℕ) → TableTo k r t → FitPut p w (AtRule n r (place_count p r)) t t' → TableTo k (r + 1) t'
   table_step k r t t' to put = record {

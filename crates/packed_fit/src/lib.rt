@@ -14,28 +14,11 @@ pub const FIT_SIZE: usize = sizes::MAX_INPUT * sizes::MAX_RULES;
 
 pub type FitTable = [u8; FIT_SIZE];
 
-pub fn tied_size() -> usize
-    ensures { result ≡ fit_size }
-{
-    FIT_SIZE
-}
-
-// A byte as a word.
-pub fn wide_word(x: u8) -> u32
-    ensures { result ≡ x }
-{
-    x as u32
-}
-
 // How many positions of an input the table has: all, but at most 64.
 fn positions(n: usize) -> usize
     ensures { Positions n result }
 {
-    if n < sizes::MAX_INPUT {
-        n
-    } else {
-        sizes::MAX_INPUT
-    }
+    n.min(sizes::MAX_INPUT)
 }
 
 // The byte, with place q in it.
@@ -43,7 +26,7 @@ fn with_place(x: u8, q: usize) -> u8
     requires { q < max_places }
     ensures { result ≡ insert q x }
 {
-    sets::with(wide_word(x), q) as u8
+    sets::with(u32::from(x), q) as u8
 }
 
 // Writes whether place q of rule r fits position i.
@@ -61,10 +44,8 @@ fn write_place(p: &Packed, r: usize, q: usize, w: &[u8], n: usize, t: &mut FitTa
     requires { (r < max_rules) × (q < max_places) × (n ≤ max_input) × (length t.old ≡ fit_size) }
     ensures { FitPut p.now w.now (AtPlace n r q) t.old t.new }
 {
-    let mut i = 0;
-    while i < n {
+    for i in 0..n {
         put_at(p, r, q, w, i, t);
-        i += 1;
     }
 }
 
@@ -85,11 +66,8 @@ fn write_rule(p: &Packed, r: usize, w: &[u8], n: usize, t: &mut FitTable)
     ensures { FitPut p.now w.now (AtRule n r (place_count p.now r))
         t.old t.new }
 {
-    let count = packed::count(p, r);
-    let mut q = 0;
-    while q < count {
+    for q in 0..packed::count(p, r) {
         put_place(p, r, q, w, n, t);
-        q += 1;
     }
 }
 
@@ -98,12 +76,9 @@ pub fn table(p: &Packed, w: &[u8]) -> FitTable
     ensures { Told p.now w.now result }
 {
     let n = positions(w.len());
-    let rules = packed::rule_count(p);
     let mut t = [0u8; FIT_SIZE];
-    let mut r = 0;
-    while r < rules {
+    for r in 0..packed::rule_count(p) {
         write_rule(p, r, w, n, &mut t);
-        r += 1;
     }
     t
 }

@@ -7,7 +7,7 @@ use mathlib.Core.Path.{◌≡◌, refl, sym, ap, ◌∙◌}
 use native.Mathlib.Omega.{arith}
 use lib.Dec.{eqb}
 use lib.ListN.{length, get_or, take, drop, set, length-set}
-use lib.Seq.{get_or-set_same, get_or-set_other, drop-cons}
+use lib.Seq.{get_or-take, get_or-set_same, get_or-set_other, drop-cons}
 use Rattle.sizes.specs.Sizes.{max_rules, max_places}
 use Rattle.laws.proofs.Lists.{below_step}
 use Rattle.cfg.specs.Grammar as Abstract
@@ -134,6 +134,18 @@ module _ (ρ : Rule) (r : ℕ) (low : r < max_rules) where
           (λ k l. place_other k l ∙ row.places k l) place_same;
       other = λ s b d h. stays (rule_bytes * s + b) (omega arith) (omega arith) (omega arith) ∙ row.other s b d h;
     }
+
+  -- the same where the used places are read one by one
+  module _ (p₀ p : List ℕ) (q t v u : ℕ) (few : q < max_places) (used : q < ρ.count) (row : Row ρ r q p₀ p)
+      (et : t ≡ tag_of (get_or (take ρ.count ρ.places) q zero_place).symbol)
+      (ev : v ≡ value_of (get_or (take ρ.count ρ.places) q zero_place).symbol)
+      (eu : u ≡ high_of (get_or (take ρ.count ρ.places) q zero_place).symbol) where
+    same_place : get_or (take ρ.count ρ.places) q zero_place ≡ get_or ρ.places q zero_place
+    same_place = get_or-take ρ.count ρ.places q zero_place used
+
+    pub used_step : Row ρ r (q + 1) p₀
+        (set (set (set p (rule_bytes * r + 2 + 2 * q) t) (rule_bytes * r + 3 + 2 * q) v) (rule_bytes * r + highs_at + q) u)
+    used_step = row_step p₀ p q t v u few row (rw same_place at et) (rw same_place at ev) (rw same_place at eu)
 
 -- ---- the places written are those of the rule
 

@@ -6,7 +6,8 @@ use mathlib.Core.Option.{none}
 use mathlib.Core.Path.{◌≡◌, sym, ◌∙◌}
 use native.Mathlib.Decide.{dec_lt}
 use native.Mathlib.Omega.{arith}
-use lib.ListN.{length, get_or, replicate, length-replicate, get_or-replicate}
+use lib.ListN.{length, take, get_or, replicate, length-replicate, get_or-replicate}
+use Rattle.std.proofs.lemmas.List.{length-take}
 use Rattle.sizes.specs.Sizes.{max_rules}
 use Rattle.laws.proofs.Lists.{below_step}
 use Rattle.cfg.specs.Grammar.{rule}
@@ -16,8 +17,8 @@ use Rattle.grammar.specs.View.{rule_in_year, dated, grammar_of}
 use Rattle.grammar.specs.Zero.{no_rule}
 use Rattle.grammar.proofs.Bounds.{valid-count}
 use Rattle.grammar.proofs.RuleAt.{rule-at, rule-past}
-use Rattle.packed.specs.Packed.{left_in, rule_in, cfg_in, packed_size, rule_bytes}
 use Rattle.packed_make.specs.Place.{RulePacked}
+use Rattle.packed.specs.Packed.{left_in, rule_in, cfg_in, packed_size, rule_bytes}
 use Rattle.packed.proofs.Laws.{rule-unused, rule-in, rule-in-past}
 
 -- p has those of the first r rules of the grammar that are in force in the year y, and no others
@@ -44,10 +45,6 @@ pub rows_start : (g : Grammar) (y : ℕ) → Rows g y 0 (replicate packed_size 2
 rows_start g y = rows_of g y packed_size (λ i. packed_size)
 
 module _ (g : Grammar) (y : ℕ) where
-  -- the next row has no rule yet
-  pub rows-free : (r n : ℕ) (p : List ℕ) → r < n → n ≤ max_rules → Rows g y r p → rule_in p r ≡ none
-  rows-free r n p h few rows = rows.unused r (omega arith) (omega arith)
-
   pub rows_step : (r : ℕ) (p p' : List ℕ) → Rows g y r p → RulePacked (rule_in_year y (get_or g.rules r no_rule)) r p p' → Rows g y (r + 1) p'
   rows_step r p p' rows put = record {
     long = put.long;
@@ -56,13 +53,15 @@ module _ (g : Grammar) (y : ℕ) where
     unused = λ k h l. put.other k (omega arith) ∙ rows.unused k (omega arith) l;
   }
 
-  pub rows-done : (s r : ℕ) (p : List ℕ) → length g.rules ≡ max_rules → valid_grammar g ≡ true → r ≤ g.count → g.count ≤ r
-      → Rows g y r p
-      → (k : ℕ) → rule (cfg_in s p) k ≡ rule (grammar_of (dated g y)) k
+  pub rows-done : (s r : ℕ) (p : List ℕ) → length g.rules ≡ max_rules → valid_grammar g ≡ true → r ≤ length (take g.count g.rules)
+      → length (take g.count g.rules) ≤ r → Rows g y r p → (k : ℕ) → rule (cfg_in s p) k ≡ rule (grammar_of (dated g y)) k
   rows-done s r p full valid h l rows k = go (dec_lt k g.count) (dec_lt k max_rules)
     where
+      all : r ≡ g.count
+      all = omega (arith, length-take g.count g.rules, valid-count g valid)
+
       go : Dec (k < g.count) → Dec (k < max_rules) → rule (cfg_in s p) k ≡ rule (grammar_of (dated g y)) k
       go (yes a) b =
-          rule-in s p k (omega (arith, valid-count g valid)) ∙ rows.done k (omega arith) ∙ sym (rule-at (rule_in_year y) g k full valid a)
-      go (no a) (yes b) = rule-in s p k b ∙ rows.unused k (omega arith) b ∙ sym (rule-past (rule_in_year y) g k (omega arith))
+          rule-in s p k (omega (arith, valid-count g valid)) ∙ rows.done k (omega (arith, all)) ∙ sym (rule-at (rule_in_year y) g k full valid a)
+      go (no a) (yes b) = rule-in s p k b ∙ rows.unused k (omega (arith, all)) b ∙ sym (rule-past (rule_in_year y) g k (omega arith))
       go (no a) (no b) = rule-in-past s p k (omega arith) ∙ sym (rule-past (rule_in_year y) g k (omega arith))

@@ -21,14 +21,11 @@ fn pack_rule(rule: Rule, r: usize, p: &mut Packed)
     let n = rule.count;
     p[RULE_BYTES * r] = rule.left;
     p[RULE_BYTES * r + 1] = n as u8;
-    let mut q = 0;
-    while q < n {
-        let place = rule.places[q];
+    for (q, place) in rule.places[..n].iter().enumerate() {
         let s = place.symbol;
         p[RULE_BYTES * r + 2 + 2 * q] = tagged::tag_of(s);
         p[RULE_BYTES * r + 3 + 2 * q] = tagged::value_of(s);
         p[RULE_BYTES * r + HIGHS + q] = tagged::high_of(s);
-        q += 1;
     }
 }
 
@@ -36,11 +33,7 @@ fn pack_rule(rule: Rule, r: usize, p: &mut Packed)
 fn in_force(rule: Rule, year: u16) -> bool
     ensures { result ≡ in_force year rule }
 {
-    if rule.first <= year {
-        year <= rule.last
-    } else {
-        false
-    }
+    rule.first <= year && year <= rule.last
 }
 
 // Writes the rule into row r if it is in force in the year. Else the row, which has no rule, stays as it is.
@@ -59,12 +52,8 @@ pub fn pack(g: Grammar, year: u16) -> Packed
     ensures { (r : ℕ) → rule_of_number (cfg_in g.start result) r ≡ rule_of_number (grammar_of (dated g year)) r }
 {
     let mut p = [255u8; PACKED_SIZE];
-    let n = g.count;
-    let mut r = 0;
-    while r < n {
-        let rule = g.rules[r];
-        pack_in_force(rule, year, r, &mut p);
-        r += 1;
+    for (r, rule) in g.rules[..g.count].iter().enumerate() {
+        pack_in_force(*rule, year, r, &mut p);
     }
     p
 }

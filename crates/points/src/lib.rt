@@ -3,7 +3,7 @@
 
 mod state;
 
-ghost use Rattle.std.specs.Prelude.{true, false, ◌≡◌, ◌+◌, ◌≤◌, ◌<◌, length, get_or};
+ghost use Rattle.std.specs.Prelude.{true, false, ◌≡◌, ◌+◌, ◌≤◌, ◌<◌, length, get_or, MatchOption};
 ghost use Rattle.sizes.specs.Sizes.{cells, max_input, max_points};
 ghost use Rattle.grammar.specs.Valid.{valid_grammar};
 ghost use Rattle.results.specs.Recognize.{state_check};
@@ -12,7 +12,6 @@ ghost use Rattle.recognizer.specs.Recognizer.{state_in, recognition_of};
 
 use answers::Refusal;
 use grammar::Grammar;
-use numbers::wide_byte;
 use points_clear::clear_after;
 use recognizer::state::invalid;
 use recognizer::{Advanced, POINTS, Recognizer, refused, says};
@@ -50,14 +49,11 @@ pub fn set_point(h: Recognizer, g: Grammar, name: usize, chart: &[u32]) -> Advan
     setting(h, g, name, chart)
 }
 
-// The point of this name: 0 if it is not set or there is no such name, else one more than the count at which it was set.
-fn point(h: Recognizer, name: usize) -> usize
-    ensures { result ≡ get_or h.points name 0 }
+// The count at which the point of this name is set, if it is: None too where there is no such name.
+fn set_at(h: Recognizer, name: usize) -> Option<usize>
+    ensures { MatchOption result (get_or h.points name 0 ≡ 0) (λ n. get_or h.points name 0 ≡ n + 1) }
 {
-    if name < POINTS {
-        return wide_byte(h.points[name]);
-    }
-    0
+    usize::from(*h.points.get(name)?).checked_sub(1)
 }
 
 // Returns to the count n, where a point is, once the checks are passed.
@@ -78,7 +74,6 @@ pub fn return_to(h: Recognizer, g: Grammar, name: usize, chart: &mut [u32]) -> A
     ensures { recognition_of result chart.new ≡ return_to_of g (state_in h) name chart.old }
 {
     let room = chart.len();
-    let p = point(h, name);
     if !grammar::valid(g) {
         return refused(h, Refusal::InvalidGrammar);
     }
@@ -88,8 +83,8 @@ pub fn return_to(h: Recognizer, g: Grammar, name: usize, chart: &mut [u32]) -> A
     if room < sizes::CELLS {
         return refused(h, Refusal::ChartTooShort);
     }
-    if p == 0 {
+    let Some(n) = set_at(h, name) else {
         return refused(h, Refusal::NoPoint);
-    }
-    returning(h, g, name, p - 1, chart)
+    };
+    returning(h, g, name, n, chart)
 }

@@ -5,7 +5,6 @@ ghost use Rattle.results.specs.Recognize.{hand_of};
 ghost use Rattle.results.specs.Points.{kept_point, points_up_to};
 ghost use Rattle.recognizer.specs.Recognizer.{state_in};
 
-use numbers::wide_byte;
 use recognizer::state::front;
 use recognizer::{POINTS, Recognizer};
 
@@ -31,7 +30,7 @@ fn kept_point(p: u8, n: usize) -> u8
     requires { n ≤ max_input }
     ensures { result ≡ kept_point n p }
 {
-    if wide_byte(p) <= n + 1 { p } else { 0 }
+    if usize::from(p) <= n + 1 { p } else { 0 }
 }
 
 // The points that remain after a return to the count n: those past it are gone.
@@ -39,13 +38,7 @@ fn points_up_to(h: Recognizer, n: usize) -> [u8; POINTS]
     requires { n ≤ max_input }
     ensures { result ≡ points_up_to n h.points }
 {
-    let mut points = [0u8; POINTS];
-    let mut i = 0;
-    while i < POINTS {
-        points[i] = kept_point(h.points[i], n);
-        i += 1;
-    }
-    points
+    h.points.map(|p| kept_point(p, n))
 }
 
 // The state with the first n bytes and the points up to there.

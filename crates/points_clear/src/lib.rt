@@ -10,10 +10,8 @@ fn clear_column(n: usize, chart: &mut [u32])
     requires { (n ≤ max_input) × (cells ≤ length chart.old) }
     ensures { chart.new ≡ cleared_column n chart.old }
 {
-    let mut i = 0;
-    while i <= n {
+    for i in 0..=n {
         chart[sizes::SIDE * i + n] = 0;
-        i += 1;
     }
 }
 
@@ -22,9 +20,7 @@ pub fn clear_after(p: usize, chart: &mut [u32])
     requires { (p ≤ max_input) × (cells ≤ length chart.old) }
     ensures { chart.new ≡ cleared p chart.old }
 {
-    let mut n = p + 1;
-    while n <= sizes::MAX_INPUT {
+    for n in p + 1..=sizes::MAX_INPUT {
         clear_column(n, chart);
-        n += 1;
     }
 }

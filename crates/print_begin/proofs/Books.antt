@@ -1,10 +1,11 @@
 -- The first line that is due, by the result of loading the book. Assumes nothing.
-use Prim.Native.Nat.{ℕ, ◌<◌}
+use Prim.Native.Nat.{ℕ}
 use mathlib.Core.Bool.{true}
 use mathlib.Core.List.{List}
 use mathlib.Core.Logic.{inl, inr}
 use mathlib.Core.Path.{◌≡◌, refl, sym, ap, subst, ◌∙◌}
 use lib.IntN.{ℤ}
+use Rattle.std.specs.Prelude.{Ok, Err}
 use lib.ListN.{length}
 use Rattle.sizes.specs.Sizes.{max_rules}
 use Rattle.laws.proofs.Bools.{clash}
@@ -13,8 +14,7 @@ use Rattle.demands.specs.LoadDemand.{LoadDemand}
 use Rattle.demands.proofs.LoadDemand.{load-demand}
 use Rattle.grammar.specs.Valid.{valid_grammar}
 use Rattle.grammar.specs.View.{dated}
-use Rattle.answers.specs.declared.Refusal.{Refusal}
-use Rattle.answers.specs.declared.Outcome.TheVariants.{Accepted, Refused}
+use Rattle.answers.specs.declared.Fault.{Fault}
 use Rattle.answers.specs.Number.{number_of}
 use Rattle.answers.specs.Answers.{outcome_of}
 use Rattle.load.specs.declared.Loaded.{Loaded}
@@ -24,7 +24,7 @@ use Rattle.results.specs.Load.{Loading, load_of}
 use Rattle.text.specs.Text.{input_text, loaded_text, year_in, text_of}
 use Rattle.print_begin.specs.declared.Due.{Due}
 use Rattle.print_begin.specs.declared.Due.TheVariants.{Refusal as RefusalDue}
-use Rattle.print_begin.specs.Due.{Ahead}
+use Rattle.print_begin.specs.Due.{Ahead, DueSized}
 use Rattle.print_begin.specs.Begun.{InputBegun, BookBegun}
 
 refused-apart : {n at : ℕ} → refused_at n at ≡ loaded → ⊥
@@ -36,19 +36,19 @@ module _ (book file w : List ℕ) (b : Loaded) (load : loading_of b ≡ load_of 
   unfolding text_of
   text-loaded = ap (λ (x : Loading). loaded_text x (year_in file) w) load
 
-  pub book-refused : (r : Refusal) (at : ℕ) → b.outcome ≡ Refused r at → (k n : ℕ) → k ≡ number_of r → n ≡ k → n < 256
+  pub book-refused : (f : Fault) → b.outcome ≡ Err f → (d : Due) → d ≡ RefusalDue (number_of f.refusal) → DueSized d
       → (p : List ℕ) (lengths : List ℤ) → length lengths ≡ max_rules → (chart fits tables buf : List ℕ)
-      → BookBegun book file w p lengths chart chart fits tables buf buf (RefusalDue n)
+      → BookBegun book file w p lengths chart chart fits tables buf buf d
   unfolding loaded_text
-  book-refused r at is k n e f byte p lengths rows chart fits tables buf = record {
+  book-refused f is d e sized p lengths rows chart fits tables buf = record {
     rows = rows;
     chart_long = refl;
     long = refl;
-    sized = byte;
-    ahead = sym text-loaded ∙ rw (is, f, e);
+    sized = sized;
+    ahead = rw e (sym text-loaded ∙ rw is);
   }
 
-  module _ (is : b.outcome ≡ Accepted) where
+  module _ (is : b.outcome ≡ Ok tt) where
     pub book-valid : valid_grammar b.grammar ≡ true
     book-valid = go (subst (LoadDemand book) (sym load) (load-demand book))
       where

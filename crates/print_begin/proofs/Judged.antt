@@ -5,6 +5,7 @@ use mathlib.Core.List.{List, [], ◌∷◌, ◌++◌, map}
 use mathlib.Core.Path.{◌≡◌, refl, sym, ap, ap₂, subst, ◌∙◌}
 use native.Mathlib.Omega.{arith}
 use lib.IntN.{ℤ}
+use Rattle.std.specs.Prelude.{Ok, Err}
 use lib.ListN.{length, take, replicate, length-map, length-replicate}
 use Rattle.sizes.specs.Sizes.{max_rules, max_input, cells, most}
 use Rattle.cfg.specs.Listing.{L}
@@ -21,8 +22,6 @@ use Rattle.grammar.proofs.Bounds.{valid-bounded}
 use Rattle.answers.specs.declared.Refusal.{Refusal}
 use Rattle.answers.specs.Number.{number_of}
 use Rattle.packed.specs.Packed.{cfg_in}
-use Rattle.fill_input.specs.declared.Judged.{Judged}
-use Rattle.fill_input.specs.declared.Judged.TheVariants.{Passed, Refused}
 use Rattle.fill_input.specs.Judging.{Judging, invalid, long_input, no_room}
 use Rattle.fill_input.proofs.Judging.{judged-ready}
 use Rattle.fill_input.proofs.Packing.{list-packed}
@@ -37,32 +36,31 @@ use Rattle.text.specs.Line.{line, refused_line, no_reading_line, readings_line}
 use Rattle.text.specs.Text.{lines_from, list_text, empty_text, text_by, input_text}
 use Rattle.print_begin.specs.declared.Due.{Due}
 use Rattle.print_begin.specs.declared.Due.TheVariants.{Refusal as RefusalDue}
-use Rattle.print_begin.specs.Due.{Ahead}
+use Rattle.print_begin.specs.Due.{Ahead, DueSized}
 use Rattle.print_begin.specs.Begun.{FilledBegun, InputBegun}
 
 -- ---- a check that fails is 9
 
 module _ (g : Grammar) (y : ℕ) (w chart : List ℕ) (valid : valid_grammar g ≡ true) (room : cells ≤ length chart) where
   -- of the three checks only 9 can fail
-  nine : {r : Refusal} → Judging g (length w) (length chart) (Refused r) → (number_of r ≡ 9) × ((input_check w).fails ≡ true)
+  nine : {r : Refusal} → Judging g (length w) (length chart) (Err r) → (number_of r ≡ 9) × ((input_check w).fails ≡ true)
   nine (invalid v) = absurd (true≢false (sym valid ∙ v))
   nine (long_input v l) = (refl, input-fails w l)
   nine (no_room v b l) = absurd (omega arith)
 
-  pub input-refused : (j : Judged) → Judging g (length w) (length chart) j → (r : Refusal) → j ≡ Refused r → (b n : ℕ)
-      → b ≡ number_of r → n ≡ b
+  pub input-refused : (r : Refusal) → Judging g (length w) (length chart) (Err r) → (d : Due) → d ≡ RefusalDue (number_of r) → DueSized d
       → (p : List ℕ) (lengths : List ℤ) → length lengths ≡ max_rules → (fits tables buf : List ℕ)
-      → InputBegun (dated g y) w p lengths chart chart fits tables buf buf (RefusalDue n)
+      → InputBegun (dated g y) w p lengths chart chart fits tables buf buf d
   unfolding input_text
-  input-refused j judging r is b n k e p lengths rows fits tables buf =
-      let (number, fails) = nine (subst (Judging g (length w) (length chart)) is judging) in
-      let f : n ≡ 9 = e ∙ k ∙ number in
+  input-refused r judging d is sized p lengths rows fits tables buf =
+      let (number, fails) = nine judging in
+      let f : d ≡ RefusalDue 9 = is ∙ ap RefusalDue number in
       record {
         rows = rows;
         chart_long = refl;
         long = refl;
-        sized = omega arith;
-        ahead = decide-first _ _ [] (input_check w) [] tt fails ∙ rw f;
+        sized = sized;
+        ahead = rw f (decide-first _ _ [] (input_check w) [] tt fails);
       }
 
 -- ---- the text by the lengths of the rules
@@ -92,24 +90,24 @@ empty-any g valid w short chart room =
     ∙ sym (tree_in-choice (grammar_of g) (valid-bounded g valid) w short (replicate cells 0)
     (omega (arith, length-replicate {A = ℕ} cells 0)) tree (refused_line 13) no_reading_line))
 
-module _ (g : Grammar) (y : ℕ) (w chart : List ℕ) (j : Judged) (judging : Judging g (length w) (length chart) j) (is : j ≡ Passed)
+module _ (g : Grammar) (y : ℕ) (w chart : List ℕ) (u : Unit {0}) (judging : Judging g (length w) (length chart) (Ok u))
     (p chart' : List ℕ) (filling : Filling g y p w chart chart') where
   -- what is required of the filled chart
   pub judged-filled : (length w ≤ max_input) × (cells ≤ length chart') × ChartTrue p (bytes_of w) chart' (length w)
-  judged-filled = filled-chart g y p w chart chart' (judged-ready g (length w) (length chart) j judging is) filling
+  judged-filled = filled-chart g y p w chart chart' (judged-ready judging) filling
 
   module _ (s : ℕ) (start : s ≡ g.start) (l : List ℤ) (lengths : l ≡ map length_of_rule g.rules) where
     empty-same : cond (complete (cfg_in s p) (length w) chart') (refused_line 13) no_reading_line ∷ [] ≡ empty_text (grammar_of (dated g y)) w
     unfolding tree_in complete cfg_in
     empty-same =
-        let (v, a, b) = judged-ready g (length w) (length chart) j judging is in
+        let (v, a, b) = judged-ready judging in
         rw (filling.0, start) (empty-any (dated g y) v w a chart b)
 
     text-over : text_by (lengths_in l) (cond (complete (cfg_in s p) (length w) chart') (refused_line 13) no_reading_line ∷ []) (L (cfg_in s p) w)
         ≡ input_text (dated g y) w
     unfolding input_text
     text-over =
-        let (v, a, b) = judged-ready g (length w) (length chart) j judging is in
+        let (v, a, b) = judged-ready judging in
         text_same (lengths_in l) (lengths_of g) (tenths-row g l lengths) _ _
         ∙ ap₂ (text_by (lengths_of g)) empty-same (list-packed g y p w filling.1 s start)
         ∙ sym (decide-passed _ _ (input_check w ∷ []) (input-passes w a, tt))
@@ -118,7 +116,7 @@ module _ (g : Grammar) (y : ℕ) (w chart : List ℕ) (j : Judged) (judging : Ju
         → FilledBegun p s w chart' fits tables buf₀ buf d
         → InputBegun (dated g y) w p l chart chart' fits tables buf₀ buf d
     input-begun full fits tables buf₀ buf d F =
-        let (v, a, b) = judged-ready g (length w) (length chart) j judging is in
+        let (v, a, b) = judged-ready judging in
         record {
           rows = ap length lengths ∙ length-map g.rules length_of_rule ∙ full;
           chart_long = ap length filling.0 ∙ filled-length (grammar_of (dated g y)) w chart b;

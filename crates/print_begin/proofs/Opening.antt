@@ -28,7 +28,7 @@ use Rattle.text.specs.Line.{refused_line}
 use Rattle.text.specs.Text.{text_by, list_text}
 use Rattle.print_begin.specs.declared.Due.TheVariants.{Refusal, NoReading, Reading}
 use Rattle.print_begin.specs.declared.Due.{Due}
-use Rattle.print_begin.specs.Due.{lines_at}
+use Rattle.print_begin.specs.Due.{DueSized, lines_at}
 use Rattle.print_begin.specs.Begun.{TreeBegun, FilledBegun}
 
 -- ---- the text by the list of derivations
@@ -60,12 +60,12 @@ module _ (p w : List ℕ) (s rules : ℕ) (fits chart tables : List ℕ) (built 
   abbrev list : List (List ℕ)
   list = L (cfg_in s p) w
 
-  pub tree-refused : not b ≡ true → (buf : List ℕ) → TreeBegun p s w chart fits tables buf buf (Refusal 13)
-  tree-refused h buf = record {
+  pub tree-refused : not b ≡ true → (d : Due) → d ≡ Refusal 13 → DueSized d → (buf : List ℕ) → TreeBegun p s w chart fits tables buf buf d
+  tree-refused h d is sized buf = record {
     long = refl;
-    sized = omega arith;
-    ahead = λ lengths. text-empty lengths (refused_line 13 ∷ []) list
-        (empty-larger p rules fits chart tables s (length w) w refl built.1 (sym told ∙ not-true b h));
+    sized = sized;
+    ahead = λ lengths. rw is (text-empty lengths (refused_line 13 ∷ []) list
+        (empty-larger p rules fits chart tables s (length w) w refl built.1 (sym told ∙ not-true b h)));
   }
 
   module _ (h : not b ≡ false) (short : length w ≤ max_input) (buf₀ buf : List ℕ) (room : output_size ≤ length buf₀) (m : ℕ)

@@ -5,22 +5,31 @@ ghost use Rattle.packed_fit.specs.Fit.{Told};
 ghost use Rattle.grammar.specs.Valid.{valid_grammar};
 ghost use Rattle.grammar.specs.View.{dated};
 ghost use Rattle.sizes.specs.Sizes.{max_rules, max_input, cells, output_size};
+ghost use Rattle.answers.specs.Number.{number_of};
 ghost use Rattle.table_layout.specs.Exact.{ChartTrue};
 ghost use Rattle.table_layout.specs.Layout.{tables_size};
+ghost use Rattle.print_begin.specs.Due.{DueSized};
 ghost use Rattle.print_begin.specs.Begun.{TreeBegun, FilledBegun, InputBegun, BookBegun};
 
 use super::Due;
 use super::year::year_in;
-use answers::Outcome;
+use answers::Refusal;
 use check_length::Lengths;
-use fill_input::Judged;
 use first_made::{build, exists, write_first};
 use grammar::Grammar;
-use numbers::wide_byte;
 use packed::Packed;
 use packed_fit::FitTable;
+use table_all::made::Made;
 use table_layout::layout::Tables;
 use tree_node::Root;
+
+// The line of a refusal, by the number that document 01 gives it.
+fn refused(r: Refusal) -> Due
+    ensures due { result ≡ Due.Refusal (number_of r) }
+    ensures sized { DueSized result }
+{
+    Due::Refusal(usize::from(u8::from(r)))
+}
 
 // Finds the first line that is due if trees exist, once the chart is filled and the fit table is made. It makes the tables and writes the
 // first derivation into the buffer.
@@ -42,9 +51,16 @@ fn begin_tree(
     let rules = build(p, input, fits, chart, tables);
     let n = input.len();
     if !exists(tables, start, n) {
-        return Due::Refusal(13);
+        return refused(Refusal::OnlyLargerTrees);
     }
-    let nodes = write_first(p, fits, chart, tables, Root { rules, start, n }, buf);
+    let made = Made {
+        p,
+        rules,
+        fits,
+        chart,
+        tables,
+    };
+    let nodes = write_first(&made, Root { start, n }, buf);
     Due::Reading {
         start,
         rules,
@@ -95,11 +111,11 @@ fn begin_input(
         chart.new fits.new tables.new buf.old buf.new result }
 {
     match fill_input::judge(g, input.len(), chart.len()) {
-        Judged::Refused(r) => Due::Refusal(wide_byte(answers::number(r))),
-        Judged::Passed => {
+        Err(r) => refused(r),
+        Ok(()) => {
             *p = fill_input::fill_fits(g, input, year, fits, chart);
             *lengths = check_length::lengths_of(g);
-            begin_filled(p, wide_byte(g.start), input, chart, fits, tables, buf)
+            begin_filled(p, usize::from(g.start), input, chart, fits, tables, buf)
         }
     }
 }
@@ -124,11 +140,8 @@ pub fn begin(
 {
     let year = year_in(file);
     let b = load::load(book);
-    let outcome = b.outcome;
-    match outcome {
-        Outcome::Refused(r, _) => Due::Refusal(wide_byte(answers::number(r))),
-        Outcome::Accepted => begin_input(
-            b.grammar, input, year, p, lengths, chart, fits, tables, buf,
-        ),
+    match b.outcome {
+        Err(fault) => refused(fault.refusal),
+        Ok(()) => begin_input(b.grammar, input, year, p, lengths, chart, fits, tables, buf),
     }
 }

@@ -8,7 +8,7 @@ pub mod year;
 // What is due: the line that is printed next.
 #[derive(Clone, Copy)]
 pub enum Due {
-    // `REFUSED` and a number, the only line
+    // `REFUSED` and a number, the only line; any byte may be that number, since `print_page::fill_page` takes each (`DueSized`)
     Refusal(usize),
     // `NO READING`, the only line
     NoReading,

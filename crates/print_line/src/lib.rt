@@ -4,17 +4,8 @@
 pub mod fixed;
 pub mod line;
 
-ghost use Rattle.std.specs.Prelude.{◌≡◌};
-ghost use Rattle.print_line.specs.Sizes.{line_size};
-
 // The byte at the end of each line.
 pub const NEWLINE: u8 = 10;
 
 // Every line fits a buffer of this many bytes.
 pub const LINE: usize = 8192;
-
-pub fn tied_line() -> usize
-    ensures { result ≡ line_size }
-{
-    LINE
-}

@@ -35,10 +35,8 @@ pub fn put_nodes(e: &[u16], m: usize, at: usize, out: &mut [u8]) -> usize
     ensures upper_bound { result ≤ at + node_size * m }
 {
     let mut end = at;
-    let mut i = 0;
-    while i < m {
+    for i in 0..m {
         end = put_node(e[2 * i], e[2 * i + 1], end, out);
-        i += 1;
     }
     end
 }

@@ -25,13 +25,9 @@ pub fn put_bytes(s: &[u8], at: usize, out: &mut [u8]) -> usize
     requires { at + length s.now ≤ length out.old }
     ensures { Put s.now at result out.old out.new }
 {
-    let n = s.len();
-    let mut i = 0;
-    while i < n {
-        out[at + i] = s[i];
-        i += 1;
-    }
-    at + n
+    let end = at + s.len();
+    out[at..end].copy_from_slice(s);
+    end
 }
 
 // Writes a number in decimal: the digits before the last one, then the last one.

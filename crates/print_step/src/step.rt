@@ -15,6 +15,7 @@ use print_begin::Due;
 use print_line::fixed::{put_more, put_no_reading, put_readings, put_refused};
 use print_line::line::put_line;
 use sizes::MOST;
+use table_all::made::Made;
 use table_layout::layout::Tables;
 use tree_node::Root;
 
@@ -47,32 +48,21 @@ fn reading(lengths: &Lengths, buf: &[u16], i: usize, nodes: usize, out: &mut [u8
 }
 
 // Finds what is due after derivation i, which is in the buffer. If there is a next derivation, it is in the buffer then.
-fn following(
-    p: &Packed,
-    fits: &FitTable,
-    chart: &[u32],
-    tables: &Tables,
-    root: Root,
-    i: usize,
-    buf: &mut [u16],
-) -> Due
-    requires { (root.rules ≤ max_rules) × (root.n < side) × (i < most) × (cells ≤ length chart.now)
-        × (output_size ≤ length buf.old) }
-    ensures { Followed p.now root.rules fits.now chart.now tables.now
-        root.start root.n i
-        buf.old buf.new result }
+fn following(made: &Made, root: Root, i: usize, buf: &mut [u16]) -> Due
+    requires { (i < most) × (output_size ≤ length buf.old) }
+    ensures { Followed made.now.p.now made.now.rules made.now.fits.now made.now.chart.now made.now.tables.now
+        root.start root.n i buf.old buf.new result }
 {
-    let Root { rules, start, n } = root;
-    let nodes = advance_root(p, fits, chart, tables, root, buf);
-    if nodes == 0 {
+    let Root { start, n } = root;
+    let Some(nodes) = advance_root(made, root, buf) else {
         return Due::Total(i + 1);
-    }
+    };
     if i + 1 == MOST {
         return Due::More;
     }
     Due::Reading {
         start,
-        rules,
+        rules: made.rules,
         n,
         i: i + 1,
         nodes,
@@ -106,8 +96,14 @@ pub fn step(
             nodes,
         } => {
             let bytes = reading(lengths, buf, i, nodes, out);
-            let root = Root { rules, start, n };
-            let then = following(p, fits, chart, tables, root, i, buf);
+            let made = Made {
+                p,
+                rules,
+                fits,
+                chart,
+                tables,
+            };
+            let then = following(&made, Root { start, n }, i, buf);
             Printed { bytes, due: then }
         }
         Due::Total(n) => last(put_readings(n, out)),

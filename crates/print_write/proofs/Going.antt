@@ -1,15 +1,15 @@
--- The loop over the pages: those handed to the write so far are the front of the text, and the counter is enough for the others.
+-- The loop over the pages: those handed to the write so far are the front of the text, and as many turns as there may be pages are enough.
 -- Assumes nothing.
-use Prim.Native.Nat.{ℕ, suc, ◌+◌, ◌*◌, ◌-◌, ◌≤◌}
+use Prim.Native.Nat.{ℕ, suc, ◌+◌, ◌*◌, ◌≤◌}
 use native.Mathlib.Omega.{arith}
-use mathlib.Core.Bool.{Bool, true, false, not}
+use mathlib.Core.Bool.{Bool, true, false}
 use mathlib.Core.List.{List, [], ◌∷◌, ◌++◌, flatten, append_assoc}
 use mathlib.Core.Path.{◌≡◌, refl, sym, ap, subst, ◌∙◌}
 use lib.IntN.{ℤ}
 use lib.ListN.{length, take, length-append, length-take}
 use lib.Seq.{length-take-le}
+use Rattle.std.specs.Prelude.{Result, Ok, Err, IfOk}
 use Rattle.sizes.specs.Sizes.{most}
-use Rattle.laws.proofs.Bools.{clash}
 use Rattle.text.specs.Text.{text_of}
 use Rattle.print_begin.specs.declared.Due.{Due}
 use Rattle.print_begin.specs.Due.{Ahead, DueSized, steps_left}
@@ -17,7 +17,7 @@ use Rattle.print_page.specs.Page.{page_size, is_done, Paged}
 use Rattle.print_page.specs.Pages.{Pages, empty, further}
 use Rattle.print_page.proofs.Paging.{done_none, some_left, few-left}
 use Rattle.print_page.proofs.Printed.{flatten-snoc, pages-front, pages-whole}
-use Rattle.print_write.specs.Listed.{max_text, Next, HandedAll, Listed}
+use Rattle.print_write.specs.Listed.{Next, Handed, Listed}
 
 -- the bytes of a page
 pub part-long : (r : ℕ) (out : List ℕ) → r ≤ length out → r ≡ length (take r out)
@@ -27,29 +27,29 @@ pub part_small : (r : ℕ) (out₀ out : List ℕ) → length out ≡ length out
 part_small r out₀ out e f = omega (arith, length-take r out)
 
 module _ (lengths : ℕ → ℤ) (p fits chart tables : List ℕ) (d₀ : Due) (buf₀ : List ℕ) where
-  -- `bytes` bytes were handed to the write, d is due then, and at most `left` pages are left
-  pub record Going (d : Due) (buf : List ℕ) (bytes left : ℕ) : Type 0 where
+  -- n pages of `bytes` bytes were handed to the write, and d is due then
+  pub record Going (d : Due) (buf : List ℕ) (bytes n : ℕ) : Type 0 where
     pub pages : List (List ℕ)
     pub run : Pages lengths p fits chart tables d₀ buf₀ pages d buf
     pub handed : bytes ≡ length (flatten pages)
-    pub small : bytes + page_size * left ≤ max_text
-    pub enough : steps_left d ≤ left
+    pub small : bytes ≤ page_size * n
+    pub enough : steps_left d + n ≤ suc most
     pub sized : DueSized d
     pub long : length buf ≡ length buf₀
 
-  pub going-first : DueSized d₀ → Going d₀ buf₀ 0 (suc most)
+  pub going-first : DueSized d₀ → Going d₀ buf₀ 0 0
   unfolding flatten
   going-first sized = record {
     pages = [];
     run = empty;
     handed = refl;
     small = omega arith;
-    enough = few-left d₀;
+    enough = omega (arith, few-left d₀);
     sized = sized;
     long = refl;
   }
 
-  module _ (d : Due) (buf : List ℕ) (bytes left : ℕ) (G : Going d buf bytes left) where
+  module _ (d : Due) (buf : List ℕ) (bytes n : ℕ) (G : Going d buf bytes n) where
     module _ (some : is_done d ≡ false) (buf' out₀ out : List ℕ) (r : ℕ) (t : Due)
         (P : Paged lengths p fits chart tables d buf buf' out₀ out r t) where
       -- the page has the next bytes of the text
@@ -66,8 +66,8 @@ module _ (lengths : ℕ → ℤ) (p fits chart tables : List ℕ) (d₀ : Due) (
             place = sym G.handed;
           }
 
-      pub going-page : length out ≡ page_size → (n : ℕ) → n ≡ bytes + length (take r out) → Going t buf' n (left - 1)
-      going-page size n e =
+      pub going-page : length out ≡ page_size → (after : ℕ) → after ≡ bytes + length (take r out) → Going t buf' after (n + 1)
+      going-page size after e =
           let S = some_left d G.sized some in
           let f = G.enough in
           let taken : length (take r out) ≡ r = length-take-le r out P.within in
@@ -77,40 +77,33 @@ module _ (lengths : ℕ → ℤ) (p fits chart tables : List ℕ) (d₀ : Due) (
             handed = e ∙ ap (λ (x : ℕ). x + length (take r out)) G.handed
                 ∙ sym (ap length (flatten-snoc G.pages (take r out)) ∙ length-append (flatten G.pages) (take r out));
             small = omega (arith, G.small, P.within);
-            enough = omega (arith, P.fewer);
+            enough = omega (arith, P.fewer, S, f);
             sized = P.sized;
             long = P.long ∙ G.long;
           }
 
     -- nothing is due
-    pub handed-done : is_done d ≡ true → HandedAll lengths p fits chart tables d₀ buf₀ bytes true
+    pub handed-done : is_done d ≡ true → Handed lengths p fits chart tables d₀ buf₀ bytes
     handed-done e = record {
-      handed = λ _. record {
-        pages = G.pages;
-        last = buf;
-        run = subst (λ (y : Due). Pages lengths p fits chart tables d₀ buf₀ G.pages y buf) (done_none d e) G.run;
-        bytes = G.handed;
-      };
+      pages = G.pages;
+      last = buf;
+      run = subst (λ (y : Due). Pages lengths p fits chart tables d₀ buf₀ G.pages y buf) (done_none d e) G.run;
+      bytes = G.handed;
     }
 
-    -- nothing is due once the counter is down
-    pub handed-down : left ≤ 0 → HandedAll lengths p fits chart tables d₀ buf₀ bytes true
-    handed-down h = go (is_done d) refl
+    -- nothing is due after as many pages as there may be
+    pub handed-last : suc most ≤ n → Handed lengths p fits chart tables d₀ buf₀ bytes
+    handed-last h = go (is_done d) refl
       where
-        go : (b : Bool) → is_done d ≡ b → HandedAll lengths p fits chart tables d₀ buf₀ bytes true
+        go : (b : Bool) → is_done d ≡ b → Handed lengths p fits chart tables d₀ buf₀ bytes
         go true f = handed-done f
         go false f = absurd (omega (arith, some_left d G.sized f, G.enough))
 
-  -- a page could not be written
-  pub handed-failed : (n : ℕ) (all : Bool) → not all ≡ true → HandedAll lengths p fits chart tables d₀ buf₀ n all
-  handed-failed n true e = record { handed = λ f. clash cc }
-  handed-failed n false e = record { handed = λ f. clash cc }
-
 -- all pages have as many bytes as the text
-pub listed : (lengths : ℕ → ℤ) (p fits chart tables : List ℕ) (d : Due) (buf : List ℕ) (n : ℕ) (all : Bool) (book file w : List ℕ)
-    → HandedAll lengths p fits chart tables d buf n all → Ahead lengths p fits chart tables buf d (text_of book file w)
-    → Listed book file w n all
-listed lengths p fits chart tables d buf n all book file w A a = record {
-  whole = λ e. let H = A.handed e in
-      H.bytes ∙ ap length (pages-whole lengths p fits chart tables d buf H.pages H.last H.run (text_of book file w) a);
+pub listed : {E : Type 0} (lengths : ℕ → ℤ) (p fits chart tables : List ℕ) (d : Due) (buf : List ℕ) (book file w : List ℕ) (r : Result ℕ E)
+    → IfOk r (λ n. Handed lengths p fits chart tables d buf n) → Ahead lengths p fits chart tables buf d (text_of book file w)
+    → IfOk r (λ n. Listed book file w n)
+listed lengths p fits chart tables d buf book file w (Ok n) H a = record {
+  whole = H.bytes ∙ ap length (pages-whole lengths p fits chart tables d buf H.pages H.last H.run (text_of book file w) a);
 }
+listed lengths p fits chart tables d buf book file w (Err e) H a = tt

@@ -1,5 +1,5 @@
 -- What the program hands to the write: the next bytes of the text each time, and in the end all of them. Assumes nothing.
-use Rattle.std.specs.Prelude.{ℕ, suc, ◌*◌, Bool, true, ◌≡◌, ℤ, length}
+use Rattle.std.specs.Prelude.{ℕ, suc, ◌*◌, ◌≡◌, ℤ, length}
 use mathlib.Core.List.{List, ◌++◌, flatten}
 use Rattle.sizes.specs.Sizes.{most}
 use Rattle.text.specs.Text.{text_of}
@@ -26,10 +26,6 @@ pub record Handed (lengths : ℕ → ℤ) (p fits chart tables : List ℕ) (d : 
   pub run : Pages lengths p fits chart tables d buf pages Nothing last
   pub bytes : n ≡ length (flatten pages)
 
--- the same, unless a page could not be written
-pub record HandedAll (lengths : ℕ → ℤ) (p fits chart tables : List ℕ) (d : Due) (buf : List ℕ) (n : ℕ) (all : Bool) : Type 0 where
-  pub handed : all ≡ true → Handed lengths p fits chart tables d buf n
-
--- n bytes were handed to the write: those of the text, unless a page could not be written
-pub record Listed (book file w : List ℕ) (n : ℕ) (all : Bool) : Type 0 where
-  pub whole : all ≡ true → n ≡ length (flatten (text_of book file w))
+-- n bytes were handed to the write: those of the text
+pub record Listed (book file w : List ℕ) (n : ℕ) : Type 0 where
+  pub whole : n ≡ length (flatten (text_of book file w))

@@ -1,13 +1,13 @@
 // Writes the pages of the listing to standard output.
 #![tactic(auto)]
 
-ghost use Rattle.std.specs.Prelude.{◌≡◌, ◌+◌, ◌≤◌, length};
+ghost use Rattle.std.specs.Prelude.{◌≡◌, ◌+◌, ◌≤◌, length, IfOk};
 ghost use Rattle.print_begin.specs.Due.{Ahead, DueSized};
 ghost use Rattle.check_length.specs.Measure.{lengths_in};
 ghost use Rattle.print_page.specs.Page.{page_size};
 ghost use Rattle.sizes.specs.Sizes.{max_rules, cells, output_size};
 ghost use Rattle.text.specs.Text.{text_of};
-ghost use Rattle.print_write.specs.Listed.{max_text, Next, HandedAll};
+ghost use Rattle.print_write.specs.Listed.{max_text, Next, Handed};
 
 use check_length::Lengths;
 use packed::Packed;
@@ -22,14 +22,6 @@ const PAGES: usize = sizes::MOST + 1;
 
 // The most bytes of the reason why standard output can't be written.
 const REASON: usize = 128;
-
-// How many bytes were handed to the write, whether it wrote all of them, and if not, whether they went to a pipe that nobody reads.
-#[derive(Clone, Copy)]
-pub struct Written {
-    pub bytes: usize,
-    pub all: bool,
-    pub unread: bool,
-}
 
 // Says on standard error why standard output can't be written: the reason that the error has, without the number after it.
 fn fail(rt: &impl Eprint, error: &Error) {
@@ -46,21 +38,21 @@ fn fail(rt: &impl Eprint, error: &Error) {
 }
 
 // Writes all bytes to standard output, or returns what kind of error there is. Standard error says so, unless it is a pipe that nobody reads.
-fn write_all(rt: &(impl Print + Eprint), bytes: &[u8]) -> Option<ErrorKind> {
+fn write_all(rt: &(impl Print + Eprint), bytes: &[u8]) -> Result<(), ErrorKind> {
     match rt.write_all(bytes) {
-        Ok(()) => None,
+        Ok(()) => Ok(()),
         Err(error) => {
             let kind = error.kind();
             if kind != ErrorKind::BrokenPipe {
                 fail(rt, &error);
             }
-            Some(kind)
+            Err(kind)
         }
     }
 }
 
 // Hands bytes to the write. The `requires` says that they are those of the text of book, file with the year and plate after the first
-// `before` bytes, and these three are parameters only for that. If the bytes can't be written, standard error says so.
+// `before` bytes, and these three are parameters only for that. Returns how many bytes are handed on then.
 fn write(
     rt: &(impl Print + Eprint),
     book: &[u8],
@@ -68,19 +60,15 @@ fn write(
     plate: &[u8],
     before: usize,
     bytes: &[u8],
-) -> Written
+) -> Result<usize, ErrorKind>
     requires { (before ≤ max_text) × (length bytes.now ≤ page_size) × Next book.now file.now plate.now before bytes.now }
-    ensures { result.bytes ≡ before + length bytes.now }
+    ensures { IfOk result (λ n. n ≡ before + length bytes.now) }
 {
-    let error = write_all(rt, bytes);
-    Written {
-        bytes: before + bytes.len(),
-        all: error.is_none(),
-        unread: error == Some(ErrorKind::BrokenPipe),
-    }
+    write_all(rt, bytes)?;
+    Ok(before + bytes.len())
 }
 
-// Writes page after page until nothing is due, or until a page can't be written.
+// Writes page after page until nothing is due, and returns how many bytes they have, or which error there is if a page can't be written.
 pub fn write_pages(
     rt: &(impl Print + Eprint),
     book: &[u8],
@@ -93,31 +81,24 @@ pub fn write_pages(
     chart: &[u32],
     tables: &Tables,
     buf: &mut [u16],
-) -> Written
+) -> Result<usize, ErrorKind>
     requires { DueSized due × (length lengths.now ≡ max_rules) × (cells ≤ length chart.now) × (output_size ≤ length buf.old)
         × Ahead (lengths_in lengths.now) p.now fits.now chart.now tables.now buf.old due
         (text_of book.now file.now plate.now) }
-    ensures { HandedAll (lengths_in lengths.now) p.now fits.now chart.now
-        tables.now due buf.old result.bytes result.all }
+    ensures { IfOk result (λ n. Handed (lengths_in lengths.now) p.now fits.now chart.now
+        tables.now due buf.old n) }
 {
     let mut out = [0u8; PAGE];
     let mut then = due;
     let mut bytes = 0;
-    let mut left = PAGES;
-    while left > 0 && !is_done(then) {
+    for _ in 0..PAGES {
+        if is_done(then) {
+            break;
+        }
         let t = fill_page(then, p, lengths, fits, chart, tables, buf, &mut out);
         let n = t.bytes;
-        let w = write(rt, book, file, plate, bytes, &out[..n]);
-        if !w.all {
-            return w;
-        }
-        bytes = w.bytes;
+        bytes = write(rt, book, file, plate, bytes, &out[..n])?;
         then = t.due;
-        left -= 1;
     }
-    Written {
-        bytes,
-        all: true,
-        unread: false,
-    }
+    Ok(bytes)
 }

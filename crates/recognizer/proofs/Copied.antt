@@ -1,5 +1,5 @@
 -- The bytes of the state, copied one by one. Assumes nothing.
-use Prim.Native.Nat.{ℕ, zero, suc, ◌+◌, ◌-◌, ◌≤◌, ◌<◌}
+use Prim.Native.Nat.{ℕ, ◌+◌, ◌-◌, ◌≤◌, ◌<◌}
 use mathlib.Core.List.{List, [], ◌∷◌, ◌++◌}
 use mathlib.Core.Path.{◌≡◌, sym, ap, ◌∙◌, subst}
 use native.Mathlib.Nat.{le_antisymm}
@@ -7,16 +7,11 @@ use native.Mathlib.Numerals.{add-one}
 use native.Mathlib.Omega.{arith}
 use lib.ListN.{length, get_or, take, drop, set, replicate, length-append, length-replicate}
 use lib.Seq.{take-suc, length-take-le}
+use Rattle.std.proofs.lemmas.List.{drop-replicate}
 use Rattle.sizes.specs.Sizes.{max_input}
 use Rattle.fill_columns.proofs.Filling.{set_next}
 use Rattle.results.specs.Recognize.{state_with, hand_of}
 use Rattle.results.proofs.State.{state-is}
-
-drop-replicate : (k m a : ℕ) → drop k (replicate m a) ≡ replicate (m - k) a
-drop-replicate zero m a = ap (λ (x : ℕ). replicate x a) {x = m} {y = m - 0} (omega arith)
-drop-replicate (suc k) zero a = ap (λ (x : ℕ). replicate x a) {x = 0} {y = 0 - suc k} (omega arith)
-drop-replicate (suc k) (suc m) a =
-    drop-replicate k m a ∙ ap (λ (x : ℕ). replicate x a) {x = m - k} {y = suc m - suc k} (omega arith)
 
 -- numbers, copied one by one over zeros
 module _ (size : ℕ) (old : List ℕ) (long : length old ≡ size) where

@@ -3,3 +3,4 @@ pub mod Declared
 pub mod Copied
 pub mod Checked
 pub mod Calls
+pub mod Tied

@@ -4,7 +4,7 @@
 pub mod state;
 
 ghost use Rattle.std.specs.Prelude.{true, false, ◌≡◌, ◌<◌, ◌≤◌, length};
-ghost use Rattle.sizes.specs.Sizes.{cells, max_input, max_points};
+ghost use Rattle.sizes.specs.Sizes.{cells, max_input};
 ghost use Rattle.sets.specs.Set.{has as in_set};
 ghost use Rattle.chart.specs.Cell.{cell};
 ghost use Rattle.grammar.specs.Valid.{valid_grammar};
@@ -15,10 +15,9 @@ ghost use Rattle.results.specs.Answer.{answered, refused as refused_with};
 ghost use Rattle.results.specs.Recognize.{state_check, open_of, take_of};
 ghost use Rattle.recognizer.specs.Recognizer.{state_in, recognition_of};
 
-use answers::{Refusal, Verdict};
+use answers::Refusal;
 use fill_columns::{complete, open_chart, write_column};
 use grammar::Grammar;
-use numbers::wide_byte;
 use state::{blank, invalid, with_byte};
 
 // How many points a state keeps; their names are 0 to 7.
@@ -34,29 +33,20 @@ pub struct Recognizer {
     pub points: [u8; POINTS],
 }
 
-// What a call gives: whether the input so far is complete, and the state.
+// What a call gives: whether the input so far is complete, or the refusal, and the state.
+// The state stands beside the Result and not within it, since `open_of` and `take_of` say which state a refused call hands back, too.
 #[derive(Clone, Copy)]
 pub struct Advanced {
-    pub accepted: Verdict,
+    pub accepted: Result<bool, Refusal>,
     pub recognizer: Recognizer,
 }
 
-pub fn tied_points() -> usize
-    ensures { result ≡ max_points }
-{
-    POINTS
-}
-
 // The answer whether the input is complete after n bytes.
-pub fn says(start: u8, n: usize, chart: &[u32]) -> Verdict
+pub fn says(start: u8, n: usize, chart: &[u32]) -> Result<bool, Refusal>
     requires { (n ≤ max_input) × (cells ≤ length chart.now) }
     ensures { verdict_of result ≡ answered (in_set start (cell chart.now 0 n)) }
 {
-    if complete(wide_byte(start), n, chart) {
-        Verdict::Yes
-    } else {
-        Verdict::No
-    }
+    Ok(complete(usize::from(start), n, chart))
 }
 
 // A refused call gives back the state as it was.
@@ -64,7 +54,7 @@ pub fn refused(h: Recognizer, r: Refusal) -> Advanced
     ensures { (verdict_of result.accepted ≡ refused_with (number_of r)) × (result.recognizer ≡ h) }
 {
     Advanced {
-        accepted: Verdict::Refused(r),
+        accepted: Err(r),
         recognizer: h,
     }
 }

@@ -5,7 +5,6 @@ ghost use Rattle.results.specs.Recognize.{hand_of, state_of, state_check};
 ghost use Rattle.recognizer.specs.Recognizer.{state_in};
 
 use super::{POINTS, Recognizer};
-use numbers::wide_byte;
 
 // The state without bytes: zeros, and the year.
 pub fn blank(year: u16) -> Recognizer
@@ -25,11 +24,7 @@ pub fn front(h: Recognizer, n: usize) -> [u8; sizes::MAX_INPUT]
     ensures { result ≡ take_first n h.bytes ++ replicate (max_input - n) 0 }
 {
     let mut bytes = [0u8; sizes::MAX_INPUT];
-    let mut i = 0;
-    while i < n {
-        bytes[i] = h.bytes[i];
-        i += 1;
-    }
+    bytes[..n].copy_from_slice(&h.bytes[..n]);
     bytes
 }
 
@@ -59,12 +54,6 @@ pub fn invalid(h: Recognizer) -> bool
     if n > sizes::MAX_INPUT {
         return true;
     }
-    let mut i = 0;
-    while i < POINTS {
-        if wide_byte(h.points[i]) > n + 1 {
-            return true;
-        }
-        i += 1;
-    }
-    false
+    let most = n + 1;
+    h.points.iter().any(|p| usize::from(*p) > most)
 }

@@ -4,14 +4,13 @@ ghost use Rattle.sizes.specs.Sizes.{max_input};
 ghost use Rattle.results.specs.Points.{kept_point, points_up_to};
 
 use super::POINTS;
-use numbers::wide_byte;
 
 // A point after a return to the count n: 0 if it is past it.
 fn kept_point(p: u8, n: usize) -> u8
     requires { n ≤ max_input }
     ensures { result ≡ kept_point n p }
 {
-    if wide_byte(p) <= n + 1 { p } else { 0 }
+    if usize::from(p) <= n + 1 { p } else { 0 }
 }
 
 // The points that remain after a return to the count n: those past it are gone.
@@ -19,11 +18,5 @@ pub fn points_up_to(points: [u8; POINTS], n: usize) -> [u8; POINTS]
     requires { n ≤ max_input }
     ensures { result ≡ points_up_to n points }
 {
-    let mut kept = [0u8; POINTS];
-    let mut i = 0;
-    while i < POINTS {
-        kept[i] = kept_point(points[i], n);
-        i += 1;
-    }
-    kept
+    points.map(|p| kept_point(p, n))
 }

@@ -4,19 +4,11 @@
 pub mod kept;
 
 ghost use Rattle.std.specs.Prelude.{not, ◌++◌, ◌≡◌, ◌-◌, ◌≤◌, take as take_first, replicate};
-ghost use Rattle.sizes.specs.Sizes.{max_input, max_points};
+ghost use Rattle.sizes.specs.Sizes.{max_input};
 ghost use Rattle.results.specs.Recognize.{points_within};
-
-use numbers::wide_byte;
 
 // How many points a state keeps; their names are 0 to 7.
 pub const POINTS: usize = 8;
-
-pub fn tied_points() -> usize
-    ensures { result ≡ max_points }
-{
-    POINTS
-}
 
 // The first n bytes, and zeros after them.
 pub fn front(bytes: [u8; sizes::MAX_INPUT], n: usize) -> [u8; sizes::MAX_INPUT]
@@ -24,11 +16,7 @@ pub fn front(bytes: [u8; sizes::MAX_INPUT], n: usize) -> [u8; sizes::MAX_INPUT]
     ensures { result ≡ take_first n bytes ++ replicate (max_input - n) 0 }
 {
     let mut copy = [0u8; sizes::MAX_INPUT];
-    let mut i = 0;
-    while i < n {
-        copy[i] = bytes[i];
-        i += 1;
-    }
+    copy[..n].copy_from_slice(&bytes[..n]);
     copy
 }
 
@@ -37,12 +25,6 @@ pub fn past(points: [u8; POINTS], n: usize) -> bool
     requires { n ≤ max_input }
     ensures { result ≡ not (points_within n points) }
 {
-    let mut i = 0;
-    while i < POINTS {
-        if wide_byte(points[i]) > n + 1 {
-            return true;
-        }
-        i += 1;
-    }
-    false
+    let most = n + 1;
+    points.iter().any(|p| usize::from(*p) > most)
 }

@@ -1,4 +1,5 @@
-// Sets of the numbers 0..63, each a u64 whose bit k says whether k is in the set.
+// Sets of the numbers 0..63, each a u64 whose bit k says whether k is in the set. They have functions of their own: a trait over u32 and u64
+// would write each of these bodies twice as well, since std has none over both widths, and would add the trait and its laws.
 ghost use Rattle.std.specs.Prelude.{true, ◌≡◌, ◌<◌};
 ghost use Rattle.sets.specs.Set.{has as in_set, insert};
 ghost use Rattle.sets.specs.Pairs.{Common, Union, Less, FirstMember, Meeting, Without};

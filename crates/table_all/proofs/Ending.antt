@@ -22,7 +22,7 @@ use Rattle.table_write.specs.Writes.{all_rows}
 use Rattle.fill_reach.specs.Reach.{Reaches}
 use Rattle.table_live.specs.Live.{ReachedOnly}
 use Rattle.table_span.specs.Sofar.{Standing, SpanGiven, EmptyTrue, Sofar, LiveFrom}
-use Rattle.table_span.specs.Spans.{SpanPut, EmptyPut}
+use Rattle.table_span.specs.Spans.{SpanPut}
 use Rattle.table_all.specs.Spans.{EndFrom, EndDone, EndsDone, EndsPut, Tabulated}
 use Rattle.table_span.proofs.Kept.{ready_by}
 
@@ -30,16 +30,6 @@ module _ (p : List ℕ) (rules : ℕ) (fits chart : List ℕ) where
   -- ---- one end
 
   module _ (j : ℕ) where
-    pub end-start : (tables rows live : List ℕ) → length tables ≡ tables_size → length rows ≡ all_rows → length live ≡ max_rules
-        → EndFrom p rules fits chart j j tables rows tables rows live
-    end-start tables rows live e f g = record {
-      long = e;
-      wide = f;
-      size = g;
-      told = record { told = λ r c x y z w. absurd (omega arith) };
-      exact = λ fit can G C S. S;
-    }
-
     -- an end whose bit is not set costs too much: its cell is empty, so that no nonterminal has a tree there
     reached-by : {fit : Fit} {bytes : ℕ → ℕ → Type 0} {i : ℕ} {tables rows reach : List ℕ} → i < j → j < side
         → Sofar fit bytes p rules (i + 1) j tables rows → ChartTrue p bytes chart j → Reaches chart j reach
@@ -71,17 +61,6 @@ module _ (p : List ℕ) (rules : ℕ) (fits chart : List ℕ) where
 
         live : LiveFrom p rules (n - 1 + 1) j rows₁ live₁
         live = rw (← e) S.told
-
-    pub end-put : (empty : List ℕ) {i : ℕ} {tables₀ rows₀ tables₁ rows₁ tables rows live : List ℕ} → i ≤ 0
-        → EmptyPut p rules fits empty j tables₀ rows₀ tables₁ rows₁ → EndFrom p rules fits chart i j tables₁ rows₁ tables rows live
-        → EndDone p rules fits chart empty j tables₀ rows₀ tables rows
-    end-put empty {i} {tables = tables} {rows} h D S = record {
-      long = S.long;
-      wide = S.wide;
-      exact = λ fit can G E C R.
-          let e : i ≡ 0 = omega arith in
-          rw e at (S.exact fit can G C (D.exact fit can G.told E R));
-    }
 
   -- ---- all ends
 

@@ -1,8 +1,7 @@
 // All spans: for each end, from the empty span there to the start of the input.
-ghost use Rattle.std.specs.Prelude.{◌≡◌, ◌<◌, ◌≤◌, length};
+ghost use Rattle.std.specs.Prelude.{◌<◌, ◌≤◌, length};
 ghost use Rattle.sizes.specs.Sizes.{max_rules, side, cells};
-ghost use Rattle.table_layout.specs.Layout.{tables_size};
-ghost use Rattle.table_write.specs.Writes.{all_rows, Nothing};
+ghost use Rattle.table_write.specs.Writes.{Nothing};
 ghost use Rattle.fill_reach.specs.Reach.{Reaches};
 ghost use Rattle.table_all.specs.Spans.{EndDone, EndsPut, Tabulated};
 
@@ -30,15 +29,13 @@ fn put_end(
     rows: &mut AllRows,
 )
     requires { (rules ≤ max_rules) × (cells ≤ length chart.now) × Nothing nothing.now × (j < side)
-        × Reaches chart.now j reach.now × (length tables.old ≡ tables_size) × (length rows.old ≡ all_rows) }
+        × Reaches chart.now j reach.now }
     ensures { EndDone p.now rules fits.now chart.now empty.now j
         tables.old rows.old tables.new rows.new }
 {
     put_empty(p, rules, fits, empty, j, tables, rows);
     let mut live = [0u64; sizes::MAX_RULES];
-    let mut i = j;
-    while i > 0 {
-        i -= 1;
+    for i in (0..j).rev() {
         let over = Over {
             i,
             j,
@@ -59,19 +56,17 @@ fn put_ends(
     n: usize,
     tables: &mut Tables,
 )
-    requires { (rules ≤ max_rules) × (cells ≤ length chart.now) × (n < side) × (length tables.old ≡ tables_size) }
+    requires { (rules ≤ max_rules) × (cells ≤ length chart.now) × (n < side) }
     ensures { EndsPut p.now rules fits.now chart.now empty.now n
         tables.old tables.new }
 {
     let none = nothing();
     let reach = reaches(chart, n);
     let mut rows = [0u16; ALL_ROWS];
-    let mut j = 0;
-    while j <= n {
+    for j in 0..n + 1 {
         put_end(
             p, rules, fits, chart, empty, &none, &reach, j, tables, &mut rows,
         );
-        j += 1;
     }
 }
 
@@ -84,7 +79,7 @@ pub fn tabulate(
     n: usize,
     tables: &mut Tables,
 )
-    requires { (rules ≤ max_rules) × (n < side) × (cells ≤ length chart.now) × (length tables.old ≡ tables_size) }
+    requires { (rules ≤ max_rules) × (n < side) × (cells ≤ length chart.now) }
     ensures { Tabulated p.now rules fits.now chart.now n tables.new }
 {
     let empty = solve(p, rules, chart[0], 0, tables, 0, 0);

@@ -43,10 +43,8 @@ pub fn over_ends(
     ensures { AtNonterminal tables.now k a from b last rests.now at result }
 {
     let mut best = at_start(tables, k, a, b, rests, at);
-    let mut c = from;
-    while c < b {
+    for c in from..b {
         best = lower(best, sum(cost(tables, k, a, c), rests[at + c]));
-        c += 1;
     }
     lower(best, capped(last, rests[at + b]))
 }

@@ -2,7 +2,7 @@
 // last index, so that a minimum over ends reads memory in order.
 ghost use Rattle.std.specs.Prelude.{◌≡◌, ◌<◌};
 ghost use Rattle.sizes.specs.Sizes.{side};
-ghost use Rattle.table_layout.specs.Layout.{least_size, alones_at, bares_at, tables_size, rows_size, cost_in, full_in};
+ghost use Rattle.table_layout.specs.Layout.{cost_in, full_in};
 
 use super::least::TOO_MANY;
 
@@ -10,12 +10,6 @@ pub const LEAST_SIZE: usize = sizes::NONTERMINALS * sizes::CELLS;
 
 // The numbers of one span: one for each nonterminal.
 pub type Full = [u16; sizes::NONTERMINALS];
-
-pub fn tied_least() -> usize
-    ensures { result ≡ least_size }
-{
-    LEAST_SIZE
-}
 
 // After the least table: what a node costs in addition to a child that covers all, one number for each rule and place.
 pub const ALONES: usize = LEAST_SIZE;
@@ -28,32 +22,8 @@ pub const TABLES_SIZE: usize = BARES + sizes::MAX_INPUT / 2 * sizes::SIDE * size
 
 pub type Tables = [u16; TABLES_SIZE];
 
-pub fn tied_alones() -> usize
-    ensures { result ≡ alones_at }
-{
-    ALONES
-}
-
-pub fn tied_bares() -> usize
-    ensures { result ≡ bares_at }
-{
-    BARES
-}
-
-pub fn tied_tables() -> usize
-    ensures { result ≡ tables_size }
-{
-    TABLES_SIZE
-}
-
 // The rows of one rule: one for each place and one after the last, with a number for each start.
 pub const ROWS_SIZE: usize = sizes::SIDE * (sizes::MAX_PLACES + 1);
-
-pub fn tied_rows() -> usize
-    ensures { result ≡ rows_size }
-{
-    ROWS_SIZE
-}
 
 // The cost of the nonterminal k from a to b: 513 if k is 32 or above.
 pub fn cost(tables: &Tables, k: usize, a: usize, b: usize) -> u16

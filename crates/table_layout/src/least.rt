@@ -5,27 +5,16 @@ ghost use Rattle.sizes.specs.Sizes.{too_many};
 // One more than the nodes of any derivation, as a number of the tables. It means none.
 pub const TOO_MANY: u16 = sizes::TOO_MANY as u16;
 
-pub fn tied_too_many() -> u16
-    ensures { result ≡ too_many }
-{
-    TOO_MANY
-}
-
 // The sum of two numbers of nodes, or 513 if that is less.
 pub fn capped(a: u16, b: u16) -> u16
     ensures { result ≡ min (a + b) too_many }
 {
-    if a < TOO_MANY {
-        if b < TOO_MANY - a {
-            return a + b;
-        }
-    }
-    TOO_MANY
+    a.saturating_add(b).min(TOO_MANY)
 }
 
 // The smaller of two numbers.
 pub fn lower(a: u16, b: u16) -> u16
     ensures { result ≡ min a b }
 {
-    if b < a { b } else { a }
+    a.min(b)
 }

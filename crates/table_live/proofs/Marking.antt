@@ -1,40 +1,18 @@
 -- The live starts of a rule and the first end that is one, by the tests that the code makes, and rows of 513. Assumes nothing.
-use Prim.Native.Nat.{ℕ, ◌+◌, ◌*◌, ◌-◌, ◌≤◌, ◌<◌}
+use Prim.Native.Nat.{ℕ, ◌+◌, ◌≤◌, ◌<◌}
 use mathlib.Core.Bool.{Bool, true, false, ◌&&◌, true≢false}
 use mathlib.Core.List.{List}
-use mathlib.Core.Logic.{dite}
 use mathlib.Core.Path.{◌≡◌, refl, sym, ap, ◌∙◌}
 use native.Mathlib.Decide.{ℕ_discrete}
 use native.Mathlib.Omega.{arith}
 use lib.ListN.{length, set, get_or, length-set}
 use lib.Seq.{get_or-set_same, get_or-set_other}
-use Rattle.table_layout.specs.Layout.{rows_size}
-use Rattle.sizes.specs.Sizes.{too_many, max_rules, side, max_places}
-use Rattle.laws.proofs.Lists.{below_step}
+use Rattle.sizes.specs.Sizes.{max_rules}
 use Rattle.sets.specs.Set.{has, insert}
 use Rattle.sets.specs.Pairs.{Common, FirstMember}
 use Rattle.sets.proofs.Laws.{has-insert, has-insert-same}
 use Rattle.packed.specs.Packed.{place_count}
-use Rattle.table_write.specs.Writes.{all_rows, place_at}
 use Rattle.table_live.specs.Live.{Silent, live_in, Marked, FirstEnd, NoneBefore, NonePut}
-
--- ---- whether a start is live
-
--- the places after q cost too much from i on
-pub record Above (p : List ℕ) (r i : ℕ) (rows : List ℕ) (q : ℕ) : Type 0 where
-  pub many : (s : ℕ) → q < s → s ≤ place_count p r → too_many ≤ get_or rows (place_at r s i) 0
-
-module _ (p : List ℕ) (r i : ℕ) (rows : List ℕ) where
-  pub above-start : {q : ℕ} → q ≡ place_count p r → Above p r i rows q
-  above-start e = record { many = λ s l m. absurd (omega arith) }
-
-  pub above-back : (q : ℕ) → 0 < q → Above p r i rows q → too_many ≤ get_or rows (place_at r q i) 0 → Above p r i rows (q - 1)
-  above-back q z A h = record {
-    many = λ s l m. dite (ℕ_discrete s q) (λ e. rw e h) (λ (d : ¬ (s ≡ q)). A.many s (omega arith) m);
-  }
-
-  pub above-all : {q : ℕ} → q ≤ 0 → Above p r i rows q → Silent p r i rows
-  above-all z A s l m = A.many s (omega arith) m
 
 -- ---- marking a start
 
@@ -67,20 +45,6 @@ module _ (p : List ℕ) (r i : ℕ) (rows live : List ℕ) (h : length live ≡ 
 -- ---- rows of 513
 
 module _ (p : List ℕ) (r i : ℕ) where
-  pub none-start : (rows : List ℕ) → NoneBefore p r i 0 rows rows
-  none-start rows = record { long = refl; other = λ n d. refl; here = λ s l. absurd (omega arith) }
-
-  pub none-step : (q : ℕ) (rows₀ rows : List ℕ) {m v : ℕ} → m ≡ place_count p r → m ≤ max_places → q ≤ m → r < max_rules → i < side
-      → length rows ≡ all_rows
-      → v ≡ too_many → NoneBefore p r i q rows₀ rows → NoneBefore p r i (q + 1) rows₀ (set rows (rows_size * r + side * q + i) v)
-  none-step q rows₀ rows {m} {v} e b h l k o f S = record {
-    long = length-set rows (place_at r q i) v ∙ S.long;
-    other = λ n d. get_or-set_other rows (place_at r q i) n v 0 (d q (omega arith)) ∙ S.other n d;
-    here = below_step (λ (s : ℕ). get_or (set rows (place_at r q i) v) (place_at r s i) 0 ≡ too_many) q
-        (λ s x. get_or-set_other rows (place_at r q i) (place_at r s i) v 0 (λ z. omega arith) ∙ S.here s x)
-        (get_or-set_same rows (place_at r q i) v 0 (omega arith) ∙ f);
-  }
-
   pub none_end : {q m : ℕ} {rows₀ rows : List ℕ} → m ≡ place_count p r → q ≤ m + 1 → m < q → NoneBefore p r i q rows₀ rows
       → NonePut p r i rows₀ rows
   none_end {q} e h l S = let d : q ≡ place_count p r + 1 = omega arith in rw d at S

@@ -1,8 +1,8 @@
 // The costs of one rule from i to j without a child over the whole span. If no piece from i ends at a live start, they are 513 for all its
 // places.
-ghost use Rattle.std.specs.Prelude.{◌≡◌, ◌<◌, length};
+ghost use Rattle.std.specs.Prelude.{◌<◌};
 ghost use Rattle.sizes.specs.Sizes.{max_rules, side};
-ghost use Rattle.table_write.specs.Writes.{all_rows, Nothing};
+ghost use Rattle.table_write.specs.Writes.{Nothing};
 ghost use Rattle.table_live.specs.Live.{NonePut, FirstEnd, RuleRowsPut};
 
 use super::mark::mark;
@@ -26,14 +26,12 @@ pub struct Over {
 
 // Writes 513 for all places of rule r from the start i.
 fn put_none(p: &Packed, r: usize, i: usize, rows: &mut AllRows)
-    requires { (r < max_rules) × (i < side) × (length rows.old ≡ all_rows) }
+    requires { (r < max_rules) × (i < side) }
     ensures { NonePut p.now r i rows.old rows.new }
 {
     let count = packed::count(p, r);
-    let mut q = 0;
-    while q <= count {
+    for q in 0..=count {
         rows[ROWS_SIZE * r + sizes::SIDE * q + i] = TOO_MANY;
-        q += 1;
     }
 }
 
@@ -58,8 +56,7 @@ pub fn put_rule(
     rows: &mut AllRows,
     live: &mut Live,
 )
-    requires { (r < max_rules) × (over.i < over.j) × (over.j < side) × (length rows.old ≡ all_rows)
-        × (length live.old ≡ max_rules) }
+    requires { (r < max_rules) × (over.i < over.j) × (over.j < side) }
     ensures { RuleRowsPut p.now r fits.now tables.now full.now over.reach over.i over.j
         rows.old live.old rows.new live.new }
 {
@@ -82,8 +79,7 @@ pub fn open_rule(
     rows: &mut AllRows,
     live: &mut Live,
 )
-    requires { (r < max_rules) × (over.i < over.j) × (over.j < side) × Nothing nothing.now × (length rows.old ≡ all_rows)
-        × (length live.old ≡ max_rules) }
+    requires { (r < max_rules) × (over.i < over.j) × (over.j < side) × Nothing nothing.now }
     ensures { RuleRowsPut p.now r fits.now tables.now nothing.now over.reach over.i over.j
         rows.old live.old rows.new live.new }
 {

@@ -1,4 +1,3 @@
 -- Laws of the costs of rules, by the tests that the code makes.
 pub mod Sums
 pub mod Through
-pub mod Filling

@@ -1,12 +1,11 @@
 // What a rule's places cost over no byte: all of them, and all but the one whose child covers the whole span.
-ghost use Rattle.std.specs.Prelude.{◌≡◌, suc, ◌+◌, ◌*◌, ◌<◌, min, length};
+ghost use Rattle.std.specs.Prelude.{◌≡◌, suc, ◌+◌, ◌*◌, ◌<◌, min};
 ghost use Rattle.sizes.specs.Sizes.{max_rules, max_places, too_many};
 ghost use Rattle.theory_costs.specs.Rule.{single, together, alone as alone_of};
 ghost use Rattle.packed.specs.Packed.{symbol_in, places_in};
-ghost use Rattle.table_layout.specs.Layout.{full_in, tables_size};
+ghost use Rattle.table_layout.specs.Layout.{full_in};
 ghost use Rattle.table_rule.specs.Rule.{AlonePut, AlonesFilled};
 
-use numbers::wide;
 use packed::Packed;
 use table_layout::layout::{ALONES, Full, Tables, full_of};
 use table_layout::least::TOO_MANY;
@@ -28,7 +27,7 @@ fn single_at(p: &Packed, r: usize, q: usize, full: &Full) -> usize
     ensures { (result ≡ single (full_in full.now) (symbol_in p.now r q)) × (result < 65536) }
 {
     if packed::is_nonterminal(p, r, q) {
-        return wide(full_of(full, packed::value(p, r, q)));
+        return usize::from(full_of(full, packed::value(p, r, q)));
     }
     sizes::TOO_MANY
 }
@@ -40,10 +39,8 @@ pub fn total(p: &Packed, r: usize, full: &Full) -> usize
 {
     let count = packed::count(p, r);
     let mut sum = 0;
-    let mut q = 0;
-    while q < count {
+    for q in 0..count {
         sum += single_at(p, r, q, full);
-        q += 1;
     }
     sum
 }
@@ -63,7 +60,7 @@ pub fn alone_at(p: &Packed, r: usize, q: usize, empty: &Full, sum: usize) -> u16
 {
     if q < packed::count(p, r) {
         if packed::is_nonterminal(p, r, q) {
-            let own = wide(full_of(empty, packed::value(p, r, q)));
+            let own = usize::from(full_of(empty, packed::value(p, r, q)));
             return one_more(sum - own);
         }
     }
@@ -72,25 +69,20 @@ pub fn alone_at(p: &Packed, r: usize, q: usize, empty: &Full, sum: usize) -> u16
 
 // Writes what `alone_at` says of each place of rule r.
 fn put_alone(p: &Packed, r: usize, empty: &Full, tables: &mut Tables)
-    requires { (r < max_rules) × (length tables.old ≡ tables_size) }
+    requires { r < max_rules }
     ensures { AlonePut p.now r empty.now tables.old tables.new }
 {
     let sum = total(p, r, empty);
-    let mut q = 0;
-    while q < sizes::MAX_PLACES {
+    for q in 0..sizes::MAX_PLACES {
         tables[ALONES + sizes::MAX_PLACES * r + q] = alone_at(p, r, q, empty, sum);
-        q += 1;
     }
 }
 
 // Writes what `alone_at` says of each place of every rule.
 pub fn fill_alone(p: &Packed, empty: &Full, tables: &mut Tables)
-    requires { length tables.old ≡ tables_size }
     ensures { AlonesFilled p.now empty.now max_rules tables.new }
 {
-    let mut r = 0;
-    while r < sizes::MAX_RULES {
+    for r in 0..sizes::MAX_RULES {
         put_alone(p, r, empty, tables);
-        r += 1;
     }
 }

@@ -28,13 +28,11 @@ pub fn rule_cost(p: &Packed, r: usize, full: &Full, tables: &Tables, bare: u16) 
 {
     let count = packed::count(p, r);
     let mut best = bare;
-    let mut q = 0;
-    while q < count {
+    for q in 0..count {
         best = lower(
             best,
             through(p, r, q, full, tables[ALONES + sizes::MAX_PLACES * r + q]),
         );
-        q += 1;
     }
     best
 }

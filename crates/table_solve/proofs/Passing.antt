@@ -51,10 +51,6 @@ module _ (p : List ℕ) (cell mask : ℕ) (tables : List ℕ) (i j : ℕ) (full�
           (λ r h. subst (Settled p r cell mask tables i j) (sym (I.same e)) (S.settled x r h)) (I.settled e);
     })
 
-  pub passed-end : {full : List ℕ} {m rules : ℕ} {changed : Bool} → m ≤ rules → rules ≤ m
-      → PassSolved p m cell mask tables i j full₀ full changed → PassSolved p rules cell mask tables i j full₀ full changed
-  passed-end {m = m} {rules} h l S = let e : m ≡ rules = omega arith in rw e at S
-
 -- ---- until nothing changes
 
 pub numbers-none : Numbers (replicate 32 too_many)

@@ -78,12 +78,10 @@ fn pass(
     ensures { PassSolved p.now rules cell mask tables.now i j full.old full.new result }
 {
     let mut changed = false;
-    let mut r = 0;
-    while r < rules {
+    for r in 0..rules {
         if improve(p, r, cell, mask, tables, i, j, full) {
             changed = true;
         }
-        r += 1;
     }
     changed
 }

@@ -1,10 +1,9 @@
 // One span: its costs that need no numbers of the whole span, its numbers, and with them the rows from its start.
 #![tactic(auto)]
 
-ghost use Rattle.std.specs.Prelude.{◌≡◌, ◌<◌, ◌≤◌, length};
+ghost use Rattle.std.specs.Prelude.{◌<◌, ◌≤◌};
 ghost use Rattle.sizes.specs.Sizes.{max_rules, side};
-ghost use Rattle.table_layout.specs.Layout.{tables_size};
-ghost use Rattle.table_write.specs.Writes.{all_rows, Nothing};
+ghost use Rattle.table_write.specs.Writes.{Nothing};
 ghost use Rattle.table_span.specs.Spans.{SpanOpened, SpanPut, EmptyPut};
 
 use fill_reach::Live;
@@ -27,8 +26,7 @@ fn open_span(
     rows: &mut AllRows,
     live: &mut Live,
 )
-    requires { (rules ≤ max_rules) × (over.i < over.j) × (over.j < side) × Nothing nothing.now
-        × (length tables.old ≡ tables_size) × (length rows.old ≡ all_rows) × (length live.old ≡ max_rules) }
+    requires { (rules ≤ max_rules) × (over.i < over.j) × (over.j < side) × Nothing nothing.now }
     ensures { SpanOpened p.now rules fits.now over.reach over.i over.j
         tables.old rows.old live.old tables.new rows.new live.new }
 {
@@ -47,8 +45,7 @@ pub fn put_span(
     rows: &mut AllRows,
     live: &mut Live,
 )
-    requires { (rules ≤ max_rules) × (over.i < over.j) × (over.j < side) × Nothing nothing.now
-        × (length tables.old ≡ tables_size) × (length rows.old ≡ all_rows) × (length live.old ≡ max_rules) }
+    requires { (rules ≤ max_rules) × (over.i < over.j) × (over.j < side) × Nothing nothing.now }
     ensures { SpanPut p.now rules fits.now over.cell over.reach over.i over.j
         tables.old rows.old live.old tables.new rows.new live.new }
 {
@@ -68,7 +65,7 @@ pub fn put_empty(
     tables: &mut Tables,
     rows: &mut AllRows,
 )
-    requires { (rules ≤ max_rules) × (j < side) × (length tables.old ≡ tables_size) × (length rows.old ≡ all_rows) }
+    requires { (rules ≤ max_rules) × (j < side) }
     ensures { EmptyPut p.now rules fits.now empty.now j tables.old rows.old
         tables.new rows.new }
 {

@@ -1,9 +1,9 @@
 -- The rows are written again with the numbers of the whole span, for the rules that have a nonterminal of the cell in a place.
 -- Assumes nothing.
 use Prim.Native.Nat.{ℕ, ◌+◌, ◌*◌, ◌≤◌, ◌<◌}
-use mathlib.Core.Bool.{Bool, true, false, true≢false}
+use mathlib.Core.Bool.{Bool, true, false}
 use mathlib.Core.List.{List}
-use mathlib.Core.Path.{◌≡◌, refl, sym, ap, ◌∙◌}
+use mathlib.Core.Path.{◌≡◌, refl, ◌∙◌}
 use native.Mathlib.Omega.{arith}
 use lib.ListN.{length}
 use Rattle.table_layout.specs.Layout.{rows_size}
@@ -12,7 +12,7 @@ use Rattle.laws.proofs.Lists.{below_step}
 use Rattle.sets.specs.Set.{has}
 use Rattle.sets.proofs.Laws.{has-empty}
 use Rattle.chart.specs.Cell.{Fit}
-use Rattle.packed.specs.Packed.{place_count, is_nonterminal_in, value_in}
+use Rattle.packed.specs.Packed.{is_nonterminal_in, value_in}
 use Rattle.packed.proofs.Laws.{count-le}
 use Rattle.table_suffix.specs.Within.{LaterStarts}
 use Rattle.table_write.specs.Writes.{all_rows}
@@ -32,10 +32,6 @@ module _ (p fits tables full : List ℕ) (cell reach i j : ℕ) where
     grown = λ r c g. g;
     told = λ r h g. g;
   }
-
-  pub suffixes-start : (rows live : List ℕ) → length rows ≡ all_rows → length live ≡ max_rules
-      → SuffixesPut p 0 fits tables full cell reach i j rows live rows live
-  suffixes-start rows live e f = unchanged 0 rows live e f (λ r h. absurd (omega arith))
 
   -- no rule has a nonterminal of an empty cell
   pub suffixes-none : (m : ℕ) (rows live : List ℕ) → length rows ≡ all_rows → length live ≡ max_rules → cell ≡ 0
@@ -102,20 +98,8 @@ pub record Before (p : List ℕ) (r cell m : ℕ) : Type 0 where
   pub none : (q : ℕ) → q < m → is_nonterminal_in p r q ≡ true → has (value_in p r q) cell ≡ false
 
 module _ (p : List ℕ) (r cell : ℕ) where
-  pub before-start : Before p r cell 0
-  before-start = record { none = λ q h t. absurd (omega arith) }
-
   module _ {q : ℕ} (S : Before p r cell q) where
     one_more : (is_nonterminal_in p r q ≡ true → has (value_in p r q) cell ≡ false) → Before p r cell (q + 1)
     one_more f = record {
       none = below_step (λ (s : ℕ). is_nonterminal_in p r s ≡ true → has (value_in p r s) cell ≡ false) q S.none f;
     }
-
-    pub before-terminal : {b : Bool} → b ≡ is_nonterminal_in p r q → b ≡ false → Before p r cell (q + 1)
-    before-terminal e f = one_more (λ t. absurd (true≢false (sym t ∙ sym e ∙ f)))
-
-    pub before-other : {b : Bool} {k : ℕ} → k ≡ value_in p r q → b ≡ has k cell → b ≡ false → Before p r cell (q + 1)
-    before-other {b} {k} e f g = one_more (λ t. sym (ap (λ (x : ℕ). has x cell) e) ∙ sym f ∙ g)
-
-  pub before-all : {q n : ℕ} → n ≡ place_count p r → n ≤ q → Before p r cell q → Untouched p r cell
-  before-all e h S = record { none = λ s x t. S.none s (omega arith) t }

@@ -2,9 +2,9 @@
 use Prim.Native.Nat.{ℕ, ◌+◌, ◌*◌, ◌≤◌, ◌<◌}
 use mathlib.Core.List.{List}
 use mathlib.Core.Bool.{false}
-use mathlib.Core.Path.{◌≡◌, refl, sym, subst, ◌∙◌}
+use mathlib.Core.Path.{◌≡◌, sym, subst, ◌∙◌}
 use native.Mathlib.Omega.{arith}
-use lib.ListN.{length, get_or}
+use lib.ListN.{get_or}
 use Rattle.table_layout.specs.Layout.{rows_size}
 use Rattle.sizes.specs.Sizes.{max_rules, max_places, side}
 use Rattle.laws.proofs.Lists.{below_step}
@@ -12,7 +12,7 @@ use Rattle.chart.specs.Cell.{Fit}
 use Rattle.packed.proofs.Laws.{count-le}
 use Rattle.table_suffix.specs.Within.{tail_in, InsideCost, LaterStarts}
 use Rattle.table_suffix.specs.Rows.{StartPut}
-use Rattle.table_write.specs.Writes.{all_rows, place_at}
+use Rattle.table_write.specs.Writes.{place_at}
 use Rattle.table_live.specs.Live.{Silent, live_in, LiveTold, OneRule, Grown, RuleRowsPut}
 use Rattle.table_start.specs.Starts.{OtherStarts, StartRight, StartsPut, StartsOpened}
 
@@ -54,9 +54,6 @@ module _ (p fits tables full : List ℕ) (i j : ℕ) where
 
   -- ---- all rules
 
-  pub starts-start : (rows : List ℕ) → length rows ≡ all_rows → StartsPut p 0 fits tables full i j rows rows
-  starts-start rows e = record { long = e; other = λ r q c x y z d. refl; exact = λ fit F r h L. absurd (omega arith) }
-
   module _ (m rules : ℕ) (rows₀ rows rows' : List ℕ) (b : i ≤ j) (l : j < side) (h : m < rules) (o : rules ≤ max_rules)
       (S : StartsPut p m fits tables full i j rows₀ rows) (P : StartPut p m fits tables full i i (i + 1) j (rows_size * m) rows rows') where
     pub starts-step : StartsPut p (m + 1) fits tables full i j rows₀ rows'
@@ -69,24 +66,9 @@ module _ (p fits tables full : List ℕ) (i j : ℕ) where
           (λ L. P.exact fit F (λ s x y z u v w. absurd (omega arith)) (later-kept fit m rows₀ rows (omega arith) l S.other L));
     }
 
-  pub starts-end : {m rules : ℕ} {rows₀ rows : List ℕ} → m ≤ rules → rules ≤ m → StartsPut p m fits tables full i j rows₀ rows
-      → StartsPut p rules fits tables full i j rows₀ rows
-  starts-end {m} {rules} x y S = let e : m ≡ rules = omega arith in rw e at S
-
   -- ---- those that are not passed over
 
   module _ (reach : ℕ) where
-    pub opened-start : (rows live : List ℕ) → length rows ≡ all_rows → length live ≡ max_rules
-        → StartsOpened p 0 fits tables full reach i j rows live rows live
-    opened-start rows live e f = record {
-      long = e;
-      size = f;
-      other = λ r q c x y z d. refl;
-      exact = λ fit F R r h L X. absurd (omega arith);
-      grown = λ r c g. g;
-      told = λ r h g. absurd (omega arith);
-    }
-
     module _ (m rules : ℕ) {rows₀ live₀ rows live rows' live' : List ℕ} (b : i < j) (l : j < side) (h : m < rules) (o : rules ≤ max_rules)
         (S : StartsOpened p m fits tables full reach i j rows₀ live₀ rows live)
         (P : RuleRowsPut p m fits tables full reach i j rows live rows' live') where

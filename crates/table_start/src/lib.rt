@@ -1,9 +1,9 @@
 // The rows from one start, for all rules, for those that are not passed over, or for those that the numbers of the whole span change.
 #![tactic(auto)]
 
-ghost use Rattle.std.specs.Prelude.{false, ◌≡◌, ◌<◌, ◌≤◌, length};
+ghost use Rattle.std.specs.Prelude.{false, ◌≡◌, ◌<◌, ◌≤◌};
 ghost use Rattle.sizes.specs.Sizes.{max_rules, side};
-ghost use Rattle.table_write.specs.Writes.{all_rows, Nothing};
+ghost use Rattle.table_write.specs.Writes.{Nothing};
 ghost use Rattle.table_start.specs.Starts.{Untouched, StartsPut, StartsOpened, SuffixesPut};
 
 use fill_reach::Live;
@@ -26,20 +26,18 @@ pub fn put_starts(
     j: usize,
     rows: &mut AllRows,
 )
-    requires { (rules ≤ max_rules) × (i ≤ j) × (j < side) × (length rows.old ≡ all_rows) }
+    requires { (rules ≤ max_rules) × (i ≤ j) × (j < side) }
     ensures { StartsPut p.now rules fits.now tables.now full.now i j
         rows.old rows.new }
 {
-    let mut r = 0;
-    while r < rules {
-        let part = Part {
-            i,
-            a: i,
-            from: i + 1,
-            j,
-        };
+    let part = Part {
+        i,
+        a: i,
+        from: i + 1,
+        j,
+    };
+    for r in 0..rules {
         put_start(p, r, fits, tables, full, part, rows, ROWS_SIZE * r);
-        r += 1;
     }
 }
 
@@ -55,15 +53,12 @@ pub fn open_starts(
     rows: &mut AllRows,
     live: &mut Live,
 )
-    requires { (rules ≤ max_rules) × (over.i < over.j) × (over.j < side) × Nothing nothing.now × (length rows.old ≡ all_rows)
-        × (length live.old ≡ max_rules) }
+    requires { (rules ≤ max_rules) × (over.i < over.j) × (over.j < side) × Nothing nothing.now }
     ensures { StartsOpened p.now rules fits.now tables.now nothing.now over.reach over.i
         over.j rows.old live.old rows.new live.new }
 {
-    let mut r = 0;
-    while r < rules {
+    for r in 0..rules {
         open_rule(p, r, fits, tables, nothing, over, rows, live);
-        r += 1;
     }
 }
 
@@ -73,14 +68,12 @@ fn touched(p: &Packed, r: usize, cell: u32) -> bool
     ensures { result ≡ false → Untouched p.now r cell }
 {
     let count = packed::count(p, r);
-    let mut q = 0;
-    while q < count {
+    for q in 0..count {
         if packed::is_nonterminal(p, r, q) {
             if packed::contains(cell, packed::value(p, r, q)) {
                 return true;
             }
         }
-        q += 1;
     }
     false
 }
@@ -96,19 +89,16 @@ pub fn put_suffixes(
     rows: &mut AllRows,
     live: &mut Live,
 )
-    requires { (rules ≤ max_rules) × (over.i < over.j) × (over.j < side) × (length rows.old ≡ all_rows)
-        × (length live.old ≡ max_rules) }
+    requires { (rules ≤ max_rules) × (over.i < over.j) × (over.j < side) }
     ensures { SuffixesPut p.now rules fits.now tables.now full.now over.cell over.reach
         over.i over.j rows.old live.old rows.new live.new }
 {
     if over.cell == 0 {
         return;
     }
-    let mut r = 0;
-    while r < rules {
+    for r in 0..rules {
         if touched(p, r, over.cell) {
             put_rule(p, r, fits, tables, full, over, rows, live);
         }
-        r += 1;
     }
 }

@@ -29,9 +29,7 @@ pub fn put_column(
     let count = packed::count(p, r);
     let a = part.a;
     rows[at + sizes::SIDE * count + a] = at_end(a, part.j);
-    let mut q = count;
-    while q > 0 {
-        q -= 1;
+    for q in (0..count).rev() {
         rows[at + sizes::SIDE * q + a] = suffix_at(
             p,
             r,

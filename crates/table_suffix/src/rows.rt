@@ -1,5 +1,5 @@
 // The least costs of the places of a rule by the fit table: from one start, and from all starts of a span.
-ghost use Rattle.std.specs.Prelude.{◌≡◌, ◌+◌, ◌<◌, ◌≤◌, length};
+ghost use Rattle.std.specs.Prelude.{◌+◌, ◌<◌, ◌≤◌, length};
 ghost use Rattle.sizes.specs.Sizes.{max_rules, side};
 ghost use Rattle.table_cut.specs.Within.{Proper};
 ghost use Rattle.table_layout.specs.Layout.{rows_size};
@@ -20,7 +20,7 @@ fn word_at(fits: &FitTable, r: usize, a: usize, j: usize) -> u32
     ensures { WordAt fits.now r a j result }
 {
     if a < j {
-        return packed_fit::wide_word(fits[sizes::MAX_RULES * a + r]);
+        return u32::from(fits[sizes::MAX_RULES * a + r]);
     }
     0
 }
@@ -64,12 +64,10 @@ pub fn put_rows(
     j: usize,
     rows: &mut Rows,
 )
-    requires { (r < max_rules) × (i ≤ j) × (j < side) × (length rows.old ≡ rows_size) }
+    requires { (r < max_rules) × (i ≤ j) × (j < side) }
     ensures { RowsPut p.now r fits.now tables.now full.now i j rows.new }
 {
-    let mut a = j + 1;
-    while a > i {
-        a -= 1;
+    for a in (i..j + 1).rev() {
         let part = Part {
             i,
             a,

@@ -2,13 +2,13 @@
 use Prim.Native.Nat.{ℕ, suc, ◌+◌, ◌*◌, ◌≤◌, ◌<◌, min}
 use mathlib.Core.List.{List}
 use mathlib.Core.Logic.{dite}
-use mathlib.Core.Path.{◌≡◌, refl, sym, ◌∙◌}
+use mathlib.Core.Path.{◌≡◌, sym, ◌∙◌}
 use native.Mathlib.Decide.{ℕ_discrete, dec_lt}
 use native.Mathlib.Omega.{arith}
-use lib.ListN.{length, set, get_or, length-set}
+use lib.ListN.{set, get_or, length-set}
 use lib.Seq.{get_or-set_same, get_or-set_other}
 use Rattle.sizes.specs.Sizes.{too_many, max_rules, side, cells}
-use Rattle.table_layout.specs.Layout.{bare_at, bare_in, tables_size, cost_in, full_in, rows_size}
+use Rattle.table_layout.specs.Layout.{bare_at, bare_in, cost_in, full_in, rows_size}
 use Rattle.table_layout.proofs.Entries.{cost-read, cost-none, full-read, full-none}
 use Rattle.table_layout.proofs.Bares.{bare-behind, bare-inside, bare_apart}
 use Rattle.table_write.specs.Writes.{place_at, LeastBefore, LeastPut, BaresPut}
@@ -24,9 +24,6 @@ cost-same tables₀ tables k a b f =
     (λ h. sym (cost-none tables k a b (omega arith)) ∙ cost-none tables₀ k a b (omega arith))
 
 module _ (full : List ℕ) (i j : ℕ) where
-  pub least_start : (tables : List ℕ) → length tables ≡ tables_size → LeastBefore full i j 0 tables tables
-  least_start tables e = record { long = e; here = λ k h. absurd (omega arith); other = λ k a b h l d. refl; rest = λ n h. refl }
-
   module _ (m : ℕ) (tables₀ tables : List ℕ) (h : i < side) (l : j < side) (o : m < 32) (S : LeastBefore full i j m tables₀ tables) where
     abbrev next : List ℕ
     next = set tables (cells * m + side * i + j) (get_or full m 0)
@@ -63,9 +60,6 @@ module _ (full : List ℕ) (i j : ℕ) where
 -- ---- the costs without a child over the whole span
 
 module _ (i j : ℕ) (rows : List ℕ) where
-  pub bares-start : (tables : List ℕ) → length tables ≡ tables_size → BaresPut 0 i j rows tables tables
-  bares-start tables e = record { long = e; here = λ r h. absurd (omega arith); other = λ a b r h l m d. refl; front = λ n h. refl }
-
   module _ (m rules : ℕ) (tables₀ tables : List ℕ) {at v w : ℕ} (h : i < j) (l : j < side) (y : m < rules) (z : rules ≤ max_rules)
       (e : at ≡ bare_at i j m) (f : w ≡ get_or rows (rows_size * m + i) 0) (g : v ≡ min (suc w) too_many)
       (S : BaresPut m i j rows tables₀ tables) where
@@ -91,7 +85,3 @@ module _ (i j : ℕ) (rows : List ℕ) where
           others (bare_at a b r) (bare_apart a b r i j m x n t h l (omega arith) (λ u. d (u.0, u.1))) ∙ S.other a b r x n t d;
       front = λ n x. others n (λ y. let u = bare-behind i j m in omega arith) ∙ S.front n x;
     }
-
-  pub bares-end : {m rules : ℕ} {tables₀ tables : List ℕ} → m ≤ rules → rules ≤ m → BaresPut m i j rows tables₀ tables
-      → BaresPut rules i j rows tables₀ tables
-  bares-end {m} {rules} x y S = let e : m ≡ rules = omega arith in rw e at S

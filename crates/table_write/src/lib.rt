@@ -1,12 +1,10 @@
 // What is written into the tables for one span: its numbers, and the costs of rules without a child over the whole span.
 #![tactic(auto)]
 
-ghost use Rattle.std.specs.Prelude.{◌≡◌, ◌<◌, ◌≤◌, length};
+ghost use Rattle.std.specs.Prelude.{◌<◌, ◌≤◌};
 ghost use Rattle.sizes.specs.Sizes.{max_rules, side};
-ghost use Rattle.table_layout.specs.Layout.{tables_size};
 ghost use Rattle.table_write.specs.Writes.{Nothing, LeastPut, BaresPut};
 
-use numbers::wide;
 use table_layout::bare::bare_at;
 use table_layout::layout::{Full, ROWS_SIZE, Tables};
 use table_layout::least::TOO_MANY;
@@ -26,24 +24,20 @@ pub fn nothing() -> Full
 
 // Writes the numbers of the span from i to j into the least table.
 pub fn put_least(full: &Full, i: usize, j: usize, tables: &mut Tables)
-    requires { (i < side) × (j < side) × (length tables.old ≡ tables_size) }
+    requires { (i < side) × (j < side) }
     ensures { LeastPut full.now i j tables.old tables.new }
 {
-    let mut k = 0;
-    while k < sizes::NONTERMINALS {
-        tables[sizes::CELLS * k + sizes::SIDE * i + j] = full[k];
-        k += 1;
+    for (k, cost) in full.iter().enumerate() {
+        tables[sizes::CELLS * k + sizes::SIDE * i + j] = *cost;
     }
 }
 
 // Writes what each rule costs over the span from i to j without a child over the whole span: one more than its places cost.
 pub fn put_bares(rules: usize, i: usize, j: usize, rows: &AllRows, tables: &mut Tables)
-    requires { (rules ≤ max_rules) × (i < j) × (j < side) × (length tables.old ≡ tables_size) }
+    requires { (rules ≤ max_rules) × (i < j) × (j < side) }
     ensures { BaresPut rules i j rows.now tables.old tables.new }
 {
-    let mut r = 0;
-    while r < rules {
-        tables[bare_at(i, j, r)] = one_more(wide(rows[ROWS_SIZE * r + i]));
-        r += 1;
+    for r in 0..rules {
+        tables[bare_at(i, j, r)] = one_more(usize::from(rows[ROWS_SIZE * r + i]));
     }
 }

@@ -5,35 +5,16 @@ use mathlib.Core.List.{List}
 use mathlib.Core.Logic.{◌≢◌}
 use mathlib.Core.Path.{◌≡◌, sym, ap, ◌∙◌}
 use native.Mathlib.Omega.{arith}
-use borrow.Author.Tests.{leb-true, leb-false}
-use lib.Dec.{leb}
 use lib.ListN.{get_or}
-use Rattle.sizes.specs.Sizes.{max_rules}
-use Rattle.laws.proofs.Bools.{clash}
 use Rattle.laws.proofs.Lists.{below_step}
 use Rattle.theory_costs.specs.Cut.{within}
 use Rattle.theory_costs.proofs.Within.{within-whole, within-part}
-use Rattle.packed.specs.Packed.{left_in}
 use Rattle.table_layout.specs.Layout.{cost_in, full_in}
-use Rattle.table_solve.specs.Solve.{RuleOver}
 use Rattle.tree_choose.specs.Chosen.{RuleBeyond, RuleTested, RulesPassed, RuleChosen, EndsTooCostly, EndChosen, sum_at}
 
 -- ---- a rule
 
 module _ {p : List ℕ} {k : ℕ} {full tables : List ℕ} {i j budget : ℕ} where
-  pub tested-other : {r l : ℕ} → l ≡ left_in p r → l ≢ k → RuleTested p k full tables i j budget r false
-  tested-other e n = record {
-    yes = λ q. clash cc;
-    no = λ _. record { cost = λ q. absurd (n (e ∙ q)) };
-  }
-
-  pub tested-cost : {r l v n : ℕ} → l ≡ left_in p r → l ≡ k → RuleOver p r full tables i j v → n ≡ v
-      → RuleTested p k full tables i j budget r (leb n budget)
-  tested-cost {r} {l} {v} {n} e q c f = record {
-    yes = λ t. record { left = sym e ∙ q; cost = v; over = c; within = let h = leb-true n budget t in omega arith };
-    no = λ t. record { cost = λ _. (v, c, let h = leb-false n budget t in omega arith) };
-  }
-
   pub passed_none : {rules from : ℕ} → RulesPassed p rules from k full tables i j budget from
   passed_none = record { start = omega arith; beyond = λ s u l _. absurd (omega arith) }
 
@@ -49,13 +30,6 @@ module _ {p : List ℕ} {k : ℕ} {full tables : List ℕ} {i j budget : ℕ} wh
     pub rule_found : {b : Bool} → RuleTested p k full tables i j budget r b → b ≡ true → RulesPassed p rules from k full tables i j budget r
         → RuleChosen p rules from k full tables i j budget r
     rule_found W e P = record { fits = λ _. W.yes e; early = P }
-
-    pub rule-none : rules ≤ r → from ≤ max_rules → RulesPassed p rules from k full tables i j budget r
-        → RuleChosen p rules from k full tables i j budget max_rules
-    rule-none h f P = record {
-      fits = λ l. absurd (omega arith);
-      early = record { start = f; beyond = λ s u _ m. P.beyond s u (omega arith) m };
-    }
 
 -- ---- an end
 
@@ -85,10 +59,6 @@ module _ {tables full : List ℕ} {k i a from j : ℕ} {rows : List ℕ} {at bud
       beyond = λ c x y z. below_step (λ (c : ℕ). from ≤ c → c ≤ j → budget < sum_at tables full k i a j rows at c) b
           (λ c y x z. P.beyond c x y z) (λ x z. omega arith) c y x z;
     }
-
-    pub end-found : from ≤ b → n ≤ budget → EndsTooCostly tables full k i a from j rows at budget b
-        → EndChosen tables full k i a from j rows at budget b
-    end-found h l P = record { start = h; fits = λ _. omega arith; early = P }
 
   pub end_none : {b : ℕ} → from ≤ b → j < b → EndsTooCostly tables full k i a from j rows at budget b
       → EndChosen tables full k i a from j rows at budget b

@@ -1,11 +1,10 @@
 // Where a child ends: at the first position for which the child and the places after it cost at most the budget together.
-ghost use Rattle.std.specs.Prelude.{◌≡◌, ◌+◌, ◌<◌, ◌≤◌};
+ghost use Rattle.std.specs.Prelude.{◌≡◌, ◌+◌, ◌<◌, ◌≤◌, IfSome, unwrap_or};
 ghost use Rattle.sizes.specs.Sizes.{side};
 ghost use Rattle.theory_costs.specs.Cut.{within};
 ghost use Rattle.table_layout.specs.Layout.{cost_in, full_in, rows_size};
 ghost use Rattle.tree_choose.specs.Chosen.{EndChosen};
 
-use numbers::wide;
 use table_cut::within::Part;
 use table_layout::layout::{Full, Tables, cost, full_of};
 use table_suffix::rows::Rows;
@@ -28,11 +27,11 @@ fn piece(tables: &Tables, full: &Full, k: usize, i: usize, a: usize, j: usize, b
 fn sum(a: u16, b: u16) -> usize
     ensures { result ≡ a + b }
 {
-    wide(a) + wide(b)
+    usize::from(a) + usize::from(b)
 }
 
 // The smallest end of the part, from its `from` on, such that the nonterminal k up to it and the places after it cost at most the budget
-// together; j + 1 if there is none up to j. The costs of those places are in `rows` from `at` on.
+// together, if there is one up to j. The costs of those places are in `rows` from `at` on.
 pub fn choose_end(
     tables: &Tables,
     full: &Full,
@@ -41,19 +40,18 @@ pub fn choose_end(
     rows: &Rows,
     at: usize,
     budget: usize,
-) -> usize
+) -> Option<usize>
     requires { (part.i ≤ part.a) × (part.a ≤ part.from) × (part.from ≤ part.j + 1) × (part.j < side)
         × (at + side ≤ rows_size) }
-    ensures { EndChosen tables.now full.now k part.i part.a part.from part.j
-        rows.now at budget result }
+    ensures chosen { EndChosen tables.now full.now k part.i part.a part.from part.j
+        rows.now at budget (unwrap_or result (part.j + 1)) }
+    ensures inside { IfSome result (λ b. b ≤ part.j) }
 {
     let Part { i, a, from, j } = part;
-    let mut b = from;
-    while b <= j {
+    for b in from..=j {
         if sum(piece(tables, full, k, i, a, j, b), rows[at + b]) <= budget {
-            return b;
+            return Some(b);
         }
-        b += 1;
     }
-    b
+    None
 }

@@ -1,10 +1,9 @@
 // What comes next at a place of a rule.
 ghost use Rattle.std.specs.Prelude.{◌<◌, ◌≤◌};
-ghost use Rattle.sizes.specs.Sizes.{max_rules, max_places, side};
+ghost use Rattle.sizes.specs.Sizes.{side};
 ghost use Rattle.tree_choose.specs.Looked.{Looked};
 
 use super::ends::choose_end;
-use numbers::wide;
 use packed::Packed;
 use table_cut::within::Part;
 use table_layout::layout::{Full, Tables};
@@ -31,7 +30,7 @@ pub fn look(
     j: usize,
     budget: usize,
 ) -> Step
-    requires { (tail.r < max_rules) × (tail.q ≤ max_places) × (i ≤ tail.a) × (tail.a ≤ j) × (j < side) }
+    requires { (i ≤ tail.a) × (tail.a ≤ j) × (j < side) }
     ensures { Looked p.now tail.r tail.q tables.now full.now rows.now
         i tail.a j budget result }
 {
@@ -42,12 +41,11 @@ pub fn look(
     if packed::is_nonterminal(p, r, q) {
         let k = packed::value(p, r, q);
         let part = Part { i, a, from: a, j };
-        let b = choose_end(tables, full, k, part, rows, sizes::SIDE * (q + 1), budget);
-        if b <= j {
-            let share = budget - wide(rows[sizes::SIDE * (q + 1) + b]);
-            return Step::Node { k, b, share };
-        }
-        return Step::No;
+        let Some(b) = choose_end(tables, full, k, part, rows, sizes::SIDE * (q + 1), budget) else {
+            return Step::No;
+        };
+        let share = budget - usize::from(rows[sizes::SIDE * (q + 1) + b]);
+        return Step::Node { k, b, share };
     }
     if a < j { Step::Byte } else { Step::No }
 }

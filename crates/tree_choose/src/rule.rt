@@ -1,9 +1,8 @@
 // Which rule a node has: the first one, from a given number on, that costs at most the budget.
-ghost use Rattle.std.specs.Prelude.{◌<◌, ◌≤◌};
+ghost use Rattle.std.specs.Prelude.{◌<◌, ◌≤◌, IfSome, unwrap_or};
 ghost use Rattle.sizes.specs.Sizes.{max_rules, side};
 ghost use Rattle.tree_choose.specs.Chosen.{RuleTested, RuleChosen};
 
-use numbers::wide;
 use packed::Packed;
 use table_layout::layout::{Full, Tables};
 use table_solve::rule_over;
@@ -26,10 +25,10 @@ fn within_budget(
     if packed::left(p, r) != k {
         return false;
     }
-    wide(rule_over(p, r, full, tables, i, j)) <= budget
+    usize::from(rule_over(p, r, full, tables, i, j)) <= budget
 }
 
-// The smallest rule of k from `from` on and below `rules` that costs at most the budget over the span; no rule if there is none.
+// The smallest rule of k from `from` on and below `rules` that costs at most the budget over the span, if there is one.
 pub fn choose_rule(
     p: &Packed,
     rules: usize,
@@ -39,18 +38,17 @@ pub fn choose_rule(
     tables: &Tables,
     span: Span,
     budget: usize,
-) -> usize
-    requires { (rules ≤ max_rules) × (from ≤ max_rules) × (span.i ≤ span.j) × (span.j < side) }
-    ensures { RuleChosen p.now rules from k full.now tables.now span.i span.j budget result }
+) -> Option<usize>
+    requires { (rules ≤ max_rules) × (from ≤ max_rules) }
+    ensures chosen { RuleChosen p.now rules from k full.now tables.now span.i span.j budget (unwrap_or result max_rules) }
+    ensures is_rule { IfSome result (λ r. r < max_rules) }
 {
     let i = span.i;
     let j = span.j;
-    let mut r = from;
-    while r < rules {
+    for r in from..rules {
         if within_budget(p, k, full, tables, i, j, budget, r) {
-            return r;
+            return Some(r);
         }
-        r += 1;
     }
-    sizes::NO_RULE
+    None
 }

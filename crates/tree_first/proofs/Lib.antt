@@ -1,5 +1,4 @@
 -- Laws of what a node and a row write, by the tests that the code makes.
-pub mod Opening
 pub mod Codes
 pub mod Given
 pub mod Opened

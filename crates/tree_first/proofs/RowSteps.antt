@@ -19,7 +19,6 @@ use Rattle.packed.proofs.Fitting.{symbol-nonterminal, symbol-terminal}
 use Rattle.table_layout.specs.Layout.{cost_in, full_in}
 use Rattle.table_layout.specs.Exact.{Packing}
 use Rattle.table_suffix.specs.Within.{tail_in, row_at}
-use Rattle.tree_choose.specs.declared.look.Step.{Step}
 use Rattle.tree_choose.specs.declared.look.Step.TheVariants.{No, End, Byte, Node}
 use Rattle.tree_choose.specs.Chosen.{EndChosen}
 use Rattle.tree_choose.specs.Looked.{Looked, at_end, at_byte, no_byte, at_node, no_node}
@@ -133,10 +132,6 @@ module _ {p : List ℕ} {rules : ℕ} {fits chart tables full rows : List ℕ} {
     }
 
 module _ {p : List ℕ} {r q : ℕ} {tables full rows : List ℕ} {i a j budget : ℕ} where
-  -- what comes next, once the step is known
-  pub looked-as : {s t : Step} → Looked p r q tables full rows i a j budget s → s ≡ t → Looked p r q tables full rows i a j budget t
-  looked-as L e = subst (Looked p r q tables full rows i a j budget) e L
-
   -- the place and the position that come next are within their limits
   pub byte-room : Looked p r q tables full rows i a j budget Byte → (q < max_places) × (a < j)
   byte-room (at_byte c t m) = (omega (arith, count-le p r), m)

@@ -5,10 +5,7 @@ use mathlib.Core.Path.{◌≡◌}
 use native.Mathlib.Omega.{arith}
 use lib.ListN.{length, get_or, replicate, length-replicate, get_or-replicate}
 use Rattle.sizes.specs.Sizes.{too_many}
-use Rattle.chart.specs.Cell.{cell}
 use Rattle.table_layout.specs.Layout.{rows_size}
-use Rattle.table_suffix.specs.Rows.{RowsPut}
-use Rattle.table_solve.specs.Solve.{Solved}
 use Rattle.tree_first.specs.Descend.{InputGiven, BelowGiven}
 use Rattle.tree_first.proofs.Given.{span-solved, rows_right}
 use Rattle.tree_later.specs.Beyond.{CostsMade, Frame}
@@ -26,10 +23,6 @@ module _ {p : List ℕ} {rules : ℕ} {fits chart tables : List ℕ} {r i j mask
       large l = omega (arith, get_or-replicate {A = ℕ} 32 0 65535 0 (omega arith))
 
   module _ {full rows : List ℕ} where
-    pub made-new : Solved p rules (cell chart i j) mask tables i j full → RowsPut p r fits tables full i j rows
-        → CostsMade p rules fits chart tables r i j mask full rows
-    made-new S R = record { long = S.numbers.long; room = R.long; solved = S; costs = R }
-
     pub made_found : {n : ℕ} → Frame p rules fits chart tables r i j mask full rows → n ≡ get_or full 0 0 → n ≤ too_many
         → CostsMade p rules fits chart tables r i j mask full rows
     made_found F e l = record { long = F.long; room = F.room; solved = F.solved (omega arith); costs = F.costs (omega arith) }

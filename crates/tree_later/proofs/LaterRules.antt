@@ -40,9 +40,6 @@ none_more p {q = q} N e d s u v = dite (ℕ_discrete s q)
     (λ x f. d (e ∙ sym (ap (left_in p) x) ∙ f))
     (λ x. let z : ¬ (s ≡ q) = x in N s u (omega arith))
 
-pub none-all : (p : List ℕ) {from q m k : ℕ} → NoRules p from q k → m ≤ q → NoRules p from m k
-none-all p N l s u v = N s u (omega arith)
-
 pub later-absent : {p : List ℕ} {rules : ℕ} {fits chart tables : List ℕ} {r k i j own budget at : ℕ} {buf : List ℕ} → i ≤ j
     → NoRules p (r + 1) rules k → LaterRule p rules fits chart tables r k i j own budget at buf buf 0
 later-absent {p} {rules} {fits} {chart} {tables} {r} {k} {i} {j} {budget = budget} h N = record {

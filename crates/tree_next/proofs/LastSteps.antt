@@ -13,7 +13,8 @@ use Rattle.tree_size.specs.Standing.{StandsAt}
 use Rattle.table_layout.specs.Exact.{Packing}
 use Rattle.tree_first.specs.Descend.{InputGiven}
 use Rattle.tree_first.proofs.Codes.{kept-none}
-use Rattle.tree_read.specs.declared.reach.Found.TheVariants.{Nowhere, There}
+use Rattle.std.specs.Prelude.{Some, None}
+use Rattle.tree_read.specs.declared.reach.Found.{Found}
 use Rattle.tree_read.specs.Reached.{LastNode, LastReached, nowhere}
 use Rattle.tree_later.specs.Beyond.{NextAt}
 use Rattle.tree_later.proofs.Codes.{kept_then, next-same}
@@ -32,15 +33,16 @@ last-next {p} {i = i} {j} {mask} {k} {a} {b} {budget = budget} {w = w} {f} h u v
     (N.exact w G (omega arith) f (row-narrower (Packing p) w same (omega arith) (omega arith) (omega arith) f T) S)
 
 module _ {p : List ℕ} {rules : ℕ} {fits chart tables : List ℕ} {r i j mask budget at : ℕ} {buf₀ : List ℕ} where
-  pub last_none : LastReached p r 0 buf₀ at i j budget Nowhere → LastNext p rules fits chart tables r i j mask budget at buf₀ buf₀ 0
+  pub last_none : LastReached p r 0 buf₀ at i j budget None → LastNext p rules fits chart tables r i j mask budget at buf₀ buf₀ 0
   last_none (nowhere H) =
       record { kept = kept-none; none = λ _ w G known f F S. H w (j - i) mask f known F S; some = λ h. absurd (omega arith) }
 
-  module _ {k a b to share own n : ℕ} {buf : List ℕ} (R : LastReached p r 0 buf₀ at i j budget (There k a b to share))
-      (same : SameSpan (j - i) mask (b - a) own) (N : NodeNext p rules fits chart tables k a b own share to buf₀ buf n) where
+  module _ {there : Found} {own n : ℕ} {buf : List ℕ} (R : LastReached p r 0 buf₀ at i j budget (Some there))
+      (same : SameSpan (j - i) mask (there.b - there.a) own)
+      (N : NodeNext p rules fits chart tables there.k there.a there.b own there.budget there.at buf₀ buf n) where
     found-next : {w : List ℕ} {f : Forest} → InputGiven p rules fits chart tables w → j ≤ length w
-        → (L : LastNode p w (j - i) mask r 0 i j budget f buf₀ at k a b to share)
-        → NextAt (Tree (Packing p) w (j - i) mask k a b share) (code L.tree) buf to n
+        → (L : LastNode p w (j - i) mask r 0 i j budget f buf₀ at there.k there.a there.b there.at there.budget)
+        → NextAt (Tree (Packing p) w (j - i) mask there.k there.a there.b there.budget) (code L.tree) buf there.at n
     found-next G known L =
         let (x, y, z, u, v) = reach-room R in
         last-next x y z known same N G L.child L.here
@@ -52,7 +54,7 @@ module _ {p : List ℕ} {rules : ℕ} {fits chart tables : List ℕ} {r i j mask
       some = λ h. absurd (omega arith);
     }
 
-    pub last-moves : 0 < n → LastNext p rules fits chart tables r i j mask budget at buf₀ buf (to - at + n)
+    pub last-moves : 0 < n → LastNext p rules fits chart tables r i j mask budget at buf₀ buf (there.at - at + n)
     last-moves m =
         let (x, y, z, u, v) = reach-room R in
         let K = N.kept in

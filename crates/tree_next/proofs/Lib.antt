@@ -4,4 +4,3 @@ pub mod RowSteps
 pub mod LastSteps
 pub mod ChildSteps
 pub mod NodeSteps
-pub mod Calls

@@ -1,8 +1,8 @@
 // One node of a derivation: the numbers that locate it, the masks for it and below it, and the writing of its two numbers.
 #![tactic(auto)]
 
-ghost use Rattle.std.specs.Prelude.{◌≡◌, ◌<◌, ◌≤◌, length};
-ghost use Rattle.sizes.specs.Sizes.{max_rules, nonterminals, side, max_nodes, output_size};
+ghost use Rattle.std.specs.Prelude.{◌≡◌, ◌+◌, ◌<◌, ◌≤◌, length};
+ghost use Rattle.sizes.specs.Sizes.{max_rules, max_places, nonterminals, side, max_nodes, output_size};
 ghost use Rattle.sets.specs.Set.{insert};
 ghost use Rattle.theory_enumeration.specs.Rows.{SameSpan};
 ghost use Rattle.tree_node.specs.Numbers.{NodePut};
@@ -13,14 +13,16 @@ pub struct Span {
     pub i: usize,
     pub j: usize,
     pub mask: u32,
+    pub ghost ordered: { i ≤ j },
+    pub ghost inside: { j < side },
 }
 
-// The trees of a whole input: those of the start symbol over n bytes, with rules whose numbers are below `rules`.
+// The trees of a whole input: those of the start symbol over n bytes.
 #[derive(Clone, Copy)]
 pub struct Root {
-    pub rules: usize,
     pub start: usize,
     pub n: usize,
+    pub ghost inside: { n < side },
 }
 
 // How many nodes a tree or a row may have, and the node at which it is written.
@@ -28,6 +30,7 @@ pub struct Root {
 pub struct Room {
     pub budget: usize,
     pub at: usize,
+    pub ghost fits: { at + budget ≤ max_nodes },
 }
 
 // The places of rule r from q on, from position a on.
@@ -36,6 +39,8 @@ pub struct Tail {
     pub r: usize,
     pub q: usize,
     pub a: usize,
+    pub ghost of_rule: { r < max_rules },
+    pub ghost of_places: { q ≤ max_places },
 }
 
 // The node of k from a to b, at place q of rule r.
@@ -46,6 +51,9 @@ pub struct Child {
     pub k: usize,
     pub a: usize,
     pub b: usize,
+    pub ghost of_rule: { r < max_rules },
+    pub ghost of_places: { q < max_places },
+    pub ghost ordered: { a ≤ b },
 }
 
 // The mask with the nonterminal k added.

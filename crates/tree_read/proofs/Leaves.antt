@@ -1,11 +1,8 @@
 -- Places with only terminals: a row of them has no nodes and one byte each. If they follow a node, then what comes after the node, with the
 -- same end, comes after the row. Assumes nothing.
-use Prim.Native.Nat.{ℕ, zero, suc, ◌+◌, ◌-◌, ◌≤◌, ◌<◌}
-use mathlib.Core.Bool.{Bool, true, false, true≢false}
+use Prim.Native.Nat.{ℕ, zero, suc, ◌+◌, ◌-◌, ◌≤◌}
 use mathlib.Core.List.{List, [], ◌∷◌, ◌++◌, append-nil}
-use mathlib.Core.Logic.{dite}
 use mathlib.Core.Path.{◌≡◌, refl, sym, ap, subst, ◌∙◌}
-use native.Mathlib.Decide.{ℕ_discrete}
 use native.Mathlib.Omega.{arith}
 use lib.ListN.{length}
 use Rattle.cfg.specs.Grammar.{Cfg, Symbol, nonterminal, terminal, Terminal}
@@ -17,25 +14,15 @@ use Rattle.theory_enumeration.specs.Order.{Coded, Min, After, Last}
 use Rattle.theory_enumeration.proofs.Rows.{row-length, row-budget}
 use Rattle.theory_enumeration.proofs.Next.{end-last, row-next-child, row_last}
 use Rattle.theory_choices.specs.Opened.{OpenedRow}
-use Rattle.packed.specs.Packed.{place_count, is_nonterminal_in, terminal_in, places_from}
+use Rattle.packed.specs.Packed.{place_count, terminal_in, places_from}
 use Rattle.packed.proofs.Fitting.{symbol-terminal}
 use Rattle.table_suffix.specs.Within.{tail_in}
 use Rattle.tree_read.specs.Looked.{LeavesIn}
 
--- ---- the tests
+-- ---- stretches of such places
 
 pub leaves_none : (p : List ℕ) (r from : ℕ) → LeavesIn p r from from
 leaves_none p r from q h l = absurd (omega arith)
-
-pub leaves-more : (p : List ℕ) (r : ℕ) {from q : ℕ} {b : Bool} → LeavesIn p r from q → b ≡ is_nonterminal_in p r q → b ≡ false
-    → LeavesIn p r from (q + 1)
-leaves-more p r {q = q} L e f s h l = dite (ℕ_discrete s q)
-    (λ x. ap (is_nonterminal_in p r) x ∙ sym e ∙ f)
-    (λ x. let z : ¬ (s ≡ q) = x in L s h (omega arith))
-
-pub leaves-not : (p : List ℕ) (r : ℕ) {from q m : ℕ} {b : Bool} → b ≡ is_nonterminal_in p r q → b ≡ true → from ≤ q → q < m
-    → LeavesIn p r from m → ⊥
-leaves-not p r {q = q} e f h l L = true≢false (sym f ∙ e ∙ L q h l)
 
 pub leaves_all : (p : List ℕ) (r : ℕ) {from q m : ℕ} → LeavesIn p r from q → m ≤ q → LeavesIn p r from m
 leaves_all p r L h s u v = L s u (omega arith)

@@ -19,7 +19,7 @@ use Rattle.tree_first.proofs.Codes.{stands-join}
 use Rattle.tree_first.proofs.RowSteps.{tail-terminal, tail-nonterminal}
 use Rattle.tree_read.specs.declared.look.Step.TheVariants.{No, End, Byte, Final, Node}
 use Rattle.tree_read.specs.declared.reach.Found.{Found}
-use Rattle.tree_read.specs.declared.reach.Found.TheVariants.{Nowhere, There}
+use Rattle.std.specs.Prelude.{Option, Some, None}
 use Rattle.tree_read.specs.Looked.{BufferLooked, at_end, at_byte, at_last, at_node}
 use Rattle.tree_read.specs.Reached.{Ends, ends_none, ends_leaf, ends_node, ends_last, LastNode, LastReached, nowhere, there}
 use Rattle.tree_later.specs.Beyond.{AfterAt}
@@ -29,36 +29,33 @@ use Rattle.tree_read.proofs.Places.{row_as, after-as, none-stands}
 
 -- what is known of the last node once it is found: it is inside the row
 module _ {p : List ℕ} {r q : ℕ} {buf : List ℕ} {at a j budget : ℕ} where
-  pub reached-as : {s t : Found} → LastReached p r q buf at a j budget s → s ≡ t → LastReached p r q buf at a j budget t
-  reached-as R e = subst (LastReached p r q buf at a j budget) e R
-
-  pub reach-room : {k c b to share : ℕ} → LastReached p r q buf at a j budget (There k c b to share)
-      → (a ≤ c) × (c ≤ b) × (b ≤ j) × (at ≤ to) × (to + share ≡ at + budget)
+  pub reach-room : {m : Found} → LastReached p r q buf at a j budget (Some m)
+      → (a ≤ m.a) × (m.a ≤ m.b) × (m.b ≤ j) × (at ≤ m.at) × (m.at + m.budget ≡ at + budget)
   reach-room (there x y z u v H) = (x, y, z, u, v)
 
-  pub reach-found : {k c b to share : ℕ} {w : List ℕ} {cover mask : ℕ} {f : Forest}
-      → LastReached p r q buf at a j budget (There k c b to share) → j ≤ length w
+  pub reach-found : {m : Found} {w : List ℕ} {cover mask : ℕ} {f : Forest}
+      → LastReached p r q buf at a j budget (Some m) → j ≤ length w
       → Row (Packing p) w cover mask (tail_in p r q) a j budget f → StandsAt buf at (code f)
-      → LastNode p w cover mask r q a j budget f buf at k c b to share
+      → LastNode p w cover mask r q a j budget f buf at m.k m.a m.b m.at m.budget
   reach-found {w = w} {cover} {mask} {f} (there x y z u v H) known R S = H w cover mask f known R S
 
 module _ {p : List ℕ} {r q at a j budget : ℕ} {buf : List ℕ} (l : a ≤ j) (room : at + budget ≤ max_nodes) where
   -- ---- nothing, and the end
 
-  pub reach-none : BufferLooked p r q buf at a j budget No → LastReached p r q buf at a j budget Nowhere
+  pub reach-none : BufferLooked p r q buf at a j budget No → LastReached p r q buf at a j budget None
   reach-none L = nowhere (λ w cover mask f known R S. absurd (none-stands l room L known R S))
 
-  pub reach-end : BufferLooked p r q buf at a j budget End → LastReached p r q buf at a j budget Nowhere
+  pub reach-end : BufferLooked p r q buf at a j budget End → LastReached p r q buf at a j budget None
   reach-end (at_end m) = nowhere (λ w cover mask f known R S. ends_none m)
 
   -- ---- a byte
 
-  pub reach-byte : {t : Found} → BufferLooked p r q buf at a j budget Byte → LastReached p r (q + 1) buf at (a + 1) j budget t
+  pub reach-byte : {t : Option Found} → BufferLooked p r q buf at a j budget Byte → LastReached p r (q + 1) buf at (a + 1) j budget t
       → LastReached p r q buf at a j budget t
   reach-byte (at_byte c n m) (nowhere H) = nowhere (λ w cover mask f known R S.
       let (g, o) = leaf-opened known l (a + 1) (row_as p r q (tail-terminal p r q c n) R) (omega arith) in
       ends_leaf g n o (H w cover mask g known o.row (subst (StandsAt buf at) (sym o.coded) S)))
-  reach-byte (at_byte c n m) (there {c = from} x y z u v H) = there {c = from} (omega arith) y z u v (λ w cover mask f known R S.
+  reach-byte (at_byte c n m) (there {m = s} x y z u v H) = there {m = s} (omega arith) y z u v (λ w cover mask f known R S.
       let (g, o) = leaf-opened known l (a + 1) (row_as p r q (tail-terminal p r q c n) R) (omega arith) in
       let F = H w cover mask g known o.row (subst (StandsAt buf at) (sym o.coded) S) in
       record {
@@ -75,8 +72,8 @@ module _ {p : List ℕ} {r q at a j budget : ℕ} {buf : List ℕ} (l : a ≤ j)
   -- ---- the last node
 
   pub reach-last : {k b : ℕ} → BufferLooked p r q buf at a j budget (Final k b)
-      → LastReached p r q buf at a j budget (There k a b at budget)
-  reach-last {b = b} (at_last c m t g d u) = there {c = a} {b = b} {to = at} {share = budget}
+      → LastReached p r q buf at a j budget (Some (record { k = k; a = a; b = b; at = at; budget = budget }))
+  reach-last {k} {b} (at_last c m t g d u) = there {m = record { k = k; a = a; b = b; at = at; budget = budget }}
       (omega arith) (omega arith) u (omega arith) refl (λ w cover mask f known R S.
       let D = tail-nonterminal p r q c t g in
       let (x, y, o) = opened-here buf at S known l (row_as p r q D R) d in
@@ -129,14 +126,14 @@ module _ {p : List ℕ} {r q at a j budget : ℕ} {buf : List ℕ} (l : a ≤ j)
               (λ y m. K y (omega arith));
         })
 
-    pub reach-node : {t : Found} → BufferLooked p r q buf at a j budget (Node k b s)
+    pub reach-node : {t : Option Found} → BufferLooked p r q buf at a j budget (Node k b s)
         → LastReached p r (q + 1) buf (at + s) b j (budget - s) t → LastReached p r q buf at a j budget t
     reach-node L (nowhere H) = nowhere (λ w cover mask f known R S.
         let P = passed L known R S in
         passed-ends L P (H w cover mask P.rest known P.row P.stands))
-    reach-node L (there {c = from} {to = to} {share = share} x y z u v H) =
+    reach-node L (there {m = t} x y z u v H) =
         let h = node-room L in
-        there {c = from} {to = to} {share = share} (omega arith) y z (omega arith) (omega arith) (λ w cover mask f known R S.
+        there {m = t} (omega arith) y z (omega arith) (omega arith) (λ w cover mask f known R S.
         let P = passed L known R S in
         let F = H w cover mask P.rest known P.row P.stands in
         record {

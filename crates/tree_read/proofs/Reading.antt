@@ -61,10 +61,6 @@ module _ {p : List ℕ} {r q : ℕ} {buf : List ℕ} {at a j budget m : ℕ} (e 
     look-large y Z l = no_node (omega arith) (sym f ∙ y) Z l
 
 module _ {p : List ℕ} {r q : ℕ} {buf : List ℕ} {at a j budget : ℕ} where
-  -- what the buffer holds, once the step is known
-  pub looked-as : {s t : Step} → BufferLooked p r q buf at a j budget s → s ≡ t → BufferLooked p r q buf at a j budget t
-  looked-as L e = subst (BufferLooked p r q buf at a j budget) e L
-
   -- the place and the position that come next are within their limits
   pub byte-room : BufferLooked p r q buf at a j budget Byte → (q < max_places) × (a < j)
   byte-room (at_byte c t m) = (omega (arith, count-le p r), m)

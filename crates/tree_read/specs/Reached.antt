@@ -1,6 +1,6 @@
 -- The last node of a row in a buffer: the one with only terminals after it. Nothing after it moves, so what comes after the node comes
 -- after the row. If the node does not move, it remains known that it is the last one. Assumes nothing.
-use Rattle.std.specs.Prelude.{ℕ, ◌+◌, ◌*◌, ◌-◌, ◌≤◌, ◌<◌, true, false, List, ◌≡◌, length, get_or}
+use Rattle.std.specs.Prelude.{ℕ, ◌+◌, ◌*◌, ◌-◌, ◌≤◌, ◌<◌, true, false, List, ◌≡◌, length, get_or, Option, Some, None}
 use Rattle.cfg.specs.Tree.{Forest, nodes, code}
 use Rattle.theory_enumeration.specs.Rows.{Row, Tree}
 use Rattle.theory_enumeration.specs.Order.{Last}
@@ -11,7 +11,6 @@ use Rattle.table_layout.specs.Exact.{Packing}
 use Rattle.table_suffix.specs.Within.{tail_in}
 use Rattle.tree_later.specs.Beyond.{AfterAt}
 use Rattle.tree_read.specs.declared.reach.Found.{Found}
-use Rattle.tree_read.specs.declared.reach.Found.TheVariants.{Nowhere, There}
 use Rattle.tree_read.specs.Looked.{LeavesIn}
 
 -- the row f of the places of rule r from q on, from a to j, has no last node, or no tree comes after that node
@@ -38,10 +37,10 @@ pub record LastNode (p w : List ℕ) (cover mask r q a j budget : ℕ) (f : Fore
       → AfterAt (Row (Packing p) w cover mask (tail_in p r q) a j budget) (code f) buf₁ at (to - at + n)
 
 -- where the last node of the row at node `at` is stored, and what is left of the budget for it
-pub data LastReached (p : List ℕ) (r q : ℕ) (buf : List ℕ) (at a j budget : ℕ) : Found → Type 0 where
+pub data LastReached (p : List ℕ) (r q : ℕ) (buf : List ℕ) (at a j budget : ℕ) : Option Found → Type 0 where
   nowhere : ((w : List ℕ) (cover mask : ℕ) (f : Forest) → j ≤ length w → Row (Packing p) w cover mask (tail_in p r q) a j budget f
-      → StandsAt buf at (code f) → Ends p w cover mask r j q a budget f) → LastReached p r q buf at a j budget Nowhere
-  there : {k c b to share : ℕ} → a ≤ c → c ≤ b → b ≤ j → at ≤ to → to + share ≡ at + budget
+      → StandsAt buf at (code f) → Ends p w cover mask r j q a budget f) → LastReached p r q buf at a j budget None
+  there : {m : Found} → a ≤ m.a → m.a ≤ m.b → m.b ≤ j → at ≤ m.at → m.at + m.budget ≡ at + budget
       → ((w : List ℕ) (cover mask : ℕ) (f : Forest) → j ≤ length w → Row (Packing p) w cover mask (tail_in p r q) a j budget f
-      → StandsAt buf at (code f) → LastNode p w cover mask r q a j budget f buf at k c b to share)
-      → LastReached p r q buf at a j budget (There k c b to share)
+      → StandsAt buf at (code f) → LastNode p w cover mask r q a j budget f buf at m.k m.a m.b m.at m.budget)
+      → LastReached p r q buf at a j budget (Some m)

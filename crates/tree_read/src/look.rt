@@ -1,9 +1,8 @@
 // What the buffer holds at a place of a rule, and the rule of a node, read without going down.
-ghost use Rattle.std.specs.Prelude.{◌+◌, ◌<◌, ◌≤◌, length};
+ghost use Rattle.std.specs.Prelude.{◌+◌, ◌<◌, ◌≤◌, length, IfSome, unwrap_or};
 ghost use Rattle.sizes.specs.Sizes.{max_rules, max_places, side, max_nodes, output_size};
 ghost use Rattle.tree_read.specs.Looked.{BufferLooked, LeavesFound, RuleRead};
 
-use numbers::wide;
 use packed::Packed;
 
 // What comes next in a row: nothing that fits, its end, a byte, a node of k up to b with only terminals after it, or a node at another
@@ -22,12 +21,10 @@ fn only_terminals(p: &Packed, r: usize, from: usize, m: usize) -> bool
     requires { (r < max_rules) × (m ≤ max_places) }
     ensures { LeavesFound p.now r from m result }
 {
-    let mut q = from;
-    while q < m {
+    for q in from..m {
         if packed::is_nonterminal(p, r, q) {
             return false;
         }
-        q += 1;
     }
     true
 }
@@ -54,7 +51,7 @@ pub fn look(
         if budget == 0 {
             return Step::No;
         }
-        let c = wide(buf[2 * at]);
+        let c = usize::from(buf[2 * at]);
         if c > j - a {
             return Step::No;
         }
@@ -75,13 +72,15 @@ pub fn look(
     if a < j { Step::Byte } else { Step::No }
 }
 
-// The rule of node `at`; no rule if the node has none, or if the budget is 0.
-pub fn rule_at(buf: &[u16], at: usize, budget: usize) -> usize
+// The rule of node `at`, if the node has one and the budget isn't 0.
+pub fn rule_at(buf: &[u16], at: usize, budget: usize) -> Option<usize>
     requires { (at + budget ≤ max_nodes) × (output_size ≤ length buf.now) }
-    ensures { RuleRead buf.now at budget result }
+    ensures read { RuleRead buf.now at budget (unwrap_or result max_rules) }
+    ensures is_rule { IfSome result (λ r. r < max_rules) }
 {
     if budget == 0 {
-        return sizes::NO_RULE;
+        return None;
     }
-    wide(buf[2 * at + 1])
+    let r = usize::from(buf[2 * at + 1]);
+    if r < sizes::MAX_RULES { Some(r) } else { None }
 }

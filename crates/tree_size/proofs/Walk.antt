@@ -116,16 +116,7 @@ module _ {p buf : List ℕ} {at : ℕ} where
           );
     }
 
-    -- no tree of the grammar is stored at `at`, or it is not within the buffer
-    pub sized-full : at + n ≤ max_nodes → max_nodes ≤ at + n → Sized p buf at n
-    sized-full h l = record {
-      small = h;
-      exact = λ k x f t i.
-          let (m, s, b) = next refl k x f t in
-          let j = b.less in
-          absurd (omega arith);
-    }
-
+    -- no tree of the grammar is stored at `at`
     pub sized-no-rule : {r : ℕ} → at + n ≤ max_nodes → r ≡ get_or buf (2 * (at + n) + 1) 0 → max_rules ≤ r → Sized p buf at n
     sized-no-rule h e l = record {
       small = h;

@@ -7,7 +7,6 @@ ghost use Rattle.sizes.specs.Sizes.{max_nodes, output_size, max_rules, max_place
 ghost use Rattle.packed.specs.Packed.{symbol_in};
 ghost use Rattle.tree_size.specs.Standing.{child_of, children_in, Sized};
 
-use numbers::wide;
 use packed::Packed;
 
 // 1 if place q of rule r holds a nonterminal, else 0.
@@ -29,10 +28,8 @@ fn children(p: &Packed, r: usize) -> usize
 {
     let count = packed::count(p, r);
     let mut n = 0;
-    let mut q = 0;
-    while q < count {
+    for q in 0..count {
         n += child(p, r, q);
-        q += 1;
     }
     n
 }
@@ -49,7 +46,7 @@ pub fn size(p: &Packed, buf: &[u16], at: usize) -> usize
         if at + n >= sizes::MAX_NODES {
             return n;
         }
-        let r = wide(buf[2 * (at + n) + 1]);
+        let r = usize::from(buf[2 * (at + n) + 1]);
         if r >= sizes::MAX_RULES {
             return n;
         }

@@ -1,4 +1,4 @@
--- A wider node at a place of a rule, and what follows a node that has moved, with premises as the code gives them. Assumes nothing.
+-- A wider node at a place of a rule, and the row after a node, with premises as the code gives them. Assumes nothing.
 use Prim.Native.Nat.{ℕ, ◌+◌, ◌*◌, ◌-◌, ◌≤◌, ◌<◌}
 use mathlib.Core.List.{List, ◌∷◌, ◌++◌}
 use mathlib.Core.Path.{◌≡◌, refl, ap, subst}
@@ -24,7 +24,7 @@ use Rattle.tree_first.specs.Descend.{BelowGiven, FirstAt, NodeFirst, RowFirst}
 use Rattle.tree_first.proofs.Codes.{kept-none, kept-join, stands-join, first-stands}
 use Rattle.tree_first.proofs.RowSteps.{rests}
 use Rattle.tree_later.specs.Beyond.{AfterAt}
-use Rattle.tree_later.proofs.Codes.{first-nonempty, next-none, next-some}
+use Rattle.tree_later.proofs.Codes.{first-nonempty, kept_then, next-none, next-some}
 use Rattle.tree_later.proofs.Frames.{made-below}
 use Rattle.tree_widen.specs.Wider.{Widened, Moved}
 
@@ -58,10 +58,9 @@ module _ {p : List ℕ} {rules : ℕ} {fits chart tables full rows : List ℕ} {
         (λ z u v. C.early.beyond z (omega arith) (omega arith) v));
   }
 
-  module _ {e inner v n s : ℕ} {buf₀ buf₁ buf : List ℕ} (C : EndChosen tables full k i a (b + 1) j rows (side * (q + 1)) budget e)
+  module _ {e inner v n : ℕ} {buf₀ buf₁ : List ℕ} (C : EndChosen tables full k i a (b + 1) j rows (side * (q + 1)) budget e)
       (d : e ≤ j) (S : SameSpan (j - i) mask (e - a) inner) (g : v ≡ get_or rows (side * (q + 1) + e) 0)
-      (N : NodeFirst p rules fits chart tables k a e inner (budget - v) at buf₀ buf₁ n)
-      (R : RowFirst p rules fits chart tables full rows r (q + 1) e i j mask (budget - n) (at + n) buf₁ buf s) where
+      (N : NodeFirst p rules fits chart tables k a e inner (budget - v) at buf₀ buf₁ n) where
     module _ {w : List ℕ} (B : BelowGiven p rules fits chart tables full rows r i j mask w) (c : q < place_count p r) where
       wider-first : FirstAt (Tree (Packing p) w (e - a) inner k a e (budget - v)) buf₁ at n
       wider-first =
@@ -71,46 +70,48 @@ module _ {p : List ℕ} {rules : ℕ} {fits chart tables full rows : List ℕ} {
           N.exact w B.given (omega arith) (within i j (full_in full) (cost_in tables) k a e)
           (child-least B.solved h (omega arith) d S) (omega arith)
 
-      wider-rest : FirstAt (Row (Packing p) w (j - i) mask (tail_in p r (q + 1)) e j (budget - n)) buf (at + n) s
-      wider-rest =
+    -- a node has nodes, so this case does not arise
+    pub widen-empty : n ≡ 0 → Widened p rules fits chart tables full rows r q k a b i j mask budget at buf₀ buf₁ 0
+    widen-empty z = record {
+      kept = kept_then z N.kept kept-none;
+      exact = λ M w G known c f x y o last own t child.
+          let B = made-below G (omega arith) known M in
+          let F = wider-first B c in
+          absurd (omega (arith, first-nonempty F.first F.size));
+    }
+
+    module _ {s : ℕ} {buf : List ℕ}
+        (R : RowFirst p rules fits chart tables full rows r (q + 1) e i j mask (budget - n) (at + n) buf₁ buf s) where
+      wider-rest : {w : List ℕ} (B : BelowGiven p rules fits chart tables full rows r i j mask w) → q < place_count p r
+          → FirstAt (Row (Packing p) w (j - i) mask (tail_in p r (q + 1)) e j (budget - n)) buf (at + n) s
+      wider-rest B c =
           let f = C.fits d in
           let u = C.start in
           rest-first B q c R (omega (arith, N.kept.few))
 
-    wider-after : {w : List ℕ} {f x y : Forest} {own : ℕ} (B : BelowGiven p rules fits chart tables full rows r i j mask w)
-        (c : q < place_count p r) → OpenedRow (Packing p) w (j - i) mask k (tail_in p r (q + 1)) a j budget f b x y
-        → Last (Row (Packing p) w (j - i) mask (tail_in p r (q + 1)) b j (budget - nodes x)) (code y) → SameSpan (j - i) mask (b - a) own
-        → Last (Tree (Packing p) w (b - a) own k a b (budget - get_or rows (side * (q + 1) + b) 0)) (code x)
-        → AfterAt (Row (Packing p) w (j - i) mask (nonterminal k ∷ tail_in p r (q + 1)) a j budget) (code f) buf at (n + s)
-    wider-after {w} B c o last own child =
-        let F = wider-first B c in
-        let L = wider-rest B c in
-        let u = C.start in
-        record {
-          numbers = F.code ++ L.code;
-          after = cover-widens B.solved h (all-rests B q c h (omega arith)) o own refl last child n (omega arith) d
-              (λ z x y. C.early.beyond z (omega arith) y (omega arith)) S
-              (subst (λ (z : ℕ). Min (Tree (Packing p) w (e - a) inner k a e (budget - z)) F.code) g F.first) F.size L.first;
-          size = omega (arith, length-append F.code L.code, F.size, L.size);
-          here = stands-join buf₁ buf at n F.code L.code F.size (first-stands F) (first-stands L) R.kept.before;
-        }
-
-    pub widen-some : Widened p rules fits chart tables full rows r q k a b i j mask budget at buf₀ buf (n + s)
-    widen-some = record {
-      kept = kept-join (omega arith) N.kept R.kept;
-      exact = λ M w G known c f x y o last own t child.
-          let B = made-below G (omega arith) known M in
+      wider-after : {w : List ℕ} {f x y : Forest} {own : ℕ} (B : BelowGiven p rules fits chart tables full rows r i j mask w)
+          (c : q < place_count p r) → OpenedRow (Packing p) w (j - i) mask k (tail_in p r (q + 1)) a j budget f b x y
+          → Last (Row (Packing p) w (j - i) mask (tail_in p r (q + 1)) b j (budget - nodes x)) (code y) → SameSpan (j - i) mask (b - a) own
+          → Last (Tree (Packing p) w (b - a) own k a b (budget - get_or rows (side * (q + 1) + b) 0)) (code x)
+          → AfterAt (Row (Packing p) w (j - i) mask (nonterminal k ∷ tail_in p r (q + 1)) a j budget) (code f) buf at (n + s)
+      wider-after {w} B c o last own child =
           let F = wider-first B c in
-          next-some (omega (arith, first-nonempty F.first F.size)) (wider-after B c o last t child);
-    }
+          let L = wider-rest B c in
+          let u = C.start in
+          record {
+            numbers = F.code ++ L.code;
+            after = cover-widens B.solved h (all-rests B q c h (omega arith)) o own refl last child n (omega arith) d
+                (λ z x y. C.early.beyond z (omega arith) y (omega arith)) S
+                (subst (λ (z : ℕ). Min (Tree (Packing p) w (e - a) inner k a e (budget - z)) F.code) g F.first) F.size L.first;
+            size = omega (arith, length-append F.code L.code, F.size, L.size);
+            here = stands-join buf₁ buf at n F.code L.code F.size (first-stands F) (first-stands L) R.kept.before;
+          }
 
--- ---- the rest after a node that has moved, or a wider node
-
-module _ {p : List ℕ} {rules : ℕ} {fits chart tables full rows : List ℕ} {r q k a b i j mask budget at n v : ℕ} {buf₀ buf : List ℕ} where
-  pub moved-rest : 0 < n → RowFirst p rules fits chart tables full rows r (q + 1) b i j mask (budget - n) (at + n) buf₀ buf v
-      → Moved p rules fits chart tables full rows r q k a b i j mask budget at n buf₀ buf (n + v)
-  moved-rest h R = record { rest = λ _. (v, refl, R); wider = λ e. absurd (omega arith) }
-
-  pub moved-wider : n ≤ 0 → Widened p rules fits chart tables full rows r q k a b i j mask budget at buf₀ buf v
-      → Moved p rules fits chart tables full rows r q k a b i j mask budget at n buf₀ buf v
-  moved-wider h W = record { rest = λ m. absurd (omega arith); wider = λ _. W }
+      pub widen-some : Widened p rules fits chart tables full rows r q k a b i j mask budget at buf₀ buf (n + s)
+      widen-some = record {
+        kept = kept-join (omega arith) N.kept R.kept;
+        exact = λ M w G known c f x y o last own t child.
+            let B = made-below G (omega arith) known M in
+            let F = wider-first B c in
+            next-some (omega (arith, first-nonempty F.first F.size)) (wider-after B c o last t child);
+      }

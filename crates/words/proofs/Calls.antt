@@ -1,5 +1,6 @@
 -- What `words` answers and leaves, from the checks and from the answer over the packed grammar. Assumes nothing.
 use Prim.Native.Nat.{ℕ}
+use Rattle.std.proofs.Common.{Ok, Err}
 use mathlib.Core.Bool.{true}
 use mathlib.Core.List.{List, [], ◌∷◌}
 use mathlib.Core.Path.{◌≡◌, refl, sym, ap, ap₂, subst, ◌∙◌}
@@ -26,8 +27,6 @@ use Rattle.results.specs.Check.{listed}
 use Rattle.results.specs.Measure.{unlisted}
 use Rattle.results.specs.Words.{texts_of, words_in, words_of}
 use Rattle.packed.specs.Packed.{cfg_in}
-use Rattle.fill_input.specs.declared.Judged.{Judged}
-use Rattle.fill_input.specs.declared.Judged.TheVariants.{Passed, Refused}
 use Rattle.fill_input.specs.Judging.{Judging}
 use Rattle.fill_input.proofs.Deciding.{input-refused, input-passed}
 use Rattle.fill_input.proofs.Packing.{list-packed}
@@ -52,13 +51,13 @@ text_same G H same begins names w e d =
     ∙ ap (forest_text names)
     (sym (ap₂ (forest_in H (nonterminal H.start ∷ [])) (sym d.parse.1) (sym d.coded) ∙ forest-decoded H fit))
 
-module _ (g : Grammar) (y : ℕ) (w chart : List ℕ) (j : Judged) (judging : Judging g (length w) (length chart) j) (e buffer : List ℕ) where
-  pub words-refused : (r : Refusal) → j ≡ Refused r
+module _ (g : Grammar) (y : ℕ) (w chart e buffer : List ℕ) where
+  pub words-refused : {r : Refusal} → Judging g (length w) (length chart) (Err r)
       → writing_of (refused (number_of r)) chart buffer ≡ words_of (dated g y) w e chart buffer
   unfolding words_of
-  words-refused r h = sym (input-refused g y w chart _ _ j judging r h)
+  words-refused judging = sym (input-refused g y w chart _ _ judging)
 
-  module _ (is : j ≡ Passed) (p chart' : List ℕ) (s : ℕ) (start : s ≡ g.start)
+  module _ {u : Unit {0}} (judging : Judging g (length w) (length chart) (Ok u)) (p chart' : List ℕ) (s : ℕ) (start : s ≡ g.start)
       (filling : (chart' ≡ filled (grammar_of (dated g y)) w chart)
       × ((r : ℕ) → rule (cfg_in g.start p) r ≡ rule (grammar_of (dated g y)) r))
       (names : List ℕ) (row : (length names ≡ names_size) × ((r : ℕ) → name_in names r ≡ (get_or g.rules r no_rule).name)) where
@@ -89,4 +88,4 @@ module _ (g : Grammar) (y : ℕ) (w chart : List ℕ) (j : Judged) (judging : Ju
         ≡ words_filled (L (cfg_in s p) w) e (derivation_text (cfg_in s p) (text_in names) w e) c buffer)
         → writing_of a chart' buffer' ≡ words_of (dated g y) w e chart buffer
     unfolding words_of
-    words-answered a buffer' d = d chart' ∙ over ∙ sym (input-passed g y w chart _ _ j judging is)
+    words-answered a buffer' d = d chart' ∙ over ∙ sym (input-passed g y w chart _ _ judging)

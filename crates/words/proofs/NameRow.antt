@@ -5,7 +5,7 @@ use native.Mathlib.Omega.{arith}
 use mathlib.Core.List.{List, ◌++◌}
 use mathlib.Core.Logic.{dite}
 use mathlib.Core.Path.{◌≡◌, sym, ap, subst, ◌∙◌}
-use lib.ListN.{length, get_or, take, drop, length-take, length-map, drop_of_length-le, get_or-eq_default}
+use lib.ListN.{length, get_or, take, drop, drop_of_length-le, get_or-eq_default}
 use lib.Seq.{take-add, take-take, take-nil, take-append-le, drop_at, length-take-le}
 use mir.Val.{Val}
 use denote.Laws.{Is}
@@ -68,9 +68,6 @@ pub record NamesTo (rules : List Rule) (names : List ℕ) (at r : ℕ) : Type 0 
   pub begins : at ≡ name_size * r
   pub known : (i : ℕ) → i < r → name_in names i ≡ (get_or rules i no_rule).name
 
-pub names-start : (rules : List Rule) (names : List ℕ) → length names ≡ names_size → NamesTo rules names 0 0
-names-start rules names h = record { full = h; begins = omega arith; known = λ i k. absurd (omega arith) }
-
 module _ (rules : List Rule) (names : List ℕ) (at r : ℕ) (so_far : NamesTo rules names at r) where
   pub names-next : (names' : List ℕ) (end : ℕ) → r < max_rules
       → Put (get_or rules r no_rule).name at end names names' × (length (get_or rules r no_rule).name ≡ name_size)
@@ -86,9 +83,6 @@ module _ (rules : List Rule) (names : List ℕ) (at r : ℕ) (so_far : NamesTo r
             subst (λ (j : ℕ). name_in names' j ≡ (get_or rules j no_rule).name) e
             (name-here name names names' r at end low so_far.full so_far.begins put size));
       }
-
-  pub names-room : r < max_rules → at + name_size ≤ length names
-  names-room low = omega (arith, so_far.full, so_far.begins)
 
   -- past the last rule there is no name
   name-beyond : length rules ≡ max_rules → (i : ℕ) → max_rules ≤ i → name_in names i ≡ (get_or rules i no_rule).name

@@ -12,11 +12,9 @@ ghost use Rattle.results.specs.Words.{words_of};
 ghost use Rattle.words_text.specs.Names.{names_size, text_in};
 ghost use Rattle.words.specs.Answer.{writing_of, words_filled};
 
-use answers::{Refusal, Written};
+use answers::Refusal;
 use check_walk::derivation::is_derivation;
-use fill_input::Judged;
 use grammar::Grammar;
-use numbers::wide_byte;
 use packed::Packed;
 use words_text::Names;
 use words_write::Cursor;
@@ -31,7 +29,7 @@ fn write_offered(
     input: &[u8],
     offered: &[u16],
     buffer: &mut [u8],
-) -> Written
+) -> Result<usize, Refusal>
     requires { (length names.now ≡ names_size) × (length input.now ≤ max_input) }
     ensures { (chart : List ℕ) → writing_of (written_of result) chart buffer.new
         ≡ words_filled (L (cfg_in start p.now) input.now) offered.now
@@ -39,11 +37,11 @@ fn write_offered(
         chart buffer.old }
 {
     if !is_derivation(p, start, input, offered) {
-        return Written::Refused(Refusal::NotADerivation);
+        return Err(Refusal::NotADerivation);
     }
     let n = words_length::text_length(names, p, input.len(), offered);
     if n > buffer.len() {
-        return Written::Refused(Refusal::TextTooLong);
+        return Err(Refusal::TextTooLong);
     }
     let root = Cursor {
         node: 0,
@@ -51,7 +49,7 @@ fn write_offered(
         at: 0,
     };
     let end = words_write::put_node(names, p, input, offered, sizes::MAX_NODES, root, buffer);
-    Written::Bytes(end.at)
+    Ok(end.at)
 }
 
 // ---- the exported call
@@ -64,16 +62,12 @@ pub fn words(
     offered: &[u16],
     chart: &mut [u32],
     buffer: &mut [u8],
-) -> Written
+) -> Result<usize, Refusal>
     ensures { writing_of (written_of result) chart.new buffer.new
         ≡ words_of (dated g year) input.now offered.now chart.old buffer.old }
 {
-    match fill_input::judge(g, input.len(), chart.len()) {
-        Judged::Refused(r) => Written::Refused(r),
-        Judged::Passed => {
-            let p = fill_input::fill(g, input, year, chart);
-            let names = row::names_of(g);
-            write_offered(&names, &p, wide_byte(g.start), input, offered, buffer)
-        }
-    }
+    fill_input::judge(g, input.len(), chart.len())?;
+    let p = fill_input::fill(g, input, year, chart);
+    let names = row::names_of(g);
+    write_offered(&names, &p, usize::from(g.start), input, offered, buffer)
 }

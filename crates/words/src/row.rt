@@ -23,10 +23,8 @@ pub fn names_of(g: Grammar) -> Names
 {
     let mut names = [0u8; words_text::NAMES_SIZE];
     let mut at = 0;
-    let mut r = 0;
-    while r < sizes::MAX_RULES {
-        at = put_name(g.rules[r], at, &mut names);
-        r += 1;
+    for rule in &g.rules {
+        at = put_name(*rule, at, &mut names);
     }
     names
 }

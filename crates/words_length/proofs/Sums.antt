@@ -73,9 +73,6 @@ pub record SumTo (names p e : List ℕ) (n i m : ℕ) : Type 0 where
   pub small : m ≤ 3 * n + most_size * i
 
 module _ (names p e : List ℕ) (n : ℕ) where
-  pub sum-start : (m : ℕ) → m ≡ 3 * n → SumTo names p e n 0 m
-  sum-start m h = record { whole = omega arith; small = omega arith }
-
   pub sum-next : (i m r k : ℕ) → i < length e / 2 → SumTo names p e n i m → r ≡ min (get_or e (2 * i + 1) 0) max_rules
       → (k ≡ size_in names p r) × (k ≤ most_size) → SumTo names p e n (i + 1) (m + k)
   sum-next i m r k h so_far number (is, little) =

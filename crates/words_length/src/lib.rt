@@ -28,12 +28,9 @@ pub fn text_length(names: &Names, p: &Packed, n: usize, e: &[u16]) -> usize
     requires { (length names.now ≡ names_size) × (n ≤ max_input) × (length e.now ≤ output_size) }
     ensures { result ≡ size_sum (size_in names.now p.now) e.now + 3 * n }
 {
-    let nodes = e.len() / 2;
     let mut m = 3 * n;
-    let mut i = 0;
-    while i < nodes {
+    for i in 0..e.len() / 2 {
         m += node_length(names, p, rule_number(e, i));
-        i += 1;
     }
     m
 }

@@ -1,7 +1,7 @@
 -- Digits, leaves and numbers of rules, byte by byte. Assumes nothing.
 use Prim.Native.Nat.{ℕ, ◌+◌, ◌/◌, ◌%◌, ◌≤◌, ◌<◌}
 use mathlib.Core.List.{List, [], ◌∷◌}
-use mathlib.Core.Path.{◌≡◌, ap, ap₂, sym, ◌∙◌}
+use mathlib.Core.Path.{◌≡◌}
 use borrow.Author.Tests.{lt-ltb, le-ltb}
 use Rattle.theory_words.specs.Name.{hex_digit, number_text}
 use Rattle.theory_words.specs.Words.{leaf_sign, leaf_text}

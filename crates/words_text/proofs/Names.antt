@@ -1,15 +1,15 @@
 -- The names in a row of bytes, and the texts of the rules. Assumes nothing.
-use Prim.Native.Nat.{ℕ, ◌+◌, ◌*◌, ◌-◌, ◌≤◌, ◌<◌}
-use mathlib.Core.Bool.{Bool, true, false, ◌&&◌}
-use mathlib.Core.List.{List}
-use mathlib.Core.Logic.{◌≢◌}
-use mathlib.Core.Path.{◌≡◌, sym, ap, ◌∙◌}
-use native.Mathlib.Numerals.{add-one}
+use Prim.Native.Nat.{ℕ, suc, ◌+◌, ◌*◌, ◌-◌, ◌≤◌, ◌<◌}
+use Rattle.std.proofs.Common.{Option, Some, None, unwrap_or, position, nat_lt, ◌==◌}
+use Rattle.std.specs.List.{list_all, position_or_len}
+use mathlib.Core.Bool.{Bool, true, false, not, cond, ◌&&◌}
+use mathlib.Core.List.{List, [], ◌∷◌}
+use mathlib.Core.Path.{◌≡◌, refl, sym, ap, ◌∙◌}
 use native.Mathlib.Omega.{arith}
 use lib.Dec.{eqb}
-use lib.ListN.{length, get_or, take, drop, length-take, length-drop, drop_of_length-le}
-use lib.Seq.{get_or-take, get_or-drop, drop-cons, take-take}
-use borrow.Author.Tests.{eq-eqb, ne_eqb}
+use lib.ListN.{length, take, drop, length-take, length-drop, drop_of_length-le}
+use lib.Seq.{take-take}
+use borrow.Author.Tests.{ltb-false}
 use Rattle.sizes.specs.Sizes.{max_rules}
 use Rattle.theory_words.specs.Name.{name_size, blank, unnamed, unfilled, number_text, rule_text}
 use Rattle.theory_words.proofs.Filled.{unfilled-front}
@@ -19,52 +19,68 @@ use Rattle.words_text.specs.Names.{names_size, name_in, text_in}
 
 -- ---- zeros only
 
-module _ (l : List ℕ) (i : ℕ) (h : i < length l) where
-  unnamed-at : unnamed (drop i l) ≡ (eqb (get_or l i 0) 0 && unnamed (drop (i + 1) l))
-  unfolding unnamed
-  unnamed-at = rw (drop-cons l i 0 h, add-one i)
-
-  unnamed-zero : get_or l i 0 ≡ 0 → unnamed (drop i l) ≡ unnamed (drop (i + 1) l)
-  unnamed-zero e = unnamed-at ∙ rw (eq-eqb (get_or l i 0) 0 e)
-
-  unnamed-other : get_or l i 0 ≢ 0 → unnamed (drop i l) ≡ false
-  unnamed-other e = unnamed-at ∙ rw (ne_eqb (get_or l i 0) 0 e)
+all-zeros : (l : List ℕ) → list_all (λ b. b == 0) l ≡ unnamed l
+unfolding unnamed
+all-zeros [] = refl
+all-zeros (b ∷ l) = ap (λ (t : Bool). eqb b 0 && t) (all-zeros l)
 
 -- ---- up to the first blank
 
-module _ (l : List ℕ) (i : ℕ) (h : i < length l) where
-  unfilled-blank : get_or l i 0 ≡ blank → length (unfilled (drop i l)) ≡ 0
-  unfolding unfilled
-  unfilled-blank e = rw (drop-cons l i 0 h, eq-eqb (get_or l i 0) blank e)
+-- the place of the first blank is how long the name is without its filling
+first-blank : (l : List ℕ) → position_or_len (λ b. b == blank) l ≡ length (unfilled l)
+unfolding unfilled
+first-blank [] = refl
+first-blank (b ∷ l) = go (eqb b blank) (first-blank l)
+  where
+    go : (t : Bool) → position_or_len (λ b. b == blank) l ≡ length (unfilled l)
+        → cond (not t) (1 + position_or_len (λ b. b == blank) l) 0 ≡ length (cond t [] (b ∷ unfilled l))
+    go true e = refl
+    go false e = omega arith
 
-  unfilled-other : get_or l i 0 ≢ blank → length (unfilled (drop i l)) ≡ length (unfilled (drop (i + 1) l)) + 1
-  unfolding unfilled
-  unfilled-other e = rw (drop-cons l i 0 h, ne_eqb (get_or l i 0) blank e, add-one i) (omega arith)
+unfilled-short : (l : List ℕ) → length (unfilled l) ≤ length l
+unfolding unfilled
+unfilled-short [] = omega arith
+unfilled-short (b ∷ l) = go (eqb b blank) (unfilled-short l)
+  where
+    go : (t : Bool) → length (unfilled l) ≤ length l → length (cond t [] (b ∷ unfilled l)) ≤ suc (length l)
+    go true h = omega arith
+    go false h = omega arith
 
--- the tests of `length_at`, at byte i of the name that begins at an offset
+blank_found : (l : List ℕ) → unwrap_or (position (λ b. b == blank) l) (length l) ≡ length (unfilled l)
+blank_found l = go (nat_lt (position_or_len (λ b. b == blank) l) (length l)) refl
+  where
+    go : (t : Bool) → nat_lt (position_or_len (λ b. b == blank) l) (length l) ≡ t
+        → unwrap_or (cond t (Some (position_or_len (λ b. b == blank) l)) None) (length l) ≡ length (unfilled l)
+    go true h = first-blank l
+    go false h = omega (arith, first-blank l, unfilled-short l, ltb-false (position_or_len (λ b. b == blank) l) (length l) h)
+
+-- the name that begins at an offset, as `length_at` takes it
+module _ (bytes : List ℕ) (at : ℕ) (room : at + name_size ≤ length bytes) (r : Option ℕ)
+    (found : r ≡ position (λ b. b == blank) (take (at + name_size - at) (drop at bytes))) where
+  pub length-here : (unwrap_or r name_size ≡ length (unfilled (take name_size (drop at bytes)))) × (unwrap_or r name_size ≤ name_size)
+  length-here =
+      let n : at + name_size - at ≡ name_size = omega arith in
+      let here = take name_size (drop at bytes) in
+      let long : length here ≡ name_size = simp (length-take, length-drop) (omega arith) in
+      let is : unwrap_or r name_size ≡ length (unfilled here) =
+      ap (λ (o : Option ℕ). unwrap_or o name_size)
+      (found ∙ ap (λ (k : ℕ). position (λ b. b == blank) (take k (drop at bytes))) n)
+      ∙ ap (unwrap_or (position (λ b. b == blank) here)) (sym long)
+      ∙ blank_found here in
+      (is, omega (arith, is, unfilled-short here))
+
+-- a name without a blank from its byte i on, which is past its end, has as many bytes as were passed
 module _ (bytes : List ℕ) (at : ℕ) (room : at + name_size ≤ length bytes) where
-  abbrev here : List ℕ
-  here = take name_size (drop at bytes)
+  abbrev name_here : List ℕ
+  name_here = take name_size (drop at bytes)
 
-  here-long : length here ≡ name_size
-  here-long = simp (length-take, length-drop) (omega arith)
-
-  here-at : (i : ℕ) → i < name_size → get_or here i 0 ≡ get_or bytes (at + i) 0
-  here-at i h = rw (get_or-take, get_or-drop)
-
-  module _ (i : ℕ) (so_far : length (unfilled here) ≡ i + length (unfilled (drop i here))) where
-    pub filled-passed : i < name_size → get_or bytes (at + i) 0 ≢ blank
-        → length (unfilled here) ≡ i + 1 + length (unfilled (drop (i + 1) here))
-    filled-passed h e = omega (arith, unfilled-other here i (omega (arith, here-long)) (λ z. e (sym (here-at i h) ∙ z)))
-
-    pub filled-here : i < name_size → get_or bytes (at + i) 0 ≡ blank → i ≡ length (unfilled here)
-    filled-here h e = omega (arith, unfilled-blank here i (omega (arith, here-long)) (here-at i h ∙ e))
-
-    pub filled_none : name_size ≤ i → i ≡ length (unfilled here)
-    unfolding unfilled
-    filled_none h =
-        let none : length (unfilled (drop i here)) ≡ 0 = rw (drop_of_length-le here {i = i} (omega (arith, here-long))) in
-        omega arith
+  pub filled_none : (i : ℕ) → length (unfilled name_here) ≡ i + length (unfilled (drop i name_here)) → name_size ≤ i
+      → i ≡ length (unfilled name_here)
+  unfolding unfilled
+  filled_none i so_far h =
+      let long : length name_here ≡ name_size = simp (length-take, length-drop) (omega arith) in
+      let none : length (unfilled (drop i name_here)) ≡ 0 = rw (drop_of_length-le name_here {i = i} (omega (arith, long))) in
+      omega arith
 
 -- ---- the text of rule r, by the test of `is_unnamed`
 
@@ -108,32 +124,14 @@ module _ (names : List ℕ) (r : ℕ) (b : Bool) (told : b ≡ unnamed (name_in 
 
 -- ---- the name of rule r in a row
 
-module _ (names : List ℕ) (r : ℕ) (low : r < max_rules) (full : length names ≡ names_size) where
-  pub name-long : length (name_in names r) ≡ name_size
+module _ (names : List ℕ) (r : ℕ) where
+  pub unnamed-all : list_all (λ b. b == 0) (take (name_size * r + name_size - name_size * r) (drop (name_size * r) names))
+      ≡ unnamed (name_in names r)
   unfolding name_in
-  name-long = simp (length-take, length-drop) (omega arith)
-
-  name-at : (i : ℕ) → i < name_size → get_or (name_in names r) i 0 ≡ get_or names (name_size * r + i) 0
-  unfolding name_in
-  name-at i h = rw (get_or-take, get_or-drop)
-
-  -- the tests of `is_unnamed`, at byte i of the name, which begins at `at`
-  module _ (at i : ℕ) (begins : at ≡ name_size * r) where
-    name-here : i < name_size → get_or (name_in names r) i 0 ≡ get_or names (at + i) 0
-    name-here h = name-at i h ∙ ap (λ (k : ℕ). get_or names (k + i) 0) (sym begins)
-
-    module _ (so_far : unnamed (name_in names r) ≡ unnamed (drop i (name_in names r))) where
-      pub unnamed-passed : i < name_size → get_or names (at + i) 0 ≡ 0 → unnamed (name_in names r) ≡ unnamed (drop (i + 1) (name_in names r))
-      unnamed-passed h e = so_far ∙ unnamed-zero (name_in names r) i (omega (arith, name-long)) (name-here h ∙ e)
-
-      pub unnamed-no : i < name_size → get_or names (at + i) 0 ≢ 0 → false ≡ unnamed (name_in names r)
-      unnamed-no h e =
-          sym (so_far ∙ unnamed-other (name_in names r) i (omega (arith, name-long)) (λ z. e (sym (name-here h) ∙ z)))
-
-      pub unnamed-yes : name_size ≤ i → true ≡ unnamed (name_in names r)
-      unfolding unnamed
-      unnamed-yes h = sym (so_far ∙ rw (drop_of_length-le (name_in names r) {i = i} (omega (arith, name-long))))
+  unnamed-all =
+      let n : name_size * r + name_size - name_size * r ≡ name_size = omega arith in
+      all-zeros _ ∙ ap (λ (k : ℕ). unnamed (take k (drop (name_size * r) names))) n
 
   -- the row has all of it
-  pub row_room : name_size * r + name_size ≤ length names
-  row_room = omega arith
+  pub row_room : r < max_rules → length names ≡ names_size → name_size * r + name_size ≤ length names
+  row_room low full = omega arith

@@ -1,14 +1,14 @@
 // The pieces of a text: names of rules, numbers of rules, leaves. Each function that writes returns the index after the last byte.
 #![tactic(auto)]
 
-ghost use Rattle.std.specs.Prelude.{◌≡◌, ◌+◌, ◌<◌, ◌≤◌, length, take, drop};
+ghost use Rattle.std.specs.Prelude.{◌≡◌, ◌==◌, ◌+◌, ◌<◌, ◌≤◌, length, take, drop, position};
+ghost use Rattle.std.specs.List.{list_all};
 ghost use Rattle.sizes.specs.Sizes.{max_rules};
-ghost use Rattle.theory_words.specs.Name.{name_size, unnamed, unfilled, hex_digit, number_text};
+ghost use Rattle.theory_words.specs.Name.{name_size, blank, unnamed, unfilled, hex_digit, number_text};
 ghost use Rattle.theory_words.specs.Words.{leaf_text};
 ghost use Rattle.print_number.specs.Put.{Put};
 ghost use Rattle.words_text.specs.Names.{name_in, text_in, names_size};
 
-use numbers::wide_byte;
 use print_number::{put_byte, put_bytes};
 
 // The bytes of a name with its filling, and of the names of all rules, one after the other.
@@ -17,12 +17,6 @@ pub const NAME: usize = 8;
 pub const NAMES_SIZE: usize = sizes::MAX_RULES * NAME;
 
 pub type Names = [u8; NAMES_SIZE];
-
-pub fn tied_size() -> usize
-    ensures { result ≡ names_size }
-{
-    NAMES_SIZE
-}
 
 // The byte that fills a name up, the sign of a leaf, and the sign of a rule without a name.
 const BLANK: u8 = 0x20;
@@ -48,7 +42,7 @@ pub fn put_leaf(b: u8, at: usize, out: &mut [u8]) -> usize
     requires { at + 3 ≤ length out.old }
     ensures { Put (leaf_text b) at result out.old out.new }
 {
-    let n = wide_byte(b);
+    let n = usize::from(b);
     let high = put_byte(LEAF, at, out);
     let low = put_byte(digit(n / 16), high, out);
     put_byte(digit(n % 16), low, out)
@@ -65,20 +59,27 @@ fn put_number(r: usize, at: usize, out: &mut [u8]) -> usize
     put_byte(digit(r % 10), ones, out)
 }
 
+// Whether all bytes are zeros.
+fn all_zeros(bytes: &[u8]) -> bool
+    ensures { result ≡ list_all (λ b. b == 0) bytes.now }
+{
+    bytes.iter().all(|b| *b == 0)
+}
+
+// The index of the first blank.
+fn first_blank(bytes: &[u8]) -> Option<usize>
+    ensures { result ≡ position (λ b. b == blank) bytes.now }
+{
+    bytes.iter().position(|b| *b == BLANK)
+}
+
 // Whether rule r has no name: its eight bytes are zeros.
 fn is_unnamed(names: &Names, r: usize) -> bool
     requires { (r < max_rules) × (length names.now ≡ names_size) }
     ensures { result ≡ unnamed (name_in names.now r) }
 {
     let at = NAME * r;
-    let mut i = 0;
-    while i < NAME {
-        if names[at + i] != 0 {
-            return false;
-        }
-        i += 1;
-    }
-    true
+    all_zeros(&names[at..at + NAME])
 }
 
 // How many bytes the name at an offset has without its filling.
@@ -86,14 +87,7 @@ pub fn length_at(bytes: &[u8], at: usize) -> usize
     requires { at + name_size ≤ length bytes.now }
     ensures { (result ≡ length (unfilled (take name_size (drop at bytes.now)))) × (result ≤ name_size) }
 {
-    let mut i = 0;
-    while i < NAME {
-        if bytes[at + i] == BLANK {
-            return i;
-        }
-        i += 1;
-    }
-    i
+    first_blank(&bytes[at..at + NAME]).unwrap_or(NAME)
 }
 
 // How many bytes the name of rule r has without its filling.

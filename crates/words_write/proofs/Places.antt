@@ -1,5 +1,5 @@
 -- The places of a node, one after the other: what is written of the forest below the node, and what is left of it. Assumes nothing.
-use Prim.Native.Nat.{ℕ, zero, suc, ◌+◌, ◌*◌, ◌-◌, ◌≤◌, ◌<◌}
+use Prim.Native.Nat.{ℕ, zero, suc, ◌+◌, ◌-◌, ◌≤◌, ◌<◌}
 use native.Mathlib.Numerals.{add-one}
 use native.Mathlib.Omega.{arith}
 use mathlib.Core.List.{List, [], ◌∷◌, ◌++◌, append_assoc, append-nil}
@@ -7,12 +7,11 @@ use mathlib.Core.Path.{◌≡◌, refl, sym, ap, subst, ◌∙◌}
 use lib.ListN.{length, get_or, length-append}
 use Rattle.cfg.specs.Grammar.{Cfg, Symbol, nonterminal, terminal, Terminal}
 use Rattle.cfg.specs.Tree.{Forest, end, leaf, node, yield, nodes, Fits, fits_leaf, fits_node}
-use Rattle.laws.proofs.Bools.{clash}
 use Rattle.packed.specs.Packed.{place_count, symbol_in, places_from, places_in, cfg_in}
-use Rattle.packed.proofs.Laws.{places-step, places-end, places-start}
-use Rattle.theory_words.specs.Words.{closing, leaf_text, following, forest_text}
+use Rattle.packed.proofs.Laws.{places-step, places-end}
+use Rattle.theory_words.specs.Words.{leaf_text, following, forest_text}
 use Rattle.print_number.specs.Put.{Put}
-use Rattle.print_number.proofs.Writing.{put-none, put-append}
+use Rattle.print_number.proofs.Writing.{put-append}
 use Rattle.words_text.specs.Names.{text_in}
 use Rattle.words_write.specs.declared.Cursor.{Cursor}
 use Rattle.words_write.specs.Cursor.{CursorMoved, comma_before, ForestAt, rule_at, NodeAt, node_text}

@@ -1,12 +1,12 @@
 -- What `put_node` knows at its loop, and that there is room for each piece. Assumes nothing.
-use Prim.Native.Nat.{ℕ, suc, ◌+◌, ◌*◌, ◌-◌, ◌≤◌, ◌<◌, min}
+use Prim.Native.Nat.{ℕ, ◌+◌, ◌-◌, ◌≤◌, ◌<◌, min}
 use native.Mathlib.Omega.{arith}
 use mathlib.Core.List.{List, [], ◌∷◌, ◌++◌, append_assoc}
 use mathlib.Core.Path.{◌≡◌, refl, sym, ap, subst, ◌∙◌}
 use lib.ListN.{length, get_or, length-append}
-use Rattle.sizes.specs.Sizes.{max_rules, max_input, max_nodes, output_size}
+use Rattle.sizes.specs.Sizes.{max_rules, max_input, output_size}
 use Rattle.cfg.specs.Grammar.{Symbol, nonterminal, terminal, Terminal}
-use Rattle.cfg.specs.Tree.{Forest, end, node, yield, nodes}
+use Rattle.cfg.specs.Tree.{Forest, nodes}
 use Rattle.laws.proofs.Bools.{clash}
 use Rattle.packed.specs.Packed.{place_count, symbol_in, places_in, cfg_in}
 use Rattle.packed.proofs.Laws.{places-start}
@@ -16,7 +16,7 @@ use Rattle.words_text.specs.Names.{names_size, text_in}
 use Rattle.words_write.specs.declared.Cursor.{Cursor}
 use Rattle.words_write.specs.declared.Place.{Place}
 use Rattle.words_write.specs.declared.Place.TheVariants.{Leaf, Node}
-use Rattle.words_write.specs.Cursor.{CursorMoved, look_of, comma_before, ForestAt, rule_at, NodeAt, node_text, Writable, NodeWritten}
+use Rattle.words_write.specs.Cursor.{CursorMoved, look_of, comma_before, ForestAt, rule_at, node_text, Writable, NodeWritten}
 use Rattle.words_write.proofs.Forests.{leaf_first, node-first}
 use Rattle.words_write.proofs.Pieces.{moved-append, moved_same}
 use Rattle.words_write.proofs.Places.{remaining, remaining-comma, leaf-text, node-text, Progress, Along}
@@ -201,14 +201,6 @@ module _ {names p w e : List ℕ} {left r q n : ℕ} {start here : Cursor} {out�
 
 module _ {names p w e : List ℕ} {r q n : ℕ} {start here : Cursor} {out₀ out : List ℕ} (counted : n ≡ place_count p r) (none : n ≤ q)
     (A : Along names p w e r q (remaining names q) start here out₀ out) where
-  pub close-fits : {left : ℕ} → Started names p w e left r start (length out₀) → here.at < length out
-  close-fits S =
-      let M = all-written (omega arith) (A.every S.below S.found) in
-      let long = M.put.long in
-      let grown = M.put.grown in
-      let room = S.room in
-      omega arith
-
   pub same_size : {left : ℕ} {first last : Cursor} {found final : List ℕ} → Started names p w e left r start (length out₀)
       → CursorMoved (text_in names r ++ (opening ∷ [])) 1 0 first start found out₀ → CursorMoved (closing ∷ []) 0 0 here last out final
       → length final ≡ length found

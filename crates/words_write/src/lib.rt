@@ -125,17 +125,14 @@ pub fn put_node(
     let r = rule_number(e, here.node);
     let n = packed::count(p, r);
     let mut cursor = open_node(names, r, here, out);
-    let mut q = 0;
-    while q < n {
+    for q in 0..n {
         let next = put_comma(q, cursor, out);
         match look(p, r, q) {
             Place::Leaf => {
                 cursor = put_leaf(w, next, out);
-                q += 1;
             }
             Place::Node => {
                 cursor = put_node(names, p, w, e, left - 1, next, out);
-                q += 1;
             }
         }
     }

@@ -1,6 +1,5 @@
 -- `c_hand::hand_points` meets its contract. Assumes nothing.
 use native.Mathlib.Omega.{arith}
-use borrow.Author.Rules.{rules}
 use Rattle.c_hand.proofs.Copies.{points_kept, points-past}
 use Rattle.c_hand.proofs.hand_points.Statement.{statement}
 use Rattle.c_hand.proofs.hand_points.Tie as tie

@@ -3,4 +3,4 @@ use Rattle.print_write.proofs.Going.{listed}
 use Rattle.list.proofs.list.Goals as goal
 
 pub returns : goal.returns
-returns g c = search listed
+returns g c = listed _ _ _ _ _ _ _ _ _ _ _ c.write_pages.ensures c.begin-due.ensures.ahead

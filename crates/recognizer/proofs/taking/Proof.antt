@@ -1,5 +1,4 @@
 -- `recognizer::taking` meets its contract. Assumes nothing.
-use denote.Slice.{shr_slice_at}
 use borrow.Author.Rules.{rules}
 use native.Mathlib.Omega.{arith}
 use Rattle.recognizer.proofs.Calls.{count_fits, count-part, take-right}

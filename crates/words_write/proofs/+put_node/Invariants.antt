@@ -1,6 +1,6 @@
 -- `words_write::put_node` calls itself: the measure is the number of nodes left. The loop's invariant: of the forest below the node what is
--- left is at the cursor, and the text of what is passed is written. The loop's measure is the number of places left. Assumes nothing.
-use Prim.Native.Nat.{◌-◌, ◌≤◌, ◌<◌}
+-- left is at the cursor, and the text of what is passed is written. Assumes nothing.
+use Prim.Native.Nat.{◌≤◌, ◌<◌}
 use mathlib.Core.Path.{◌≡◌}
 use lib.ListN.{length}
 use Rattle.sizes.specs.Sizes.{max_rules, max_places}
@@ -16,6 +16,3 @@ abbrev pub invariant-loop-q : goal.invariant-loop-q
 invariant-loop-q l = (l.q ≤ l.n) × (l.n ≤ max_places) × (l.n ≡ place_count l.p l.r) × (l.r < max_rules)
     × Started l.names l.p l.w l.e l.left l.r l.initial.cursor (length l.initial.out)
     × Along l.names l.p l.w l.e l.r l.q (remaining l.names l.q) l.initial.cursor l.cursor l.initial.out l.out
-
-abbrev pub decreases-loop-q : goal.decreases-loop-q
-decreases-loop-q l = l.n - l.q

@@ -1,7 +1,6 @@
 -- `recognizer::state::with_byte` meets its contract. Assumes nothing.
 use native.Mathlib.Omega.{arith}
 use mathlib.Core.Path.{refl}
-use borrow.Author.Rules.{rules}
 use Rattle.recognizer.proofs.Declared.{bytes-long}
 use Rattle.recognizer.proofs.Copied.{byte-state}
 use Rattle.recognizer.proofs.state.with_byte.Statement.{statement}

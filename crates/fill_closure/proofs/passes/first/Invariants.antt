@@ -1,0 +1,6 @@
+-- The loop's invariant: what is promised holds for the rules passed. Assumes nothing.
+use Rattle.fill_closure.specs.Looks.{PassState}
+use Rattle.fill_closure.proofs.passes.first.Given as goal
+
+abbrev pub invariant-loop-r : goal.invariant-loop-r
+invariant-loop-r l = PassState l.p l.rules l.start l.insides l.lasts l.kinds l.r l.own l.flags l.made

@@ -1,0 +1,2 @@
+-- The constants are the sizes.
+pub mod Tied
