@@ -1,5 +1,7 @@
 //! The C header and the wrapper have the same version, sizes, refusals and functions.
 use filbozseg::{Refusal, BOOK, BYTES, CELLS, HAND, OUTPUT, POINTS, ROW, STACK, TEXT};
+use std::path::{Path, PathBuf};
+use std::process::Command;
 
 const HEADER: &str = include_str!("../../include/filbozseg.h");
 
@@ -26,6 +28,20 @@ fn the_stack_is_that_of_the_crate() {
     for call in ["FIRST", "NEXT", "COUNT"] {
         assert!(HEADER.contains(&format!("#define FILBOZSEG_{call}_STACK ({} * 1024)\n", STACK / 1024)), "{call}");
     }
+}
+
+/// The archive that this test is linked with needs no more from outside than the header says.
+#[test]
+fn the_archive_needs_only_memcpy_and_memset() {
+    assert!(HEADER.contains(" Of the C library they need only memcpy and memset. "));
+    let folder = std::env::var_os("FILBOZSEG_LIB_DIR").map(PathBuf::from);
+    let folder = folder.unwrap_or_else(|| Path::new(env!("CARGO_MANIFEST_DIR")).join("../target/staticlib"));
+    let output = Command::new("nm").args(["-u", "-j"]).arg(folder.join("libfilbozseg.a")).output().expect("nm");
+    assert!(output.status.success(), "{}", String::from_utf8_lossy(&output.stderr));
+    let text = String::from_utf8(output.stdout).expect("UTF-8");
+    let mut needed: Vec<_> = text.lines().filter(|line| !line.is_empty() && !line.ends_with(':')).collect();
+    needed.sort();
+    assert_eq!(needed, ["memcpy", "memset"]);
 }
 
 /// `UnexpectedEnd` as C writes it: `UNEXPECTED_END`.

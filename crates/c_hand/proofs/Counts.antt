@@ -27,7 +27,7 @@ module _ (h : List ℕ) where
   count_next i k t = all_more is_byte 0 h i t (le-leb (get_or h i 0) 255 k)
 
   -- the used numbers are the first of the row
-  used-first : (n : ℕ) → take n (take max_input h) ≡ take (min n max_input) h
+  pub used-first : (n : ℕ) → take n (take max_input h) ≡ take (min n max_input) h
   used-first n = dite (dec_le n max_input) few many
     where
       few : n ≤ max_input → take n (take max_input h) ≡ take (min n max_input) h

@@ -9,7 +9,7 @@ ghost use Rattle.print_write.specs.Listed.{Listed};
 
 use packed::PACKED_SIZE;
 use print_begin::begin::begin;
-use print_write::write_pages;
+use print_write::{Unwritten, write_pages};
 use std::fs;
 use std::io::{ErrorKind, Read};
 use std::process::ExitCode;
@@ -79,7 +79,7 @@ fn list(
     book: &[u8],
     file: &[u8],
     plate: &[u8],
-) -> Result<usize, ErrorKind>
+) -> Result<usize, Unwritten>
     ensures { IfOk result (λ n. Listed book.now file.now plate.now n) }
 {
     let mut p = [0u8; PACKED_SIZE];
@@ -112,7 +112,12 @@ fn main(rt: HostRuntime) -> ExitCode {
     let mut plate = [0u8; PLATE];
     let n = read_plate(&rt, &mut plate);
     match list(&rt, &book[..b], &file[..y], &plate[..n]) {
-        Err(ErrorKind::BrokenPipe) => ExitCode::from(UNREAD),
+        Err(
+            Unwritten {
+                kind: ErrorKind::BrokenPipe,
+                ..
+            },
+        ) => ExitCode::from(UNREAD),
         // of another error standard error has been told
         _ => ExitCode::SUCCESS,
     }

@@ -133,15 +133,21 @@ pub fn too_large(k: Opcode, a: u8) -> bool
     }
 }
 
+// A refusal at an offset. It is not inlined, so that the compiler keeps the branch to it. Else it makes a refusal beside each command, and
+// loading a full book takes a quarter more time.
+#[inline(never)]
+fn fault_of(refusal: Refusal, at: usize) -> Fault
+    ensures { result ≡ record { refusal = refusal; at = at } }
+{
+    Fault { refusal, at }
+}
+
 // Check 5: a command of this many bytes that opens a rule, after this many rules.
 pub fn rule(at: usize, rules: usize, header: Header, bytes: usize) -> Result<Command, Fault>
     ensures { result ≡ rule_command at rules header bytes }
 {
     if rules >= RULES {
-        return Err(Fault {
-            refusal: Refusal::TooManyRules,
-            at,
-        });
+        return Err(fault_of(Refusal::TooManyRules, at));
     }
     Ok(Command::Rule(header, bytes))
 }
@@ -151,10 +157,7 @@ pub fn rule_with_years(at: usize, rules: usize, header: Header) -> Result<Comman
     ensures { result ≡ years_command at rules header }
 {
     if header.first > header.last {
-        return Err(Fault {
-            refusal: Refusal::YearsReversed,
-            at,
-        });
+        return Err(fault_of(Refusal::YearsReversed, at));
     }
     rule(at, rules, header, 8)
 }
@@ -164,10 +167,7 @@ pub fn place(at: usize, places: usize, symbol: Symbol, bytes: usize) -> Result<C
     ensures { result ≡ place_command at places symbol bytes }
 {
     if places >= PLACES {
-        return Err(Fault {
-            refusal: Refusal::TooManyPlaces,
-            at,
-        });
+        return Err(fault_of(Refusal::TooManyPlaces, at));
     }
     Ok(Command::Place(symbol, bytes))
 }
@@ -177,10 +177,7 @@ pub fn range(at: usize, places: usize, low: u8, high: u8) -> Result<Command, Fau
     ensures { result ≡ range_command at places low high }
 {
     if low > high {
-        return Err(Fault {
-            refusal: Refusal::RangeReversed,
-            at,
-        });
+        return Err(fault_of(Refusal::RangeReversed, at));
     }
     place(at, places, Symbol::Range(low, high), 3)
 }
@@ -190,10 +187,7 @@ pub fn name(at: usize, first: usize, word: u64, valid: bool) -> Result<Command, 
     ensures { result ≡ name_command at first word valid }
 {
     if !valid {
-        return Err(Fault {
-            refusal: Refusal::InvalidName,
-            at,
-        });
+        return Err(fault_of(Refusal::InvalidName, at));
     }
     Ok(Command::Name(first, word))
 }
@@ -203,10 +197,7 @@ pub fn end(next: usize, len: usize) -> Result<Command, Fault>
     ensures { result ≡ end_command next len }
 {
     if next < len {
-        return Err(Fault {
-            refusal: Refusal::FurtherByte,
-            at: next,
-        });
+        return Err(fault_of(Refusal::FurtherByte, next));
     }
     Ok(Command::End)
 }

@@ -44,12 +44,16 @@ module _ (l : List (List ℕ)) (d chart out : List ℕ) where
 
 -- ---- once the tables are made
 
--- the offered numbers are copied to the front of a fresh buffer
-module _ (p : List ℕ) (rules : ℕ) (fits chart tables : List ℕ) (s n : ℕ) (offered out front rest buf : List ℕ) (m : ℕ)
-    (C : front ≡ offered) (R : RootNext p rules fits chart tables s n (front ++ rest) buf m) where
+-- the offered numbers, copied to the front of a buffer
+pub copied-front : {front offered : List ℕ} (rest : List ℕ) → front ≡ offered → StartsWith (front ++ rest) offered
+copied-front {front} {offered} rest e x h = rw e (get_or-append offered rest 0 x h)
+
+-- the offered numbers are at the front of the buffer
+module _ (p : List ℕ) (rules : ℕ) (fits chart tables : List ℕ) (s n : ℕ) (offered out buf₀ buf : List ℕ) (m : ℕ)
+    (C : StartsWith buf₀ offered) (R : RootNext p rules fits chart tables s n buf₀ buf m) where
   advanced-offered : (w : List ℕ) → n ≡ length w → InputGiven p rules fits chart tables w → Memᴰ offered (L (cfg_in s p) w)
       → Advanced (L (cfg_in s p) w) offered buf m
-  advanced-offered w to given i = R.exact w to given offered i (λ x h. rw C (get_or-append offered rest 0 x h))
+  advanced-offered w to given i = R.exact w to given offered i C
 
   pub made_none : m ≡ 0 → NextMade p rules fits chart tables s n offered out out (answered nothing)
   made_none h = record {

@@ -1,11 +1,11 @@
 -- Bytes written into a buffer: nothing, one byte, one piece after another. Assumes nothing.
-use Prim.Native.Nat.{ℕ, ◌+◌, ◌-◌, ◌≤◌, ◌<◌}
+use Prim.Native.Nat.{ℕ, ◌+◌, ◌≤◌, ◌<◌}
 use native.Mathlib.Numerals.{add-one}
 use native.Mathlib.Omega.{arith}
 use mathlib.Core.List.{List, [], ◌∷◌, ◌++◌, append_assoc, append-nil}
 use mathlib.Core.Path.{◌≡◌, refl, sym, ap, subst, ◌∙◌}
-use lib.ListN.{length, take, drop, set, length-set, length-append, length-take, length-drop}
-use lib.Seq.{take-suc-set, drop-set-lt, drop-drop, take_at, drop_at}
+use lib.ListN.{length, get_or, take, drop, set, length-set, length-append}
+use lib.Seq.{take-suc, take-suc-set, take_all, drop-set-lt, drop-drop}
 use Rattle.print_number.specs.Put.{Put}
 
 pub put-none : (at end : ℕ) (o : List ℕ) → end ≡ at → Put [] at end o o
@@ -41,18 +41,17 @@ put-append {x} {y} {at} {mid} {end} {o₁} {o₂} p q =
 pub put_same : {x y : List ℕ} {at end : ℕ} {o₁ o₂ : List ℕ} → x ≡ y → Put x at end o₁ o₂ → Put y at end o₁ o₂
 put_same {at = at} {end} {o₁} {o₂} e p = subst (λ (l : List ℕ). Put l at end o₁ o₂) e p
 
--- ---- a part of the buffer, over which the bytes are copied
+-- ---- bytes, one after the other
 
-pub put-part : (s x o : List ℕ) (at : ℕ) → at + length s ≤ length o → x ≡ s
-    → Put s at (at + length s) o (take at o ++ (x ++ drop (at + length s - at) (drop at o)))
-put-part s x o at room e =
-    let end : at + (at + length s - at) ≡ at + length s = omega arith in
-    let rest : drop (at + length s - at) (drop at o) ≡ drop (at + length s) o =
-    drop-drop (at + length s - at) at o ∙ ap (λ (k : ℕ). drop k o) end in
-    let size : length (take at o ++ s) ≡ at + length s = simp (length-append, length-take) (omega arith) in
-    rw (e, rest, ← append_assoc (take at o) s (drop (at + length s) o)) (record {
-      long = simp (length-append, length-take, length-drop) (omega arith);
-      grown = refl;
-      front = take_at (take at o ++ s) (drop (at + length s) o) (at + length s) size;
-      back = drop_at (take at o ++ s) (drop (at + length s) o) (at + length s) size;
-    })
+module _ (s : List ℕ) (at : ℕ) (o₀ o : List ℕ) (i n : ℕ) (e : n ≡ length s) (p : Put (take i s) at (at + i) o₀ o) where
+  pub bytes-step : i < n → at + length s ≤ length o₀ → Put (take (i + 1) s) at (at + (i + 1)) o₀ (set o (at + i) (get_or s i 0))
+  bytes-step h l =
+      let d : at + i + 1 ≡ at + (i + 1) = omega arith in
+      subst (λ (k : ℕ). Put (take (i + 1) s) at k o₀ (set o (at + i) (get_or s i 0))) d
+      (put_same (sym (take-suc s i 0 (omega arith)) ∙ ap (λ (k : ℕ). take k s) (sym (add-one i)))
+      (put-append p (put_one (get_or s i 0) (at + i) o (omega arith))))
+
+  pub bytes-done : i ≤ n → n ≤ i → Put s at (at + n) o₀ o
+  bytes-done h l =
+      let d : i ≡ n = omega arith in
+      put_same (take_all i s (omega arith)) (subst (λ (k : ℕ). Put (take i s) at (at + k) o₀ o) d p)

@@ -20,14 +20,15 @@ pub fn put_byte(b: u8, at: usize, out: &mut [u8]) -> usize
     at + 1
 }
 
-// Writes a row of bytes.
+// Writes a row of bytes, one by one: `copy_from_slice` would call memmove here, which the archive for C is not to need.
 pub fn put_bytes(s: &[u8], at: usize, out: &mut [u8]) -> usize
     requires { at + length s.now ≤ length out.old }
     ensures { Put s.now at result out.old out.new }
 {
-    let end = at + s.len();
-    out[at..end].copy_from_slice(s);
-    end
+    for (i, byte) in s.iter().enumerate() {
+        out[at + i] = *byte;
+    }
+    at + s.len()
 }
 
 // Writes a number in decimal: the digits before the last one, then the last one.

@@ -1,7 +1,7 @@
 // Writes the pages of the listing to standard output.
 #![tactic(auto)]
 
-ghost use Rattle.std.specs.Prelude.{◌≡◌, ◌+◌, ◌≤◌, length, IfOk};
+ghost use Rattle.std.specs.Prelude.{◌≡◌, ◌+◌, ◌≤◌, length, IfOk, IfErr};
 ghost use Rattle.print_begin.specs.Due.{Ahead, DueSized};
 ghost use Rattle.check_length.specs.Measure.{lengths_in};
 ghost use Rattle.print_page.specs.Page.{page_size};
@@ -22,6 +22,13 @@ const PAGES: usize = sizes::MOST + 1;
 
 // The most bytes of the reason why standard output can't be written.
 const REASON: usize = 128;
+
+// Why a page could not be written, and how many bytes were handed to the write by then, with those of that page.
+#[derive(Clone, Copy)]
+pub struct Unwritten {
+    pub bytes: usize,
+    pub kind: ErrorKind,
+}
 
 // Says on standard error why standard output can't be written: the reason that the error has, without the number after it.
 fn fail(rt: &impl Eprint, error: &Error) {
@@ -52,7 +59,7 @@ fn write_all(rt: &(impl Print + Eprint), bytes: &[u8]) -> Result<(), ErrorKind> 
 }
 
 // Hands bytes to the write. The `requires` says that they are those of the text of book, file with the year and plate after the first
-// `before` bytes, and these three are parameters only for that. Returns how many bytes are handed on then.
+// `before` bytes, and these three are parameters only for that. Returns how many bytes are handed on then, also if they can't be written.
 fn write(
     rt: &(impl Print + Eprint),
     book: &[u8],
@@ -60,15 +67,20 @@ fn write(
     plate: &[u8],
     before: usize,
     bytes: &[u8],
-) -> Result<usize, ErrorKind>
+) -> Result<usize, Unwritten>
     requires { (before ≤ max_text) × (length bytes.now ≤ page_size) × Next book.now file.now plate.now before bytes.now }
-    ensures { IfOk result (λ n. n ≡ before + length bytes.now) }
+    ensures written { IfOk result (λ n. n ≡ before + length bytes.now) }
+    ensures unwritten { IfErr result (λ e. e.bytes ≡ before + length bytes.now) }
 {
-    write_all(rt, bytes)?;
-    Ok(before + bytes.len())
+    let after = before + bytes.len();
+    match write_all(rt, bytes) {
+        Ok(()) => Ok(after),
+        Err(kind) => Err(Unwritten { bytes: after, kind }),
+    }
 }
 
-// Writes page after page until nothing is due, and returns how many bytes they have, or which error there is if a page can't be written.
+// Writes page after page until nothing is due, and returns how many bytes they have. If a page can't be written, it returns why, and how
+// many bytes were handed on by then.
 pub fn write_pages(
     rt: &(impl Print + Eprint),
     book: &[u8],
@@ -81,7 +93,7 @@ pub fn write_pages(
     chart: &[u32],
     tables: &Tables,
     buf: &mut [u16],
-) -> Result<usize, ErrorKind>
+) -> Result<usize, Unwritten>
     requires { DueSized due × (length lengths.now ≡ max_rules) × (cells ≤ length chart.now) × (output_size ≤ length buf.old)
         × Ahead (lengths_in lengths.now) p.now fits.now chart.now tables.now buf.old due
         (text_of book.now file.now plate.now) }

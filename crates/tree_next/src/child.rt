@@ -32,10 +32,10 @@ pub fn child(
         buf.old full.new rows.new buf.new (unwrap_or result 0) }
     ensures has_nodes { IfSome result (λ n. 0 < n) }
 {
-    let Child { k, a, b, .. } = child;
+    let Child { r, q, k, a, b } = child;
     let Span { i, j, mask } = span;
     let Room { at, budget } = room;
-    let rest = rest_of(made, child, span, full, rows);
+    let rest = rest_of(made, r, q, b, span, full, rows);
     if rest > budget {
         return None;
     }

@@ -21,4 +21,4 @@ pub loop-preserved : goal.loop-preserved
 loop-preserved g c =
     let some : is_done c.loop.then ≡ false = sym c.if-is_done.ensures in
     let size : length c.fill_page-t.new.out ≡ page_size = search rules in
-    (going-page _ _ _ _ _ _ _ _ _ _ _ c.loop.invariant.0 some _ _ _ _ _ c.fill_page-t.ensures size _ c.in_ok-bytes.ensures, size)
+    (going-page _ _ _ _ _ _ _ _ _ _ _ c.loop.invariant.0 some _ _ _ _ _ c.fill_page-t.ensures size _ c.in_ok-bytes.ensures.written, size)
